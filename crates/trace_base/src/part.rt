@@ -1,0 +1,8 @@
+/// The data of one processor: a range of a file, in bytes (trace-cmd.dat.v6(5), the table after `flyrecord`).
+#[derive(Clone, Copy, Debug, PartialEq, Eq)]
+pub struct Part {
+    /// Where the data begin.
+    pub offset: u64,
+    /// How long they are.
+    pub size: u64,
+}
