@@ -2,6 +2,9 @@
 #![tactic(auto)]
 
 mod header;
+mod plain;
+mod read;
 
 pub use dat_options::{OpenFault, Opt};
 pub use header::{Body, Header, System};
+pub use read::read_header;

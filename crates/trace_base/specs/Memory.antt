@@ -1,5 +1,5 @@
 -- How often the objects in memory found no memory, which is their only reason to fail beside a missing name.
-use Rattle.std.specs.Prelude.{ℕ, Option, Result, ◌≡◌, List, IfSome, MatchOption, MatchResult, IsErr}
+use Rattle.std.specs.Prelude.{ℕ, Option, Result, ◌≡◌, List, IfSome, MatchOption, IsErr}
 use Rattle.std.specs.FinMap.{get}
 use Rattle.trace_base.specs.Causes.{raised, FailsJustThere}
 use Rattle.trace_base.specs.Names.{NamedFiles}
