@@ -50,16 +50,19 @@ prefix_behind before mid now front part rest whole is one two = elim (cases_lt (
     both : Gained before now (front ++ take two.0 part)
     both = gained_both before mid now front (take two.0 part) one two.1
 
--- the same, where the front and the part are of a row of parts
+-- a row of parts: those before one, that one, and those behind it
+pub flat_map-parted : {X : Type 0} (f : X → List ℕ) (xs : List X) (i : ℕ) (d : X) → i < length xs
+    → flat_map f xs ≡ flat_map f (take i xs) ++ (f (get_or xs i d) ++ flat_map f (drop (suc i) xs))
+flat_map-parted f xs i d inside =
+    ap (flat_map f) (sym (take-append-drop i xs) ∙ ap (λ tail. take i xs ++ tail) (drop-cons xs i d inside))
+    ∙ flat_map-append f (take i xs) (get_or xs i d ∷ drop (suc i) xs)
+    ∙ ap (λ tail. flat_map f (take i xs) ++ tail) (flat_map-cons f (get_or xs i d) (drop (suc i) xs))
+
+-- a prefix of a part, behind the parts before it, is a prefix of the row
 pub prefix_of_parts : {X : Type 0} (f : X → List ℕ) (xs : List X) (i : ℕ) (d : X) (before mid now : Option (List ℕ)) → i < length xs
     → Gained before mid (flat_map f (take i xs)) → GainedPrefix mid now (f (get_or xs i d)) → GainedPrefix before now (flat_map f xs)
 prefix_of_parts f xs i d before mid now inside one two =
-    prefix_behind before mid now (flat_map f (take i xs)) (f (get_or xs i d)) (flat_map f (drop (suc i) xs)) (flat_map f xs) parted one two
-  where
-    parted : flat_map f xs ≡ flat_map f (take i xs) ++ (f (get_or xs i d) ++ flat_map f (drop (suc i) xs))
-    parted = ap (flat_map f) (sym (take-append-drop i xs) ∙ ap (λ tail. take i xs ++ tail) (drop-cons xs i d inside))
-        ∙ flat_map-append f (take i xs) (get_or xs i d ∷ drop (suc i) xs)
-        ∙ ap (λ tail. flat_map f (take i xs) ++ tail) (flat_map-cons f (get_or xs i d) (drop (suc i) xs))
+    prefix_behind before mid now (flat_map f (take i xs)) (f (get_or xs i d)) (flat_map f (drop (suc i) xs)) (flat_map f xs) (flat_map-parted f xs i d inside) one two
 
 -- what holds, holds at an error too
 pub on_err : {T E P : Type 0} (result : Result T E) → P → OnErr result P
