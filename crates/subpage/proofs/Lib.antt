@@ -5,3 +5,7 @@ pub mod Elements
 pub mod Walking
 pub mod Counting
 pub mod PageItems
+pub mod Arranging
+pub mod Filters
+pub mod Arranged
+pub mod Joining
