@@ -9,3 +9,7 @@ pub mod Arranging
 pub mod Filters
 pub mod Arranged
 pub mod Joining
+pub mod Stamping
+pub mod Keys
+pub mod Cuts
+pub mod Reaching
