@@ -71,8 +71,8 @@ impl<'a> Iterator for Items<'a> {
                 self.rest = rest;
                 Some(Item::Event { time, payload })
             }
-            Next::Done => None,
-            Next::Malformed => None,
+            // A checked page is not malformed.
+            Next::Done | Next::Malformed => None,
         }
     }
 }

@@ -11,6 +11,14 @@ use crate::summary::{Summary, summarize};
 use std::marker::Model;
 use trace_base::{Layout, Order, read_u32, read_u64};
 
+/// The bits of a commit word that count the committed bytes.
+const SIZE_MASK: u64 = (1 << 27) - 1;
+
+/// The bit that tells a loss, and the bit that tells a stored number (the kernel's `RB_MISSED_EVENTS` and
+/// `RB_MISSED_STORED`).
+const MISSED_BIT: u32 = 31;
+const STORED_BIT: u32 = 30;
+
 /// A well-formed sub-page. A contract sees it as the list of its items.
 #[derive(Drop)]
 pub struct Page<'a> {
@@ -52,7 +60,7 @@ fn stored_number_of(layout: &Layout, word: u64, behind: &[u8]) -> Option<u64>
     requires { IsLayout layout.now }
     ensures { result ≡ stored_number layout.now word behind.now }
 {
-    let is_stored = (word >> 30) % 2 == 1;
+    let is_stored = (word >> STORED_BIT) & 1 == 1;
     if is_stored && layout.commit_size as usize <= behind.len() {
         Some(read_long(layout.order, layout.commit_size, behind))
     } else {
@@ -64,7 +72,7 @@ fn loss_of(layout: &Layout, word: u64, time: u64, behind: &[u8]) -> Option<Loss>
     requires { IsLayout layout.now }
     ensures { loss_items result ≡ losses layout.now word time behind.now }
 {
-    if (word >> 31) % 2 == 1 {
+    if (word >> MISSED_BIT) & 1 == 1 {
         Some(Loss {
             time,
             count: stored_number_of(layout, word, behind),
@@ -103,7 +111,7 @@ fn read_page<'a>(layout: &Layout, bytes: &'a [u8]) -> Option<Page<'a>>
     let commit = &bytes[layout.commit_at as usize..];
     let word = read_long(order, layout.commit_size, commit);
     let area = &bytes[layout.data_at as usize..];
-    let size = (word % (1 << 27)) as usize;
+    let size = (word & SIZE_MASK) as usize;
     if area.len() < size {
         return None;
     }

@@ -1,6 +1,6 @@
 // The elements of committed bytes, read from the front: each function gives what it read, and the bytes behind it.
 
-ghost use Rattle.std.specs.Prelude.{◌≡◌, ◌-◌, ◌<◌, ◌≤◌, IfSome, length, option_map};
+ghost use Rattle.std.specs.Prelude.{◌≡◌, ◌-◌, ◌^◌, ◌<◌, ◌≤◌, IfSome, length, option_map};
 ghost use Rattle.subpage.specs.Element.{type_len, time_delta};
 ghost use Rattle.subpage.specs.ElementView.{element_view};
 ghost use Rattle.subpage.specs.Reading.{word_at, counted_at, short_event_at, long_event_at, discarded_at, extend_at, stamp_at, rest_at, element_at};
@@ -8,28 +8,27 @@ ghost use Rattle.subpage.specs.Reading.{word_at, counted_at, short_event_at, lon
 use crate::element::Element;
 use trace_base::{Order, read_u32};
 
-/// What one unit of the word behind a first word counts.
-const HIGH_UNIT: u64 = 1 << 27;
-
-/// Stamps are below this.
-const STAMP_LIMIT: u64 = 1 << 59;
+/// How many bits of a first word are its delta; the word behind it goes on above them.
+const DELTA_BITS: u32 = 27;
+const DELTA_MASK: u32 = (1 << DELTA_BITS) - 1;
 
 fn type_len_of(order: Order, word: u32) -> u32
     ensures value { result ≡ type_len order word }
     ensures five_bits { result < 32 }
 {
     match order {
-        Order::Little => word % 32,
-        Order::Big => word >> 27,
+        Order::Little => word & 0x1f,
+        Order::Big => word >> DELTA_BITS,
     }
 }
 
 fn time_delta_of(order: Order, word: u32) -> u32
-    ensures { result ≡ time_delta order word }
+    ensures value { result ≡ time_delta order word }
+    ensures bits { result < 2 ^ 27 }
 {
     match order {
         Order::Little => word >> 5,
-        Order::Big => word % (1 << 27),
+        Order::Big => word & DELTA_MASK,
     }
 }
 
@@ -97,27 +96,25 @@ fn split_extend(order: Order, low: u32, bytes: &[u8]) -> Option<(Element<'_>, &[
     ensures { option_map (λ x. (element_view x.0, x.1.now)) result ≡ extend_at order low bytes.now }
 {
     let (high, rest) = split_word(order, bytes)?;
-    let delta = low as u64 + high as u64 * HIGH_UNIT;
+    let delta = u64::from(low) + (u64::from(high) << DELTA_BITS);
     Some((Element::Extend { delta }, rest))
 }
 
 #[tactic(auto, unfolding(crate::specs::Reading::stamp_at))]
 fn split_stamp(order: Order, low: u32, bytes: &[u8]) -> Option<(Element<'_>, &[u8])>
+    requires { low < 2 ^ 27 }
     ensures { option_map (λ x. (element_view x.0, x.1.now)) result ≡ stamp_at order low bytes.now }
 {
     let (high, rest) = split_word(order, bytes)?;
-    let time = low as u64 + high as u64 * HIGH_UNIT;
-    if time < STAMP_LIMIT {
-        Some((Element::Stamp { time }, rest))
-    } else {
-        None
-    }
+    let time = u64::from(low) + (u64::from(high) << DELTA_BITS);
+    Some((Element::Stamp { time }, rest))
 }
 
 /// The element whose first word has this kind and delta.
 #[tactic(auto, unfolding(crate::specs::Reading::rest_at))]
 fn split_rest(order: Order, kind: u32, delta: u32, bytes: &[u8]) -> Option<(Element<'_>, &[u8])>
-    requires { kind < 32 }
+    requires kind { kind < 32 }
+    requires delta { delta < 2 ^ 27 }
     ensures { option_map (λ x. (element_view x.0, x.1.now)) result ≡ rest_at order kind delta bytes.now }
 {
     match kind {

@@ -4,14 +4,14 @@ ghost use Rattle.subpage.specs.RunningTime.{time_after, stamped};
 
 use crate::element::Element;
 
-/// What one unit of the five bits above a stamp counts.
-const UPPER_UNIT: u64 = 1 << 59;
+/// A stamp has this many bits.
+const STAMP_BITS: u32 = 59;
 
 /// The running time behind a stamp, where it is below 2^64.
 fn time_at_stamp(time: u64, stamp: u64) -> Option<u64>
     ensures { result ≡ (if nat_lt (stamped time stamp) (2 ^ 64) then Some (stamped time stamp) else None) }
 {
-    let upper = time - time % UPPER_UNIT;
+    let upper = (time >> STAMP_BITS) << STAMP_BITS;
     if upper == 0 {
         return Some(stamp);
     }
@@ -19,7 +19,7 @@ fn time_at_stamp(time: u64, stamp: u64) -> Option<u64>
     if time <= near {
         Some(near)
     } else {
-        near.checked_add(UPPER_UNIT)
+        near.checked_add(1 << STAMP_BITS)
     }
 }
 
