@@ -1,0 +1,15 @@
+pub mod Steps
+pub mod ElementSound
+pub mod ElementComplete
+pub mod Elements
+pub mod Walking
+pub mod Counting
+pub mod PageItems
+pub mod Arranging
+pub mod Filters
+pub mod Arranged
+pub mod Joining
+pub mod Stamping
+pub mod Keys
+pub mod Cuts
+pub mod Reaching

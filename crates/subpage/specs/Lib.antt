@@ -1,0 +1,15 @@
+pub mod Element
+pub mod RunningTime
+pub mod ItemData
+pub mod Reading
+pub mod Page
+pub mod Processor
+pub mod Arrangement
+pub mod Cut
+pub mod ElementView
+pub mod ItemView
+pub mod NextEvent
+pub mod Left
+pub mod ItemsView
+pub mod Summary
+pub mod PageView

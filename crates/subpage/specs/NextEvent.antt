@@ -1,0 +1,14 @@
+-- What the next event is, told by the events of all bytes.
+use Rattle.std.specs.Prelude.{◌≡◌, ℕ, ◌<◌, List, [], ◌∷◌, length, Some, None, option_map}
+use Rattle.trace_base.specs.declared.order.Order.{Order}
+use Rattle.subpage.specs.declared.next.Next.{Next}
+use Rattle.subpage.specs.declared.next.Next.TheVariants as code
+use Rattle.subpage.specs.ItemData.{EventAt}
+use Rattle.subpage.specs.Reading.{walk}
+
+abbrev pub IsNext : Order → ℕ → List ℕ → Next → Type 0
+IsNext order time bytes code.Malformed = walk order time bytes ≡ None
+IsNext order time bytes code.Done = walk order time bytes ≡ Some []
+IsNext order time bytes (code.Event after payload rest) =
+    (walk order time bytes ≡ option_map (λ xs. EventAt after payload.now ∷ xs) (walk order after rest.now))
+    × (length rest.now < length bytes)

@@ -1,0 +1,14 @@
+/// An element of a sub-page's committed bytes (the kernel's `struct ring_buffer_event`).
+#[derive(Clone, Copy, Debug)]
+pub enum Element<'a> {
+    /// A data record.
+    Event { delta: u32, payload: &'a [u8] },
+    /// The end of the elements: the committed bytes behind it are padding.
+    End,
+    /// A record that was thrown away, whose time counts.
+    Discarded { delta: u32 },
+    /// The running time moves on.
+    Extend { delta: u64 },
+    /// The low 59 bits of an absolute time.
+    Stamp { time: u64 },
+}

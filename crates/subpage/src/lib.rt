@@ -1,0 +1,24 @@
+//! Sub-pages of a trace.dat file, which the kernel calls sub-buffers: what stands in one, and the items that it tells.
+//!
+//! [`check_page`] finds whether a sub-page is well formed, and [`Page`] then gives its items, which borrow their payloads
+//! from it. Nothing here takes memory, and no size that stands in the page is trusted.
+//!
+//! The definitions go further than the code: `specs/` also says what the items of a whole processor are
+//! (`Processor.antt`), in which order those of several processors stand (`Arrangement.antt`), and where a malformed
+//! sub-page ends them (`Cut.antt`).
+#![tactic(auto)]
+
+mod element;
+mod item;
+mod items;
+pub mod laws;
+mod loss;
+mod next;
+mod page;
+mod reading;
+mod running_time;
+mod summary;
+
+pub use item::Item;
+pub use items::Items;
+pub use page::{Page, check_page};

@@ -1,0 +1,38 @@
+ghost use Rattle.std.specs.Prelude.{◌≡◌, ◌^◌, nat_lt, if◌then◌else◌};
+ghost use Rattle.subpage.specs.ElementView.{element_view};
+ghost use Rattle.subpage.specs.RunningTime.{time_after, stamped};
+
+use crate::element::Element;
+
+/// A stamp has this many bits.
+const STAMP_BITS: u32 = 59;
+
+/// The running time behind a stamp, where it is below 2^64.
+fn time_at_stamp(time: u64, stamp: u64) -> Option<u64>
+    ensures { result ≡ (if nat_lt (stamped time stamp) (2 ^ 64) then Some (stamped time stamp) else None) }
+{
+    let upper = (time >> STAMP_BITS) << STAMP_BITS;
+    if upper == 0 {
+        return Some(stamp);
+    }
+    let near = upper.checked_add(stamp)?;
+    if time <= near {
+        Some(near)
+    } else {
+        near.checked_add(1 << STAMP_BITS)
+    }
+}
+
+/// The running time behind an element, where it is below 2^64.
+pub fn time_behind(time: u64, element: &Element<'_>) -> Option<u64>
+    ensures { let after = time_after time (element_view element.now) in result ≡ (if nat_lt after (2 ^ 64) then Some after else None) }
+{
+    match *element {
+        Element::Event { delta, .. } | Element::Discarded { delta } => {
+            time.checked_add(u64::from(delta))
+        }
+        Element::Extend { delta } => time.checked_add(delta),
+        Element::Stamp { time: stamp } => time_at_stamp(time, stamp),
+        Element::End => Some(time),
+    }
+}
