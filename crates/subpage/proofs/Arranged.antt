@@ -1,5 +1,5 @@
 -- The one arrangement of processors' items.
-use Rattle.std.proofs.Common.{◌≡◌, ℕ, ◌<◌, ◌≤◌, max, true, eqb, List, [], ◌∷◌, ◌++◌, refl, sym, ap, subst, ◌∙◌, arith, inl, inr}
+use Rattle.std.proofs.Common.{◌≡◌, ℕ, ◌<◌, ◌≤◌, max, eqb, List, [], ◌∷◌, ◌++◌, refl, sym, ap, subst, ◌∙◌, arith, inl, inr}
 use Rattle.std.proofs.lemmas.Bool.{cases_Bool, eqb-true, eqb-false}
 use Rattle.std.proofs.lemmas.List.{append-nil}
 use Rattle.subpage.specs.ItemData.{ItemData, item_time}
@@ -134,9 +134,9 @@ arranged_is lists r =
       by_keys = by_key-rising key_of all;
       by_processors = λ k. subst (IsRising cpu_of) (sym (by_key-with_key key_of k all)) (filter-rising cpu_of (λ x. eqb (key_of x) k) all (all_rise lists r));
       by_positions = λ c. one_rising key_of (with_key cpu_of c (by_key key_of all)) (with_key cpu_of c all)
-        (filter-rising key_of (λ x. eqb (cpu_of x) c) (by_key key_of all) (by_key-rising key_of all))
-        (own_keys_rise c lists r)
-        (λ z. sym (both z.key c (by_key key_of all)) ∙ ap (with_key cpu_of c) (by_key-with_key key_of z.key all) ∙ both z.key c all);
+          (filter-rising key_of (λ x. eqb (cpu_of x) c) (by_key key_of all) (by_key-rising key_of all))
+          (own_keys_rise c lists r)
+          (λ z. sym (both z.key c (by_key key_of all)) ∙ ap (with_key cpu_of c) (by_key-with_key key_of z.key all) ∙ both z.key c all);
     }
 
 -- those of one key are the same in any arrangement

@@ -1,13 +1,11 @@
 -- The items up to a cut are the first of the arranged ones.
-use Rattle.std.proofs.Common.{◌≡◌, ℕ, ◌<◌, ◌≤◌, Bool, true, false, cond, ◌&&◌, ◌||◌, ltb, leb, eqb, List, [], ◌∷◌, map, Option, Some, None, refl, sym, ap, subst, ◌∙◌, ◌⊎◌, inl, inr, arith}
+use Rattle.std.proofs.Common.{◌≡◌, ℕ, ◌<◌, ◌≤◌, Bool, true, false, cond, ◌&&◌, ◌||◌, ltb, leb, eqb, List, [], ◌∷◌, Option, Some, None, refl, sym, ap, subst, ◌∙◌, ◌⊎◌, inl, inr, arith}
 use Rattle.std.specs.List.{filter, take_while}
-use Rattle.std.proofs.lemmas.Bool.{ltb-true, ltb-false, leb-true, eqb-true, eqb-false, eq-eqb, ne_eqb, lt-ltb, le-ltb, le-leb, cases_Bool, cases_order}
+use Rattle.std.proofs.lemmas.Bool.{leb-true, eqb-true, eqb-false, eq-eqb, ne_eqb, lt-ltb, le-ltb, le-leb, cases_Bool, cases_order}
 use Rattle.std.proofs.lemmas.List.Sums.{take_while-cons}
 use Rattle.trace_base.specs.declared.layout.Layout.{Layout}
 use Rattle.trace_base.specs.declared.part.Part.{Part}
-use Rattle.subpage.specs.ItemData.{ItemData}
-use Rattle.subpage.specs.Processor.{list_of}
-use Rattle.subpage.specs.Arrangement.{Keyed, key_of, cpu_of, CpusRise, IsRising, with_key, IsArranged, arranged}
+use Rattle.subpage.specs.Arrangement.{Keyed, key_of, cpu_of, CpusRise, IsRising, with_key, arranged}
 use Rattle.subpage.specs.Cut.{Cut, is_up_to, cut_of, lists_of, reached_of}
 use Rattle.subpage.proofs.Arranging.{rising_tail, with_key-same, with_key-other}
 use Rattle.subpage.proofs.Filters.{filter-yes, filter-not}
@@ -79,7 +77,7 @@ ordered_front : (x y : Keyed) (ys : List Keyed) → Ordered (x ∷ y ∷ ys) →
 ordered_front x y ys o = elim (cases_order x.key y.key) [
   | inl e ↦
       let both : with_key key_of x.key (x ∷ y ∷ ys) ≡ x ∷ y ∷ with_key key_of x.key ys =
-        with_key-same key_of x (y ∷ ys) x.key refl ∙ ap (λ (zs : List Keyed). x ∷ zs) (with_key-same key_of y ys x.key (sym e)) in
+      with_key-same key_of x (y ∷ ys) x.key refl ∙ ap (λ (zs : List Keyed). x ∷ zs) (with_key-same key_of y ys x.key (sym e)) in
       let rising : IsRising cpu_of (x ∷ y ∷ with_key key_of x.key ys) = subst (IsRising cpu_of) both (o.by_processors x.key) in
       inr (e, rising.0)
   | inr d ↦ elim d [

@@ -1,6 +1,6 @@
 -- Where malformed sub-pages end the arranged items.
 -- A processor's part is told by its number and its place in the file; the processors are the selected ones, and rise.
-use Rattle.std.specs.Prelude.{ℕ, max, Bool, true, false, ◌&&◌, ◌||◌, nat_lt, nat_le, ◌==◌, IsTrue, All, Contains, if◌then◌else◌, List, [], ◌∷◌, map, fold, filter, filter_map, Option, Some, None, option_map}
+use Rattle.std.specs.Prelude.{ℕ, max, Bool, true, false, ◌&&◌, ◌||◌, nat_lt, nat_le, ◌==◌, IsTrue, All, Contains, if◌then◌else◌, List, map, fold, filter, filter_map, Option, Some, None, option_map}
 use Rattle.std.specs.List.{reduce}
 use Rattle.trace_base.specs.declared.layout.Layout.{Layout}
 use Rattle.trace_base.specs.declared.part.Part.{Part}

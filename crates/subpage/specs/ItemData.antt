@@ -1,5 +1,5 @@
 -- The items that a sub-page tells, as plain data.
-use Rattle.std.specs.Prelude.{ℕ, List, [], ◌∷◌, map, Option, Some, None, option_map}
+use Rattle.std.specs.Prelude.{ℕ, List, [], ◌∷◌, map, Option, Some, None}
 use Rattle.std.specs.List.{flat_map, zip, last_or}
 use Rattle.subpage.specs.Element.{ElementData, Event, End, Discarded, Extend, Stamp}
 use Rattle.subpage.specs.RunningTime.{running_times}

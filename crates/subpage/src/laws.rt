@@ -15,8 +15,7 @@ ghost use Rattle.subpage.specs.RunningTime.{stamped};
 pub fn one_spelling()
     ensures { (order : Order) (es fs : List ElementData) (bytes : List ℕ)
         → Spelled order es bytes → Spelled order fs bytes → es ≡ fs }
-{
-}
+{}
 
 /// A running time below 2^59 becomes the stamp. Any other becomes the first time from it on whose low 59 bits are the
 /// stamp.
@@ -25,8 +24,7 @@ pub fn stamps()
     ensures low_bits { (time stamp : ℕ) → stamp < 2 ^ 59 → stamped time stamp % 2 ^ 59 ≡ stamp }
     ensures no_earlier { (time stamp : ℕ) → 2 ^ 59 ≤ time → stamp < 2 ^ 59 → time ≤ stamped time stamp }
     ensures nearest { (time stamp : ℕ) → 2 ^ 59 ≤ time → stamp < 2 ^ 59 → stamped time stamp < time + 2 ^ 59 }
-{
-}
+{}
 
 /// A processor's items stay as they are, the key of each is the greatest time up to it, and the last key is that of the
 /// processor's cut.
@@ -36,16 +34,14 @@ pub fn keys()
         → slice_index (map key_of (keyed_from cpu 0 items)) i ≡ fold max 0 (map item_time (take (i + 1) items)) }
     ensures last { (cpu : ℕ) (items : List ItemData)
         → last_or None (map key_of (keyed_from cpu 0 items)) ≡ last_key items }
-{
-}
+{}
 
 /// Items of processors whose numbers rise have exactly one arrangement, and it is `arranged`.
 pub fn one_arrangement()
     ensures arranged { (lists : List (ℕ × List ItemData)) → CpusRise lists → IsArranged lists (arranged lists) }
     ensures one { (lists : List (ℕ × List ItemData)) (xs : List Keyed)
         → CpusRise lists → IsArranged lists xs → xs ≡ arranged lists }
-{
-}
+{}
 
 /// The cut is the least of the processors' cuts, and there is none only where no processor has one.
 pub fn least_cut()
@@ -53,13 +49,11 @@ pub fn least_cut()
         → IfSome (cut_of layout file parts) (λ cut. IsLeast (cuts_of layout file parts) cut) }
     ensures none { (layout : Layout) (file : List ℕ) (parts : List (ℕ × Part))
         → IfNone (cut_of layout file parts) (cuts_of layout file parts ≡ []) }
-{
-}
+{}
 
 /// The reached items are the first of the arranged ones: a cut leaves no gap.
 pub fn reached_come_first()
     ensures { (layout : Layout) (file : List ℕ) (parts : List (ℕ × Part)) → CpusRise parts
         → reached_of layout file parts
         ≡ take_while (is_up_to (cut_of layout file parts)) (arranged (lists_of layout file parts)) }
-{
-}
+{}

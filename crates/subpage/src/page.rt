@@ -17,6 +17,7 @@ const SIZE_MASK: u64 = (1 << 27) - 1;
 /// The bit that tells a loss, and the bit that tells a stored number (the kernel's `RB_MISSED_EVENTS` and
 /// `RB_MISSED_STORED`).
 const MISSED_BIT: u32 = 31;
+
 const STORED_BIT: u32 = 30;
 
 /// A well-formed sub-page. A contract sees it as the list of its items.

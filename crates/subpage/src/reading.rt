@@ -10,6 +10,7 @@ use trace_base::{Order, read_u32};
 
 /// How many bits of a first word are its delta; the word behind it goes on above them.
 const DELTA_BITS: u32 = 27;
+
 const DELTA_MASK: u32 = (1 << DELTA_BITS) - 1;
 
 fn type_len_of(order: Order, word: u32) -> u32
