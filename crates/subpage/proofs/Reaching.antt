@@ -15,10 +15,10 @@ use Rattle.subpage.proofs.Arranged.{arranged_is}
 abbrev NotAfter : Keyed → Keyed → Type 0
 NotAfter x y = (x.key < y.key) ⊎ ((x.key ≡ y.key) × (x.cpu ≤ y.cpu))
 
-abbrev reaches : ℕ → ℕ → ℕ → ℕ → Bool
+abbrev pub reaches : ℕ → ℕ → ℕ → ℕ → Bool
 reaches x c y d = ltb x y || (eqb x y && leb c d)
 
-reaches-true : (x c y d : ℕ) → (x < y) ⊎ ((x ≡ y) × (c ≤ d)) → reaches x c y d ≡ true
+pub reaches-true : (x c y d : ℕ) → (x < y) ⊎ ((x ≡ y) × (c ≤ d)) → reaches x c y d ≡ true
 reaches-true x c y d p = elim p [
   | inl lt ↦ let a : ltb x y ≡ true = lt-ltb _ _ lt in rw a refl
   | inr q ↦
@@ -103,7 +103,7 @@ first_ones cut (x ∷ xs) o = elim (cases_Bool (is_up_to cut x)) [
   | inr f ↦ filter-not (is_up_to cut) x xs f ∙ none_behind cut x xs o f ∙ ap (λ b. if_up_to b x (take_while (is_up_to cut) xs)) (sym f) ∙ sym (take_while-cons (is_up_to cut) x xs)
 ]
 
-lists_rise : (layout : Layout) (file : List ℕ) (parts : List (ℕ × Part)) → CpusRise parts → CpusRise (lists_of layout file parts)
+pub lists_rise : (layout : Layout) (file : List ℕ) (parts : List (ℕ × Part)) → CpusRise parts → CpusRise (lists_of layout file parts)
 lists_rise layout file [] r = tt
 lists_rise layout file (p ∷ []) r = tt
 lists_rise layout file (p ∷ q ∷ ps) r = (r.0, lists_rise layout file (q ∷ ps) r.1)
