@@ -1,14 +1,14 @@
 -- All items of the cut's own processor are reached.
-use Rattle.std.proofs.Common.{◌≡◌, ℕ, zero, suc, ◌<◌, ◌≤◌, ◌⊎◌, max, true, cond, eqb, List, [], ◌∷◌, ◌++◌, length, map, Option, Some, None, refl, sym, ap, subst, ◌∙◌, inl, inr, arith}
+use Rattle.std.proofs.Common.{◌≡◌, ℕ, zero, suc, ◌<◌, ◌≤◌, ◌⊎◌, max, true, eqb, List, [], ◌∷◌, length, map, Option, Some, None, refl, sym, ap, subst, ◌∙◌, inl, inr, arith}
 use Rattle.std.specs.Prelude.{slice_index_or}
-use Rattle.std.specs.Option.{option_map, IfSome}
-use Rattle.std.specs.List.{filter, filter_map, fold, Contains, cons_option}
+use Rattle.std.specs.Option.{IfSome}
+use Rattle.std.specs.List.{filter, fold, Contains, cons_option}
 use Rattle.std.proofs.lemmas.Bool.{cases_order}
 use Rattle.trace_base.specs.declared.layout.Layout.{Layout}
 use Rattle.trace_base.specs.declared.part.Part.{Part}
 use Rattle.subpage.specs.ItemData.{ItemData, item_time}
 use Rattle.subpage.specs.Processor.{list_of, bad_of}
-use Rattle.subpage.specs.Arrangement.{Keyed, key_of, cpu_of, keyed_from, all_keyed, CpusRise, with_key, arranged}
+use Rattle.subpage.specs.Arrangement.{Keyed, cpu_of, keyed_from, all_keyed, CpusRise, with_key, arranged}
 use Rattle.subpage.specs.Cut.{Cut, last_key, own_cut, cuts_of, is_up_to, cut_of, lists_of, reached_of, IsLeast}
 use Rattle.subpage.proofs.Steps.{option_cases, option_map_some}
 use Rattle.subpage.proofs.Filters.{filter-yes, filter-filter}
@@ -86,7 +86,7 @@ module _ (layout : Layout) (file : List ℕ) where
         | inl own ↦
             let whole = with_cpu-own (p.0, list) (lists_of layout file ps) (lists_rise layout file (p ∷ ps) r) in
             let here : filter (is_up_to (Some (cut_at (last_key list) p.0 own.0))) (own_items (cut_at (last_key list) p.0 own.0) (p ∷ ps)) ≡ own_items (cut_at (last_key list) p.0 own.0) (p ∷ ps) =
-              ap (filter (is_up_to (Some (cut_at (last_key list) p.0 own.0)))) whole ∙ up_to_last p.0 own.0 list ∙ sym whole in
+            ap (filter (is_up_to (Some (cut_at (last_key list) p.0 own.0)))) whole ∙ up_to_last p.0 own.0 list ∙ sym whole in
             subst (λ (x : Cut). filter (is_up_to (Some x)) (own_items x (p ∷ ps)) ≡ own_items x (p ∷ ps)) own.1 here
         | inr later ↦
             let above : p.0 < cut.cpu = cut_above p.0 ps cut (above_next p ps r) (rise_next p ps r) later in
@@ -100,7 +100,7 @@ unfolding reached_of cut_of
 own_reached layout file parts r = by_cut (cut_of layout file parts) (when_some (cuts_of layout file parts))
   where
     by_cut : (o : Option Cut) → IfSome o (λ cut. IsLeast (cuts_of layout file parts) cut)
-      → IfSome o (λ cut. with_key cpu_of cut.cpu (filter (is_up_to o) (arranged (lists_of layout file parts))) ≡ with_key cpu_of cut.cpu (all_keyed (lists_of layout file parts)))
+        → IfSome o (λ cut. with_key cpu_of cut.cpu (filter (is_up_to o) (arranged (lists_of layout file parts))) ≡ with_key cpu_of cut.cpu (all_keyed (lists_of layout file parts)))
     by_cut None l = tt
     by_cut (Some cut) l =
         filter-filter (λ x. eqb (cpu_of x) cut.cpu) (is_up_to (Some cut)) (arranged (lists_of layout file parts))

@@ -52,7 +52,8 @@ pub data Row (order : Order) : ElementData → List ℕ → Type 0 where
       → IsFirstWord order first 29 0
       → Row order End (first ++ padding)
   discarded : (first next content : List ℕ) (delta n : ℕ)
-      → IsFirstWord order first 29 delta → 0 < delta → IsWord order next n → 4 ≤ n → length content ≡ round4 n - 4
+      → IsFirstWord order first 29 delta → 0 < delta → IsWord order next n → 4 ≤ n
+      → length content ≡ round4 n - 4
       → Row order (Discarded delta) (first ++ (next ++ content))
   extend : (first next : List ℕ) (low high : ℕ)
       → IsFirstWord order first 30 low → IsWord order next high

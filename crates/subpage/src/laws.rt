@@ -29,23 +29,28 @@ pub fn one_list_of_items()
 pub fn stamps()
     ensures below { (time stamp : ℕ) → time < 2 ^ 59 → stamped time stamp ≡ stamp }
     ensures low_bits { (time stamp : ℕ) → stamp < 2 ^ 59 → stamped time stamp % 2 ^ 59 ≡ stamp }
-    ensures no_earlier { (time stamp : ℕ) → 2 ^ 59 ≤ time → stamp < 2 ^ 59 → time ≤ stamped time stamp }
-    ensures nearest { (time stamp : ℕ) → 2 ^ 59 ≤ time → stamp < 2 ^ 59 → stamped time stamp < time + 2 ^ 59 }
+    ensures no_earlier { (time stamp : ℕ) → 2 ^ 59 ≤ time → stamp < 2 ^ 59
+        → time ≤ stamped time stamp }
+    ensures nearest { (time stamp : ℕ) → 2 ^ 59 ≤ time → stamp < 2 ^ 59
+        → stamped time stamp < time + 2 ^ 59 }
 {}
 
 /// A processor's items stay as they are, the key of each is the greatest time up to it, and the last key is that of the
 /// processor's cut.
 pub fn keys()
-    ensures kept { (cpu : ℕ) (items : List ItemData) → map (λ x. x.item) (keyed_from cpu 0 items) ≡ items }
+    ensures kept { (cpu : ℕ) (items : List ItemData)
+        → map (λ x. x.item) (keyed_from cpu 0 items) ≡ items }
     ensures greatest { (cpu : ℕ) (items : List ItemData) (i : ℕ) → i < length items
-        → slice_index (map key_of (keyed_from cpu 0 items)) i ≡ fold max 0 (map item_time (take (i + 1) items)) }
+        → slice_index (map key_of (keyed_from cpu 0 items)) i
+        ≡ fold max 0 (map item_time (take (i + 1) items)) }
     ensures last { (cpu : ℕ) (items : List ItemData)
         → last_or None (map key_of (keyed_from cpu 0 items)) ≡ last_key items }
 {}
 
 /// Items of processors whose numbers rise have exactly one arrangement, and it is `arranged`.
 pub fn one_arrangement()
-    ensures arranged { (lists : List (ℕ × List ItemData)) → CpusRise lists → IsArranged lists (arranged lists) }
+    ensures arranged { (lists : List (ℕ × List ItemData))
+        → CpusRise lists → IsArranged lists (arranged lists) }
     ensures one { (lists : List (ℕ × List ItemData)) (xs : List Keyed)
         → CpusRise lists → IsArranged lists xs → xs ≡ arranged lists }
 {}
@@ -65,6 +70,7 @@ pub fn reached_items()
         → reached_of layout file parts
         ≡ take_while (is_up_to (cut_of layout file parts)) (arranged (lists_of layout file parts)) }
     ensures own { (layout : Layout) (file : List ℕ) (parts : List (ℕ × Part)) → CpusRise parts
-        → IfSome (cut_of layout file parts) (λ cut. with_key cpu_of cut.cpu (reached_of layout file parts)
+        → IfSome (cut_of layout file parts) (λ cut.
+        with_key cpu_of cut.cpu (reached_of layout file parts)
         ≡ with_key cpu_of cut.cpu (all_keyed (lists_of layout file parts))) }
 {}

@@ -1,7 +1,10 @@
 //! Sub-pages written out byte by byte.
 
-ghost use Rattle.std.specs.Prelude.{◌≡◌, ◌≤◌, ◌⊎◌, length, IfOk};
+ghost use Rattle.std.specs.Prelude.{◌≡◌, ◌≤◌, List, [], ◌∷◌, ℕ, length, map, filter, Some, None, IfOk};
 ghost use Rattle.trace_base.specs.Layout.{IsLayout};
+ghost use Rattle.subpage.specs.Arrangement.{Keyed, cpu_of, arranged};
+ghost use Rattle.subpage.specs.Cut.{Cut, is_up_to};
+ghost use Rattle.subpage.specs.ItemData.{ItemData, LossAt, item_time};
 
 use crate::item::Item;
 use crate::page::{Page, check_page};
@@ -288,3 +291,24 @@ fn malformed_pages(rt: HostRuntime) -> Result<(), Fail> {
     }
     Ok(())
 }
+
+// Two processors, of which the first goes back in time: its key does not fall, and at one key the lower processor comes
+// first.
+#[tactic(auto, unfolding(crate::specs::Arrangement::arranged))]
+fn arranges_by_key_then_processor()
+    ensures { let first = LossAt 5 None ∷ LossAt 3 None ∷ [] in
+        let second = LossAt 4 None ∷ LossAt 5 None ∷ [] in
+        map (λ (x : Keyed). item_time x.item) (arranged ((0, first) ∷ (1, second) ∷ []))
+        ≡ 4 ∷ 5 ∷ 3 ∷ 5 ∷ [] }
+{}
+
+// Items at 10 and 30 beside one at 20, behind which the second sub-page of processor 1 is malformed.
+#[tactic(auto, unfolding(crate::specs::Arrangement::arranged))]
+fn reaches_the_cut()
+    ensures { let first = LossAt 10 None ∷ LossAt 30 None ∷ [] in
+        let second = LossAt 20 None ∷ [] in
+        let cut : Cut = record { key = Some 20; cpu = 1; page = 1 } in
+        map (λ (x : Keyed). item_time x.item)
+        (filter (is_up_to (Some cut)) (arranged ((0, first) ∷ (1, second) ∷ [])))
+        ≡ 10 ∷ 20 ∷ [] }
+{}
