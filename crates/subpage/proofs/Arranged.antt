@@ -1,5 +1,5 @@
 -- The one arrangement of processors' items.
-use Rattle.std.proofs.Common.{◌≡◌, ℕ, ◌<◌, ◌≤◌, max, true, eqb, List, [], ◌∷◌, ◌++◌, refl, sym, ap, subst, ◌∙◌, arith, inl, inr}
+use Rattle.std.proofs.Common.{◌≡◌, ℕ, ◌<◌, ◌≤◌, max, eqb, List, [], ◌∷◌, ◌++◌, refl, sym, ap, subst, ◌∙◌, arith, inl, inr}
 use Rattle.std.proofs.lemmas.Bool.{cases_Bool, eqb-true, eqb-false}
 use Rattle.std.proofs.lemmas.List.{append-nil}
 use Rattle.subpage.specs.ItemData.{ItemData, item_time}
@@ -10,30 +10,31 @@ use Rattle.subpage.proofs.Filters.{filter-filter, filter-append, filter-rising}
 abbrev Lists : Type 0
 Lists = List (ℕ × List ItemData)
 
--- no processor is below c, or at it
-abbrev FromOn : ℕ → Lists → Type 0
-FromOn c [] = Unit {0}
-FromOn c (p ∷ ps) = c ≤ p.0
+module _ {X : Type 0} where
+  -- no processor is below c, or at it
+  abbrev FromOn : ℕ → List (ℕ × X) → Type 0
+  FromOn c [] = Unit {0}
+  FromOn c (p ∷ ps) = c ≤ p.0
 
-abbrev Above : ℕ → Lists → Type 0
-Above c [] = Unit {0}
-Above c (p ∷ ps) = c < p.0
+  abbrev pub Above : ℕ → List (ℕ × X) → Type 0
+  Above c [] = Unit {0}
+  Above c (p ∷ ps) = c < p.0
 
-above_next : (p : ℕ × List ItemData) (ps : Lists) → CpusRise (p ∷ ps) → Above p.0 ps
-above_next p [] r = tt
-above_next p (q ∷ qs) r = r.0
+  pub above_next : (p : ℕ × X) (ps : List (ℕ × X)) → CpusRise (p ∷ ps) → Above p.0 ps
+  above_next p [] r = tt
+  above_next p (q ∷ qs) r = r.0
 
-rise_next : (p : ℕ × List ItemData) (ps : Lists) → CpusRise (p ∷ ps) → CpusRise ps
-rise_next p [] r = tt
-rise_next p (q ∷ qs) r = r.1
+  pub rise_next : (p : ℕ × X) (ps : List (ℕ × X)) → CpusRise (p ∷ ps) → CpusRise ps
+  rise_next p [] r = tt
+  rise_next p (q ∷ qs) r = r.1
 
-from_above : (c : ℕ) (ps : Lists) → Above c ps → FromOn c ps
-from_above c [] a = tt
-from_above c (p ∷ ps) a = omega arith
+  from_above : (c : ℕ) (ps : List (ℕ × X)) → Above c ps → FromOn c ps
+  from_above c [] a = tt
+  from_above c (p ∷ ps) a = omega arith
 
-above_further : (c : ℕ) (p : ℕ × List ItemData) (ps : Lists) → c < p.0 → CpusRise (p ∷ ps) → Above c ps
-above_further c p [] lt r = tt
-above_further c p (q ∷ qs) lt r = omega (arith, r.0)
+  pub above_further : (c : ℕ) (p : ℕ × X) (ps : List (ℕ × X)) → c < p.0 → CpusRise (p ∷ ps) → Above c ps
+  above_further c p [] lt r = tt
+  above_further c p (q ∷ qs) lt r = omega (arith, r.0)
 
 -- a list that rises by processor from c on
 abbrev HeadFrom : ℕ → List Keyed → Type 0
@@ -106,20 +107,27 @@ keys_rise c high (x ∷ xs) =
     let first : Keyed = record { key = max high (item_time x); cpu = c; item = x } in
     record { rising = key_front first (keyed_from c (max high (item_time x)) xs) (keys_rise c (max high (item_time x)) xs); head = omega arith }
 
+-- the items of the first processor, and of any other
+pub with_cpu-own : (p : ℕ × List ItemData) (ps : Lists) → CpusRise (p ∷ ps) → with_key cpu_of p.0 (all_keyed (p ∷ ps)) ≡ keyed_from p.0 0 p.1
+with_cpu-own p ps r =
+    filter-append (λ x. eqb (cpu_of x) p.0) (keyed_from p.0 0 p.1) (all_keyed ps)
+    ∙ ap (λ (xs : List Keyed). xs ++ with_key cpu_of p.0 (all_keyed ps)) (own_with_cpu p.0 0 p.1)
+    ∙ ap (λ (xs : List Keyed). keyed_from p.0 0 p.1 ++ xs) (none_above p.0 ps (above_next p ps r) (rise_next p ps r))
+    ∙ append-nil _
+
+pub with_cpu-other : (c : ℕ) (p : ℕ × List ItemData) (ps : Lists) → (p.0 ≡ c → ⊥) → with_key cpu_of c (all_keyed (p ∷ ps)) ≡ with_key cpu_of c (all_keyed ps)
+with_cpu-other c p ps differ =
+    filter-append (λ x. eqb (cpu_of x) c) (keyed_from p.0 0 p.1) (all_keyed ps)
+    ∙ ap (λ (xs : List Keyed). xs ++ with_key cpu_of c (all_keyed ps)) (other_with_cpu p.0 c 0 p.1 differ)
+
 own_keys_rise : (c : ℕ) (ps : Lists) → CpusRise ps → IsRising key_of (with_key cpu_of c (all_keyed ps))
 own_keys_rise c [] r = tt
 own_keys_rise c (p ∷ ps) r =
-    let parts = filter-append (λ x. eqb (cpu_of x) c) (keyed_from p.0 0 p.1) (all_keyed ps) in
     elim (cases_Bool (eqb p.0 c)) [
       | inl b ↦
-          let here : p.0 ≡ c = eqb-true _ _ b in
-          let own : with_key cpu_of c (keyed_from p.0 0 p.1) ≡ keyed_from p.0 0 p.1 = ap (λ d. with_key cpu_of d (keyed_from p.0 0 p.1)) (sym here) ∙ own_with_cpu p.0 0 p.1 in
-          let behind : with_key cpu_of c (all_keyed ps) ≡ [] = ap (λ d. with_key cpu_of d (all_keyed ps)) (sym here) ∙ none_above p.0 ps (above_next p ps r) (rise_next p ps r) in
-          let whole : with_key cpu_of c (all_keyed (p ∷ ps)) ≡ keyed_from p.0 0 p.1 = parts ∙ ap (λ (xs : List Keyed). xs ++ with_key cpu_of c (all_keyed ps)) own ∙ ap (λ (xs : List Keyed). keyed_from p.0 0 p.1 ++ xs) behind ∙ append-nil _ in
-          subst (IsRising key_of) (sym whole) (keys_rise p.0 0 p.1).rising
-      | inr b ↦
-          let whole : with_key cpu_of c (all_keyed (p ∷ ps)) ≡ with_key cpu_of c (all_keyed ps) = parts ∙ ap (λ (xs : List Keyed). xs ++ with_key cpu_of c (all_keyed ps)) (other_with_cpu p.0 c 0 p.1 (eqb-false _ _ b)) in
-          subst (IsRising key_of) (sym whole) (own_keys_rise c ps (rise_next p ps r))
+          let own : with_key cpu_of p.0 (all_keyed (p ∷ ps)) ≡ keyed_from p.0 0 p.1 = with_cpu-own p ps r in
+          subst (λ d. IsRising key_of (with_key cpu_of d (all_keyed (p ∷ ps)))) (eqb-true _ _ b) (subst (IsRising key_of) (sym own) (keys_rise p.0 0 p.1).rising)
+      | inr b ↦ subst (IsRising key_of) (sym (with_cpu-other c p ps (eqb-false _ _ b))) (own_keys_rise c ps (rise_next p ps r))
     ]
 
 -- those of a key and a processor, in either order of asking
@@ -134,9 +142,9 @@ arranged_is lists r =
       by_keys = by_key-rising key_of all;
       by_processors = λ k. subst (IsRising cpu_of) (sym (by_key-with_key key_of k all)) (filter-rising cpu_of (λ x. eqb (key_of x) k) all (all_rise lists r));
       by_positions = λ c. one_rising key_of (with_key cpu_of c (by_key key_of all)) (with_key cpu_of c all)
-        (filter-rising key_of (λ x. eqb (cpu_of x) c) (by_key key_of all) (by_key-rising key_of all))
-        (own_keys_rise c lists r)
-        (λ z. sym (both z.key c (by_key key_of all)) ∙ ap (with_key cpu_of c) (by_key-with_key key_of z.key all) ∙ both z.key c all);
+          (filter-rising key_of (λ x. eqb (cpu_of x) c) (by_key key_of all) (by_key-rising key_of all))
+          (own_keys_rise c lists r)
+          (λ z. sym (both z.key c (by_key key_of all)) ∙ ap (with_key cpu_of c) (by_key-with_key key_of z.key all) ∙ both z.key c all);
     }
 
 -- those of one key are the same in any arrangement

@@ -1,5 +1,5 @@
 -- The keys of a processor's items.
-use Rattle.std.proofs.Common.{◌≡◌, ℕ, suc, zero, ◌+◌, ◌<◌, max, List, [], ◌∷◌, map, length, take, Some, None, refl, sym, ap, ◌∙◌, arith}
+use Rattle.std.proofs.Common.{◌≡◌, ℕ, suc, zero, ◌+◌, ◌<◌, max, List, [], ◌∷◌, map, length, take, Some, None, refl, ap, ◌∙◌, arith}
 use Rattle.std.specs.Prelude.{slice_index}
 use Rattle.std.specs.List.{fold, last_or}
 use Rattle.subpage.specs.ItemData.{ItemData, item_time}

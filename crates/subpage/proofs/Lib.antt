@@ -13,3 +13,4 @@ pub mod Stamping
 pub mod Keys
 pub mod Cuts
 pub mod Reaching
+pub mod OwnReached

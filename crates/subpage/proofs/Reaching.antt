@@ -1,13 +1,11 @@
 -- The items up to a cut are the first of the arranged ones.
-use Rattle.std.proofs.Common.{◌≡◌, ℕ, ◌<◌, ◌≤◌, Bool, true, false, cond, ◌&&◌, ◌||◌, ltb, leb, eqb, List, [], ◌∷◌, map, Option, Some, None, refl, sym, ap, subst, ◌∙◌, ◌⊎◌, inl, inr, arith}
+use Rattle.std.proofs.Common.{◌≡◌, ℕ, ◌<◌, ◌≤◌, Bool, true, false, cond, ◌&&◌, ◌||◌, ltb, leb, eqb, List, [], ◌∷◌, Option, Some, None, refl, sym, ap, subst, ◌∙◌, ◌⊎◌, inl, inr, arith}
 use Rattle.std.specs.List.{filter, take_while}
-use Rattle.std.proofs.lemmas.Bool.{ltb-true, ltb-false, leb-true, eqb-true, eqb-false, eq-eqb, ne_eqb, lt-ltb, le-ltb, le-leb, cases_Bool, cases_order}
+use Rattle.std.proofs.lemmas.Bool.{leb-true, eqb-true, eqb-false, eq-eqb, ne_eqb, lt-ltb, le-ltb, le-leb, cases_Bool, cases_order}
 use Rattle.std.proofs.lemmas.List.Sums.{take_while-cons}
 use Rattle.trace_base.specs.declared.layout.Layout.{Layout}
 use Rattle.trace_base.specs.declared.part.Part.{Part}
-use Rattle.subpage.specs.ItemData.{ItemData}
-use Rattle.subpage.specs.Processor.{list_of}
-use Rattle.subpage.specs.Arrangement.{Keyed, key_of, cpu_of, CpusRise, IsRising, with_key, IsArranged, arranged}
+use Rattle.subpage.specs.Arrangement.{Keyed, key_of, cpu_of, CpusRise, IsRising, with_key, arranged}
 use Rattle.subpage.specs.Cut.{Cut, is_up_to, cut_of, lists_of, reached_of}
 use Rattle.subpage.proofs.Arranging.{rising_tail, with_key-same, with_key-other}
 use Rattle.subpage.proofs.Filters.{filter-yes, filter-not}
@@ -17,10 +15,10 @@ use Rattle.subpage.proofs.Arranged.{arranged_is}
 abbrev NotAfter : Keyed → Keyed → Type 0
 NotAfter x y = (x.key < y.key) ⊎ ((x.key ≡ y.key) × (x.cpu ≤ y.cpu))
 
-abbrev reaches : ℕ → ℕ → ℕ → ℕ → Bool
+abbrev pub reaches : ℕ → ℕ → ℕ → ℕ → Bool
 reaches x c y d = ltb x y || (eqb x y && leb c d)
 
-reaches-true : (x c y d : ℕ) → (x < y) ⊎ ((x ≡ y) × (c ≤ d)) → reaches x c y d ≡ true
+pub reaches-true : (x c y d : ℕ) → (x < y) ⊎ ((x ≡ y) × (c ≤ d)) → reaches x c y d ≡ true
 reaches-true x c y d p = elim p [
   | inl lt ↦ let a : ltb x y ≡ true = lt-ltb _ _ lt in rw a refl
   | inr q ↦
@@ -79,7 +77,7 @@ ordered_front : (x y : Keyed) (ys : List Keyed) → Ordered (x ∷ y ∷ ys) →
 ordered_front x y ys o = elim (cases_order x.key y.key) [
   | inl e ↦
       let both : with_key key_of x.key (x ∷ y ∷ ys) ≡ x ∷ y ∷ with_key key_of x.key ys =
-        with_key-same key_of x (y ∷ ys) x.key refl ∙ ap (λ (zs : List Keyed). x ∷ zs) (with_key-same key_of y ys x.key (sym e)) in
+      with_key-same key_of x (y ∷ ys) x.key refl ∙ ap (λ (zs : List Keyed). x ∷ zs) (with_key-same key_of y ys x.key (sym e)) in
       let rising : IsRising cpu_of (x ∷ y ∷ with_key key_of x.key ys) = subst (IsRising cpu_of) both (o.by_processors x.key) in
       inr (e, rising.0)
   | inr d ↦ elim d [
@@ -105,7 +103,7 @@ first_ones cut (x ∷ xs) o = elim (cases_Bool (is_up_to cut x)) [
   | inr f ↦ filter-not (is_up_to cut) x xs f ∙ none_behind cut x xs o f ∙ ap (λ b. if_up_to b x (take_while (is_up_to cut) xs)) (sym f) ∙ sym (take_while-cons (is_up_to cut) x xs)
 ]
 
-lists_rise : (layout : Layout) (file : List ℕ) (parts : List (ℕ × Part)) → CpusRise parts → CpusRise (lists_of layout file parts)
+pub lists_rise : (layout : Layout) (file : List ℕ) (parts : List (ℕ × Part)) → CpusRise parts → CpusRise (lists_of layout file parts)
 lists_rise layout file [] r = tt
 lists_rise layout file (p ∷ []) r = tt
 lists_rise layout file (p ∷ q ∷ ps) r = (r.0, lists_rise layout file (q ∷ ps) r.1)

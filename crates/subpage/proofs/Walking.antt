@@ -4,7 +4,7 @@ use Rattle.std.specs.Option.{option_map}
 use Rattle.std.proofs.lemmas.Bool.{lt-ltb, le-ltb, ltb-true, ltb-false}
 use Rattle.trace_base.specs.declared.order.Order.{Order}
 use Rattle.subpage.specs.Element.{ElementData, Event, End, Discarded, Extend, Stamp}
-use Rattle.subpage.specs.RunningTime.{time_after, in_time}
+use Rattle.subpage.specs.RunningTime.{in_64_bits, in_time, time_after}
 use Rattle.subpage.specs.ItemData.{ItemData, told_by, events}
 use Rattle.subpage.specs.Reading.{◌>>=◌, element_at, elements, walk}
 use Rattle.subpage.proofs.Elements.{elements_nil, elements_step, elements_none, shrinks}
@@ -41,9 +41,6 @@ walk_late : (order : Order) (time : ℕ) (bytes : List ℕ) (e : ElementData) (r
 unfolding walk
 walk_late order time bytes e rest h le = ap (told time) (elements_step order bytes e rest h) ∙ told_late time e (elements order rest) (le-ltb _ _ le)
 
-abbrev timed : ℕ → ElementData → Option ℕ
-timed time e = cond (ltb (time_after time e) (2 ^ 64)) (Some (time_after time e)) None
-
 abbrev read : ElementData → List ℕ → Option (ElementData × List ℕ)
 read e rest = Some (e, rest)
 
@@ -56,7 +53,7 @@ none_timed true n e = absurd cc
 none_timed false n e = refl
 
 -- a turn that found an element and its time
-pub goes_on : (order : Order) (time : ℕ) (bytes : List ℕ) (e : ElementData) (rest : List ℕ) (after : ℕ) → read e rest ≡ element_at order bytes → Some after ≡ timed time e
+pub goes_on : (order : Order) (time : ℕ) (bytes : List ℕ) (e : ElementData) (rest : List ℕ) (after : ℕ) → read e rest ≡ element_at order bytes → Some after ≡ in_64_bits (time_after time e)
     → (walk order time bytes ≡ option_map (λ xs. told_by after e ++ xs) (walk order after rest)) × (length rest < length bytes)
 goes_on order time bytes e rest after h k =
     let t = some_timed (ltb (time_after time e) (2 ^ 64)) (time_after time e) after k in
@@ -64,7 +61,7 @@ goes_on order time bytes e rest after h k =
     (subst (λ (n : ℕ). walk order time bytes ≡ option_map (λ xs. told_by n e ++ xs) (walk order n rest)) t.1 (walk_step order time bytes e rest (sym h) (ltb-true _ _ t.0)), omega arith)
 
 -- a turn that found no time
-pub too_late : (order : Order) (time : ℕ) (bytes : List ℕ) (e : ElementData) (rest : List ℕ) → read e rest ≡ element_at order bytes → None ≡ timed time e → walk order time bytes ≡ None
+pub too_late : (order : Order) (time : ℕ) (bytes : List ℕ) (e : ElementData) (rest : List ℕ) → read e rest ≡ element_at order bytes → None ≡ in_64_bits (time_after time e) → walk order time bytes ≡ None
 too_late order time bytes e rest h k = walk_late order time bytes e rest (sym h) (ltb-false _ _ (none_timed (ltb (time_after time e) (2 ^ 64)) (time_after time e) k))
 
 abbrev pub IsEvent : ElementData → Type 0

@@ -42,28 +42,29 @@ pub record IsFirstWord (order : Order) (bytes : List ℕ) (kind delta : ℕ) : T
 -- The table of elements: the bytes spell the element.
 pub data Row (order : Order) : ElementData → List ℕ → Type 0 where
   short_event : (first payload : List ℕ) (kind delta : ℕ)
-    → IsFirstWord order first kind delta → 1 ≤ kind → kind ≤ 28 → length payload ≡ 4 * kind
-    → Row order (Event delta payload) (first ++ payload)
+      → IsFirstWord order first kind delta → 1 ≤ kind → kind ≤ 28 → length payload ≡ 4 * kind
+      → Row order (Event delta payload) (first ++ payload)
   long_event : (first next payload padding : List ℕ) (delta n : ℕ)
-    → IsFirstWord order first 0 delta → IsWord order next n → 4 ≤ n
-    → length payload ≡ n - 4 → length (payload ++ padding) ≡ round4 n - 4
-    → Row order (Event delta payload) (first ++ (next ++ (payload ++ padding)))
+      → IsFirstWord order first 0 delta → IsWord order next n → 4 ≤ n
+      → length payload ≡ n - 4 → length (payload ++ padding) ≡ round4 n - 4
+      → Row order (Event delta payload) (first ++ (next ++ (payload ++ padding)))
   end : (first padding : List ℕ)
-    → IsFirstWord order first 29 0
-    → Row order End (first ++ padding)
+      → IsFirstWord order first 29 0
+      → Row order End (first ++ padding)
   discarded : (first next content : List ℕ) (delta n : ℕ)
-    → IsFirstWord order first 29 delta → 0 < delta → IsWord order next n → 4 ≤ n → length content ≡ round4 n - 4
-    → Row order (Discarded delta) (first ++ (next ++ content))
+      → IsFirstWord order first 29 delta → 0 < delta → IsWord order next n → 4 ≤ n
+      → length content ≡ round4 n - 4
+      → Row order (Discarded delta) (first ++ (next ++ content))
   extend : (first next : List ℕ) (low high : ℕ)
-    → IsFirstWord order first 30 low → IsWord order next high
-    → Row order (Extend (low + high * 2 ^ 27)) (first ++ next)
+      → IsFirstWord order first 30 low → IsWord order next high
+      → Row order (Extend (low + high * 2 ^ 27)) (first ++ next)
   stamp : (first next : List ℕ) (low high : ℕ)
-    → IsFirstWord order first 31 low → IsWord order next high → low + high * 2 ^ 27 < 2 ^ 59
-    → Row order (Stamp (low + high * 2 ^ 27)) (first ++ next)
+      → IsFirstWord order first 31 low → IsWord order next high → low + high * 2 ^ 27 < 2 ^ 59
+      → Row order (Stamp (low + high * 2 ^ 27)) (first ++ next)
 
 -- The bytes are the rows of the elements, one after another, and an end stands only last.
 pub data Spelled (order : Order) : List ElementData → List ℕ → Type 0 where
   nothing : Spelled order [] []
   begins_with : (element : ElementData) (others : List ElementData) (front back : List ℕ)
-    → Row order element front → (element ≡ End → others ≡ []) → Spelled order others back
-    → Spelled order (element ∷ others) (front ++ back)
+      → Row order element front → (element ≡ End → others ≡ []) → Spelled order others back
+      → Spelled order (element ∷ others) (front ++ back)

@@ -1,4 +1,6 @@
 -- An element that borrows its payload, as plain data.
+use Rattle.std.specs.Prelude.{ℕ, List}
+use denote.Ref.{Bor}
 use Rattle.subpage.specs.declared.element.Element.{Element}
 use Rattle.subpage.specs.declared.element.Element.TheVariants as code
 use Rattle.subpage.specs.Element.{ElementData, Event, End, Discarded, Extend, Stamp}
@@ -9,3 +11,7 @@ element_view code.End = End
 element_view (code.Discarded delta) = Discarded delta
 element_view (code.Extend delta) = Extend delta
 element_view (code.Stamp time) = Stamp time
+
+-- an element, and the bytes behind it
+abbrev pub split_view : Element × Bor (List ℕ) → ElementData × List ℕ
+split_view x = (element_view x.0, x.1.now)

@@ -1,10 +1,11 @@
 -- The items that a sub-page tells, as plain data.
-use Rattle.std.specs.Prelude.{ℕ, List, [], ◌∷◌, map, Option, Some, None, option_map}
+use Rattle.std.specs.Prelude.{ℕ, List, [], ◌∷◌, map, Option, Some, None}
 use Rattle.std.specs.List.{flat_map, zip, last_or}
 use Rattle.subpage.specs.Element.{ElementData, Event, End, Discarded, Extend, Stamp}
 use Rattle.subpage.specs.RunningTime.{running_times}
 
--- An event at a time in nanoseconds with the bytes of its payload, or a loss with the number of events, if that is told.
+-- An event with the bytes of its payload, or a loss with the number of lost events, if that is told. Times are in
+-- nanoseconds.
 pub data ItemData : Type 0 where
   EventAt : (time : ℕ) (payload : List ℕ) → ItemData
   LossAt : (time : ℕ) (count : Option ℕ) → ItemData

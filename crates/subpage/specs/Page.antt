@@ -23,7 +23,7 @@ commit_word layout page = long_at_front layout (drop layout.commit_at page)
 abbrev pub data_area : Layout → List ℕ → List ℕ
 data_area layout page = drop layout.data_at page
 
--- the parts of a commit word: the number of committed bytes, whether events were missed, and whether their number is stored
+-- the parts of a commit word: the number of committed bytes, whether events were missed, whether their number is stored
 abbrev pub committed_size : ℕ → ℕ
 committed_size word = word % 2 ^ 27
 
@@ -64,4 +64,5 @@ pub record AreItems (layout : Layout) (page : List ℕ) (items : List ItemData) 
 unfoldable pub items : Layout → List ℕ → Option (List ItemData)
 items layout page =
     if nat_lt (length (data_area layout page)) (committed_size (commit_word layout page)) then None
-    else option_map (λ xs. page_losses layout page ++ xs) (walk layout.order (timestamp layout page) (committed layout page))
+    else option_map (λ xs. page_losses layout page ++ xs)
+    (walk layout.order (timestamp layout page) (committed layout page))

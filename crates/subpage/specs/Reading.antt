@@ -19,8 +19,8 @@ unfoldable pub counted_at : Order → List ℕ → Option (ℕ × List ℕ × Li
 counted_at order bytes = do
   n ← word_at order bytes
   if nat_lt n.0 4 then None
-    else (if nat_lt (length n.1) (round4 n.0 - 4) then None
-    else Some (n.0, take (round4 n.0 - 4) n.1, drop (round4 n.0 - 4) n.1))
+      else (if nat_lt (length n.1) (round4 n.0 - 4) then None
+      else Some (n.0, take (round4 n.0 - 4) n.1, drop (round4 n.0 - 4) n.1))
 
 unfoldable pub short_event_at : ℕ → ℕ → List ℕ → Option (ElementData × List ℕ)
 short_event_at kind delta bytes =

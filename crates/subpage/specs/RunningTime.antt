@@ -1,7 +1,7 @@
 -- The running time over the elements of a sub-page.
 -- Source: the kernel's ring_buffer.h (time extends and absolute stamps of 59 bits) and events.rst. That a stamp takes
 -- over the upper five bits of the running time is a choice of this project: a stamp has no room for them.
-use Rattle.std.specs.Prelude.{ℕ, ◌+◌, ◌-◌, ◌%◌, ◌^◌, Bool, nat_lt, nat_le, ◌==◌, if◌then◌else◌, List, [], ◌∷◌}
+use Rattle.std.specs.Prelude.{ℕ, ◌+◌, ◌-◌, ◌%◌, ◌^◌, Bool, nat_lt, nat_le, ◌==◌, if◌then◌else◌, List, [], ◌∷◌, Option, Some, None}
 use Rattle.std.specs.List.{list_all}
 use Rattle.subpage.specs.Element.{ElementData, Event, End, Discarded, Extend, Stamp}
 
@@ -29,6 +29,10 @@ abbrev pub running_times : ℕ → List ElementData → List ℕ
 running_times time [] = []
 running_times time (e ∷ es) = time_after time e ∷ running_times (time_after time e) es
 
--- none of them reaches 2^64
+-- a time that is below 2^64
+abbrev pub in_64_bits : ℕ → Option ℕ
+in_64_bits time = if nat_lt time (2 ^ 64) then Some time else None
+
+-- none of the running times reaches 2^64
 abbrev pub in_time : ℕ → List ElementData → Bool
 in_time time es = list_all (λ t. nat_lt t (2 ^ 64)) (running_times time es)

@@ -18,6 +18,8 @@ mod page;
 mod reading;
 mod running_time;
 mod summary;
+#[cfg(test)]
+mod tests;
 
 pub use item::Item;
 pub use items::Items;

@@ -17,6 +17,7 @@ const SIZE_MASK: u64 = (1 << 27) - 1;
 /// The bit that tells a loss, and the bit that tells a stored number (the kernel's `RB_MISSED_EVENTS` and
 /// `RB_MISSED_STORED`).
 const MISSED_BIT: u32 = 31;
+
 const STORED_BIT: u32 = 30;
 
 /// A well-formed sub-page. A contract sees it as the list of its items.
@@ -82,8 +83,9 @@ fn loss_of(layout: &Layout, word: u64, time: u64, behind: &[u8]) -> Option<Loss>
     }
 }
 
-/// The sub-page that the bytes are, or `None` where it is malformed: where more bytes are committed than its data area
-/// has, where no elements spell them, or where a running time would be 2^64 or more.
+/// The sub-page that these `layout.page` bytes are (trace-cmd.dat.v6(5); the kernel's `struct buffer_data_page`), or `None`
+/// where it is malformed: where more bytes are committed than its data area has, where no elements spell them, or where
+/// a running time would be 2^64 or more.
 ///
 /// Of the commit word the low 27 bits are the number of committed bytes, bit 31 tells a loss, and bit 30 beside it that
 /// the number of lost events stands behind the committed bytes; where it does not fit there the loss has no number. Bits

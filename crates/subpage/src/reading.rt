@@ -2,7 +2,7 @@
 
 ghost use Rattle.std.specs.Prelude.{◌≡◌, ◌-◌, ◌^◌, ◌<◌, ◌≤◌, IfSome, length, option_map};
 ghost use Rattle.subpage.specs.Element.{type_len, time_delta};
-ghost use Rattle.subpage.specs.ElementView.{element_view};
+ghost use Rattle.subpage.specs.ElementView.{split_view};
 ghost use Rattle.subpage.specs.Reading.{word_at, counted_at, short_event_at, long_event_at, discarded_at, extend_at, stamp_at, rest_at, element_at};
 
 use crate::element::Element;
@@ -10,6 +10,7 @@ use trace_base::{Order, read_u32};
 
 /// How many bits of a first word are its delta; the word behind it goes on above them.
 const DELTA_BITS: u32 = 27;
+
 const DELTA_MASK: u32 = (1 << DELTA_BITS) - 1;
 
 fn type_len_of(order: Order, word: u32) -> u32
@@ -64,7 +65,7 @@ fn split_counted(order: Order, bytes: &[u8]) -> Option<(u32, &[u8], &[u8])>
 #[tactic(auto, unfolding(crate::specs::Reading::short_event_at))]
 fn split_short_event(kind: u32, delta: u32, bytes: &[u8]) -> Option<(Element<'_>, &[u8])>
     requires { kind < 32 }
-    ensures { option_map (λ x. (element_view x.0, x.1.now)) result ≡ short_event_at kind delta bytes.now }
+    ensures { option_map split_view result ≡ short_event_at kind delta bytes.now }
 {
     let len = 4 * kind as usize;
     if bytes.len() < len {
@@ -76,7 +77,7 @@ fn split_short_event(kind: u32, delta: u32, bytes: &[u8]) -> Option<(Element<'_>
 
 #[tactic(auto, unfolding(crate::specs::Reading::long_event_at))]
 fn split_long_event(order: Order, delta: u32, bytes: &[u8]) -> Option<(Element<'_>, &[u8])>
-    ensures { option_map (λ x. (element_view x.0, x.1.now)) result ≡ long_event_at order delta bytes.now }
+    ensures { option_map split_view result ≡ long_event_at order delta bytes.now }
 {
     let (len, counted, rest) = split_counted(order, bytes)?;
     let payload = &counted[..len as usize - 4];
@@ -85,7 +86,7 @@ fn split_long_event(order: Order, delta: u32, bytes: &[u8]) -> Option<(Element<'
 
 #[tactic(auto, unfolding(crate::specs::Reading::discarded_at))]
 fn split_discarded(order: Order, delta: u32, bytes: &[u8]) -> Option<(Element<'_>, &[u8])>
-    ensures { option_map (λ x. (element_view x.0, x.1.now)) result ≡ discarded_at order delta bytes.now }
+    ensures { option_map split_view result ≡ discarded_at order delta bytes.now }
 {
     let (_, _, rest) = split_counted(order, bytes)?;
     Some((Element::Discarded { delta }, rest))
@@ -93,7 +94,7 @@ fn split_discarded(order: Order, delta: u32, bytes: &[u8]) -> Option<(Element<'_
 
 #[tactic(auto, unfolding(crate::specs::Reading::extend_at))]
 fn split_extend(order: Order, low: u32, bytes: &[u8]) -> Option<(Element<'_>, &[u8])>
-    ensures { option_map (λ x. (element_view x.0, x.1.now)) result ≡ extend_at order low bytes.now }
+    ensures { option_map split_view result ≡ extend_at order low bytes.now }
 {
     let (high, rest) = split_word(order, bytes)?;
     let delta = u64::from(low) + (u64::from(high) << DELTA_BITS);
@@ -103,7 +104,7 @@ fn split_extend(order: Order, low: u32, bytes: &[u8]) -> Option<(Element<'_>, &[
 #[tactic(auto, unfolding(crate::specs::Reading::stamp_at))]
 fn split_stamp(order: Order, low: u32, bytes: &[u8]) -> Option<(Element<'_>, &[u8])>
     requires { low < 2 ^ 27 }
-    ensures { option_map (λ x. (element_view x.0, x.1.now)) result ≡ stamp_at order low bytes.now }
+    ensures { option_map split_view result ≡ stamp_at order low bytes.now }
 {
     let (high, rest) = split_word(order, bytes)?;
     let time = u64::from(low) + (u64::from(high) << DELTA_BITS);
@@ -115,7 +116,7 @@ fn split_stamp(order: Order, low: u32, bytes: &[u8]) -> Option<(Element<'_>, &[u
 fn split_rest(order: Order, kind: u32, delta: u32, bytes: &[u8]) -> Option<(Element<'_>, &[u8])>
     requires kind { kind < 32 }
     requires delta { delta < 2 ^ 27 }
-    ensures { option_map (λ x. (element_view x.0, x.1.now)) result ≡ rest_at order kind delta bytes.now }
+    ensures { option_map split_view result ≡ rest_at order kind delta bytes.now }
 {
     match kind {
         0 => split_long_event(order, delta, bytes),
@@ -131,7 +132,7 @@ fn split_rest(order: Order, kind: u32, delta: u32, bytes: &[u8]) -> Option<(Elem
 /// The element at the front.
 #[tactic(auto, unfolding(crate::specs::Reading::element_at))]
 pub fn split_element(order: Order, bytes: &[u8]) -> Option<(Element<'_>, &[u8])>
-    ensures { option_map (λ x. (element_view x.0, x.1.now)) result ≡ element_at order bytes.now }
+    ensures { option_map split_view result ≡ element_at order bytes.now }
 {
     let (word, after) = split_word(order, bytes)?;
     let kind = type_len_of(order, word);

@@ -1,6 +1,6 @@
-ghost use Rattle.std.specs.Prelude.{◌≡◌, ◌^◌, nat_lt, if◌then◌else◌};
+ghost use Rattle.std.specs.Prelude.{◌≡◌};
 ghost use Rattle.subpage.specs.ElementView.{element_view};
-ghost use Rattle.subpage.specs.RunningTime.{time_after, stamped};
+ghost use Rattle.subpage.specs.RunningTime.{in_64_bits, stamped, time_after};
 
 use crate::element::Element;
 
@@ -9,7 +9,7 @@ const STAMP_BITS: u32 = 59;
 
 /// The running time behind a stamp, where it is below 2^64.
 fn time_at_stamp(time: u64, stamp: u64) -> Option<u64>
-    ensures { result ≡ (if nat_lt (stamped time stamp) (2 ^ 64) then Some (stamped time stamp) else None) }
+    ensures { result ≡ in_64_bits (stamped time stamp) }
 {
     let upper = (time >> STAMP_BITS) << STAMP_BITS;
     if upper == 0 {
@@ -25,7 +25,7 @@ fn time_at_stamp(time: u64, stamp: u64) -> Option<u64>
 
 /// The running time behind an element, where it is below 2^64.
 pub fn time_behind(time: u64, element: &Element<'_>) -> Option<u64>
-    ensures { let after = time_after time (element_view element.now) in result ≡ (if nat_lt after (2 ^ 64) then Some after else None) }
+    ensures { result ≡ in_64_bits (time_after time (element_view element.now)) }
 {
     match *element {
         Element::Event { delta, .. } | Element::Discarded { delta } => {

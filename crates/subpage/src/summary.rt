@@ -35,7 +35,8 @@ fn summary_of_loss(loss: Option<Loss>) -> Summary
 /// The items in short, where the bytes can be read.
 pub fn summarize(loss: Option<Loss>, order: Order, start: u64, bytes: &[u8]) -> Option<Summary>
     requires { length bytes.now < 2 ^ 31 }
-    ensures { result ≡ option_map (λ xs. summary_of (loss_items loss ++ xs)) (walk order start bytes.now) }
+    ensures { result
+        ≡ option_map (λ xs. summary_of (loss_items loss ++ xs)) (walk order start bytes.now) }
 {
     let mut summary = summary_of_loss(loss);
     let mut time = start;
