@@ -1,0 +1,83 @@
+ghost use Rattle.std.specs.Prelude.{◌≡◌, ◌++◌, [], List, ℕ, IfOk, if◌then◌else◌};
+ghost use Rattle.std.specs.List.{flat_map};
+ghost use Rattle.trace_base.specs.Causes.{HasCause};
+ghost use Rattle.trace_base.specs.Pending.{Puts, Flushes};
+
+use crate::outside::{Failed, Sink};
+use crate::whole::write_all;
+use std::alloc::{AllocError, Global};
+use std::marker::Model;
+
+/// Text on its way to a sink, which gets it in large pieces. Contracts see what still waits.
+///
+/// Memory is taken at the start alone: from then on pieces go to room that is there, or past it to the sink.
+#[derive(Drop)]
+pub struct Pending {
+    bytes: Vec<u8>,
+}
+
+impl Model for Pending {
+    ghost Value = { List ℕ };
+
+    ghost view = { λ pending. pending.bytes.items };
+}
+
+impl Pending {
+    /// How many bytes may wait.
+    pub const ROOM: usize = 65_536;
+
+    /// Nothing waits.
+    pub fn new(alloc: Global) -> Result<Pending, AllocError>
+        ensures { IfOk result (λ pending. pending ≡ []) }
+    {
+        let bytes = Vec::with_capacity(alloc, Pending::ROOM)?;
+        Ok(Pending { bytes })
+    }
+
+    /// Puts a piece behind what waits. After `Failed` the sink has a prefix of all that was put.
+    pub fn put<O: Sink>(&mut self, out: &mut O, piece: &[u8]) -> Result<(), Failed>
+        ensures puts { Puts piece.now (O.written out.old) self.old (O.written out.new) self.new result }
+        ensures name { O.name out.new ≡ O.name out.old }
+        ensures cause { HasCause (O.faults out.old) (O.faults out.new) result }
+    {
+        if self.append(piece) {
+            return Ok(());
+        }
+        self.flush(out)?;
+        if self.append(piece) {
+            return Ok(());
+        }
+        write_all(out, piece)
+    }
+
+    // Lets the piece wait, where there is room for it.
+    fn append(&mut self, piece: &[u8]) -> bool
+        ensures { self.new ≡ (if result then self.old ++ piece.now else self.old) }
+    {
+        let room = Pending::ROOM.saturating_sub(self.bytes.len());
+        piece.len() <= room && self.bytes.extend_from_slice(piece).is_ok()
+    }
+
+    /// Puts pieces, one behind another.
+    pub fn put_parts<O: Sink>(&mut self, out: &mut O, parts: &[&[u8]]) -> Result<(), Failed>
+        ensures puts { Puts (flat_map (λ part. part.now) parts.now) (O.written out.old) self.old (O.written out.new) self.new result }
+        ensures name { O.name out.new ≡ O.name out.old }
+        ensures cause { HasCause (O.faults out.old) (O.faults out.new) result }
+    {
+        for part in parts {
+            self.put(out, part)?;
+        }
+        Ok(())
+    }
+
+    /// Writes all that waits. After `Failed` the sink has a prefix of it.
+    pub fn flush<O: Sink>(&mut self, out: &mut O) -> Result<(), Failed>
+        ensures flushes { Flushes (O.written out.old) self.old (O.written out.new) self.new result }
+        ensures name { O.name out.new ≡ O.name out.old }
+        ensures cause { HasCause (O.faults out.old) (O.faults out.new) result }
+    {
+        write_all(out, &self.bytes)?;
+        self.bytes.clear();
+        Ok(())
+    }
+}
