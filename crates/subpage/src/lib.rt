@@ -5,7 +5,7 @@
 //!
 //! The definitions go further than the code: `specs/` also says what the items of a whole processor are
 //! (`Processor.antt`), in which order those of several processors stand (`Arrangement.antt`), and where a malformed
-//! sub-page ends them (`Cut.antt`).
+//! sub-page ends them (`Cut.antt`). [`laws`] tells what these definitions come to.
 #![tactic(auto)]
 
 mod element;
