@@ -13,6 +13,8 @@ mod outside;
 mod part;
 mod pending;
 mod real;
+#[cfg(test)]
+mod tests;
 mod whole;
 mod words;
 

@@ -1,0 +1,11 @@
+pub mod Lines
+pub mod Said
+pub mod Copying
+pub mod Printing
+pub mod Latency
+pub mod PartsPrinted
+pub mod Endings
+pub mod LoadingLists
+pub mod LoadingPages
+pub mod Loading
+pub mod LoadingKeys

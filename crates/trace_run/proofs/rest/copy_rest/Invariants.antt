@@ -1,0 +1,19 @@
+use Rattle.std.proofs.Common.{◌≡◌, ◌≤◌, ◌<◌, ◌-◌, length}
+use Rattle.trace_base.specs.Causes.{raised}
+use Rattle.trace_run.specs.Rest.{Copied}
+use Rattle.trace_run.proofs.rest.copy_rest.Given as goal
+
+abbrev pub invariant-loop-place : goal.invariant-loop-place
+invariant-loop-place g l = record {
+  above : l.at ≤ l.place;
+  below : l.place ≤ g.F.File.size l.initial.file;
+  copied : Copied (g.F.File.bytes l.initial.file) l.at (l.place - l.at) (g.O.Sink.written l.initial.out) (g.O.Sink.written l.out);
+  reads : g.F.File.reads l.file ≤ raised (g.F.File.reads l.initial.file) (l.place - l.at);
+  bytes : g.F.File.bytes l.file ≡ g.F.File.bytes l.initial.file;
+  size : g.F.File.size l.file ≡ g.F.File.size l.initial.file;
+  later : g.F.File.faults l.initial.file ≤ g.F.File.faults l.file;
+  later_out : g.O.Sink.faults l.initial.out ≤ g.O.Sink.faults l.out;
+}
+
+abbrev pub decreases-loop-place : goal.decreases-loop-place
+decreases-loop-place g l = l.size - l.place

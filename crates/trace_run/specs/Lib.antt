@@ -1,0 +1,13 @@
+pub mod Text
+pub mod Line
+pub mod Commands
+pub mod Meaning
+pub mod Ending
+pub mod Causes
+pub mod Messages
+pub mod Reported
+pub mod Rest
+pub mod Printed
+pub mod Loaded
+pub mod LoadedKeys
+pub mod LoadedView

@@ -1,0 +1,58 @@
+-- The one line that a run says of an answer that is not Done.
+use Rattle.std.specs.Prelude.{Option, ◌≡◌, ℕ, List, [], ◌∷◌, codes}
+use Rattle.std.specs.Fmt.{decimal}
+use Rattle.dat_options.specs.declared.fault.OpenFault.{OpenFault}
+use Rattle.dat_options.specs.declared.fault.OpenFault.TheVariants.{NotTrace, Compressed, OtherVersion, BadEndian, BadLong, BadPageSize, BadHeaderPage, BadSection, Truncated, TooManyCpus, Read, Memory}
+use Rattle.trace_base.specs.Causes.{Rose}
+use Rattle.trace_base.specs.Writing.{Gained, GainedPrefix}
+use Rattle.trace_run.specs.declared.status.Status.{Status}
+use Rattle.trace_run.specs.declared.status.Status.TheVariants.{Done, Usage, Refused, Malformed, ReadFault, WriteFault, NoMemory}
+use Rattle.trace_run.specs.Text.{text}
+use Rattle.trace_run.specs.Commands.{input_of, command_of}
+
+abbrev pub fault_text : OpenFault → List ℕ
+fault_text (NotTrace place) = codes "not a trace file"
+fault_text (Compressed place) = codes "version 7 is not read"
+fault_text (OtherVersion place) = codes "unknown version"
+fault_text (BadEndian place) = codes "bad byte order"
+fault_text (BadLong place) = codes "bad long size"
+fault_text (BadPageSize place) = codes "bad page size"
+fault_text (BadHeaderPage place) = codes "bad header_page"
+fault_text (BadSection place) = codes "bad section"
+fault_text (Truncated place) = codes "file ends early"
+fault_text (TooManyCpus place) = codes "too many processors"
+fault_text Read = []
+fault_text Memory = []
+
+abbrev pub fault_place : OpenFault → ℕ
+fault_place (NotTrace place) = place
+fault_place (Compressed place) = place
+fault_place (OtherVersion place) = place
+fault_place (BadEndian place) = place
+fault_place (BadLong place) = place
+fault_place (BadPageSize place) = place
+fault_place (BadHeaderPage place) = place
+fault_place (BadSection place) = place
+fault_place (Truncated place) = place
+fault_place (TooManyCpus place) = place
+fault_place Read = 0
+fault_place Memory = 0
+
+-- the line, of an input of this name; nothing for Done
+abbrev pub message : List ℕ → Status → List ℕ
+message input Done = []
+message input Usage = codes "trace-cmd: word 1: unknown word\n"
+message input (Refused fault) = text (codes "trace-cmd: " ∷ input ∷ codes ": " ∷ fault_text fault ∷ codes " at byte " ∷ decimal (fault_place fault) ∷ codes "\n" ∷ [])
+message input (Malformed cpu page) = text (codes "trace-cmd: " ∷ input ∷ codes ": malformed sub-page " ∷ decimal page ∷ codes " of processor " ∷ decimal cpu ∷ codes "\n" ∷ [])
+message input ReadFault = text (codes "trace-cmd: " ∷ input ∷ codes ": read failed\n" ∷ [])
+message input WriteFault = codes "trace-cmd: write failed\n"
+message input NoMemory = codes "trace-cmd: out of memory\n"
+
+-- the line for these words and this answer
+abbrev pub line_of : List (List ℕ) → Status → List ℕ
+line_of words status = message (input_of (command_of words)) status
+
+-- the sink gained the line, or a prefix of it where its own count of faults rose
+pub record Says (line : List ℕ) (before now : Option (List ℕ)) (faults_before faults_now : ℕ) : Type 0 where
+  pub prefix : GainedPrefix before now line
+  pub whole : ¬ (Rose faults_before faults_now) → Gained before now line

@@ -1,0 +1,217 @@
+ghost use Rattle.std.specs.Prelude.{◌≡◌, ◌≤◌, ◌++◌, [], ◌∷◌, map, length, option_map, IfOk, OnOk, OnErr};
+ghost use Rattle.trace_base.specs.Causes.{HasCause, Rose};
+ghost use Rattle.trace_base.specs.Layout.{IsLayout};
+ghost use Rattle.trace_base.specs.Writing.{Gained, GainedPrefix};
+ghost use Rattle.dat_header.specs.Header.{parts_of};
+ghost use Rattle.trace_run.specs.Commands as Command;
+ghost use Rattle.trace_run.specs.Causes.{ClosesAll, CommandMisses, HasRisen, OnRefused};
+ghost use Rattle.trace_run.specs.Meaning.{ended, on_out, selected};
+ghost use Rattle.trace_run.specs.Ending.{RunsCommand, beside, sink_seen};
+ghost use Rattle.trace_run.specs.Reported.{Reports, Prints};
+ghost use Rattle.trace_run.specs.Printed.{PrintsParts, PrintsLatency, report_pieces};
+ghost use Rattle.trace_run.specs.Line.{line};
+ghost use Rattle.trace_run.specs.LoadedView.{cut_view, entry_view};
+ghost use Rattle.trace_run.specs.Text.{text};
+
+use crate::line::{put_cpus, put_line};
+use crate::rest::{CopyFault, copy_rest};
+use crate::status::Status;
+use crate::whole::{Cut, Entry, LoadFault, load, reach};
+use dat_header::{Body, Header, OpenFault, read_header};
+use std::alloc::{AllocError, Global};
+use trace_base::{Failed, File, Folder, Layout, Order, Part, Pending, Sink};
+
+/// Prints the report of an input.
+pub(crate) fn report<F: Folder, O: Sink>(
+    alloc: Global,
+    input: &str,
+    folder: &mut F,
+    out: &mut O,
+) -> Status
+    ensures ends { RunsCommand (Command.report input.now) result
+        (beside F.files F.counts folder.old (sink_seen O.written O.faults out.old))
+        (beside F.files F.counts folder.new (sink_seen O.written O.faults out.new)) }
+    ensures causes { HasRisen on_out result
+        (beside F.files F.counts folder.old (sink_seen O.written O.faults out.old))
+        (beside F.files F.counts folder.new (sink_seen O.written O.faults out.new)) }
+    ensures misses { CommandMisses (Command.report input.now)
+        (beside F.files F.counts folder.old (sink_seen O.written O.faults out.old))
+        (beside F.files F.counts folder.new (sink_seen O.written O.faults out.new)) }
+    ensures closes { ClosesAll (F.counts folder.old) (F.counts folder.new) }
+{
+    match folder.open_file(input) {
+        Err(Failed) => Status::ReadFault,
+        Ok(mut file) => {
+            let status = report_file(alloc, &mut file, out);
+            folder.close_file(file);
+            status
+        }
+    }
+}
+
+// Reports a file that was just opened.
+fn report_file<I: File, O: Sink>(alloc: Global, file: &mut I, out: &mut O) -> Status
+    ensures reports { Reports (I.bytes file.old) result (O.written out.old) (O.written out.new) }
+    ensures read_fault { result ≡ Status.ReadFault → Rose (I.faults file.old) (I.faults file.new) }
+    ensures write_fault { result ≡ Status.WriteFault → Rose (O.faults out.old) (O.faults out.new) }
+    ensures refused { OnRefused result }
+    ensures later { I.faults file.old ≤ I.faults file.new }
+{
+    match read_header(alloc, file) {
+        Ok(header) => print_report(alloc, &header, file, out),
+        Err(OpenFault::Read) => Status::ReadFault,
+        Err(OpenFault::Memory) => Status::NoMemory,
+        Err(fault) => Status::Refused(fault),
+    }
+}
+
+// Prints what follows a header.
+fn print_report<I: File, O: Sink>(
+    alloc: Global,
+    header: &Header,
+    file: &mut I,
+    out: &mut O,
+) -> Status
+    requires allowed { IsLayout header.now.layout }
+    requires inside { header.now.end ≤ I.size file.old }
+    requires parts { length (parts_of header.now.body) ≡ header.now.cpus }
+    requires few { header.now.cpus ≤ 1024 }
+    ensures prints { Prints header.now (I.bytes file.old) result (O.written out.old) (O.written out.new) }
+    ensures read_fault { result ≡ Status.ReadFault → Rose (I.faults file.old) (I.faults file.new) }
+    ensures write_fault { result ≡ Status.WriteFault → Rose (O.faults out.old) (O.faults out.new) }
+    ensures refused { OnRefused result }
+    ensures later { I.faults file.old ≤ I.faults file.new }
+{
+    match &header.body {
+        Body::Latency => print_latency(alloc, header.cpus, header.end, file, out),
+        Body::Fly(parts) => {
+            print_parts(
+                alloc,
+                header.cpus,
+                &header.layout,
+                parts.as_slice(),
+                file,
+                out,
+            )
+        }
+    }
+}
+
+// Prints the rest of a latency file.
+fn print_latency<I: File, O: Sink>(
+    alloc: Global,
+    cpus: u32,
+    end: u64,
+    file: &mut I,
+    out: &mut O,
+) -> Status
+    requires { end ≤ I.size file.old }
+    ensures prints { PrintsLatency cpus end (I.bytes file.old) result (O.written out.old) (O.written out.new) }
+    ensures read_fault { result ≡ Status.ReadFault → Rose (I.faults file.old) (I.faults file.new) }
+    ensures write_fault { result ≡ Status.WriteFault → Rose (O.faults out.old) (O.faults out.new) }
+    ensures refused { OnRefused result }
+    ensures later { I.faults file.old ≤ I.faults file.new }
+{
+    let (Ok(mut buffer), Ok(mut pending)) = (copy_buffer(alloc), Pending::new(alloc)) else {
+        return Status::NoMemory;
+    };
+    match print_lines(cpus, Order::Little, &[], &mut pending, out) {
+        Ok(()) => {}
+        Err(Failed) => return Status::WriteFault,
+    }
+    match copy_rest(file, end, &mut buffer, out) {
+        Ok(()) => Status::Done,
+        Err(CopyFault::Read) => Status::ReadFault,
+        Err(CopyFault::Write) => Status::WriteFault,
+    }
+}
+
+fn copy_buffer(alloc: Global) -> Result<Vec<u8>, AllocError>
+    ensures { IfOk result (λ buffer. length buffer.items ≡ 65536) }
+{
+    vec![in alloc; 0; Pending::ROOM]
+}
+
+// Prints the lines of the processors' items in the order in which they happened.
+fn print_parts<I: File, O: Sink>(
+    alloc: Global,
+    cpus: u32,
+    layout: &Layout,
+    parts: &[Part],
+    file: &mut I,
+    out: &mut O,
+) -> Status
+    requires allowed { IsLayout layout.now }
+    requires few { length parts.now ≤ 1024 }
+    ensures prints { PrintsParts cpus layout.now parts.now (I.bytes file.old) result (O.written out.old) (O.written out.new) }
+    ensures read_fault { result ≡ Status.ReadFault → Rose (I.faults file.old) (I.faults file.new) }
+    ensures write_fault { result ≡ Status.WriteFault → Rose (O.faults out.old) (O.faults out.new) }
+    ensures refused { OnRefused result }
+    ensures later { I.faults file.old ≤ I.faults file.new }
+{
+    let Ok(selected) = select(alloc, parts) else {
+        return Status::NoMemory;
+    };
+    let loaded = match load(alloc, layout, &selected, file) {
+        Ok(loaded) => loaded,
+        Err(LoadFault::Read) => return Status::ReadFault,
+        Err(LoadFault::Memory) => return Status::NoMemory,
+    };
+    let Ok(reached) = reach(alloc, layout, &loaded) else {
+        return Status::NoMemory;
+    };
+    let Ok(mut pending) = Pending::new(alloc) else {
+        return Status::NoMemory;
+    };
+    match print_lines(cpus, layout.order, &reached.entries, &mut pending, out) {
+        Ok(()) => end_at(reached.cut),
+        Err(Failed) => Status::WriteFault,
+    }
+}
+
+// Every processor with its number.
+fn select(alloc: Global, parts: &[Part]) -> Result<Vec<(u32, Part)>, AllocError>
+    requires { length parts.now ≤ 1024 }
+    ensures { IfOk result (λ chosen. chosen.items ≡ selected parts.now) }
+{
+    let mut chosen = Vec::with_capacity(alloc, parts.len())?;
+    let mut cpu = 0;
+    for part in parts {
+        chosen.push((cpu, *part))?;
+        cpu += 1;
+    }
+    Ok(chosen)
+}
+
+// Prints the first line and the lines of these items.
+fn print_lines<O: Sink>(
+    cpus: u32,
+    order: Order,
+    entries: &[Entry<'_>],
+    pending: &mut Pending,
+    out: &mut O,
+) -> Result<(), Failed>
+    requires { pending.old ≡ [] }
+    ensures gained { OnOk result (Gained (O.written out.old) (O.written out.new) (text (report_pieces cpus order (map entry_view entries.now)))) }
+    ensures prefix { OnErr result (GainedPrefix (O.written out.old) (O.written out.new) (text (report_pieces cpus order (map entry_view entries.now)))) }
+    ensures cause { HasCause (O.faults out.old) (O.faults out.new) result }
+{
+    put_cpus(pending, out, cpus)?;
+    for entry in entries {
+        put_line(pending, out, order, entry)?;
+    }
+    pending.flush(out)
+}
+
+// The answer where the output ends at this cut.
+fn end_at(cut: Option<Cut>) -> Status
+    ensures { result ≡ ended (option_map cut_view cut) }
+{
+    match cut {
+        None => Status::Done,
+        Some(cut) => Status::Malformed {
+            cpu: cut.cpu,
+            page: cut.page,
+        },
+    }
+}

@@ -1,0 +1,71 @@
+// The rest of a latency file, which a report copies as it stands.
+
+ghost use Rattle.std.specs.Prelude.{◌≡◌, ◌≤◌, ◌<◌, ◌+◌, ◌-◌, length, IsErrOf};
+ghost use Rattle.trace_base.specs.Causes.{Rose, raised};
+ghost use Rattle.trace_run.specs.Rest.{Copies};
+
+use trace_base::{Failed, File, Sink, read_all, write_all};
+
+/// Why a copy stopped.
+#[derive(Clone, Copy, Debug, PartialEq, Eq)]
+pub(crate) enum CopyFault {
+    /// A read failed.
+    Read,
+    /// A write failed.
+    Write,
+}
+
+/// Copies the file's bytes from `at` on, a buffer at a time. Each is read once. After a fault a prefix of them was written.
+pub(crate) fn copy_rest<F: File, O: Sink>(
+    file: &mut F,
+    at: u64,
+    buffer: &mut [u8],
+    out: &mut O,
+) -> Result<(), CopyFault>
+    requires inside { at ≤ F.size file.old }
+    requires room { 0 < length buffer.old }
+    ensures copies { Copies (F.bytes file.old) at (F.size file.old - at) (O.written out.old) (O.written out.new) result }
+    ensures read { IsErrOf result CopyFault.Read → Rose (F.faults file.old) (F.faults file.new) }
+    ensures write { IsErrOf result CopyFault.Write → Rose (O.faults out.old) (O.faults out.new) }
+    ensures reads { F.reads file.new ≤ raised (F.reads file.old) (F.size file.old - at) }
+    ensures later { F.faults file.old ≤ F.faults file.new }
+    ensures later_out { O.faults out.old ≤ O.faults out.new }
+    ensures bytes { F.bytes file.new ≡ F.bytes file.old }
+    ensures size { F.size file.new ≡ F.size file.old }
+{
+    let size = file.len();
+    let mut place = at;
+    while place < size {
+        let count = (size - place).min(buffer.len() as u64) as usize;
+        copy_piece(file, place, &mut buffer[..count], out)?;
+        place += count as u64;
+    }
+    Ok(())
+}
+
+// Copies as many bytes as the piece has room for.
+fn copy_piece<F: File, O: Sink>(
+    file: &mut F,
+    at: u64,
+    piece: &mut [u8],
+    out: &mut O,
+) -> Result<(), CopyFault>
+    requires { at + length piece.old ≤ F.size file.old }
+    ensures copies { Copies (F.bytes file.old) at (length piece.new) (O.written out.old) (O.written out.new) result }
+    ensures read { IsErrOf result CopyFault.Read → Rose (F.faults file.old) (F.faults file.new) }
+    ensures write { IsErrOf result CopyFault.Write → Rose (O.faults out.old) (O.faults out.new) }
+    ensures reads { F.reads file.new ≤ raised (F.reads file.old) (length piece.new) }
+    ensures later { F.faults file.old ≤ F.faults file.new }
+    ensures later_out { O.faults out.old ≤ O.faults out.new }
+    ensures bytes { F.bytes file.new ≡ F.bytes file.old }
+    ensures size { F.size file.new ≡ F.size file.old }
+{
+    match read_all(file, at, piece) {
+        Ok(()) => {}
+        Err(Failed) => return Err(CopyFault::Read),
+    }
+    match write_all(out, piece) {
+        Ok(()) => Ok(()),
+        Err(Failed) => Err(CopyFault::Write),
+    }
+}

@@ -1,0 +1,20 @@
+use dat_header::OpenFault;
+
+/// How a run ended.
+#[derive(Clone, Copy, Debug, PartialEq, Eq)]
+pub enum Status {
+    /// All was done.
+    Done,
+    /// The words have no reading.
+    Usage,
+    /// The input is no trace that can be read. The fault is never `Read` and never `Memory`.
+    Refused(OpenFault),
+    /// The output ends before this sub-buffer of this processor, both counted from 0.
+    Malformed { cpu: u32, page: u64 },
+    /// A file could not be opened or read.
+    ReadFault,
+    /// The output could not be written.
+    WriteFault,
+    /// There was no memory. Nothing was written.
+    NoMemory,
+}
