@@ -1,0 +1,11 @@
+pub mod KindText
+pub mod Sections
+pub mod Command
+pub mod Number
+pub mod CpuList
+pub mod Options
+pub mod Setting
+pub mod Grammar
+pub mod Settings
+pub mod Faults
+pub mod Reading

@@ -1,0 +1,99 @@
+-- The settings that the words say, word by word: the same as the grammar, as a function.
+use Rattle.std.specs.Prelude.{ℕ, ◌+◌, Bool, true, false, ◌==◌, nat_eq, List, [], ◌∷◌, ◌++◌, length, Option, Some, None, if◌then◌else◌}
+use Rattle.std.specs.List.{list_any, before_first, after_first, starts_with}
+use Rattle.std.specs.Str.{bytes_eq}
+use Rattle.trace_args.specs.declared.tool.Tool.{Tool}
+use Rattle.trace_args.specs.Options.{takes, short, long}
+use Rattle.trace_args.specs.Setting.{Setting, Flag, Valued, Operand, Stray, text}
+use Rattle.trace_args.specs.Grammar.{is_equals}
+
+-- how the reading goes on behind a word
+pub data Mode : Type 0 where
+  AnyWord : Mode
+  -- behind `--`
+  OnlyOperands : Mode
+  -- behind an option, with the number of its word, whose value is the next word
+  Wanting : List ℕ → ℕ → Mode
+  -- behind a word that is no option
+  Over : Mode
+
+-- what a word says, and how the reading goes on
+pub record Said : Type 0 where
+  pub settings : List Setting
+  pub mode : Mode
+
+abbrev pub says : List Setting → Mode → Said
+says settings mode = record { settings = settings; mode = mode }
+
+abbrev pub stray : ℕ → Said
+stray k = says (Stray k ∷ []) Over
+
+-- an option with a value, and what is left of its row of letters
+abbrev pub value_in_row : ℕ → List ℕ → List ℕ → Said
+value_in_row k option [] = says [] (Wanting option k)
+value_in_row k option (b ∷ bytes) = says (Valued option k (Some (text k (b ∷ bytes))) ∷ []) AnyWord
+
+-- a letter of a row, with what the letters behind it say
+abbrev pub letter_said : ℕ → ℕ → List ℕ → Said → Option Bool → Said
+letter_said k letter letters later None = stray k
+letter_said k letter letters later (Some true) = value_in_row k (short letter) letters
+letter_said k letter letters later (Some false) = says (Flag (short letter) ∷ later.settings) later.mode
+
+-- a row of letters in the word of number k
+abbrev pub row_said : Tool → ℕ → List ℕ → Said
+row_said command k [] = says [] AnyWord
+row_said command k (letter ∷ letters) =
+    letter_said k letter letters (row_said command k letters) (takes command (short letter))
+
+abbrev pub named_said : ℕ → List ℕ → Option Bool → Said
+named_said k option None = stray k
+named_said k option (Some true) = says [] (Wanting option k)
+named_said k option (Some false) = says (Flag option ∷ []) AnyWord
+
+abbrev pub assigned_said : ℕ → List ℕ → List ℕ → Option Bool → Said
+assigned_said k option value (Some true) = says (Valued option k (Some (text k value)) ∷ []) AnyWord
+assigned_said k option value _ = stray k
+
+-- a long option, by what stands behind its two dashes
+abbrev pub long_said : Tool → ℕ → List ℕ → Said
+long_said command k name =
+    if list_any is_equals name
+    then assigned_said k (long (before_first is_equals name)) (after_first is_equals name) (takes command (long (before_first is_equals name)))
+    else named_said k (long name) (takes command (long name))
+
+-- a word behind whose first dash these bytes stand
+abbrev pub dashed_said : Tool → ℕ → List ℕ → Said
+dashed_said command k [] = stray k
+dashed_said command k (c ∷ cs) =
+    if c == 45
+    then (if bytes_eq cs [] then says [] OnlyOperands else long_said command k cs)
+    else row_said command k (c ∷ cs)
+
+abbrev pub operand_said : ℕ → List ℕ → Mode → Said
+operand_said k word mode = says (Operand (text k word) ∷ []) mode
+
+-- a word that may be an option
+abbrev pub word_said : Tool → ℕ → List ℕ → Said
+word_said command k [] = operand_said k [] AnyWord
+word_said command k (c ∷ cs) =
+    if c == 45 then dashed_said command k cs else operand_said k (c ∷ cs) AnyWord
+
+-- the word of number k
+abbrev pub said : Tool → Mode → ℕ → List ℕ → Said
+said command AnyWord k word = word_said command k word
+said command OnlyOperands k word = operand_said k word OnlyOperands
+said command (Wanting option at) k word = says (Valued option at (Some (text k word)) ∷ []) AnyWord
+said command Over k word = says [] Over
+
+-- what is said by the end of the words
+abbrev pub ending : Mode → List Setting
+ending AnyWord = []
+ending OnlyOperands = []
+ending (Wanting option at) = Valued option at None ∷ []
+ending Over = []
+
+-- all that the words say, the first of them with the number k
+unfoldable pub settings : Tool → Mode → ℕ → List (List ℕ) → List Setting
+settings command mode k [] = ending mode
+settings command mode k (word ∷ words) =
+    (said command mode k word).settings ++ settings command (said command mode k word).mode (k + 1) words
