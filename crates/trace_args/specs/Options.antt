@@ -43,4 +43,4 @@ options_of tool.Dump =
 -- whether a value goes with an option, where the command has it
 abbrev pub takes : Tool → List ℕ → Option Bool
 takes command written =
-    option_map (λ row. row.takes_value) (find (λ row. bytes_eq row.written written) (options_of command))
+    option_map (λ row. row.takes_value) (find (λ row. bytes_eq written row.written) (options_of command))

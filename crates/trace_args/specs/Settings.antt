@@ -1,7 +1,7 @@
 -- The settings that the words say, word by word: the same as the grammar, as a function.
 use Rattle.std.specs.Prelude.{ℕ, ◌+◌, Bool, true, false, ◌==◌, nat_eq, List, [], ◌∷◌, ◌++◌, length, Option, Some, None, if◌then◌else◌}
-use Rattle.std.specs.List.{list_any, before_first, after_first, starts_with}
-use Rattle.std.specs.Str.{bytes_eq}
+use Rattle.std.specs.Option.{option_map_or}
+use Rattle.trace_args.specs.Cut.{cut}
 use Rattle.trace_args.specs.declared.tool.Tool.{Tool}
 use Rattle.trace_args.specs.Options.{takes, short, long}
 use Rattle.trace_args.specs.Setting.{Setting, Flag, Valued, Operand, Stray, text}
@@ -57,31 +57,36 @@ assigned_said k option value _ = stray k
 -- a long option, by what stands behind its two dashes
 abbrev pub long_said : Tool → ℕ → List ℕ → Said
 long_said command k name =
-    if list_any is_equals name
-    then assigned_said k (long (before_first is_equals name)) (after_first is_equals name) (takes command (long (before_first is_equals name)))
-    else named_said k (long name) (takes command (long name))
+    option_map_or
+        (λ p. assigned_said k (long p.before) p.after (takes command (long p.before)))
+        (cut is_equals name)
+        (named_said k (long name) (takes command (long name)))
 
--- a word behind whose first dash these bytes stand
+-- what stands behind a first dash
+abbrev pub behind_dash : List ℕ → Option (List ℕ)
+behind_dash [] = None
+behind_dash (c ∷ cs) = if c == 45 then Some cs else None
+
+-- a word with two dashes, by what stands behind them
+abbrev pub double_dashed_said : Tool → ℕ → List ℕ → Said
+double_dashed_said command k [] = says [] OnlyOperands
+double_dashed_said command k (c ∷ cs) = long_said command k (c ∷ cs)
+
+-- a word with a dash, by what stands behind it
 abbrev pub dashed_said : Tool → ℕ → List ℕ → Said
 dashed_said command k [] = stray k
 dashed_said command k (c ∷ cs) =
-    if c == 45
-    then (if bytes_eq cs [] then says [] OnlyOperands else long_said command k cs)
-    else row_said command k (c ∷ cs)
-
-abbrev pub operand_said : ℕ → List ℕ → Mode → Said
-operand_said k word mode = says (Operand (text k word) ∷ []) mode
+    option_map_or (double_dashed_said command k) (behind_dash (c ∷ cs)) (row_said command k (c ∷ cs))
 
 -- a word that may be an option
 abbrev pub word_said : Tool → ℕ → List ℕ → Said
-word_said command k [] = operand_said k [] AnyWord
-word_said command k (c ∷ cs) =
-    if c == 45 then dashed_said command k cs else operand_said k (c ∷ cs) AnyWord
+word_said command k word =
+    option_map_or (dashed_said command k) (behind_dash word) (says (Operand (text k word) ∷ []) AnyWord)
 
 -- the word of number k
 abbrev pub said : Tool → Mode → ℕ → List ℕ → Said
 said command AnyWord k word = word_said command k word
-said command OnlyOperands k word = operand_said k word OnlyOperands
+said command OnlyOperands k word = says (Operand (text k word) ∷ []) OnlyOperands
 said command (Wanting option at) k word = says (Valued option at (Some (text k word)) ∷ []) AnyWord
 said command Over k word = says [] Over
 

@@ -1,6 +1,8 @@
-ghost use Rattle.std.specs.Prelude.{◌≡◌, ◌<◌, ◌≤◌, false, true, replicate};
+ghost use Rattle.std.specs.Prelude.{◌≡◌, ◌+◌, ◌-◌, ◌++◌, ◌<◌, ◌≤◌, drop, false, length, replicate, take, true};
 ghost use Rattle.std.specs.List.{slice_index_or};
 ghost use Rattle.trace_args.specs.CpuList.{with_range};
+ghost use Rattle.trace_args.specs.Views.{range_view};
+
 
 use std::marker::Model;
 
@@ -37,4 +39,23 @@ impl CpuSet {
     {
         cpu < CpuSet::LIMIT && self.members[cpu as usize]
     }
+
+    /// Adds the numbers from `first` to `last`.
+    #[tactic(auto, using(crate::proofs::CpuLaws::filled_is_marked))]
+    pub(crate) fn insert(&mut self, first: u32, last: u32)
+        requires order { first ≤ last }
+        requires bound { last < 1024 }
+        ensures { self.new ≡ with_range self.old (range_view (first, last)) }
+    {
+        fill(&mut self.members, first as usize, last as usize);
+    }
+}
+
+fn fill(members: &mut [bool], first: usize, last: usize)
+    requires order { first ≤ last }
+    requires bound { last < length members.old }
+    ensures { members.new ≡ take first members.old
+        ++ (replicate (last + 1 - first) true ++ drop (last + 1) members.old) }
+{
+    members[first..last + 1].fill(true);
 }

@@ -2,10 +2,15 @@
 #![tactic(auto)]
 
 mod command;
+mod cpu_list;
 mod cpu_set;
 mod fault;
+mod number;
+mod option;
 mod read;
 mod section;
+mod setting;
+mod settings;
 mod tool;
 
 pub use command::{Command, DumpWords, ReportWords};

@@ -1,5 +1,7 @@
-ghost use Rattle.std.specs.Prelude.{◌≡◌};
-ghost use Rattle.trace_args.specs.Sections.{section_name, place_of};
+ghost use Rattle.std.specs.Prelude.{◌≡◌, IfSome};
+ghost use Rattle.std.specs.List.{find};
+ghost use Rattle.std.specs.Str.{bytes_eq};
+ghost use Rattle.trace_args.specs.Sections.{place_of, section_name, sections};
 
 /// A section of a dump.
 #[derive(Clone, Copy, Debug, PartialEq, Eq)]
@@ -72,5 +74,15 @@ impl Section {
             Section::Flyrecord => "flyrecord",
             Section::Validate => "validate",
         }
+    }
+
+    /// The section whose option has this name.
+    pub fn named(name: &str) -> Option<Section>
+        ensures { result ≡ find (λ section. bytes_eq name.now (section_name section)) sections }
+    {
+        Section::ALL
+            .iter()
+            .copied()
+            .find(|section| name == section.name())
     }
 }

@@ -1,0 +1,47 @@
+-- The settings that a reader of words has before it.
+use Rattle.std.specs.Prelude.{ℕ, ◌+◌, ◌≡◌, List, [], ◌∷◌, ◌++◌, drop, Option, MatchOption}
+use Rattle.trace_args.specs.declared.tool.Tool.{Tool}
+use Rattle.trace_args.specs.declared.settings.Place.{Place}
+use Rattle.trace_args.specs.declared.settings.Place.TheVariants.{Row, Operands}
+use Rattle.trace_args.specs.declared.settings.Settings.{Settings}
+use Rattle.trace_args.specs.declared.setting.Setting as declared
+use Rattle.trace_args.specs.Setting.{Setting, Flag}
+use Rattle.trace_args.specs.declared.option.KnownOption.{KnownOption}
+use Rattle.trace_args.specs.declared.option.KnownOption.TheVariants as option
+use Rattle.trace_args.specs.Known.{flag_spelling, valued_spelling}
+use Rattle.trace_args.specs.Settings.{Said, says, row_said, value_in_row, settings, OnlyOperands}
+use Rattle.trace_args.specs.Views.{setting_view}
+
+-- an option of a row of letters, and what is left of the row
+abbrev pub option_said : Tool → ℕ → KnownOption → List ℕ → Said
+option_said command k (option.Flag flag) rest =
+    says (Flag (flag_spelling flag) ∷ (row_said command k rest).settings) (row_said command k rest).mode
+option_said command k (option.Valued valued) rest = value_in_row k (valued_spelling valued) rest
+
+-- what is left of a row, or that operands follow
+abbrev pub place_said : Tool → ℕ → Place → Said
+place_said command k (Row letters) = row_said command k letters.now
+place_said command k Operands = says [] OnlyOperands
+
+-- what a word or a part of it says, and then all words behind it
+abbrev pub then_left : Settings → Said → List Setting
+then_left reader said =
+    said.settings ++ settings reader.tool said.mode (reader.next + 1) (drop reader.next reader.words.now)
+
+abbrev pub settings_left : Settings → List Setting
+settings_left reader = then_left reader (place_said reader.tool reader.next reader.place)
+
+-- the first of a list of settings is given, and the others are left
+abbrev pub Gives : List Setting → Option declared.Setting → Settings → Type 0
+Gives before result reader = MatchOption result
+    ((before ≡ []) × (settings_left reader ≡ []))
+    (λ setting. before ≡ setting_view setting ∷ settings_left reader)
+
+abbrev pub GivesOne : List Setting → declared.Setting → Settings → Type 0
+GivesOne before setting reader = before ≡ setting_view setting ∷ settings_left reader
+
+-- the next word is given, where there is one
+pub record NextWord (old new : Settings) (word : ℕ) (bytes : List ℕ) : Type 0 where
+  pub words : drop old.next old.words.now ≡ bytes ∷ drop new.next old.words.now
+  pub number : word ≡ old.next + 1
+  pub reader : new ≡ record old { next = old.next + 1 }
