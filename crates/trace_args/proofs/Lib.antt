@@ -1,3 +1,4 @@
 pub mod NumberLaws
 pub mod CutLaws
 pub mod CpuLaws
+pub mod SettingsLaws

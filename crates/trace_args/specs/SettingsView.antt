@@ -2,14 +2,14 @@
 use Rattle.std.specs.Prelude.{ℕ, ◌+◌, ◌≡◌, List, [], ◌∷◌, ◌++◌, drop, Option, MatchOption}
 use Rattle.trace_args.specs.declared.tool.Tool.{Tool}
 use Rattle.trace_args.specs.declared.settings.Place.{Place}
-use Rattle.trace_args.specs.declared.settings.Place.TheVariants.{Row, Operands}
+use Rattle.trace_args.specs.declared.settings.Place.TheVariants as place
 use Rattle.trace_args.specs.declared.settings.Settings.{Settings}
 use Rattle.trace_args.specs.declared.setting.Setting as declared
 use Rattle.trace_args.specs.Setting.{Setting, Flag}
 use Rattle.trace_args.specs.declared.option.KnownOption.{KnownOption}
 use Rattle.trace_args.specs.declared.option.KnownOption.TheVariants as option
 use Rattle.trace_args.specs.Known.{flag_spelling, valued_spelling}
-use Rattle.trace_args.specs.Settings.{Said, says, row_said, value_in_row, settings, OnlyOperands}
+use Rattle.trace_args.specs.Settings.{Said, says, row_said, value_in_row, settings, AnyWord, OnlyOperands}
 use Rattle.trace_args.specs.Views.{setting_view}
 
 -- an option of a row of letters, and what is left of the row
@@ -20,8 +20,9 @@ option_said command k (option.Valued valued) rest = value_in_row k (valued_spell
 
 -- what is left of a row, or that operands follow
 abbrev pub place_said : Tool → ℕ → Place → Said
-place_said command k (Row letters) = row_said command k letters.now
-place_said command k Operands = says [] OnlyOperands
+place_said command k place.AnyWord = says [] AnyWord
+place_said command k (place.Row letters) = row_said command k letters.now
+place_said command k place.Operands = says [] OnlyOperands
 
 -- what a word or a part of it says, and then all words behind it
 abbrev pub then_left : Settings → Said → List Setting
@@ -40,8 +41,11 @@ Gives before result reader = MatchOption result
 abbrev pub GivesOne : List Setting → declared.Setting → Settings → Type 0
 GivesOne before setting reader = before ≡ setting_view setting ∷ settings_left reader
 
--- the next word is given, where there is one
-pub record NextWord (old new : Settings) (word : ℕ) (bytes : List ℕ) : Type 0 where
-  pub words : drop old.next old.words.now ≡ bytes ∷ drop new.next old.words.now
-  pub number : word ≡ old.next + 1
-  pub reader : new ≡ record old { next = old.next + 1 }
+-- the reader behind its next word
+abbrev pub stepped : Settings → Settings
+stepped reader = record reader { next = reader.next + 1 }
+
+-- the next word has this number and these bytes
+pub record IsNextWord (reader : Settings) (word : ℕ) (bytes : List ℕ) : Type 0 where
+  pub words_are : drop reader.next reader.words.now ≡ bytes ∷ drop (reader.next + 1) reader.words.now
+  pub number_is : word ≡ reader.next + 1

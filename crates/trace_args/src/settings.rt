@@ -1,13 +1,13 @@
 // The settings that a command's words say.
 
-ghost use Rattle.std.specs.Prelude.{◌≡◌, ◌<◌, ◌∷◌, [], IfNone, IfSome, drop, length, option_map, true};
+ghost use Rattle.std.specs.Prelude.{◌≡◌, ◌<◌, ◌∷◌, [], IfNone, IfSome, OnSome, drop, length, option_map, true};
 ghost use Rattle.std.specs.Iterator.{YieldsFirstBy, item_count};
 ghost use Rattle.trace_args.specs.Cut.{cut};
 ghost use Rattle.trace_args.specs.Grammar.{is_equals};
 ghost use Rattle.trace_args.specs.Known.{flag_spelling, valued_spelling};
 ghost use Rattle.trace_args.specs.Setting.{Flag};
 ghost use Rattle.trace_args.specs.Settings.{AnyWord, OnlyOperands, Wanting, assigned_said, behind_dash, dashed_said, long_said, row_said, says, settings, stray};
-ghost use Rattle.trace_args.specs.SettingsView.{Gives, GivesOne, NextWord, option_said, settings_left, then_left};
+ghost use Rattle.trace_args.specs.SettingsView.{Gives, GivesOne, IsNextWord, option_said, settings_left, stepped, then_left};
 ghost use Rattle.trace_args.specs.Views.{parts_view, setting_view};
 
 use trace_base::Words;
@@ -29,7 +29,9 @@ pub struct Settings<'a> {
 // Where the reading stands.
 #[derive(Clone, Copy)]
 enum Place<'a> {
-    // In a row of letters, of which these are left; none are between two words.
+    // Between two words.
+    AnyWord,
+    // In a row of letters, of which these are left.
     Row(&'a str),
     // Behind `--`.
     Operands,
@@ -44,14 +46,15 @@ impl<'a> Settings<'a> {
             tool,
             words,
             next: 1,
-            place: Place::Row(""),
+            place: Place::AnyWord,
         }
     }
 
     // The next word, which is then behind.
     fn next_word(&mut self) -> Option<Value<'a>>
-        ensures some { IfSome result (λ value. NextWord self.old self.new value.word value.text.now) }
-        ensures none { IfNone result (drop self.old.next self.old.words.now ≡ []) }
+        ensures word { IfSome result (λ value. IsNextWord self.old value.word value.text.now) }
+        ensures stepped { OnSome result (self.new ≡ stepped self.old) }
+        ensures end { IfNone result (drop self.old.next self.old.words.now ≡ []) }
         ensures unchanged { IfNone result (self.new ≡ self.old) }
     {
         if self.next >= self.words.len() {
@@ -70,7 +73,7 @@ impl<'a> Settings<'a> {
         ensures { GivesOne (then_left self.old (says [] (Wanting (valued_spelling option) self.old.next))) result self.new }
     {
         let word = self.next as u64;
-        self.place = Place::Row("");
+        self.place = Place::AnyWord;
         let value = self.next_word();
         Setting::Valued(option, word, value)
     }
@@ -81,7 +84,7 @@ impl<'a> Settings<'a> {
     {
         let word = self.next as u64;
         self.next = self.words.len();
-        self.place = Place::Row("");
+        self.place = Place::AnyWord;
         Setting::Stray(word)
     }
 
@@ -116,7 +119,7 @@ impl<'a> Settings<'a> {
         ensures { GivesOne (then_left self.old (assigned_said self.old.next (valued_spelling option) text.now (Some true))) result self.new }
     {
         let word = self.next as u64;
-        self.place = Place::Row("");
+        self.place = Place::AnyWord;
         Setting::Valued(option, word, Some(Value { word, text }))
     }
 
@@ -141,7 +144,7 @@ impl<'a> Settings<'a> {
     fn flag(&mut self, flag: FlagOption) -> Setting<'a>
         ensures { GivesOne (then_left self.old (says (Flag (flag_spelling flag) ∷ []) AnyWord)) result self.new }
     {
-        self.place = Place::Row("");
+        self.place = Place::AnyWord;
         Setting::Flag(flag)
     }
 
@@ -172,7 +175,7 @@ impl<'a> Settings<'a> {
     fn word(&mut self) -> Option<Setting<'a>>
         ensures { Gives (then_left self.old (says [] AnyWord)) result self.new }
     {
-        self.place = Place::Row("");
+        self.place = Place::AnyWord;
         let word = self.next_word()?;
         match behind_dash(word.text) {
             None => Some(Setting::Operand(word)),
@@ -191,8 +194,8 @@ impl<'a> Iterator for Settings<'a> {
     fn next(&mut self) -> Option<Setting<'a>> {
         match self.place {
             Place::Operands => self.operand(),
-            Place::Row("") => self.word(),
-            Place::Row(row) => Some(self.letter(row)),
+            Place::Row(row) if !row.is_empty() => Some(self.letter(row)),
+            _ => self.word(),
         }
     }
 }
