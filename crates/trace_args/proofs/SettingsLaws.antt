@@ -5,16 +5,12 @@ use Rattle.trace_args.specs.Setting.{Setting, Flag, Valued, Operand, Stray, text
 use Rattle.std.specs.List.{slice_get}
 use Rattle.std.specs.Option.{option_map_or}
 use Rattle.std.proofs.lemmas.List.{drop_all}
-use Rattle.trace_args.specs.declared.option.KnownOption.{KnownOption}
-use Rattle.trace_args.specs.declared.option.KnownOption.TheVariants as option
 use Rattle.trace_args.specs.declared.settings.Settings.{Settings}
 use Rattle.trace_args.specs.declared.option.ValuedOption.{ValuedOption}
 use Rattle.trace_args.specs.declared.setting.Value.{Value}
 use Rattle.trace_args.specs.Views.{text_view}
-use Rattle.trace_args.specs.Options.{short, takes}
-use Rattle.trace_args.specs.Known.{takes_value, spelling, valued_spelling}
-use Rattle.trace_args.specs.SettingsView.{place_said, then_left, settings_left, stepped, IsNextWord, option_said}
-use Rattle.trace_args.specs.Settings.{AnyWord, Wanting, behind_dash, dashed_said, says, stray, row_said, letter_said, Mode, Over, Said, said, ending, settings}
+use Rattle.trace_args.specs.SettingsView.{place_said, then_left, settings_left, stepped, IsNextWord}
+use Rattle.trace_args.specs.Settings.{AnyWord, Wanting, behind_dash, dashed_said, says, Mode, Over, Said, said, ending, settings}
 
 pub settings_end : (command : Tool) (mode : Mode) (k : ℕ) → settings command mode k [] ≡ ending mode
 unfolding settings
@@ -57,21 +53,16 @@ pub stray_first : (command : Tool) (k n m : ℕ) (first : Setting) (words rest :
 stray_first command k n m first words rest h =
     ap (λ s. first ∷ s) (settings_over command k rest ∙ sym (rw (drop_all n words (omega (arith, h))) (settings_end command AnyWord m)))
 
--- the first letter of a row, where it is an option
-pub row_known : (command : Tool) (k letter : ℕ) (rest : List ℕ) (known : KnownOption) → option_map takes_value (Some known) ≡ takes command (short letter) → spelling known ≡ short letter → row_said command k (letter ∷ rest) ≡ option_said command k known rest
-row_known command k letter rest (option.Flag flag) has is = rw (← has, ← is) refl
-row_known command k letter rest (option.Valued valued) has is = rw (← has, ← is) refl
-
 nothing_left : (reader : Settings) → drop reader.next reader.words.now ≡ [] → place_said reader.tool reader.next reader.place ≡ says [] AnyWord → settings_left reader ≡ []
 nothing_left reader end place_is = ap (then_left reader) place_is ∙ word_none reader AnyWord end
 
 -- an option whose value is the next word, where there is one
-pub wanted_first : (reader new : Settings) (valued : ValuedOption) (value : Option Value) → IfSome value (λ v. IsNextWord reader v.word v.text.now) → OnSome value (new ≡ stepped reader) → IfNone value (drop reader.next reader.words.now ≡ []) → IfNone value (new ≡ reader) → ((k : ℕ) → place_said reader.tool k reader.place ≡ says [] AnyWord) → settings reader.tool (Wanting (valued_spelling valued) reader.next) (reader.next + 1) (drop reader.next reader.words.now) ≡ Valued (valued_spelling valued) reader.next (option_map text_view value) ∷ settings_left new
+pub wanted_first : (reader new : Settings) (valued : ValuedOption) (value : Option Value) → IfSome value (λ v. IsNextWord reader v.word v.text.now) → OnSome value (new ≡ stepped reader) → IfNone value (drop reader.next reader.words.now ≡ []) → IfNone value (new ≡ reader) → ((k : ℕ) → place_said reader.tool k reader.place ≡ says [] AnyWord) → settings reader.tool (Wanting valued reader.next) (reader.next + 1) (drop reader.next reader.words.now) ≡ Valued valued reader.next (option_map text_view value) ∷ settings_left new
 wanted_first reader new valued (Some value) word step end same place_is =
-    word_first reader new value.word value.text.now (Wanting (valued_spelling valued) reader.next) AnyWord (Valued (valued_spelling valued) reader.next (Some (text_view value))) word step refl (place_is (reader.next + 1))
+    word_first reader new value.word value.text.now (Wanting valued reader.next) AnyWord (Valued valued reader.next (Some (text_view value))) word step refl (place_is (reader.next + 1))
 wanted_first reader new valued None word step end same place_is =
-    word_none reader (Wanting (valued_spelling valued) reader.next) end
-        ∙ ap (λ s. Valued (valued_spelling valued) reader.next None ∷ s) (sym (ap settings_left same ∙ nothing_left reader end (place_is reader.next)))
+    word_none reader (Wanting valued reader.next) end
+        ∙ ap (λ s. Valued valued reader.next None ∷ s) (sym (ap settings_left same ∙ nothing_left reader end (place_is reader.next)))
 
 -- a word with a dash
 pub dashed_then : (reader new : Settings) (word : ℕ) (bytes rest : List ℕ) → IsNextWord reader word bytes → new ≡ stepped reader → Some rest ≡ behind_dash bytes → settings reader.tool AnyWord (reader.next + 1) (drop reader.next reader.words.now) ≡ then_left new (dashed_said new.tool new.next rest)

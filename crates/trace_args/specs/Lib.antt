@@ -5,7 +5,6 @@ pub mod Cut
 pub mod Number
 pub mod CpuList
 pub mod Options
-pub mod Known
 pub mod Views
 pub mod Setting
 pub mod Grammar
@@ -13,3 +12,4 @@ pub mod Settings
 pub mod SettingsView
 pub mod Faults
 pub mod Reading
+pub mod Given

@@ -1,6 +1,6 @@
 -- The reading of a command line's words: its command, or its first fault.
 -- Source: trace-cmd(1), trace-cmd-report(1), trace-cmd-dump(1).
-use Rattle.std.specs.Prelude.{ℕ, Bool, true, false, ◌&&◌, ◌||◌, not, ◌≡◌, ◌≢◌, List, [], ◌∷◌, ◌++◌, map, Option, Some, None, unwrap_or, codes, Result, Ok, Err, if◌then◌else◌, MatchResult}
+use Rattle.std.specs.Prelude.{ℕ, ◌+◌, ◌==◌, Bool, true, false, ◌&&◌, ◌||◌, not, ◌≡◌, ◌≢◌, List, [], ◌∷◌, ◌++◌, map, Option, Some, None, unwrap_or, option_map, codes, Result, Ok, Err, if◌then◌else◌, MatchResult}
 use Rattle.std.specs.List.{list_any}
 use Rattle.std.specs.Str.{bytes_eq}
 use Rattle.std.specs.Option.{option_and_then, option_or}
@@ -11,14 +11,17 @@ use Rattle.trace_args.specs.declared.section.Section.TheVariants as section
 use Rattle.trace_args.specs.declared.tool.Tool.{Tool}
 use Rattle.trace_args.specs.declared.tool.Tool.TheVariants as tool
 use Rattle.trace_args.specs.declared.command.Command.{Command}
-use Rattle.trace_args.specs.Sections.{sections, section_name}
+use Rattle.trace_args.specs.declared.option.FlagOption.{FlagOption}
+use Rattle.trace_args.specs.declared.option.FlagOption.TheVariants as flag
+use Rattle.trace_args.specs.declared.option.ValuedOption.{ValuedOption}
+use Rattle.trace_args.specs.declared.option.ValuedOption.TheVariants as valued
+use Rattle.trace_args.specs.Sections.{sections, place_of}
 use Rattle.trace_args.specs.Command.{CommandData, Report, Dump, ReportData, DumpData, command_view}
-use Rattle.trace_args.specs.Options.{long}
 use Rattle.trace_args.specs.Setting.{Setting, Flag, Valued, Operand, Stray}
 use Rattle.trace_args.specs.Grammar.{Says}
 use Rattle.trace_args.specs.Settings.{settings, AnyWord}
 use Rattle.trace_args.specs.CpuList.{cpu_set}
-use Rattle.trace_args.specs.Faults.{fault, fault_of, is_given, worker_count, IsClean, IsFirstFault}
+use Rattle.trace_args.specs.Faults.{fault, fault_of, valued_number, worker_count, IsClean, IsFirstFault}
 
 -- the first of a list that gives something
 abbrev pub first_of : {X Y : Type 0} → (X → Option Y) → List X → Option Y
@@ -26,38 +29,52 @@ first_of f [] = None
 first_of f (x ∷ xs) = option_or (f x) (first_of f xs)
 
 -- the value that the setting gives the option
-abbrev pub text_for : List ℕ → Setting → Option (List ℕ)
-text_for option (Flag written) = None
-text_for option (Valued written word None) = None
-text_for option (Valued written word (Some value)) =
-    if bytes_eq written option then Some value.bytes else None
-text_for option (Operand word) = None
+abbrev pub text_for : ValuedOption → Setting → Option (List ℕ)
+text_for option (Flag flag) = None
+text_for option (Valued given word value) =
+    if valued_number given == valued_number option then option_map (λ text. text.bytes) value else None
+text_for option (Operand word) =
+    if valued_number valued.Input == valued_number option then Some word.bytes else None
 text_for option (Stray word) = None
 
--- the name of the input, where the setting gives it
-abbrev pub input_in : Setting → Option (List ℕ)
-input_in (Flag written) = None
-input_in (Valued written word value) = text_for (codes "-i") (Valued written word value)
-input_in (Operand word) = Some word.bytes
-input_in (Stray word) = None
+-- the value of an option
+abbrev pub value_of : ValuedOption → List Setting → Option (List ℕ)
+value_of option settings = first_of (text_for option) settings
+
+-- a number for each flag, which tells them apart
+abbrev pub flag_number : FlagOption → ℕ
+flag_number flag.FullTime = 0
+flag_number flag.Latency = 1
+flag_number flag.NoHard = 2
+flag_number flag.NoSoft = 3
+flag_number flag.NoPlugins = 4
+flag_number flag.All = 5
+flag_number (flag.Section section) = 6 + place_of section
+
+-- whether the setting is the flag
+abbrev pub sets : FlagOption → Setting → Bool
+sets option (Flag given) = flag_number given == flag_number option
+sets option (Valued given word value) = false
+sets option (Operand word) = false
+sets option (Stray word) = false
+
+-- whether the flag was given
+abbrev pub is_set : FlagOption → List Setting → Bool
+is_set option settings = list_any (sets option) settings
 
 abbrev pub input_of : List Setting → List ℕ
-input_of settings = unwrap_or (first_of input_in settings) (codes "trace.dat")
-
--- the value of an option
-abbrev pub value_of : List ℕ → List Setting → Option (List ℕ)
-value_of option settings = first_of (text_for option) settings
+input_of settings = unwrap_or (value_of valued.Input settings) (codes "trace.dat")
 
 abbrev pub report_of : List Setting → ReportData
 report_of settings =
     record {
         input = input_of settings;
-        full = is_given (codes "-t") settings;
-        latency = is_given (codes "-l") settings;
-        no_hard = is_given (codes "-I") settings;
-        no_soft = is_given (codes "-S") settings;
-        cpus = option_and_then cpu_set (value_of (codes "--cpu") settings);
-        workers = unwrap_or (option_and_then worker_count (value_of (codes "--workers") settings)) 1
+        full = is_set flag.FullTime settings;
+        latency = is_set flag.Latency settings;
+        no_hard = is_set flag.NoHard settings;
+        no_soft = is_set flag.NoSoft settings;
+        cpus = option_and_then cpu_set (value_of valued.Cpus settings);
+        workers = unwrap_or (option_and_then worker_count (value_of valued.Workers settings)) 1
     }
 
 -- `--all` means every section but this one
@@ -71,15 +88,15 @@ is_default section.Summary = true
 is_default _ = false
 
 abbrev pub names_section : List Setting → Section → Bool
-names_section settings section = is_given (long (section_name section)) settings
+names_section settings section = is_set (flag.Section section) settings
 
 -- whether an option names a section, or all
 abbrev pub names_any : List Setting → Bool
-names_any settings = is_given (codes "--all") settings || list_any (names_section settings) sections
+names_any settings = is_set flag.All settings || list_any (names_section settings) sections
 
 abbrev pub is_printed : List Setting → Section → Bool
 is_printed settings section =
-    names_section settings section || ((is_given (codes "--all") settings && is_in_all section) || (not (names_any settings) && is_default section))
+    names_section settings section || ((is_set flag.All settings && is_in_all section) || (not (names_any settings) && is_default section))
 
 abbrev pub dump_of : List Setting → DumpData
 dump_of settings =

@@ -1,9 +1,12 @@
 -- The settings that the words say, word by word: the same as the grammar, as a function.
-use Rattle.std.specs.Prelude.{ℕ, ◌+◌, Bool, true, false, ◌==◌, nat_eq, List, [], ◌∷◌, ◌++◌, length, Option, Some, None, if◌then◌else◌}
+use Rattle.std.specs.Prelude.{ℕ, ◌+◌, ◌==◌, List, [], ◌∷◌, ◌++◌, Option, Some, None, if◌then◌else◌}
 use Rattle.std.specs.Option.{option_map_or}
 use Rattle.trace_args.specs.Cut.{cut}
 use Rattle.trace_args.specs.declared.tool.Tool.{Tool}
-use Rattle.trace_args.specs.Options.{takes, short, long}
+use Rattle.trace_args.specs.declared.option.ValuedOption.{ValuedOption}
+use Rattle.trace_args.specs.declared.option.KnownOption.{KnownOption}
+use Rattle.trace_args.specs.declared.option.KnownOption.TheVariants as option
+use Rattle.trace_args.specs.Options.{option_named, short, long}
 use Rattle.trace_args.specs.Setting.{Setting, Flag, Valued, Operand, Stray, text}
 use Rattle.trace_args.specs.Grammar.{is_equals}
 
@@ -13,7 +16,7 @@ pub data Mode : Type 0 where
   -- behind `--`
   OnlyOperands : Mode
   -- behind an option, with the number of its word, whose value is the next word
-  Wanting : List ℕ → ℕ → Mode
+  Wanting : ValuedOption → ℕ → Mode
   -- behind a word that is no option
   Over : Mode
 
@@ -29,38 +32,41 @@ abbrev pub stray : ℕ → Said
 stray k = says (Stray k ∷ []) Over
 
 -- an option with a value, and what is left of its row of letters
-abbrev pub value_in_row : ℕ → List ℕ → List ℕ → Said
-value_in_row k option [] = says [] (Wanting option k)
-value_in_row k option (b ∷ bytes) = says (Valued option k (Some (text k (b ∷ bytes))) ∷ []) AnyWord
+abbrev pub value_in_row : ℕ → ValuedOption → List ℕ → Said
+value_in_row k valued [] = says [] (Wanting valued k)
+value_in_row k valued (b ∷ bytes) = says (Valued valued k (Some (text k (b ∷ bytes))) ∷ []) AnyWord
 
--- a letter of a row, with what the letters behind it say
-abbrev pub letter_said : ℕ → ℕ → List ℕ → Said → Option Bool → Said
-letter_said k letter letters later None = stray k
-letter_said k letter letters later (Some true) = value_in_row k (short letter) letters
-letter_said k letter letters later (Some false) = says (Flag (short letter) ∷ later.settings) later.mode
+-- an option of a row, with the letters behind it and what they say
+abbrev pub letter_said : ℕ → List ℕ → Said → Option KnownOption → Said
+letter_said k letters later None = stray k
+letter_said k letters later (Some (option.Valued valued)) = value_in_row k valued letters
+letter_said k letters later (Some (option.Flag flag)) = says (Flag flag ∷ later.settings) later.mode
 
 -- a row of letters in the word of number k
 abbrev pub row_said : Tool → ℕ → List ℕ → Said
 row_said command k [] = says [] AnyWord
 row_said command k (letter ∷ letters) =
-    letter_said k letter letters (row_said command k letters) (takes command (short letter))
+    letter_said k letters (row_said command k letters) (option_named command (short letter))
 
-abbrev pub named_said : ℕ → List ℕ → Option Bool → Said
-named_said k option None = stray k
-named_said k option (Some true) = says [] (Wanting option k)
-named_said k option (Some false) = says (Flag option ∷ []) AnyWord
+-- a long option alone in its word
+abbrev pub named_said : ℕ → Option KnownOption → Said
+named_said k None = stray k
+named_said k (Some (option.Valued valued)) = says [] (Wanting valued k)
+named_said k (Some (option.Flag flag)) = says (Flag flag ∷ []) AnyWord
 
-abbrev pub assigned_said : ℕ → List ℕ → List ℕ → Option Bool → Said
-assigned_said k option value (Some true) = says (Valued option k (Some (text k value)) ∷ []) AnyWord
-assigned_said k option value _ = stray k
+-- a long option with a value in its word
+abbrev pub assigned_said : ℕ → List ℕ → Option KnownOption → Said
+assigned_said k value None = stray k
+assigned_said k value (Some (option.Valued valued)) = says (Valued valued k (Some (text k value)) ∷ []) AnyWord
+assigned_said k value (Some (option.Flag flag)) = stray k
 
 -- a long option, by what stands behind its two dashes
 abbrev pub long_said : Tool → ℕ → List ℕ → Said
 long_said command k name =
     option_map_or
-        (λ p. assigned_said k (long p.before) p.after (takes command (long p.before)))
+        (λ p. assigned_said k p.after (option_named command (long p.before)))
         (cut is_equals name)
-        (named_said k (long name) (takes command (long name)))
+        (named_said k (option_named command (long name)))
 
 -- what stands behind a first dash
 abbrev pub behind_dash : List ℕ → Option (List ℕ)

@@ -5,18 +5,9 @@ use Rattle.trace_args.specs.declared.settings.Place.{Place}
 use Rattle.trace_args.specs.declared.settings.Place.TheVariants as place
 use Rattle.trace_args.specs.declared.settings.Settings.{Settings}
 use Rattle.trace_args.specs.declared.setting.Setting as declared
-use Rattle.trace_args.specs.Setting.{Setting, Flag}
-use Rattle.trace_args.specs.declared.option.KnownOption.{KnownOption}
-use Rattle.trace_args.specs.declared.option.KnownOption.TheVariants as option
-use Rattle.trace_args.specs.Known.{flag_spelling, valued_spelling}
-use Rattle.trace_args.specs.Settings.{Said, says, row_said, value_in_row, settings, AnyWord, OnlyOperands}
+use Rattle.trace_args.specs.Setting.{Setting}
+use Rattle.trace_args.specs.Settings.{Said, says, row_said, settings, AnyWord, OnlyOperands}
 use Rattle.trace_args.specs.Views.{setting_view}
-
--- an option of a row of letters, and what is left of the row
-abbrev pub option_said : Tool → ℕ → KnownOption → List ℕ → Said
-option_said command k (option.Flag flag) rest =
-    says (Flag (flag_spelling flag) ∷ (row_said command k rest).settings) (row_said command k rest).mode
-option_said command k (option.Valued valued) rest = value_in_row k (valued_spelling valued) rest
 
 -- what is left of a row, or that operands follow
 abbrev pub place_said : Tool → ℕ → Place → Said

@@ -5,6 +5,7 @@ mod command;
 mod cpu_list;
 mod cpu_set;
 mod fault;
+mod given;
 mod number;
 mod option;
 mod read;

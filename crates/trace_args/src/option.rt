@@ -1,6 +1,5 @@
-ghost use Rattle.std.specs.Prelude.{◌≡◌, ◌<◌, IfSome, OnSome, option_map};
-ghost use Rattle.trace_args.specs.Options.{long, short, takes};
-ghost use Rattle.trace_args.specs.Known.{spelling, takes_value};
+ghost use Rattle.std.specs.Prelude.{◌≡◌, ◌<◌, OnSome};
+ghost use Rattle.trace_args.specs.Options.{long, option_named, short};
 
 use crate::section::Section;
 use crate::tool::Tool;
@@ -35,8 +34,7 @@ pub enum KnownOption {
 impl Tool {
     /// The command's short option of this letter.
     pub fn short_option(self, letter: u8) -> Option<KnownOption>
-        ensures value { option_map takes_value result ≡ takes self (short letter) }
-        ensures spelling { IfSome result (λ option. spelling option ≡ short letter) }
+        ensures value { result ≡ option_named self (short letter) }
         ensures ascii { OnSome result (letter < 128) }
     {
         match (self, letter) {
@@ -52,8 +50,7 @@ impl Tool {
 
     /// The command's long option of this name.
     pub fn long_option(self, name: &str) -> Option<KnownOption>
-        ensures value { option_map takes_value result ≡ takes self (long name.now) }
-        ensures spelling { IfSome result (λ option. spelling option ≡ long name.now) }
+        ensures { result ≡ option_named self (long name.now) }
     {
         match self {
             Tool::Report => report_option(name),
@@ -63,8 +60,7 @@ impl Tool {
 }
 
 fn report_option(name: &str) -> Option<KnownOption>
-    ensures value { option_map takes_value result ≡ takes Tool.Report (long name.now) }
-    ensures spelling { IfSome result (λ option. spelling option ≡ long name.now) }
+    ensures { result ≡ option_named Tool.Report (long name.now) }
 {
     match name {
         "cpu" => Some(KnownOption::Valued(ValuedOption::Cpus)),
@@ -74,8 +70,7 @@ fn report_option(name: &str) -> Option<KnownOption>
 }
 
 fn dump_option(name: &str) -> Option<KnownOption>
-    ensures value { option_map takes_value result ≡ takes Tool.Dump (long name.now) }
-    ensures spelling { IfSome result (λ option. spelling option ≡ long name.now) }
+    ensures { result ≡ option_named Tool.Dump (long name.now) }
 {
     if name == "all" {
         return Some(KnownOption::Flag(FlagOption::All));

@@ -1,13 +1,11 @@
 // The settings that a command's words say.
 
-ghost use Rattle.std.specs.Prelude.{◌≡◌, ◌<◌, ◌∷◌, [], IfNone, IfSome, OnSome, drop, length, option_map, true};
+ghost use Rattle.std.specs.Prelude.{◌≡◌, ◌<◌, ◌∷◌, [], IfNone, IfSome, OnSome, drop, length, option_map};
 ghost use Rattle.std.specs.Iterator.{YieldsFirstBy, item_count};
 ghost use Rattle.trace_args.specs.Cut.{cut};
 ghost use Rattle.trace_args.specs.Grammar.{is_equals};
-ghost use Rattle.trace_args.specs.Known.{flag_spelling, valued_spelling};
-ghost use Rattle.trace_args.specs.Setting.{Flag};
-ghost use Rattle.trace_args.specs.Settings.{AnyWord, OnlyOperands, Wanting, assigned_said, behind_dash, dashed_said, long_said, row_said, says, settings, stray};
-ghost use Rattle.trace_args.specs.SettingsView.{Gives, GivesOne, IsNextWord, option_said, settings_left, stepped, then_left};
+ghost use Rattle.trace_args.specs.Settings.{AnyWord, OnlyOperands, Wanting, assigned_said, behind_dash, dashed_said, letter_said, long_said, named_said, row_said, says, settings, stray};
+ghost use Rattle.trace_args.specs.SettingsView.{Gives, GivesOne, IsNextWord, settings_left, stepped, then_left};
 ghost use Rattle.trace_args.specs.Views.{parts_view, setting_view};
 
 use trace_base::Words;
@@ -70,7 +68,7 @@ impl<'a> Settings<'a> {
 
     // An option with a value in the next word.
     fn wanting(&mut self, option: ValuedOption) -> Setting<'a>
-        ensures { GivesOne (then_left self.old (says [] (Wanting (valued_spelling option) self.old.next))) result self.new }
+        ensures { GivesOne (then_left self.old (says [] (Wanting option self.old.next))) result self.new }
     {
         let word = self.next as u64;
         self.place = Place::AnyWord;
@@ -102,7 +100,7 @@ impl<'a> Settings<'a> {
 
     // An option of a row, and what is left of the row.
     fn known_letter(&mut self, option: KnownOption, rest: &'a str) -> Setting<'a>
-        ensures { GivesOne (then_left self.old (option_said self.old.tool self.old.next option rest.now)) result self.new }
+        ensures { GivesOne (then_left self.old (letter_said self.old.next rest.now (row_said self.old.tool self.old.next rest.now) (Some option))) result self.new }
     {
         match option {
             KnownOption::Flag(flag) => {
@@ -116,7 +114,7 @@ impl<'a> Settings<'a> {
 
     // An option with this value in its word.
     fn assigned(&mut self, option: ValuedOption, text: &'a str) -> Setting<'a>
-        ensures { GivesOne (then_left self.old (assigned_said self.old.next (valued_spelling option) text.now (Some true))) result self.new }
+        ensures { GivesOne (then_left self.old (assigned_said self.old.next text.now (Some (KnownOption.Valued option)))) result self.new }
     {
         let word = self.next as u64;
         self.place = Place::AnyWord;
@@ -142,7 +140,7 @@ impl<'a> Settings<'a> {
 
     // A flag that is its whole word.
     fn flag(&mut self, flag: FlagOption) -> Setting<'a>
-        ensures { GivesOne (then_left self.old (says (Flag (flag_spelling flag) ∷ []) AnyWord)) result self.new }
+        ensures { GivesOne (then_left self.old (named_said self.old.next (Some (KnownOption.Flag flag)))) result self.new }
     {
         self.place = Place::AnyWord;
         Setting::Flag(flag)
