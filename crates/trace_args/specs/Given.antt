@@ -160,3 +160,8 @@ abbrev pub Answers : Result Seen WordFault → Result Unit WordFault → Given �
 Answers outcome result given = MatchResult result
     (λ _. outcome ≡ Ok (given_view given))
     (λ wrong. outcome ≡ Err wrong)
+
+abbrev pub GivenAnswer : Result Seen WordFault → Result Given WordFault → Type 0
+GivenAnswer outcome result = MatchResult result
+    (λ given. outcome ≡ Ok (given_view given))
+    (λ wrong. outcome ≡ Err wrong)

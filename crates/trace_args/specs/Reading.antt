@@ -1,6 +1,6 @@
 -- The reading of a command line's words: its command, or its first fault.
 -- Source: trace-cmd(1), trace-cmd-report(1), trace-cmd-dump(1).
-use Rattle.std.specs.Prelude.{ℕ, ◌+◌, ◌==◌, Bool, true, false, ◌&&◌, ◌||◌, not, ◌≡◌, ◌≢◌, List, [], ◌∷◌, ◌++◌, map, Option, Some, None, unwrap_or, option_map, codes, Result, Ok, Err, if◌then◌else◌, MatchResult}
+use Rattle.std.specs.Prelude.{ℕ, ◌+◌, ◌==◌, Bool, true, false, ◌&&◌, ◌||◌, not, ◌≡◌, ◌≢◌, List, [], ◌∷◌, ◌++◌, drop, map, Option, Some, None, unwrap_or, option_map, codes, Result, Ok, Err, if◌then◌else◌, MatchResult}
 use Rattle.std.specs.List.{list_any}
 use Rattle.std.specs.Str.{bytes_eq}
 use Rattle.std.specs.Option.{option_and_then, option_or}
@@ -141,13 +141,21 @@ judged command (Some wrong) = Err wrong
 abbrev pub tool_reading : Tool → List Setting → Result CommandData WordFault
 tool_reading command settings = judged (command_of command settings) (first_fault [] settings)
 
+-- the command that the first word names
+abbrev pub tool_of : List (List ℕ) → Result Tool WordFault
+tool_of [] = Err (fault 1 kind.NoCommand)
+tool_of (word ∷ words) =
+    if bytes_eq word (codes "report")
+    then Ok tool.Report
+    else (if bytes_eq word (codes "dump") then Ok tool.Dump else Err (fault 1 kind.Unknown))
+
+abbrev pub behind_tool : List (List ℕ) → Result Tool WordFault → Result CommandData WordFault
+behind_tool options (Ok command) = tool_reading command (settings command AnyWord 2 options)
+behind_tool options (Err wrong) = Err wrong
+
 -- the reading of the words, as a function
 unfoldable pub reading : List (List ℕ) → Result CommandData WordFault
-reading [] = Err (fault 1 kind.NoCommand)
-reading (word ∷ words) =
-    if bytes_eq word (tool_name tool.Report)
-    then tool_reading tool.Report (settings tool.Report AnyWord 2 words)
-    else (if bytes_eq word (tool_name tool.Dump) then tool_reading tool.Dump (settings tool.Dump AnyWord 2 words) else Err (fault 1 kind.Unknown))
+reading words = behind_tool (drop 1 words) (tool_of words)
 
 -- an answer is the reading; the only other is that there was no memory
 abbrev pub IsAnswer : List (List ℕ) → Result Command WordFault → Type 0

@@ -1,6 +1,7 @@
 // What the settings of a command line say so far.
 
 ghost use Rattle.std.specs.Prelude.{◌≡◌, [], option_map};
+ghost use Rattle.std.specs.List.{list_any};
 ghost use Rattle.trace_args.specs.Command.{dump_view, report_view};
 ghost use Rattle.trace_args.specs.Faults.{worker_count};
 ghost use Rattle.trace_args.specs.Given.{Answers, dump_seen, given_view, has, is_printed_seen, names_any_seen, report_seen, seen_in, step, with_flag, with_text, with_valued, with_value};
@@ -161,7 +162,7 @@ impl<'a> Given<'a> {
     fn names_any(&self) -> bool
         ensures { result ≡ names_any_seen (given_view self.now) }
     {
-        self.all || self.named.iter().any(|named| *named)
+        self.all || any(&self.named)
     }
 }
 
@@ -169,4 +170,10 @@ fn worker_count(text: &[u8]) -> Option<u32>
     ensures { result ≡ worker_count text.now }
 {
     number_within(text, 1, 64)
+}
+
+fn any(named: &[bool]) -> bool
+    ensures { result ≡ list_any (λ named. named) named.now }
+{
+    named.iter().any(|named| *named)
 }

@@ -1,12 +1,17 @@
-ghost use Rattle.std.specs.Prelude.{◌≡◌, ◌≢◌, IfOk, IfErr};
+ghost use Rattle.std.specs.Prelude.{◌≡◌, ◌≢◌, [], IfErr, IfOk, drop};
 ghost use Rattle.trace_args.specs.Command.{command_view};
-ghost use Rattle.trace_args.specs.Reading.{HasFault, IsAnswer, Reads};
+ghost use Rattle.trace_args.specs.Given.{GivenAnswer, seen_in, steps};
+ghost use Rattle.trace_args.specs.Reading.{HasFault, IsAnswer, Reads, tool_of};
+ghost use Rattle.trace_args.specs.Settings.{AnyWord, settings};
 
 use std::alloc::Global;
 use trace_base::Words;
 
 use crate::command::Command;
 use crate::fault::{WordFault, WordKind};
+use crate::given::Given;
+use crate::settings::Settings;
+use crate::tool::Tool;
 
 /// Reads the words of a command line, the program's own name left out.
 ///
@@ -19,9 +24,41 @@ pub fn read_words<'a>(_alloc: Global, words: &'a Words) -> Result<Command<'a>, W
     ensures exact { IsAnswer words.now result }
     ensures takes_no_memory { IfErr result (λ fault. fault.kind ≢ WordKind.Memory) }
 {
-    let _ = words;
-    Err(WordFault {
-        word: 1,
-        kind: WordKind::NoCommand,
+    let tool = read_tool(words)?;
+    let given = read_settings(tool, words)?;
+    Ok(match tool {
+        Tool::Report => Command::Report(given.report()),
+        Tool::Dump => Command::Dump(given.dump()),
     })
+}
+
+// The command that the first word names.
+fn read_tool(words: &Words) -> Result<Tool, WordFault>
+    ensures { result ≡ tool_of words.now }
+{
+    if words.is_empty() {
+        return Err(WordFault {
+            word: 1,
+            kind: WordKind::NoCommand,
+        });
+    }
+    match words.word(0) {
+        "report" => Ok(Tool::Report),
+        "dump" => Ok(Tool::Dump),
+        _ => Err(WordFault {
+            word: 1,
+            kind: WordKind::Unknown,
+        }),
+    }
+}
+
+// What the words behind the first say, if nothing is wrong with them.
+fn read_settings<'a>(tool: Tool, words: &'a Words) -> Result<Given<'a>, WordFault>
+    ensures { GivenAnswer (steps (settings tool AnyWord 2 (drop 1 words.now)) (seen_in [])) result }
+{
+    let mut given = Given::new();
+    for setting in Settings::new(tool, words) {
+        given.take(setting)?;
+    }
+    Ok(given)
 }
