@@ -2,3 +2,4 @@ pub mod NumberLaws
 pub mod CutLaws
 pub mod CpuLaws
 pub mod SettingsLaws
+pub mod GivenLaws
