@@ -250,7 +250,6 @@ finish command (Ok seen) = Ok (command_seen command seen)
 finish command (Err wrong) = Err wrong
 
 seen_command : (command : Tool) (settings : List Setting) → command_seen command (seen_in settings) ≡ command_of command settings
-unfolding sections
 seen_command tool.Report settings = refl
 seen_command tool.Dump settings = refl
 
