@@ -157,6 +157,12 @@ behind_tool options (Err wrong) = Err wrong
 unfoldable pub reading : List (List ℕ) → Result CommandData WordFault
 reading words = behind_tool (drop 1 words) (tool_of words)
 
+-- a call answered this reading
+abbrev pub CommandAnswer : Result CommandData WordFault → Result Command WordFault → Type 0
+CommandAnswer outcome result = MatchResult result
+    (λ command. outcome ≡ Ok (command_view command))
+    (λ wrong. outcome ≡ Err wrong)
+
 -- an answer is the reading; the only other is that there was no memory
 abbrev pub IsAnswer : List (List ℕ) → Result Command WordFault → Type 0
 IsAnswer words result = MatchResult result

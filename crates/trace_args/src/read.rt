@@ -1,7 +1,7 @@
 ghost use Rattle.std.specs.Prelude.{◌≡◌, ◌≢◌, [], IfErr, IfOk, drop};
 ghost use Rattle.trace_args.specs.Command.{command_view};
-ghost use Rattle.trace_args.specs.Given.{GivenAnswer, seen_in, steps};
-ghost use Rattle.trace_args.specs.Reading.{HasFault, IsAnswer, Reads, tool_of};
+ghost use Rattle.trace_args.specs.Given.{GivenAnswer, command_seen, given_view, seen_in, steps};
+ghost use Rattle.trace_args.specs.Reading.{CommandAnswer, HasFault, IsAnswer, Reads, reading, tool_of};
 ghost use Rattle.trace_args.specs.Settings.{AnyWord, settings};
 
 use std::alloc::Global;
@@ -24,12 +24,26 @@ pub fn read_words<'a>(_alloc: Global, words: &'a Words) -> Result<Command<'a>, W
     ensures exact { IsAnswer words.now result }
     ensures takes_no_memory { IfErr result (λ fault. fault.kind ≢ WordKind.Memory) }
 {
+    read(words)
+}
+
+// The reading, or its first fault.
+fn read<'a>(words: &'a Words) -> Result<Command<'a>, WordFault>
+    ensures { CommandAnswer (reading words.now) result }
+{
     let tool = read_tool(words)?;
     let given = read_settings(tool, words)?;
-    Ok(match tool {
+    Ok(finish(tool, given))
+}
+
+// The command that was given.
+fn finish(tool: Tool, given: Given<'_>) -> Command<'_>
+    ensures { command_view result ≡ command_seen tool (given_view given.entry) }
+{
+    match tool {
         Tool::Report => Command::Report(given.report()),
         Tool::Dump => Command::Dump(given.dump()),
-    })
+    }
 }
 
 // The command that the first word names.
