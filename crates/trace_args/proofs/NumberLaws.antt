@@ -1,0 +1,78 @@
+-- A number's digits, read from the left.
+use Rattle.std.proofs.Common.{◌≡◌, ℕ, ◌+◌, ◌-◌, ◌*◌, ◌^◌, ◌<◌, ◌≤◌, Bool, true, false, ◌&&◌, nat_le, List, [], ◌∷◌, length, Option, Some, None, if◌then◌else◌, refl, ap, sym, ◌∙◌, arith, rules, tests}
+use Rattle.std.specs.List.{list_all}
+use Rattle.std.specs.Char.{is_ascii_digit}
+use Rattle.std.specs.Option.{option_and_then}
+use Rattle.std.proofs.Math.Nat.{pow-succ', one-le-pow, le-mul_of_pos_right}
+use Rattle.std.proofs.lemmas.Bool.Decides.{nat_tests}
+use Rattle.trace_args.specs.Number.{digits_value, number_of, number_within}
+
+-- the number of some digits that are read, and those that are left
+abbrev pub number_on : ℕ → List ℕ → Option ℕ
+number_on value digits =
+    if list_all is_ascii_digit digits then Some (value * 10 ^ length digits + digits_value digits) else None
+
+abbrev pub within : ℕ → ℕ → Option ℕ → Option ℕ
+within least most number =
+    option_and_then (λ n. if nat_le least n && nat_le n most then Some n else None) number
+
+weighed : (value digit power rest : ℕ) → value * (10 * power) + (digit * power + rest) ≡ (10 * value + digit) * power + rest
+weighed value digit power rest = omega arith
+
+pub number_on-digit : (value digit : ℕ) (digits : List ℕ) → is_ascii_digit digit ≡ true → number_on value (digit ∷ digits) ≡ number_on (10 * value + (digit - 48)) digits
+number_on-digit value digit digits h = rw (h) (ap (λ n. if list_all is_ascii_digit digits then Some n else None) (rw (pow-succ' 10 (length digits)) (weighed value (digit - 48) (10 ^ length digits) (digits_value digits))))
+
+pub number_on-other : (value digit : ℕ) (digits : List ℕ) → is_ascii_digit digit ≡ false → number_on value (digit ∷ digits) ≡ None
+number_on-other value digit digits h = rw h
+
+and-false : (b : Bool) → (b && false) ≡ false
+and-false true = refl
+and-false false = refl
+
+le-false : (n most : ℕ) → most < n → nat_le n most ≡ false
+le-false n most h = grind (arith, nat_tests)
+
+above_most : (least most n : ℕ) → most < n → within least most (Some n) ≡ None
+above_most least most n h = rw (le-false n most h, and-false (nat_le least n))
+
+much : (least most n : ℕ) (all : Bool) → most < n → within least most (if all then Some n else None) ≡ None
+much least most n true h = above_most least most n h
+much least most n false h = refl
+
+pub number_on-much : (least most value : ℕ) (digits : List ℕ) → most < value → within least most (number_on value digits) ≡ None
+number_on-much least most value digits h =
+    much least most _ (list_all is_ascii_digit digits) (omega (arith, le-mul_of_pos_right {m = 10 ^ length digits} value (one-le-pow (length digits) 10 (omega arith))))
+
+-- the number with one more digit, while it is at most the most
+abbrev pub longer_number : ℕ → ℕ → ℕ → Option ℕ
+longer_number value digit most =
+    if is_ascii_digit digit && nat_le (10 * value + (digit - 48)) most
+    then Some (10 * value + (digit - 48))
+    else None
+
+step_by : (value digit most next : ℕ) (digits : List ℕ) (is_digit small : Bool) → is_ascii_digit digit ≡ is_digit → nat_le (10 * value + (digit - 48)) most ≡ small → longer_number value digit most ≡ Some next → number_on value (digit ∷ digits) ≡ number_on next digits
+step_by value digit most next digits true true d s h =
+    let n : Some (10 * value + (digit - 48)) ≡ Some next = rw (d, s) at h in
+    let n' : 10 * value + (digit - 48) ≡ next = cc in
+    number_on-digit value digit digits d ∙ ap (λ v. number_on v digits) n'
+step_by value digit most next digits true false d s h =
+    let n : None ≡ Some next = rw (d, s) at h in cc
+step_by value digit most next digits false small d s h = let n : None ≡ Some next = rw d at h in cc
+
+-- a digit is read
+pub number_on-step : (value digit most next : ℕ) (digits : List ℕ) → longer_number value digit most ≡ Some next → number_on value (digit ∷ digits) ≡ number_on next digits
+number_on-step value digit most next digits h =
+    step_by value digit most next digits (is_ascii_digit digit) (nat_le (10 * value + (digit - 48)) most) refl refl h
+
+stop_by : (least value digit most : ℕ) (digits : List ℕ) (is_digit small : Bool) → is_ascii_digit digit ≡ is_digit → nat_le (10 * value + (digit - 48)) most ≡ small → longer_number value digit most ≡ None → within least most (number_on value (digit ∷ digits)) ≡ None
+stop_by least value digit most digits true true d s h =
+    let n : Some (10 * value + (digit - 48)) ≡ None = rw (d, s) at h in cc
+stop_by least value digit most digits true false d s h =
+    rw (number_on-digit value digit digits d) (number_on-much least most _ digits (grind (arith, nat_tests, s)))
+stop_by least value digit most digits false small d s h =
+    rw (number_on-other value digit digits d) refl
+
+-- no digit is read
+pub number_on-stop : (least value digit most : ℕ) (digits : List ℕ) → longer_number value digit most ≡ None → within least most (number_on value (digit ∷ digits)) ≡ None
+number_on-stop least value digit most digits h =
+    stop_by least value digit most digits (is_ascii_digit digit) (nat_le (10 * value + (digit - 48)) most) refl refl h

@@ -1,0 +1,8 @@
+use Rattle.std.proofs.Common.{◌≡◌, ◌≤◌, drop}
+use Rattle.trace_args.specs.Number.{number_within}
+use Rattle.trace_args.proofs.NumberLaws.{number_on, within}
+use Rattle.trace_args.proofs.number.number_within.Given as goal
+
+abbrev pub invariant-loop-byte : goal.invariant-loop-byte
+invariant-loop-byte l =
+    within l.least l.most (number_on l.value (drop l.byte-index l.text)) ≡ number_within l.least l.most l.text

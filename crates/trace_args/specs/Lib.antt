@@ -1,0 +1,15 @@
+pub mod KindText
+pub mod Sections
+pub mod Command
+pub mod Cut
+pub mod Number
+pub mod CpuList
+pub mod Options
+pub mod Views
+pub mod Setting
+pub mod Grammar
+pub mod Settings
+pub mod SettingsView
+pub mod Faults
+pub mod Reading
+pub mod Given

@@ -1,0 +1,22 @@
+-- Decimal numbers: a digit or more, without a sign, and with any number of leading zeros.
+-- Source: POSIX, Base Definitions, 12.1 Utility Argument Syntax, on numbers in operands and option-arguments.
+use Rattle.std.specs.Prelude.{ℕ, ◌+◌, ◌-◌, ◌*◌, ◌^◌, ◌&&◌, nat_le, List, [], ◌∷◌, length, Option, Some, None, if◌then◌else◌}
+use Rattle.std.specs.List.{list_all}
+use Rattle.std.specs.Char.{is_ascii_digit}
+use Rattle.std.specs.Option.{option_and_then}
+
+-- the value of a row of digits: each counts its power of ten
+abbrev pub digits_value : List ℕ → ℕ
+digits_value [] = 0
+digits_value (digit ∷ digits) = (digit - 48) * 10 ^ length digits + digits_value digits
+
+-- the number that a text spells
+abbrev pub number_of : List ℕ → Option ℕ
+number_of [] = None
+number_of (c ∷ cs) =
+    if list_all is_ascii_digit (c ∷ cs) then Some (digits_value (c ∷ cs)) else None
+
+-- the number that a text spells, where it lies in a range
+abbrev pub number_within : ℕ → ℕ → List ℕ → Option ℕ
+number_within least most text =
+    option_and_then (λ n. if nat_le least n && nat_le n most then Some n else None) (number_of text)

@@ -1,0 +1,53 @@
+-- The options of each command: one row an option, as it is written, and which it is.
+-- Source: trace-cmd-report(1) and trace-cmd-dump(1), `OPTIONS`.
+use Rattle.std.specs.Prelude.{ℕ, List, [], ◌∷◌, ◌++◌, map, Option, option_map, codes}
+use Rattle.std.specs.List.{find}
+use Rattle.std.specs.Str.{bytes_eq}
+use Rattle.trace_args.specs.Sections.{sections, section_name}
+use Rattle.trace_args.specs.declared.tool.Tool.{Tool}
+use Rattle.trace_args.specs.declared.tool.Tool.TheVariants as tool
+use Rattle.trace_args.specs.declared.option.FlagOption.{FlagOption}
+use Rattle.trace_args.specs.declared.option.FlagOption.TheVariants.{FullTime, Latency, NoHard, NoSoft, NoPlugins, Section, All}
+use Rattle.trace_args.specs.declared.option.ValuedOption.{ValuedOption}
+use Rattle.trace_args.specs.declared.option.ValuedOption.TheVariants.{Input, Cpus, Workers}
+use Rattle.trace_args.specs.declared.option.KnownOption.{KnownOption}
+use Rattle.trace_args.specs.declared.option.KnownOption.TheVariants.{Flag, Valued}
+
+pub record OptionRow : Type 0 where
+  pub written : List ℕ
+  pub option : KnownOption
+
+abbrev pub flag : List ℕ → FlagOption → OptionRow
+flag written option = record { written = written; option = Flag option }
+
+-- an option with a value
+abbrev pub valued : List ℕ → ValuedOption → OptionRow
+valued written option = record { written = written; option = Valued option }
+
+-- a short option of this letter, and a long one of this name, as they are written
+abbrev pub short : ℕ → List ℕ
+short letter = 45 ∷ letter ∷ []
+
+abbrev pub long : List ℕ → List ℕ
+long name = 45 ∷ 45 ∷ name
+
+abbrev pub options_of : Tool → List OptionRow
+options_of tool.Report =
+    valued (codes "-i") Input
+        ∷ flag (codes "-t") FullTime
+        ∷ flag (codes "-l") Latency
+        ∷ flag (codes "-I") NoHard
+        ∷ flag (codes "-S") NoSoft
+        ∷ flag (codes "-N") NoPlugins
+        ∷ valued (codes "--cpu") Cpus
+        ∷ valued (codes "--workers") Workers
+        ∷ []
+options_of tool.Dump =
+    valued (codes "-i") Input
+        ∷ flag (codes "--all") All
+        ∷ map (λ section. flag (long (section_name section)) (Section section)) sections
+
+-- the option of the command that is so written
+abbrev pub option_named : Tool → List ℕ → Option KnownOption
+option_named command written =
+    option_map (λ row. row.option) (find (λ row. bytes_eq written row.written) (options_of command))

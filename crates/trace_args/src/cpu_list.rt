@@ -1,0 +1,95 @@
+// The LIST of `--cpu`.
+
+ghost use Rattle.std.specs.Prelude.{◌≡◌, ◌+◌, ◌∷◌, ◌<◌, ◌≤◌, [], IfSome, drop, length, option_map, take};
+ghost use Rattle.std.specs.List.{position, slice_split};
+ghost use Rattle.std.specs.Option.{option_map_or};
+ghost use Rattle.trace_args.specs.CpuList.{cpu_number, cpu_set, is_dash, is_separator, range_of};
+ghost use Rattle.trace_args.specs.Cut.{cut};
+ghost use Rattle.trace_args.specs.Views.{parts_view, range_view};
+
+use crate::cpu_set::CpuSet;
+use crate::number::number_within;
+
+/// The set that the list names.
+pub fn cpu_set(text: &[u8]) -> Option<CpuSet>
+    ensures { result ≡ cpu_set text.now }
+{
+    let mut set = CpuSet::new();
+    let mut rest = Some(text);
+    while let Some(left) = rest {
+        let (piece, after) = first_piece(left);
+        let (first, last) = range(piece)?;
+        set.insert(first, last);
+        rest = after;
+    }
+    Some(set)
+}
+
+#[tactic(auto, using(crate::proofs::CutLaws::split_by_position, crate::proofs::CutLaws::position_inside))]
+// What stands before the first separator, and behind it, where there is one.
+fn first_piece(text: &[u8]) -> (&[u8], Option<&[u8]>)
+    ensures split { slice_split is_separator text.now
+        ≡ result.0.now ∷ option_map_or (λ rest. slice_split is_separator rest.now) result.1 [] }
+    ensures shorter { IfSome result.1 (λ rest. length rest.now < length text.now) }
+{
+    match separator_place(text) {
+        Some(at) => {
+            let (piece, rest) = around(text, at);
+            (piece, Some(rest))
+        }
+        None => (text, None),
+    }
+}
+
+fn range(piece: &[u8]) -> Option<(u32, u32)>
+    ensures value { option_map range_view result ≡ range_of piece.now }
+    ensures bounds { IfSome result (λ range. (range.0 ≤ range.1) × (range.1 < 1024)) }
+{
+    let Some((first, last)) = around_dash(piece) else {
+        let cpu = cpu_number(piece)?;
+        return Some((cpu, cpu));
+    };
+    let first = cpu_number(first)?;
+    let last = cpu_number(last)?;
+    if first <= last {
+        Some((first, last))
+    } else {
+        None
+    }
+}
+
+#[tactic(auto, using(crate::proofs::CutLaws::cut_by_position, crate::proofs::CutLaws::position_inside))]
+fn around_dash(piece: &[u8]) -> Option<(&[u8], &[u8])>
+    ensures { option_map parts_view result ≡ cut is_dash piece.now }
+{
+    let at = dash_place(piece)?;
+    Some(around(piece, at))
+}
+
+// What stands before and after the byte at a place.
+fn around(text: &[u8], at: usize) -> (&[u8], &[u8])
+    requires { at < length text.now }
+    ensures before { result.0.now ≡ take at text.now }
+    ensures after { result.1.now ≡ drop (at + 1) text.now }
+{
+    (&text[..at], &text[at + 1..])
+}
+
+fn separator_place(text: &[u8]) -> Option<usize>
+    ensures { result ≡ position is_separator text.now }
+{
+    text.iter().position(|byte| *byte == b',' || *byte == b':')
+}
+
+fn dash_place(text: &[u8]) -> Option<usize>
+    ensures { result ≡ position is_dash text.now }
+{
+    text.iter().position(|byte| *byte == b'-')
+}
+
+fn cpu_number(text: &[u8]) -> Option<u32>
+    ensures value { result ≡ cpu_number text.now }
+    ensures bound { IfSome result (λ cpu. cpu < 1024) }
+{
+    number_within(text, 0, CpuSet::LIMIT - 1)
+}

@@ -1,0 +1,21 @@
+//! The words of a command line, read into a command.
+#![tactic(auto)]
+
+mod command;
+mod cpu_list;
+mod cpu_set;
+mod fault;
+mod given;
+mod number;
+mod option;
+mod read;
+mod section;
+mod setting;
+mod settings;
+mod tool;
+
+pub use command::{Command, DumpWords, ReportWords};
+pub use cpu_set::CpuSet;
+pub use fault::{WordFault, WordKind};
+pub use read::read_words;
+pub use section::Section;
