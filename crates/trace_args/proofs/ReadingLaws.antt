@@ -178,3 +178,29 @@ answer_not_memory words (Err f) h = fault_not_memory words f (has_fault_reading 
 pub fault_answer : (outcome : Result CommandData WordFault) (result : Result Command WordFault) (f : WordFault) (P : WordFault → Type 0) → ((e : WordFault) → P e → e ≡ f) → IsErrAnd result P → outcome ≡ Err f → CommandAnswer outcome result
 fault_answer outcome (Err e) f P same is h = h ∙ ap Err (sym (same e is))
 fault_answer outcome (Ok x) f P same is h = absurd is
+
+-- ---- one reading, or one first fault
+
+abbrev command_answer : CommandData → Result CommandData WordFault
+command_answer a = Ok a
+
+abbrev fault_answer_of : WordFault → Result CommandData WordFault
+fault_answer_of f = Err f
+
+ok_same : (a b : CommandData) → command_answer a ≡ command_answer b → a ≡ b
+ok_same a b h = cc
+
+pub same_command : (words : List (List ℕ)) (a b : CommandData) → Reads words a → Reads words b → a ≡ b
+same_command words a b r s =
+    ok_same a b (sym (reading_reads words a r) ∙ reading_reads words b s)
+
+err_same : (f g : WordFault) → fault_answer_of f ≡ fault_answer_of g → f ≡ g
+err_same f g h = cc
+
+pub same_fault : (words : List (List ℕ)) (f g : WordFault) → HasFault words f → HasFault words g → f ≡ g
+same_fault words f g h k =
+    err_same f g (sym (reading_has_fault words f h) ∙ reading_has_fault words g k)
+
+pub no_command_and_fault : (words : List (List ℕ)) (a : CommandData) (f : WordFault) → Reads words a → HasFault words f → ⊥
+no_command_and_fault words a f r h =
+    let bad : Ok a ≡ Err f = sym (reading_reads words a r) ∙ reading_has_fault words f h in cc
