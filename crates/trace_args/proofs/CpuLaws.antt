@@ -1,10 +1,9 @@
 -- A set of processors that gains one range after another.
-use Rattle.std.proofs.Common.{◌≡◌, ℕ, suc, zero, ◌+◌, ◌-◌, ◌<◌, ◌≤◌, Bool, true, false, ◌||◌, ◌&&◌, nat_le, nat_lt, get_or, List, [], ◌∷◌, ◌++◌, map, length, take, drop, Option, Some, None, option_map, refl, ap, sym, ◌∙◌, arith, rules, replicate}
+use Rattle.std.proofs.Common.{◌≡◌, ℕ, suc, zero, ◌+◌, ◌-◌, ◌<◌, ◌≤◌, Bool, true, false, ◌||◌, ◌&&◌, nat_lt, get_or, List, [], ◌∷◌, ◌++◌, map, length, take, drop, Option, Some, None, option_map, refl, ap, sym, ◌∙◌, arith, replicate}
 use Rattle.std.specs.List.{list_any, range_with_len, slice_split}
-use Rattle.std.specs.Option.{option_and_then}
 use Rattle.std.proofs.lemmas.Bool.Decides.{nat_tests}
 use Rattle.trace_args.specs.Views.{range_view}
-use Rattle.trace_args.specs.CpuList.{Range, is_in, marked, with_range, members_below, ranges_of, range_of, cpu_set, is_separator}
+use Rattle.trace_args.specs.CpuList.{Range, is_in, marked, with_range, members_below, ranges_of, cpu_set, is_separator}
 
 or_false : (b : Bool) → (b || false) ≡ b
 or_false true = refl

@@ -1,5 +1,5 @@
 -- What settings say, taken one after another, is what they say together.
-use Rattle.std.proofs.Common.{◌≡◌, ◌==◌, ℕ, ◌+◌, Bool, true, false, ◌||◌, List, [], ◌∷◌, ◌++◌, map, Option, Some, None, is_some, option_map, unwrap_or, Result, Ok, Err, MatchOption, if◌then◌else◌, refl, ap, sym, subst, ◌∙◌, append_assoc}
+use Rattle.std.proofs.Common.{◌≡◌, ◌==◌, ℕ, Bool, true, false, ◌||◌, List, [], ◌∷◌, ◌++◌, map, Option, Some, None, is_some, Result, Ok, Err, MatchOption, if◌then◌else◌, refl, ap, sym, subst, ◌∙◌, append_assoc}
 use Rattle.std.specs.List.{list_any}
 use Rattle.std.specs.Option.{option_and_then, option_or}
 use Rattle.std.proofs.Math.Bool.{or_comm}
@@ -10,7 +10,6 @@ use Rattle.trace_args.specs.declared.option.FlagOption.{FlagOption}
 use Rattle.trace_args.specs.declared.option.FlagOption.TheVariants as flag
 use Rattle.trace_args.specs.declared.option.ValuedOption.{ValuedOption}
 use Rattle.trace_args.specs.declared.option.ValuedOption.TheVariants as valued
-use Rattle.trace_args.specs.declared.section.Section.{Section}
 use Rattle.trace_args.specs.declared.tool.Tool.{Tool}
 use Rattle.trace_args.specs.declared.tool.Tool.TheVariants as tool
 use Rattle.trace_args.specs.Sections.{sections}

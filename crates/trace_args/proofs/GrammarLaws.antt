@@ -1,6 +1,5 @@
 -- The grammar of words relates them to the settings of the function, and to no others.
-use Rattle.std.proofs.Common.{◌≡◌, ◌≢◌, ◌==◌, ℕ, ◌+◌, Bool, true, false, List, [], ◌∷◌, ◌++◌, map, length, drop, Option, Some, None, option_map, if◌then◌else◌, refl, ap, sym, subst, ◌∙◌, append_assoc, arith, eqb-true}
-use Rattle.std.specs.List.{list_any}
+use Rattle.std.proofs.Common.{◌≡◌, ◌≢◌, ◌==◌, ℕ, ◌+◌, Bool, true, false, List, [], ◌∷◌, ◌++◌, length, drop, Option, Some, None, option_map, if◌then◌else◌, refl, ap, sym, subst, ◌∙◌, append_assoc, arith, eqb-true}
 use Rattle.std.specs.Option.{option_map_or}
 use Rattle.std.proofs.lemmas.List.{append-nil}
 use Rattle.trace_args.specs.declared.tool.Tool.{Tool}
@@ -13,7 +12,7 @@ use Rattle.trace_args.specs.Cut.{Parts, parts, cut}
 use Rattle.trace_args.specs.Options.{option_named, short, long}
 use Rattle.trace_args.specs.Setting.{Setting, Flag, Valued, Operand, Stray, text}
 use Rattle.trace_args.specs.Grammar.{AreFlags, is_equals, IsName, given, operands, Group, Says}
-use Rattle.trace_args.specs.Settings.{Mode, AnyWord, OnlyOperands, Wanting, Over, Said, says, stray, value_in_row, letter_said, row_said, named_said, assigned_said, long_said, behind_dash, double_dashed_said, dashed_said, word_said, said, settings}
+use Rattle.trace_args.specs.Settings.{Mode, AnyWord, OnlyOperands, Wanting, Over, Said, says, stray, value_in_row, letter_said, row_said, named_said, assigned_said, behind_dash, double_dashed_said, dashed_said, word_said, said, settings}
 use Rattle.trace_args.proofs.SettingsLaws.{settings_end, settings_word, settings_over}
 
 -- a row of letters, by what it says and how the reading goes on

@@ -1,5 +1,5 @@
 -- The reading of words as a function is their reading by the grammar and by each setting's own fault, and the only one.
-use Rattle.std.proofs.Common.{◌≡◌, ◌≢◌, ◌==◌, ℕ, Bool, true, false, List, [], ◌∷◌, ◌++◌, drop, Option, Some, None, Result, Ok, Err, IfOk, IfErr, IsErrAnd, codes, if◌then◌else◌, refl, ap, sym, subst, ◌∙◌}
+use Rattle.std.proofs.Common.{◌≡◌, ◌≢◌, ℕ, Bool, true, false, List, [], ◌∷◌, drop, Option, Some, None, Result, Ok, Err, IfOk, IfErr, IsErrAnd, codes, if◌then◌else◌, refl, ap, sym, subst, ◌∙◌}
 use Rattle.std.specs.Str.{bytes_eq}
 use Rattle.std.proofs.lemmas.Slice.Eq.{bytes_eq-Decides}
 use Rattle.trace_args.specs.declared.fault.WordFault.{WordFault}
@@ -12,9 +12,8 @@ use Rattle.trace_args.specs.declared.option.ValuedOption.{ValuedOption}
 use Rattle.trace_args.specs.declared.option.ValuedOption.TheVariants as valued
 use Rattle.trace_args.specs.CpuList.{cpu_set}
 use Rattle.trace_args.specs.Setting.{Text, Setting, Flag, Valued, Operand, Stray}
-use Rattle.trace_args.specs.Grammar.{Says}
 use Rattle.trace_args.specs.Settings.{settings, AnyWord}
-use Rattle.trace_args.specs.Faults.{fault, unless_some, worker_count, is_given, value_fault, fault_of, IsClean, IsFirstFault}
+use Rattle.trace_args.specs.Faults.{fault, unless_some, worker_count, is_given, value_fault, fault_of}
 use Rattle.trace_args.specs.Reading.{command_of, tool_name, tool_of, Reads, HasFault, first_fault, judged, tool_reading, behind_tool, reading, CommandAnswer}
 use Rattle.trace_args.specs.Given.{Seen, seen_in, steps}
 use Rattle.trace_args.proofs.GivenLaws.{finish, steps_from_none}

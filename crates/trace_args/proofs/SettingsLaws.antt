@@ -1,7 +1,7 @@
 -- The settings of words, one word after another.
-use Rattle.std.proofs.Common.{◌≡◌, ℕ, suc, zero, ◌+◌, ◌<◌, ◌≤◌, Bool, true, false, List, [], ◌∷◌, ◌++◌, length, drop, Option, Some, None, IfSome, IfNone, OnSome, option_map, refl, ap, sym, ◌∙◌, arith, rules}
+use Rattle.std.proofs.Common.{◌≡◌, ℕ, suc, zero, ◌+◌, List, [], ◌∷◌, ◌++◌, length, drop, Option, Some, None, IfSome, IfNone, OnSome, option_map, refl, ap, sym, ◌∙◌, arith}
 use Rattle.trace_args.specs.declared.tool.Tool.{Tool}
-use Rattle.trace_args.specs.Setting.{Setting, Flag, Valued, Operand, Stray, text}
+use Rattle.trace_args.specs.Setting.{Setting, Valued, Operand, text}
 use Rattle.std.specs.List.{slice_get}
 use Rattle.std.specs.Option.{option_map_or}
 use Rattle.std.proofs.lemmas.List.{drop_all}
@@ -10,7 +10,7 @@ use Rattle.trace_args.specs.declared.option.ValuedOption.{ValuedOption}
 use Rattle.trace_args.specs.declared.setting.Value.{Value}
 use Rattle.trace_args.specs.Views.{text_view}
 use Rattle.trace_args.specs.SettingsView.{place_said, then_left, settings_left, stepped, IsNextWord}
-use Rattle.trace_args.specs.Settings.{AnyWord, Wanting, behind_dash, dashed_said, says, Mode, Over, Said, said, ending, settings}
+use Rattle.trace_args.specs.Settings.{AnyWord, Wanting, behind_dash, dashed_said, says, Mode, Over, said, ending, settings}
 
 pub settings_end : (command : Tool) (mode : Mode) (k : ℕ) → settings command mode k [] ≡ ending mode
 unfolding settings

@@ -1,5 +1,5 @@
 -- The reading of settings one after another: what they say so far, and one more of them.
-use Rattle.std.specs.Prelude.{ℕ, ◌==◌, Bool, true, false, ◌||◌, ◌&&◌, not, ◌≡◌, List, [], ◌∷◌, map, replicate, Option, Some, None, option_map, unwrap_or, is_some, codes, Result, Ok, Err, if◌then◌else◌, MatchResult}
+use Rattle.std.specs.Prelude.{ℕ, ◌==◌, Bool, false, ◌||◌, ◌&&◌, not, ◌≡◌, List, [], ◌∷◌, map, Option, Some, None, option_map, unwrap_or, is_some, codes, Result, Ok, Err, if◌then◌else◌, MatchResult}
 use Rattle.std.specs.List.{list_any, slice_index_or}
 use Rattle.std.specs.Option.{option_and_then}
 use Rattle.trace_args.specs.declared.fault.WordFault.{WordFault}

@@ -1,7 +1,7 @@
 -- How options and operands are spelled in words: rows of short options, values in the same or in the next word, `--name=value`,
 -- and `--`.
 -- Source: POSIX, Base Definitions, 12.2 Utility Syntax Guidelines; getopt_long(3).
-use Rattle.std.specs.Prelude.{ℕ, ◌+◌, ◌≡◌, ◌≢◌, false, List, [], ◌∷◌, ◌++◌, map, length, Option, Some, None, Bool, ◌==◌}
+use Rattle.std.specs.Prelude.{ℕ, ◌+◌, ◌≡◌, ◌≢◌, false, List, [], ◌∷◌, ◌++◌, map, length, Some, None, Bool, ◌==◌}
 use Rattle.std.specs.List.{list_any, AllZip}
 use Rattle.trace_args.specs.declared.tool.Tool.{Tool}
 use Rattle.trace_args.specs.declared.option.FlagOption.{FlagOption}

@@ -1,6 +1,6 @@
 -- The options of each command: one row an option, as it is written, and which it is.
 -- Source: trace-cmd-report(1) and trace-cmd-dump(1), `OPTIONS`.
-use Rattle.std.specs.Prelude.{ℕ, List, [], ◌∷◌, ◌++◌, map, Option, option_map, codes}
+use Rattle.std.specs.Prelude.{ℕ, List, [], ◌∷◌, map, Option, option_map, codes}
 use Rattle.std.specs.List.{find}
 use Rattle.std.specs.Str.{bytes_eq}
 use Rattle.trace_args.specs.Sections.{sections, section_name}

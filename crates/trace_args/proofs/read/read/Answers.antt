@@ -1,4 +1,4 @@
-use Rattle.std.proofs.Common.{Ok, Err, rules, sym, ap, ◌∙◌}
+use Rattle.std.proofs.Common.{Ok, Err, sym, ap, ◌∙◌}
 use Rattle.trace_args.proofs.ReadingLaws.{fault_answer, reading_no_tool, reading_steps}
 use Rattle.trace_args.specs.Reading.{reading}
 use Rattle.trace_args.proofs.read.read.Goals as goal

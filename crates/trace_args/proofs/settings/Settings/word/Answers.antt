@@ -1,4 +1,4 @@
-use Rattle.std.proofs.Common.{◌≡◌, [], List, refl, ap, subst, sym, ◌∙◌}
+use Rattle.std.proofs.Common.{List, refl, ap, subst, sym, ◌∙◌}
 use Rattle.trace_args.specs.declared.settings.Settings.{Settings}
 use Rattle.trace_args.specs.declared.settings.Place.TheVariants as place
 use Rattle.trace_args.specs.Setting.{Setting, Operand}
