@@ -39,7 +39,7 @@ added_is : (members : List Bool) (ranges : List Range) → added members ranges 
 added_is members [] = sym (marked_none 0 members)
 added_is members (range ∷ ranges) =
     added_is (with_range members range) ranges
-        ∙ marked_twice 0 (λ cpu. list_any (is_in cpu) ranges) (λ cpu. is_in cpu range) members
+    ∙ marked_twice 0 (λ cpu. list_any (is_in cpu) ranges) (λ cpu. is_in cpu range) members
 
 pub added_to_none : (n : ℕ) (ranges : List Range) → added (replicate n false) ranges ≡ members_below n ranges
 added_to_none n ranges =

@@ -23,13 +23,13 @@ use Rattle.trace_args.proofs.GrammarLaws.{says_settings, settings_says}
 reads_tool : (command : Tool) (options : List (List ℕ)) (data_is : CommandData) (wrong : Option WordFault) → first_fault [] (settings command AnyWord 2 options) ≡ wrong → judged (command_of command (settings command AnyWord 2 options)) wrong ≡ Ok data_is → Reads (tool_name command ∷ options) data_is
 reads_tool command options data_is None e h =
     record {
-        tool = command;
-        options = options;
-        settings = settings command AnyWord 2 options;
-        words_are = refl;
-        settings_are = says_settings command 2 options;
-        clean = is_clean (settings command AnyWord 2 options) e;
-        command_is = let same : command_of command (settings command AnyWord 2 options) ≡ data_is = cc in sym same
+      tool = command;
+      options = options;
+      settings = settings command AnyWord 2 options;
+      words_are = refl;
+      settings_are = says_settings command 2 options;
+      clean = is_clean (settings command AnyWord 2 options) e;
+      command_is = let same : command_of command (settings command AnyWord 2 options) ≡ data_is = cc in sym same;
     }
 reads_tool command options data_is (Some wrong) e h = cc
 
@@ -95,10 +95,10 @@ reading_tool tool.Dump options = refl
 pub reading_reads : (words : List (List ℕ)) (data_is : CommandData) → Reads words data_is → reading words ≡ Ok data_is
 reading_reads words data_is r =
     ap reading r.words_are
-        ∙ reading_tool r.tool r.options
-        ∙ ap (tool_reading r.tool) (settings_says r.tool 2 r.options r.settings r.settings_are)
-        ∙ ap (judged (command_of r.tool r.settings)) (first_fault-clean r.settings r.clean)
-        ∙ ap Ok (sym r.command_is)
+    ∙ reading_tool r.tool r.options
+    ∙ ap (tool_reading r.tool) (settings_says r.tool 2 r.options r.settings r.settings_are)
+    ∙ ap (judged (command_of r.tool r.settings)) (first_fault-clean r.settings r.clean)
+    ∙ ap Ok (sym r.command_is)
 
 -- a first fault is the function's
 pub reading_has_fault : (words : List (List ℕ)) (f : WordFault) → HasFault words f → reading words ≡ Err f
@@ -106,11 +106,11 @@ unfolding reading
 reading_has_fault _ _ HasFault.no_word = refl
 reading_has_fault _ _ (HasFault.no_command word options h) =
     ap (λ b. behind_tool options (if b then Ok tool.Report else (if bytes_eq word (codes "dump") then Ok tool.Dump else Err (fault 1 kind.Unknown)))) (text_no word (codes "report") (bytes_eq word (codes "report")) refl (h tool.Report))
-        ∙ ap (λ b. behind_tool options (if b then Ok tool.Dump else Err (fault 1 kind.Unknown))) (text_no word (codes "dump") (bytes_eq word (codes "dump")) refl (h tool.Dump))
+    ∙ ap (λ b. behind_tool options (if b then Ok tool.Dump else Err (fault 1 kind.Unknown))) (text_no word (codes "dump") (bytes_eq word (codes "dump")) refl (h tool.Dump))
 reading_has_fault _ _ (HasFault.in_setting command options ss f says_is first) =
     reading_tool command options
-        ∙ ap (tool_reading command) (settings_says command 2 options ss says_is)
-        ∙ ap (judged (command_of command ss)) (first_fault-wrong ss f first)
+    ∙ ap (tool_reading command) (settings_says command 2 options ss says_is)
+    ∙ ap (judged (command_of command ss)) (first_fault-wrong ss f first)
 
 -- ---- the settings one after another
 
@@ -122,8 +122,8 @@ pub reading_steps : (words : List (List ℕ)) (command : Tool) (outcome : Result
 unfolding reading
 reading_steps words command outcome h e =
     ap (behind_tool (drop 1 words)) h
-        ∙ sym (steps_from_none command (settings command AnyWord 2 (drop 1 words)))
-        ∙ ap (finish command) e
+    ∙ sym (steps_from_none command (settings command AnyWord 2 (drop 1 words)))
+    ∙ ap (finish command) e
 
 -- ---- no fault is want of memory
 

@@ -40,9 +40,9 @@ word_then reader word bytes mode h =
 pub word_first : (reader new : Settings) (word : ℕ) (bytes : List ℕ) (mode after : Mode) (first : Setting) → IsNextWord reader word bytes → new ≡ stepped reader → said reader.tool mode word bytes ≡ says (first ∷ []) after → place_said reader.tool (reader.next + 1) reader.place ≡ says [] after → settings reader.tool mode (reader.next + 1) (drop reader.next reader.words.now) ≡ first ∷ settings_left new
 word_first reader new word bytes mode after first next step said_is place_is =
     word_then reader word bytes mode next
-        ∙ ap (then_left (stepped reader)) (ap (λ n. said reader.tool mode n bytes) (sym next.number_is) ∙ said_is)
-        ∙ ap (λ s. first ∷ then_left (stepped reader) s) (sym place_is)
-        ∙ ap (λ r. first ∷ settings_left r) (sym step)
+    ∙ ap (then_left (stepped reader)) (ap (λ n. said reader.tool mode n bytes) (sym next.number_is) ∙ said_is)
+    ∙ ap (λ s. first ∷ then_left (stepped reader) s) (sym place_is)
+    ∙ ap (λ r. first ∷ settings_left r) (sym step)
 
 -- there is no next word
 pub word_none : (reader : Settings) (mode : Mode) → drop reader.next reader.words.now ≡ [] → settings reader.tool mode (reader.next + 1) (drop reader.next reader.words.now) ≡ ending mode
@@ -62,11 +62,11 @@ wanted_first reader new valued (Some value) word step end same place_is =
     word_first reader new value.word value.text.now (Wanting valued reader.next) AnyWord (Valued valued reader.next (Some (text_view value))) word step refl (place_is (reader.next + 1))
 wanted_first reader new valued None word step end same place_is =
     word_none reader (Wanting valued reader.next) end
-        ∙ ap (λ s. Valued valued reader.next None ∷ s) (sym (ap settings_left same ∙ nothing_left reader end (place_is reader.next)))
+    ∙ ap (λ s. Valued valued reader.next None ∷ s) (sym (ap settings_left same ∙ nothing_left reader end (place_is reader.next)))
 
 -- a word with a dash
 pub dashed_then : (reader new : Settings) (word : ℕ) (bytes rest : List ℕ) → IsNextWord reader word bytes → new ≡ stepped reader → Some rest ≡ behind_dash bytes → settings reader.tool AnyWord (reader.next + 1) (drop reader.next reader.words.now) ≡ then_left new (dashed_said new.tool new.next rest)
 dashed_then reader new word bytes rest next step has =
     word_then reader word bytes AnyWord next
-        ∙ ap (λ o. then_left (stepped reader) (option_map_or (dashed_said reader.tool (reader.next + 1)) o (says (Operand (text (reader.next + 1) bytes) ∷ []) AnyWord))) (sym has)
-        ∙ ap (λ r. then_left r (dashed_said r.tool r.next rest)) (sym step)
+    ∙ ap (λ o. then_left (stepped reader) (option_map_or (dashed_said reader.tool (reader.next + 1)) o (says (Operand (text (reader.next + 1) bytes) ∷ []) AnyWord))) (sym has)
+    ∙ ap (λ r. then_left r (dashed_said r.tool r.next rest)) (sym step)

@@ -25,13 +25,13 @@ pub data CommandData : Type 0 where
 abbrev pub report_view : ReportWords → ReportData
 report_view w =
     record {
-        input = w.input.now;
-        full = w.full;
-        latency = w.latency;
-        no_hard = w.no_hard;
-        no_soft = w.no_soft;
-        cpus = w.cpus;
-        workers = w.workers
+      input = w.input.now;
+      full = w.full;
+      latency = w.latency;
+      no_hard = w.no_hard;
+      no_soft = w.no_soft;
+      cpus = w.cpus;
+      workers = w.workers;
     }
 
 abbrev pub dump_view : DumpWords → DumpData

@@ -34,18 +34,18 @@ long name = 45 ∷ 45 ∷ name
 abbrev pub options_of : Tool → List OptionRow
 options_of tool.Report =
     valued (codes "-i") Input
-        ∷ flag (codes "-t") FullTime
-        ∷ flag (codes "-l") Latency
-        ∷ flag (codes "-I") NoHard
-        ∷ flag (codes "-S") NoSoft
-        ∷ flag (codes "-N") NoPlugins
-        ∷ valued (codes "--cpu") Cpus
-        ∷ valued (codes "--workers") Workers
-        ∷ []
+    ∷ flag (codes "-t") FullTime
+    ∷ flag (codes "-l") Latency
+    ∷ flag (codes "-I") NoHard
+    ∷ flag (codes "-S") NoSoft
+    ∷ flag (codes "-N") NoPlugins
+    ∷ valued (codes "--cpu") Cpus
+    ∷ valued (codes "--workers") Workers
+    ∷ []
 options_of tool.Dump =
     valued (codes "-i") Input
-        ∷ flag (codes "--all") All
-        ∷ map (λ section. flag (long (section_name section)) (Section section)) sections
+    ∷ flag (codes "--all") All
+    ∷ map (λ section. flag (long (section_name section)) (Section section)) sections
 
 -- the option of the command that is so written
 abbrev pub option_named : Tool → List ℕ → Option KnownOption

@@ -1,8 +1,7 @@
+use super::*;
 use std::alloc::{AllocError, Global};
 use std::test::Fail;
 use trace_base::Words;
-
-use super::*;
 
 // The words of a line, with one space between two of them; `@` stands for the empty word.
 fn words_of(alloc: Global, line: &str) -> Result<Words, AllocError> {

@@ -18,4 +18,4 @@ returns-in_err-given c =
 pub returns : goal.returns
 returns c =
     reading_steps c.args.words.now c.in_ok-tool.tool _ (sym c.in_ok-tool.ensures) c.in_ok-given.ensures
-        ∙ ap Ok (sym c.finish.ensures)
+    ∙ ap Ok (sym c.finish.ensures)
