@@ -1,10 +1,9 @@
 -- A set of processors that gains one range after another.
-use Rattle.std.proofs.Common.{◌≡◌, ℕ, suc, zero, ◌+◌, ◌-◌, ◌<◌, ◌≤◌, Bool, true, false, ◌||◌, ◌&&◌, nat_le, List, [], ◌∷◌, ◌++◌, map, length, take, drop, Option, Some, None, option_map, refl, ap, sym, ◌∙◌, arith, rules, replicate}
+use Rattle.std.proofs.Common.{◌≡◌, ℕ, suc, zero, ◌+◌, ◌-◌, ◌<◌, ◌≤◌, Bool, true, false, ◌||◌, ◌&&◌, nat_lt, get_or, List, [], ◌∷◌, ◌++◌, map, length, take, drop, Option, Some, None, option_map, refl, ap, sym, ◌∙◌, arith, replicate}
 use Rattle.std.specs.List.{list_any, range_with_len, slice_split}
-use Rattle.std.specs.Option.{option_and_then}
 use Rattle.std.proofs.lemmas.Bool.Decides.{nat_tests}
 use Rattle.trace_args.specs.Views.{range_view}
-use Rattle.trace_args.specs.CpuList.{Range, is_in, marked, with_range, members_below, ranges_of, range_of, cpu_set, is_separator}
+use Rattle.trace_args.specs.CpuList.{Range, is_in, marked, with_range, members_below, ranges_of, cpu_set, is_separator}
 
 or_false : (b : Bool) → (b || false) ≡ b
 or_false true = refl
@@ -40,7 +39,7 @@ added_is : (members : List Bool) (ranges : List Range) → added members ranges 
 added_is members [] = sym (marked_none 0 members)
 added_is members (range ∷ ranges) =
     added_is (with_range members range) ranges
-        ∙ marked_twice 0 (λ cpu. list_any (is_in cpu) ranges) (λ cpu. is_in cpu range) members
+    ∙ marked_twice 0 (λ cpu. list_any (is_in cpu) ranges) (λ cpu. is_in cpu range) members
 
 pub added_to_none : (n : ℕ) (ranges : List Range) → added (replicate n false) ranges ≡ members_below n ranges
 added_to_none n ranges =
@@ -86,3 +85,22 @@ from_none members (Some ranges) h =
 pub cpu_set_from : (text : List ℕ) (members : List Bool) → members ≡ replicate 1024 false → option_map (added members) (ranges_of (slice_split is_separator text)) ≡ cpu_set text
 unfolding cpu_set
 cpu_set_from text members h = from_none members (ranges_of (slice_split is_separator text)) h
+
+same_tests : (b c : Bool) → b ≡ c → (m n : ℕ) → m ≡ n → (p : ℕ → Bool) → (b && p m) ≡ (c && p n)
+same_tests b c e m n h p = rw (e, h) refl
+
+listed : (n a i : ℕ) (p : ℕ → Bool) → get_or (map p (range_with_len a n)) i false ≡ (nat_lt i n && p (a + i))
+listed zero a i p =
+    let none : nat_lt i 0 ≡ false = grind (arith, nat_tests) in rw none refl
+listed (suc n) a zero p =
+    let here : nat_lt 0 (suc n) ≡ true = grind (arith, nat_tests) in
+    let same : a + 0 ≡ a = omega arith in
+    rw (here, same) refl
+listed (suc n) a (suc i) p =
+    listed n (a + 1) i p ∙ same_tests (nat_lt i n) (nat_lt (suc i) (suc n)) (grind (arith, nat_tests)) (a + 1 + i) (a + suc i) (omega arith) p
+
+-- a number is a member exactly where it lies below the limit and in one of the ranges
+pub members_below-at : (limit : ℕ) (ranges : List Range) (cpu : ℕ) → get_or (members_below limit ranges) cpu false ≡ (nat_lt cpu limit && list_any (is_in cpu) ranges)
+members_below-at limit ranges cpu =
+    let same : 0 + cpu ≡ cpu = omega arith in
+    rw same at (listed limit 0 cpu (λ c. list_any (is_in c) ranges))

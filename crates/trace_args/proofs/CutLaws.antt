@@ -1,6 +1,6 @@
 -- `cut`, and the first place of a kind of byte.
-use Rattle.std.proofs.Common.{◌≡◌, ◌≢◌, ◌==◌, ℕ, suc, MatchOption, Bor, eqb-true, ◌+◌, ◌-◌, ◌<◌, ◌≤◌, Bool, true, false, List, [], ◌∷◌, ◌++◌, length, take, drop, nat_lt, not, cond, if◌then◌else◌, Option, Some, None, option_map, refl, ap, sym, ◌∙◌, arith, rules}
-use Rattle.std.specs.List.{list_any, slice_split, position, position_or_len, before_first, after_first, onto_first}
+use Rattle.std.proofs.Common.{◌≡◌, ◌≢◌, ◌==◌, ℕ, suc, MatchOption, Bor, eqb-true, ◌+◌, ◌<◌, ◌≤◌, Bool, true, false, List, [], ◌∷◌, length, take, drop, nat_lt, not, cond, if◌then◌else◌, Option, Some, None, option_map, refl, ap, sym, arith}
+use Rattle.std.specs.List.{slice_split, position, position_or_len, before_first, after_first}
 use Rattle.std.proofs.lemmas.Bool.Decides.{nat_tests}
 use Rattle.std.specs.Option.{option_map_or}
 use Rattle.std.proofs.lemmas.List.Splits.{slice_split_first, slice_split_none}
@@ -8,7 +8,7 @@ use Rattle.std.proofs.lemmas.List.Sums.{fails_before_first}
 use Rattle.trace_args.specs.Grammar.{is_equals}
 use Rattle.trace_args.specs.Settings.{behind_dash}
 use Rattle.trace_args.specs.Views.{parts_view}
-use Rattle.trace_args.specs.Cut.{Parts, parts, cut}
+use Rattle.trace_args.specs.Cut.{parts, cut}
 
 longer : (n x : ℕ) (xs : List ℕ) → parts (take (1 + n) (x ∷ xs)) (drop (1 + n + 1) (x ∷ xs)) ≡ parts (x ∷ take n xs) (drop (n + 1) xs)
 longer n x xs =

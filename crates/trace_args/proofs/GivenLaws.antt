@@ -1,5 +1,5 @@
 -- What settings say, taken one after another, is what they say together.
-use Rattle.std.proofs.Common.{◌≡◌, ◌==◌, ℕ, ◌+◌, Bool, true, false, ◌||◌, List, [], ◌∷◌, ◌++◌, map, Option, Some, None, is_some, option_map, unwrap_or, Result, Ok, Err, MatchOption, if◌then◌else◌, refl, ap, sym, subst, ◌∙◌, append_assoc}
+use Rattle.std.proofs.Common.{◌≡◌, ◌==◌, ℕ, Bool, true, false, ◌||◌, List, [], ◌∷◌, ◌++◌, map, Option, Some, None, is_some, Result, Ok, Err, MatchOption, if◌then◌else◌, refl, ap, sym, subst, ◌∙◌, append_assoc}
 use Rattle.std.specs.List.{list_any}
 use Rattle.std.specs.Option.{option_and_then, option_or}
 use Rattle.std.proofs.Math.Bool.{or_comm}
@@ -10,7 +10,6 @@ use Rattle.trace_args.specs.declared.option.FlagOption.{FlagOption}
 use Rattle.trace_args.specs.declared.option.FlagOption.TheVariants as flag
 use Rattle.trace_args.specs.declared.option.ValuedOption.{ValuedOption}
 use Rattle.trace_args.specs.declared.option.ValuedOption.TheVariants as valued
-use Rattle.trace_args.specs.declared.section.Section.{Section}
 use Rattle.trace_args.specs.declared.tool.Tool.{Tool}
 use Rattle.trace_args.specs.declared.tool.Tool.TheVariants as tool
 use Rattle.trace_args.specs.Sections.{sections}
@@ -64,34 +63,34 @@ either-map p q (x ∷ xs) = ap (λ bs. (p x || q x) ∷ bs) (either-map p q xs)
 abbrev seen_by : (ValuedOption → Option (List ℕ)) → (FlagOption → Bool) → Seen
 seen_by texts flags =
     record {
-        input = texts valued.Input;
-        cpus = option_and_then cpu_set (texts valued.Cpus);
-        workers = option_and_then worker_count (texts valued.Workers);
-        full = flags flag.FullTime;
-        latency = flags flag.Latency;
-        no_hard = flags flag.NoHard;
-        no_soft = flags flag.NoSoft;
-        all = flags flag.All;
-        named = map (λ section. flags (flag.Section section)) sections
+      input = texts valued.Input;
+      cpus = option_and_then cpu_set (texts valued.Cpus);
+      workers = option_and_then worker_count (texts valued.Workers);
+      full = flags flag.FullTime;
+      latency = flags flag.Latency;
+      no_hard = flags flag.NoHard;
+      no_soft = flags flag.NoSoft;
+      all = flags flag.All;
+      named = map (λ section. flags (flag.Section section)) sections;
     }
 
 seen_more : (before : List Setting) (s : Setting) → seen_in (before ++ (s ∷ [])) ≡ seen_by (λ o. option_or (value_of o before) (text_for o s)) (λ o. sets o s || is_set o before)
 seen_more before s =
     ap (λ texts. seen_by texts (λ o. is_set o (before ++ (s ∷ [])))) (fun_ext (λ o. first_more (text_for o) before s))
-        ∙ ap (seen_by (λ o. option_or (value_of o before) (text_for o s))) (fun_ext (λ o. any_more (sets o) before s))
+    ∙ ap (seen_by (λ o. option_or (value_of o before) (text_for o s))) (fun_ext (λ o. any_more (sets o) before s))
 
 flagged : (before : List Setting) (given : FlagOption) → with_flag (seen_in before) given ≡ seen_by (λ o. option_or (value_of o before) None) (λ o. is_flag given o || is_set o before)
 flagged before given = λ i.
     record {
-        input = sym (or_none (value_of valued.Input before)) i;
-        cpus = option_and_then cpu_set (sym (or_none (value_of valued.Cpus before)) i);
-        workers = option_and_then worker_count (sym (or_none (value_of valued.Workers before)) i);
-        full = is_flag given flag.FullTime || is_set flag.FullTime before;
-        latency = is_flag given flag.Latency || is_set flag.Latency before;
-        no_hard = is_flag given flag.NoHard || is_set flag.NoHard before;
-        no_soft = is_flag given flag.NoSoft || is_set flag.NoSoft before;
-        all = is_flag given flag.All || is_set flag.All before;
-        named = either-map (λ section. is_flag given (flag.Section section)) (λ section. is_set (flag.Section section) before) sections i
+      input = sym (or_none (value_of valued.Input before)) i;
+      cpus = option_and_then cpu_set (sym (or_none (value_of valued.Cpus before)) i);
+      workers = option_and_then worker_count (sym (or_none (value_of valued.Workers before)) i);
+      full = is_flag given flag.FullTime || is_set flag.FullTime before;
+      latency = is_flag given flag.Latency || is_set flag.Latency before;
+      no_hard = is_flag given flag.NoHard || is_set flag.NoHard before;
+      no_soft = is_flag given flag.NoSoft || is_set flag.NoSoft before;
+      all = is_flag given flag.All || is_set flag.All before;
+      named = either-map (λ section. is_flag given (flag.Section section)) (λ section. is_set (flag.Section section) before) sections i;
     }
 
 flag_more : (before : List Setting) (given : FlagOption) → with_flag (seen_in before) given ≡ seen_in (before ++ (Flag given ∷ []))
@@ -109,14 +108,14 @@ some_or (Some x) b = sym (or_comm (is_some b) true)
 agrees_more : (before : List Setting) (s : Setting) → Agrees before → ((o : ValuedOption) → is_some (text_for o s) ≡ gives o s) → ((o : ValuedOption) → has (seen_in (before ++ (s ∷ []))) o ≡ (gives o s || has (seen_in before) o)) → Agrees (before ++ (s ∷ []))
 agrees_more before s agrees texts values =
     record {
-        texts = λ o.
-            ap is_some (first_more (text_for o) before s)
-                ∙ some_or (value_of o before) (text_for o s)
-                ∙ ap (λ b. b || is_some (value_of o before)) (texts o)
-                ∙ ap (λ b. gives o s || b) (agrees.texts o)
-                ∙ sym (any_more (gives o) before s);
-        values = λ o.
-            values o ∙ ap (λ b. gives o s || b) (agrees.values o) ∙ sym (any_more (gives o) before s)
+      texts = λ o.
+          ap is_some (first_more (text_for o) before s)
+          ∙ some_or (value_of o before) (text_for o s)
+          ∙ ap (λ b. b || is_some (value_of o before)) (texts o)
+          ∙ ap (λ b. gives o s || b) (agrees.texts o)
+          ∙ sym (any_more (gives o) before s);
+      values = λ o.
+          values o ∙ ap (λ b. gives o s || b) (agrees.values o) ∙ sym (any_more (gives o) before s);
     }
 
 -- a step, where nothing is wrong with its setting, and where something is
@@ -147,8 +146,8 @@ seen_giving before v bytes =
 value_more : (before : List Setting) (s : Setting) (v : ValuedOption) (bytes : List ℕ) → Gives s v bytes → seen_giving before v bytes ≡ seen_in (before ++ (s ∷ []))
 value_more before s v bytes g =
     ap (λ flags. seen_by (λ o. option_or (value_of o before) (if valued_number v == valued_number o then Some bytes else None)) (λ o. flags o || is_set o before)) (sym (fun_ext g.sets_is))
-        ∙ ap (λ texts. seen_by (λ o. option_or (value_of o before) (texts o)) (λ o. sets o s || is_set o before)) (sym (fun_ext g.text_is))
-        ∙ sym (seen_more before s)
+    ∙ ap (λ texts. seen_by (λ o. option_or (value_of o before) (texts o)) (λ o. sets o s || is_set o before)) (sym (fun_ext g.text_is))
+    ∙ sym (seen_more before s)
 
 not_some : {X : Type 0} (o : Option X) → is_some o ≡ false → o ≡ None
 not_some None h = refl
@@ -171,11 +170,11 @@ input_is : (before : List Setting) (s : Setting) (bytes : List ℕ) → Agrees b
 input_is before s bytes agrees h g =
     let none = none_before before valued.Input agrees h in
     let is : (record (seen_in before) { input = Some bytes }) ≡ seen_giving before valued.Input bytes = λ i.
-        record (seen_in before) {
-            input = sym (ap (λ o. option_or o (Some bytes)) none) i;
-            cpus = option_and_then cpu_set (sym (or_none (value_of valued.Cpus before)) i);
-            workers = option_and_then worker_count (sym (or_none (value_of valued.Workers before)) i)
-        } in
+    record (seen_in before) {
+      input = sym (ap (λ o. option_or o (Some bytes)) none) i;
+      cpus = option_and_then cpu_set (sym (or_none (value_of valued.Cpus before)) i);
+      workers = option_and_then worker_count (sym (or_none (value_of valued.Workers before)) i);
+    } in
     let had : (o : ValuedOption) → has (record (seen_in before) { input = Some bytes }) o ≡ ((valued_number valued.Input == valued_number o) || has (seen_in before) o) = λ o. elim o as (λ o. has (record (seen_in before) { input = Some bytes }) o ≡ ((valued_number valued.Input == valued_number o) || has (seen_in before) o)) [ valued.Input ↦ refl | valued.Cpus ↦ refl | valued.Workers ↦ refl ] in
     let both = taken before s valued.Input bytes (record (seen_in before) { input = Some bytes }) agrees g is had in
     (ap Ok both.0, both.1)
@@ -185,11 +184,11 @@ cpus_is before s word bytes None e agrees h g = refl
 cpus_is before s word bytes (Some set) e agrees h g =
     let none = none_before before valued.Cpus agrees h in
     let is : (record (seen_in before) { cpus = Some set }) ≡ seen_giving before valued.Cpus bytes = λ i.
-        record (seen_in before) {
-            input = sym (or_none (value_of valued.Input before)) i;
-            cpus = sym (ap (λ o. option_and_then cpu_set (option_or o (Some bytes))) none ∙ e) i;
-            workers = option_and_then worker_count (sym (or_none (value_of valued.Workers before)) i)
-        } in
+    record (seen_in before) {
+      input = sym (or_none (value_of valued.Input before)) i;
+      cpus = sym (ap (λ o. option_and_then cpu_set (option_or o (Some bytes))) none ∙ e) i;
+      workers = option_and_then worker_count (sym (or_none (value_of valued.Workers before)) i);
+    } in
     let had : (o : ValuedOption) → has (record (seen_in before) { cpus = Some set }) o ≡ ((valued_number valued.Cpus == valued_number o) || has (seen_in before) o) = λ o. elim o as (λ o. has (record (seen_in before) { cpus = Some set }) o ≡ ((valued_number valued.Cpus == valued_number o) || has (seen_in before) o)) [ valued.Input ↦ refl | valued.Cpus ↦ refl | valued.Workers ↦ refl ] in
     let both = taken before s valued.Cpus bytes (record (seen_in before) { cpus = Some set }) agrees g is had in
     (ap Ok both.0, both.1)
@@ -199,11 +198,11 @@ workers_is before s word bytes None e agrees h g = refl
 workers_is before s word bytes (Some count) e agrees h g =
     let none = none_before before valued.Workers agrees h in
     let is : (record (seen_in before) { workers = Some count }) ≡ seen_giving before valued.Workers bytes = λ i.
-        record (seen_in before) {
-            input = sym (or_none (value_of valued.Input before)) i;
-            cpus = option_and_then cpu_set (sym (or_none (value_of valued.Cpus before)) i);
-            workers = sym (ap (λ o. option_and_then worker_count (option_or o (Some bytes))) none ∙ e) i
-        } in
+    record (seen_in before) {
+      input = sym (or_none (value_of valued.Input before)) i;
+      cpus = option_and_then cpu_set (sym (or_none (value_of valued.Cpus before)) i);
+      workers = sym (ap (λ o. option_and_then worker_count (option_or o (Some bytes))) none ∙ e) i;
+    } in
     let had : (o : ValuedOption) → has (record (seen_in before) { workers = Some count }) o ≡ ((valued_number valued.Workers == valued_number o) || has (seen_in before) o) = λ o. elim o as (λ o. has (record (seen_in before) { workers = Some count }) o ≡ ((valued_number valued.Workers == valued_number o) || has (seen_in before) o)) [ valued.Input ↦ refl | valued.Cpus ↦ refl | valued.Workers ↦ refl ] in
     let both = taken before s valued.Workers bytes (record (seen_in before) { workers = Some count }) agrees g is had in
     (ap Ok both.0, both.1)
@@ -230,9 +229,9 @@ gives_operand : (word t : Text) → Some word ≡ Some t → Gives (Operand word
 gives_operand word t e =
     let same : word ≡ t = cc in
     record {
-        text_is = λ o. ap (λ (x : Text). if valued_number valued.Input == valued_number o then Some x.bytes else None) same;
-        gives_is = λ o. refl;
-        sets_is = λ o. refl
+      text_is = λ o. ap (λ (x : Text). if valued_number valued.Input == valued_number o then Some x.bytes else None) same;
+      gives_is = λ o. refl;
+      sets_is = λ o. refl;
     }
 
 -- one step
@@ -256,8 +255,8 @@ seen_command tool.Dump settings = refl
 steps_by : (command : Tool) (before : List Setting) (s : Setting) (rest : List Setting) (wrong : Option WordFault) (outcome : Result Seen WordFault) → StepIs before s wrong outcome → (Agrees (before ++ (s ∷ [])) → finish command (steps rest (seen_in (before ++ (s ∷ [])))) ≡ judged (command_of command ((before ++ (s ∷ [])) ++ rest)) (first_fault (before ++ (s ∷ [])) rest)) → finish command (and_steps (steps rest) outcome) ≡ judged (command_of command (before ++ (s ∷ rest))) (option_or wrong (first_fault (before ++ (s ∷ [])) rest))
 steps_by command before s rest None outcome is again =
     ap (λ x. finish command (and_steps (steps rest) x)) is.0
-        ∙ again is.1
-        ∙ ap (λ ss. judged (command_of command ss) (first_fault (before ++ (s ∷ [])) rest)) (append_assoc before (s ∷ []) rest)
+    ∙ again is.1
+    ∙ ap (λ ss. judged (command_of command ss) (first_fault (before ++ (s ∷ [])) rest)) (append_assoc before (s ∷ []) rest)
 steps_by command before s rest (Some wrong) outcome is again =
     ap (λ x. finish command (and_steps (steps rest) x)) is
 
@@ -270,8 +269,8 @@ steps_are command before (s ∷ rest) agrees =
 agrees_none : Agrees []
 agrees_none =
     record {
-        texts = λ o. refl;
-        values = λ o. elim o as (λ o. has (seen_in []) o ≡ is_given o []) [ valued.Input ↦ refl | valued.Cpus ↦ refl | valued.Workers ↦ refl ]
+      texts = λ o. refl;
+      values = λ o. elim o as (λ o. has (seen_in []) o ≡ is_given o []) [ valued.Input ↦ refl | valued.Cpus ↦ refl | valued.Workers ↦ refl ];
     }
 
 -- the settings one after another give their command, or their first fault

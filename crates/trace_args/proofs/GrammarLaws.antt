@@ -1,6 +1,5 @@
 -- The grammar of words relates them to the settings of the function, and to no others.
-use Rattle.std.proofs.Common.{◌≡◌, ◌≢◌, ◌==◌, ℕ, ◌+◌, Bool, true, false, List, [], ◌∷◌, ◌++◌, map, length, drop, Option, Some, None, option_map, if◌then◌else◌, refl, ap, sym, subst, ◌∙◌, append_assoc, arith, eqb-true}
-use Rattle.std.specs.List.{list_any}
+use Rattle.std.proofs.Common.{◌≡◌, ◌≢◌, ◌==◌, ℕ, ◌+◌, Bool, true, false, List, [], ◌∷◌, ◌++◌, length, drop, Option, Some, None, option_map, if◌then◌else◌, refl, ap, sym, subst, ◌∙◌, append_assoc, arith, eqb-true}
 use Rattle.std.specs.Option.{option_map_or}
 use Rattle.std.proofs.lemmas.List.{append-nil}
 use Rattle.trace_args.specs.declared.tool.Tool.{Tool}
@@ -13,7 +12,7 @@ use Rattle.trace_args.specs.Cut.{Parts, parts, cut}
 use Rattle.trace_args.specs.Options.{option_named, short, long}
 use Rattle.trace_args.specs.Setting.{Setting, Flag, Valued, Operand, Stray, text}
 use Rattle.trace_args.specs.Grammar.{AreFlags, is_equals, IsName, given, operands, Group, Says}
-use Rattle.trace_args.specs.Settings.{Mode, AnyWord, OnlyOperands, Wanting, Over, Said, says, stray, value_in_row, letter_said, row_said, named_said, assigned_said, long_said, behind_dash, double_dashed_said, dashed_said, word_said, said, settings}
+use Rattle.trace_args.specs.Settings.{Mode, AnyWord, OnlyOperands, Wanting, Over, Said, says, stray, value_in_row, letter_said, row_said, named_said, assigned_said, behind_dash, double_dashed_said, dashed_said, word_said, said, settings}
 use Rattle.trace_args.proofs.SettingsLaws.{settings_end, settings_word, settings_over}
 
 -- a row of letters, by what it says and how the reading goes on
@@ -152,7 +151,7 @@ operands_are : (command : Tool) (k : ℕ) (words : List (List ℕ)) → settings
 operands_are command k [] = settings_end command OnlyOperands k
 operands_are command k (word ∷ words) =
     settings_word command OnlyOperands k word words
-        ∙ ap (λ ss. Operand (text k word) ∷ ss) (operands_are command (k + 1) words)
+    ∙ ap (λ ss. Operand (text k word) ∷ ss) (operands_are command (k + 1) words)
 
 -- what these words say, from whatever number on
 abbrev AllSaid : Tool → List (List ℕ) → Type 0
@@ -226,7 +225,7 @@ row_flags command k [] (f ∷ flags) tail are = absurd are
 row_flags command k (letter ∷ letters) [] tail are = absurd are
 row_flags command k (letter ∷ letters) (f ∷ flags) tail are =
     ap (letter_said k (letters ++ tail) (row_said command k (letters ++ tail))) are.0
-        ∙ ap (λ later. says (Flag f ∷ later.settings) later.mode) (row_flags command k letters flags tail are.1)
+    ∙ ap (λ later. says (Flag f ∷ later.settings) later.mode) (row_flags command k letters flags tail are.1)
 
 -- flags, and a letter that is no dash where it is the first
 word_flags : (command : Tool) (k : ℕ) (letters : List ℕ) (flags : List FlagOption) (letter : ℕ) (tail : List ℕ) → AreFlags command letters flags → (letters ≡ [] → letter ≢ 45) → word_said command k (45 ∷ (letters ++ (letter ∷ tail))) ≡ then_said flags (row_said command k (letter ∷ tail))
@@ -235,7 +234,7 @@ word_flags command k [] flags letter tail are first =
 word_flags command k (x ∷ letters) [] letter tail are first = absurd are
 word_flags command k (x ∷ letters) (f ∷ flags) letter tail are first =
     row_word command k x (letters ++ (letter ∷ tail)) (known_is_no_dash command x (option.Flag f) are.0)
-        ∙ row_flags command k (x ∷ letters) (f ∷ flags) (letter ∷ tail) are
+    ∙ row_flags command k (x ∷ letters) (f ∷ flags) (letter ∷ tail) are
 
 name_no : (c : ℕ) (cs : List ℕ) (b : Bool) → is_equals c ≡ b → IsName (c ∷ cs) → (b ≡ false) × IsName cs
 name_no c cs true e h = let bad : true ≡ false = rw e at h in cc
@@ -267,29 +266,29 @@ assigned_word command k (c ∷ cs) value is =
 one_word : (command : Tool) (k : ℕ) (word : List ℕ) (first : List Setting) (rest : List (List ℕ)) → word_said command k word ≡ says first AnyWord → settings command AnyWord k (word ∷ rest) ≡ first ++ settings command AnyWord (k + 1) rest
 one_word command k word first rest h =
     settings_word command AnyWord k word rest
-        ∙ ap (λ (s : Said). s.settings ++ settings command s.mode (k + 1) rest) h
+    ∙ ap (λ (s : Said). s.settings ++ settings command s.mode (k + 1) rest) h
 
 two_words : (command : Tool) (k : ℕ) (word value : List ℕ) (first : List Setting) (v : ValuedOption) (rest : List (List ℕ)) → word_said command k word ≡ says first (Wanting v k) → settings command AnyWord k (word ∷ value ∷ rest) ≡ (first ++ (Valued v k (Some (text (k + 1) value)) ∷ [])) ++ settings command AnyWord (k + 2) rest
 two_words command k word value first v rest h =
     let two : k + 1 + 1 ≡ k + 2 = omega arith in
     settings_word command AnyWord k word (value ∷ rest)
-        ∙ ap (λ (s : Said). s.settings ++ settings command s.mode (k + 1) (value ∷ rest)) h
-        ∙ ap (λ later. first ++ later) (settings_word command (Wanting v k) (k + 1) value rest)
-        ∙ sym (append_assoc first (Valued v k (Some (text (k + 1) value)) ∷ []) (settings command AnyWord (k + 1 + 1) rest))
-        ∙ ap (λ n. (first ++ (Valued v k (Some (text (k + 1) value)) ∷ [])) ++ settings command AnyWord n rest) two
+    ∙ ap (λ (s : Said). s.settings ++ settings command s.mode (k + 1) (value ∷ rest)) h
+    ∙ ap (λ later. first ++ later) (settings_word command (Wanting v k) (k + 1) value rest)
+    ∙ sym (append_assoc first (Valued v k (Some (text (k + 1) value)) ∷ []) (settings command AnyWord (k + 1 + 1) rest))
+    ∙ ap (λ n. (first ++ (Valued v k (Some (text (k + 1) value)) ∷ [])) ++ settings command AnyWord n rest) two
 
 last_word : (command : Tool) (k : ℕ) (word : List ℕ) (first : List Setting) (v : ValuedOption) → word_said command k word ≡ says first (Wanting v k) → settings command AnyWord k (word ∷ []) ≡ first ++ (Valued v k None ∷ [])
 last_word command k word first v h =
     settings_word command AnyWord k word []
-        ∙ ap (λ (s : Said). s.settings ++ settings command s.mode (k + 1) []) h
-        ∙ ap (λ later. first ++ later) (settings_end command (Wanting v k) (k + 1))
+    ∙ ap (λ (s : Said). s.settings ++ settings command s.mode (k + 1) []) h
+    ∙ ap (λ later. first ++ later) (settings_end command (Wanting v k) (k + 1))
 
 over_word : (command : Tool) (k : ℕ) (word : List ℕ) (first : List Setting) (rest : List (List ℕ)) → word_said command k word ≡ says first Over → settings command AnyWord k (word ∷ rest) ≡ first
 over_word command k word first rest h =
     settings_word command AnyWord k word rest
-        ∙ ap (λ (s : Said). s.settings ++ settings command s.mode (k + 1) rest) h
-        ∙ ap (λ later. first ++ later) (settings_over command (k + 1) rest)
-        ∙ append-nil first
+    ∙ ap (λ (s : Said). s.settings ++ settings command s.mode (k + 1) rest) h
+    ∙ ap (λ later. first ++ later) (settings_over command (k + 1) rest)
+    ∙ append-nil first
 
 flags_said : (command : Tool) (k : ℕ) (letters : List ℕ) (flags : List FlagOption) → AreFlags command letters flags → row_said command k letters ≡ says (given flags) AnyWord
 flags_said command k [] [] are = refl
@@ -297,30 +296,30 @@ flags_said command k [] (f ∷ flags) are = absurd are
 flags_said command k (letter ∷ letters) [] are = absurd are
 flags_said command k (letter ∷ letters) (f ∷ flags) are =
     ap (letter_said k letters (row_said command k letters)) are.0
-        ∙ ap (λ (later : Said). says (Flag f ∷ later.settings) later.mode) (flags_said command k letters flags are.1)
+    ∙ ap (λ (later : Said). says (Flag f ∷ later.settings) later.mode) (flags_said command k letters flags are.1)
 
 flags_word : (command : Tool) (k : ℕ) (letters : List ℕ) (flags : List FlagOption) → letters ≢ [] → AreFlags command letters flags → word_said command k (45 ∷ letters) ≡ says (given flags) AnyWord
 flags_word command k [] flags some are = absurd (some refl)
 flags_word command k (x ∷ letters) [] some are = absurd are
 flags_word command k (x ∷ letters) (f ∷ flags) some are =
     row_word command k x letters (known_is_no_dash command x (option.Flag f) are.0)
-        ∙ flags_said command k (x ∷ letters) (f ∷ flags) are
+    ∙ flags_said command k (x ∷ letters) (f ∷ flags) are
 
 value_word : (command : Tool) (k : ℕ) (letters : List ℕ) (flags : List FlagOption) (letter b : ℕ) (bytes : List ℕ) (v : ValuedOption) → AreFlags command letters flags → option_named command (short letter) ≡ Some (option.Valued v) → word_said command k (45 ∷ (letters ++ (letter ∷ b ∷ bytes))) ≡ says (given flags ++ (Valued v k (Some (text k (b ∷ bytes))) ∷ [])) AnyWord
 value_word command k letters flags letter b bytes v are is =
     word_flags command k letters flags letter (b ∷ bytes) are (λ _. known_is_no_dash command letter (option.Valued v) is)
-        ∙ ap (λ named. then_said flags (letter_said k (b ∷ bytes) (row_said command k (b ∷ bytes)) named)) is
+    ∙ ap (λ named. then_said flags (letter_said k (b ∷ bytes) (row_said command k (b ∷ bytes)) named)) is
 
 wanting_word : (command : Tool) (k : ℕ) (letters : List ℕ) (flags : List FlagOption) (letter : ℕ) (v : ValuedOption) → AreFlags command letters flags → option_named command (short letter) ≡ Some (option.Valued v) → word_said command k (45 ∷ (letters ++ (letter ∷ []))) ≡ says (given flags) (Wanting v k)
 wanting_word command k letters flags letter v are is =
     word_flags command k letters flags letter [] are (λ _. known_is_no_dash command letter (option.Valued v) is)
-        ∙ ap (λ named. then_said flags (letter_said k [] (row_said command k []) named)) is
-        ∙ ap (λ ss. says ss (Wanting v k)) (append-nil (given flags))
+    ∙ ap (λ named. then_said flags (letter_said k [] (row_said command k []) named)) is
+    ∙ ap (λ ss. says ss (Wanting v k)) (append-nil (given flags))
 
 stray_word : (command : Tool) (k : ℕ) (letters : List ℕ) (flags : List FlagOption) (letter : ℕ) (others : List ℕ) → AreFlags command letters flags → option_named command (short letter) ≡ None → (letters ≡ [] → letter ≢ 45) → word_said command k (45 ∷ (letters ++ (letter ∷ others))) ≡ says (given flags ++ (Stray k ∷ [])) Over
 stray_word command k letters flags letter others are is first =
     word_flags command k letters flags letter others are first
-        ∙ ap (λ named. then_said flags (letter_said k others (row_said command k others) named)) is
+    ∙ ap (λ named. then_said flags (letter_said k others (row_said command k others) named)) is
 
 long_is_word : (command : Tool) (k : ℕ) (name : List ℕ) (known : KnownOption) → IsName name → option_named command (long name) ≡ Some known → word_said command k (long name) ≡ named_said k (Some known)
 long_is_word command k name known is e =
@@ -356,7 +355,7 @@ pub settings_says : (command : Tool) (k : ℕ) (words : List (List ℕ)) (ss : L
 settings_says command k _ _ (Says.end _) = settings_end command AnyWord k
 settings_says command k _ _ (Says.more _ words rest first later group says_rest) =
     group_settings command k words first rest group
-        ∙ ap (λ ss. first ++ ss) (settings_says command (k + length words) rest later says_rest)
+    ∙ ap (λ ss. first ++ ss) (settings_says command (k + length words) rest later says_rest)
 settings_says command k _ _ (Says.only_operands _ rest) =
     settings_word command AnyWord k (long []) rest ∙ operands_are command (k + 1) rest
 settings_says command k _ _ (Says.row_without_value _ letter letters flags v are is) =

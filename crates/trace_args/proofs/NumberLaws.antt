@@ -1,11 +1,11 @@
 -- A number's digits, read from the left.
-use Rattle.std.proofs.Common.{◌≡◌, ℕ, ◌+◌, ◌-◌, ◌*◌, ◌^◌, ◌<◌, ◌≤◌, Bool, true, false, ◌&&◌, nat_le, List, [], ◌∷◌, length, Option, Some, None, if◌then◌else◌, refl, ap, sym, ◌∙◌, arith, rules, tests}
+use Rattle.std.proofs.Common.{◌≡◌, ℕ, ◌+◌, ◌-◌, ◌*◌, ◌^◌, ◌<◌, Bool, true, false, ◌&&◌, nat_le, List, ◌∷◌, length, Option, Some, None, if◌then◌else◌, refl, ap, ◌∙◌, arith}
 use Rattle.std.specs.List.{list_all}
 use Rattle.std.specs.Char.{is_ascii_digit}
 use Rattle.std.specs.Option.{option_and_then}
 use Rattle.std.proofs.Math.Nat.{pow-succ', one-le-pow, le-mul_of_pos_right}
 use Rattle.std.proofs.lemmas.Bool.Decides.{nat_tests}
-use Rattle.trace_args.specs.Number.{digits_value, number_of, number_within}
+use Rattle.trace_args.specs.Number.{digits_value, with_digit}
 
 -- the number of some digits that are read, and those that are left
 abbrev pub number_on : ℕ → List ℕ → Option ℕ
@@ -43,14 +43,7 @@ pub number_on-much : (least most value : ℕ) (digits : List ℕ) → most < val
 number_on-much least most value digits h =
     much least most _ (list_all is_ascii_digit digits) (omega (arith, le-mul_of_pos_right {m = 10 ^ length digits} value (one-le-pow (length digits) 10 (omega arith))))
 
--- the number with one more digit, while it is at most the most
-abbrev pub longer_number : ℕ → ℕ → ℕ → Option ℕ
-longer_number value digit most =
-    if is_ascii_digit digit && nat_le (10 * value + (digit - 48)) most
-    then Some (10 * value + (digit - 48))
-    else None
-
-step_by : (value digit most next : ℕ) (digits : List ℕ) (is_digit small : Bool) → is_ascii_digit digit ≡ is_digit → nat_le (10 * value + (digit - 48)) most ≡ small → longer_number value digit most ≡ Some next → number_on value (digit ∷ digits) ≡ number_on next digits
+step_by : (value digit most next : ℕ) (digits : List ℕ) (is_digit small : Bool) → is_ascii_digit digit ≡ is_digit → nat_le (10 * value + (digit - 48)) most ≡ small → with_digit value digit most ≡ Some next → number_on value (digit ∷ digits) ≡ number_on next digits
 step_by value digit most next digits true true d s h =
     let n : Some (10 * value + (digit - 48)) ≡ Some next = rw (d, s) at h in
     let n' : 10 * value + (digit - 48) ≡ next = cc in
@@ -60,11 +53,11 @@ step_by value digit most next digits true false d s h =
 step_by value digit most next digits false small d s h = let n : None ≡ Some next = rw d at h in cc
 
 -- a digit is read
-pub number_on-step : (value digit most next : ℕ) (digits : List ℕ) → longer_number value digit most ≡ Some next → number_on value (digit ∷ digits) ≡ number_on next digits
+pub number_on-step : (value digit most next : ℕ) (digits : List ℕ) → with_digit value digit most ≡ Some next → number_on value (digit ∷ digits) ≡ number_on next digits
 number_on-step value digit most next digits h =
     step_by value digit most next digits (is_ascii_digit digit) (nat_le (10 * value + (digit - 48)) most) refl refl h
 
-stop_by : (least value digit most : ℕ) (digits : List ℕ) (is_digit small : Bool) → is_ascii_digit digit ≡ is_digit → nat_le (10 * value + (digit - 48)) most ≡ small → longer_number value digit most ≡ None → within least most (number_on value (digit ∷ digits)) ≡ None
+stop_by : (least value digit most : ℕ) (digits : List ℕ) (is_digit small : Bool) → is_ascii_digit digit ≡ is_digit → nat_le (10 * value + (digit - 48)) most ≡ small → with_digit value digit most ≡ None → within least most (number_on value (digit ∷ digits)) ≡ None
 stop_by least value digit most digits true true d s h =
     let n : Some (10 * value + (digit - 48)) ≡ None = rw (d, s) at h in cc
 stop_by least value digit most digits true false d s h =
@@ -73,6 +66,6 @@ stop_by least value digit most digits false small d s h =
     rw (number_on-other value digit digits d) refl
 
 -- no digit is read
-pub number_on-stop : (least value digit most : ℕ) (digits : List ℕ) → longer_number value digit most ≡ None → within least most (number_on value (digit ∷ digits)) ≡ None
+pub number_on-stop : (least value digit most : ℕ) (digits : List ℕ) → with_digit value digit most ≡ None → within least most (number_on value (digit ∷ digits)) ≡ None
 number_on-stop least value digit most digits h =
     stop_by least value digit most digits (is_ascii_digit digit) (nat_le (10 * value + (digit - 48)) most) refl refl h

@@ -1,5 +1,5 @@
 -- The reading of words as a function is their reading by the grammar and by each setting's own fault, and the only one.
-use Rattle.std.proofs.Common.{◌≡◌, ◌≢◌, ◌==◌, ℕ, Bool, true, false, List, [], ◌∷◌, ◌++◌, drop, Option, Some, None, Result, Ok, Err, IfOk, IfErr, IsErrAnd, codes, if◌then◌else◌, refl, ap, sym, subst, ◌∙◌}
+use Rattle.std.proofs.Common.{◌≡◌, ◌≢◌, ℕ, Bool, true, false, List, [], ◌∷◌, drop, Option, Some, None, Result, Ok, Err, IfOk, IfErr, IsErrAnd, codes, if◌then◌else◌, refl, ap, sym, subst, ◌∙◌}
 use Rattle.std.specs.Str.{bytes_eq}
 use Rattle.std.proofs.lemmas.Slice.Eq.{bytes_eq-Decides}
 use Rattle.trace_args.specs.declared.fault.WordFault.{WordFault}
@@ -12,9 +12,8 @@ use Rattle.trace_args.specs.declared.option.ValuedOption.{ValuedOption}
 use Rattle.trace_args.specs.declared.option.ValuedOption.TheVariants as valued
 use Rattle.trace_args.specs.CpuList.{cpu_set}
 use Rattle.trace_args.specs.Setting.{Text, Setting, Flag, Valued, Operand, Stray}
-use Rattle.trace_args.specs.Grammar.{Says}
 use Rattle.trace_args.specs.Settings.{settings, AnyWord}
-use Rattle.trace_args.specs.Faults.{fault, unless_some, worker_count, is_given, value_fault, fault_of, IsClean, IsFirstFault}
+use Rattle.trace_args.specs.Faults.{fault, unless_some, worker_count, is_given, value_fault, fault_of}
 use Rattle.trace_args.specs.Reading.{command_of, tool_name, tool_of, Reads, HasFault, first_fault, judged, tool_reading, behind_tool, reading, CommandAnswer}
 use Rattle.trace_args.specs.Given.{Seen, seen_in, steps}
 use Rattle.trace_args.proofs.GivenLaws.{finish, steps_from_none}
@@ -24,13 +23,13 @@ use Rattle.trace_args.proofs.GrammarLaws.{says_settings, settings_says}
 reads_tool : (command : Tool) (options : List (List ℕ)) (data_is : CommandData) (wrong : Option WordFault) → first_fault [] (settings command AnyWord 2 options) ≡ wrong → judged (command_of command (settings command AnyWord 2 options)) wrong ≡ Ok data_is → Reads (tool_name command ∷ options) data_is
 reads_tool command options data_is None e h =
     record {
-        tool = command;
-        options = options;
-        settings = settings command AnyWord 2 options;
-        words_are = refl;
-        settings_are = says_settings command 2 options;
-        clean = is_clean (settings command AnyWord 2 options) e;
-        command_is = let same : command_of command (settings command AnyWord 2 options) ≡ data_is = cc in sym same
+      tool = command;
+      options = options;
+      settings = settings command AnyWord 2 options;
+      words_are = refl;
+      settings_are = says_settings command 2 options;
+      clean = is_clean (settings command AnyWord 2 options) e;
+      command_is = let same : command_of command (settings command AnyWord 2 options) ≡ data_is = cc in sym same;
     }
 reads_tool command options data_is (Some wrong) e h = cc
 
@@ -96,10 +95,10 @@ reading_tool tool.Dump options = refl
 pub reading_reads : (words : List (List ℕ)) (data_is : CommandData) → Reads words data_is → reading words ≡ Ok data_is
 reading_reads words data_is r =
     ap reading r.words_are
-        ∙ reading_tool r.tool r.options
-        ∙ ap (tool_reading r.tool) (settings_says r.tool 2 r.options r.settings r.settings_are)
-        ∙ ap (judged (command_of r.tool r.settings)) (first_fault-clean r.settings r.clean)
-        ∙ ap Ok (sym r.command_is)
+    ∙ reading_tool r.tool r.options
+    ∙ ap (tool_reading r.tool) (settings_says r.tool 2 r.options r.settings r.settings_are)
+    ∙ ap (judged (command_of r.tool r.settings)) (first_fault-clean r.settings r.clean)
+    ∙ ap Ok (sym r.command_is)
 
 -- a first fault is the function's
 pub reading_has_fault : (words : List (List ℕ)) (f : WordFault) → HasFault words f → reading words ≡ Err f
@@ -107,11 +106,11 @@ unfolding reading
 reading_has_fault _ _ HasFault.no_word = refl
 reading_has_fault _ _ (HasFault.no_command word options h) =
     ap (λ b. behind_tool options (if b then Ok tool.Report else (if bytes_eq word (codes "dump") then Ok tool.Dump else Err (fault 1 kind.Unknown)))) (text_no word (codes "report") (bytes_eq word (codes "report")) refl (h tool.Report))
-        ∙ ap (λ b. behind_tool options (if b then Ok tool.Dump else Err (fault 1 kind.Unknown))) (text_no word (codes "dump") (bytes_eq word (codes "dump")) refl (h tool.Dump))
+    ∙ ap (λ b. behind_tool options (if b then Ok tool.Dump else Err (fault 1 kind.Unknown))) (text_no word (codes "dump") (bytes_eq word (codes "dump")) refl (h tool.Dump))
 reading_has_fault _ _ (HasFault.in_setting command options ss f says_is first) =
     reading_tool command options
-        ∙ ap (tool_reading command) (settings_says command 2 options ss says_is)
-        ∙ ap (judged (command_of command ss)) (first_fault-wrong ss f first)
+    ∙ ap (tool_reading command) (settings_says command 2 options ss says_is)
+    ∙ ap (judged (command_of command ss)) (first_fault-wrong ss f first)
 
 -- ---- the settings one after another
 
@@ -123,8 +122,8 @@ pub reading_steps : (words : List (List ℕ)) (command : Tool) (outcome : Result
 unfolding reading
 reading_steps words command outcome h e =
     ap (behind_tool (drop 1 words)) h
-        ∙ sym (steps_from_none command (settings command AnyWord 2 (drop 1 words)))
-        ∙ ap (finish command) e
+    ∙ sym (steps_from_none command (settings command AnyWord 2 (drop 1 words)))
+    ∙ ap (finish command) e
 
 -- ---- no fault is want of memory
 
@@ -178,3 +177,29 @@ answer_not_memory words (Err f) h = fault_not_memory words f (has_fault_reading 
 pub fault_answer : (outcome : Result CommandData WordFault) (result : Result Command WordFault) (f : WordFault) (P : WordFault → Type 0) → ((e : WordFault) → P e → e ≡ f) → IsErrAnd result P → outcome ≡ Err f → CommandAnswer outcome result
 fault_answer outcome (Err e) f P same is h = h ∙ ap Err (sym (same e is))
 fault_answer outcome (Ok x) f P same is h = absurd is
+
+-- ---- one reading, or one first fault
+
+abbrev command_answer : CommandData → Result CommandData WordFault
+command_answer a = Ok a
+
+abbrev fault_answer_of : WordFault → Result CommandData WordFault
+fault_answer_of f = Err f
+
+ok_same : (a b : CommandData) → command_answer a ≡ command_answer b → a ≡ b
+ok_same a b h = cc
+
+pub same_command : (words : List (List ℕ)) (a b : CommandData) → Reads words a → Reads words b → a ≡ b
+same_command words a b r s =
+    ok_same a b (sym (reading_reads words a r) ∙ reading_reads words b s)
+
+err_same : (f g : WordFault) → fault_answer_of f ≡ fault_answer_of g → f ≡ g
+err_same f g h = cc
+
+pub same_fault : (words : List (List ℕ)) (f g : WordFault) → HasFault words f → HasFault words g → f ≡ g
+same_fault words f g h k =
+    err_same f g (sym (reading_has_fault words f h) ∙ reading_has_fault words g k)
+
+pub no_command_and_fault : (words : List (List ℕ)) (a : CommandData) (f : WordFault) → Reads words a → HasFault words f → ⊥
+no_command_and_fault words a f r h =
+    let bad : Ok a ≡ Err f = sym (reading_reads words a r) ∙ reading_has_fault words f h in cc

@@ -1,7 +1,7 @@
 -- The settings of words, one word after another.
-use Rattle.std.proofs.Common.{◌≡◌, ℕ, suc, zero, ◌+◌, ◌<◌, ◌≤◌, Bool, true, false, List, [], ◌∷◌, ◌++◌, length, drop, Option, Some, None, IfSome, IfNone, OnSome, option_map, refl, ap, sym, ◌∙◌, arith, rules}
+use Rattle.std.proofs.Common.{◌≡◌, ℕ, suc, zero, ◌+◌, List, [], ◌∷◌, ◌++◌, length, drop, Option, Some, None, IfSome, IfNone, OnSome, option_map, refl, ap, sym, ◌∙◌, arith}
 use Rattle.trace_args.specs.declared.tool.Tool.{Tool}
-use Rattle.trace_args.specs.Setting.{Setting, Flag, Valued, Operand, Stray, text}
+use Rattle.trace_args.specs.Setting.{Setting, Valued, Operand, text}
 use Rattle.std.specs.List.{slice_get}
 use Rattle.std.specs.Option.{option_map_or}
 use Rattle.std.proofs.lemmas.List.{drop_all}
@@ -10,7 +10,7 @@ use Rattle.trace_args.specs.declared.option.ValuedOption.{ValuedOption}
 use Rattle.trace_args.specs.declared.setting.Value.{Value}
 use Rattle.trace_args.specs.Views.{text_view}
 use Rattle.trace_args.specs.SettingsView.{place_said, then_left, settings_left, stepped, IsNextWord}
-use Rattle.trace_args.specs.Settings.{AnyWord, Wanting, behind_dash, dashed_said, says, Mode, Over, Said, said, ending, settings}
+use Rattle.trace_args.specs.Settings.{AnyWord, Wanting, behind_dash, dashed_said, says, Mode, Over, said, ending, settings}
 
 pub settings_end : (command : Tool) (mode : Mode) (k : ℕ) → settings command mode k [] ≡ ending mode
 unfolding settings
@@ -40,9 +40,9 @@ word_then reader word bytes mode h =
 pub word_first : (reader new : Settings) (word : ℕ) (bytes : List ℕ) (mode after : Mode) (first : Setting) → IsNextWord reader word bytes → new ≡ stepped reader → said reader.tool mode word bytes ≡ says (first ∷ []) after → place_said reader.tool (reader.next + 1) reader.place ≡ says [] after → settings reader.tool mode (reader.next + 1) (drop reader.next reader.words.now) ≡ first ∷ settings_left new
 word_first reader new word bytes mode after first next step said_is place_is =
     word_then reader word bytes mode next
-        ∙ ap (then_left (stepped reader)) (ap (λ n. said reader.tool mode n bytes) (sym next.number_is) ∙ said_is)
-        ∙ ap (λ s. first ∷ then_left (stepped reader) s) (sym place_is)
-        ∙ ap (λ r. first ∷ settings_left r) (sym step)
+    ∙ ap (then_left (stepped reader)) (ap (λ n. said reader.tool mode n bytes) (sym next.number_is) ∙ said_is)
+    ∙ ap (λ s. first ∷ then_left (stepped reader) s) (sym place_is)
+    ∙ ap (λ r. first ∷ settings_left r) (sym step)
 
 -- there is no next word
 pub word_none : (reader : Settings) (mode : Mode) → drop reader.next reader.words.now ≡ [] → settings reader.tool mode (reader.next + 1) (drop reader.next reader.words.now) ≡ ending mode
@@ -62,11 +62,11 @@ wanted_first reader new valued (Some value) word step end same place_is =
     word_first reader new value.word value.text.now (Wanting valued reader.next) AnyWord (Valued valued reader.next (Some (text_view value))) word step refl (place_is (reader.next + 1))
 wanted_first reader new valued None word step end same place_is =
     word_none reader (Wanting valued reader.next) end
-        ∙ ap (λ s. Valued valued reader.next None ∷ s) (sym (ap settings_left same ∙ nothing_left reader end (place_is reader.next)))
+    ∙ ap (λ s. Valued valued reader.next None ∷ s) (sym (ap settings_left same ∙ nothing_left reader end (place_is reader.next)))
 
 -- a word with a dash
 pub dashed_then : (reader new : Settings) (word : ℕ) (bytes rest : List ℕ) → IsNextWord reader word bytes → new ≡ stepped reader → Some rest ≡ behind_dash bytes → settings reader.tool AnyWord (reader.next + 1) (drop reader.next reader.words.now) ≡ then_left new (dashed_said new.tool new.next rest)
 dashed_then reader new word bytes rest next step has =
     word_then reader word bytes AnyWord next
-        ∙ ap (λ o. then_left (stepped reader) (option_map_or (dashed_said reader.tool (reader.next + 1)) o (says (Operand (text (reader.next + 1) bytes) ∷ []) AnyWord))) (sym has)
-        ∙ ap (λ r. then_left r (dashed_said r.tool r.next rest)) (sym step)
+    ∙ ap (λ o. then_left (stepped reader) (option_map_or (dashed_said reader.tool (reader.next + 1)) o (says (Operand (text (reader.next + 1) bytes) ∷ []) AnyWord))) (sym has)
+    ∙ ap (λ r. then_left r (dashed_said r.tool r.next rest)) (sym step)

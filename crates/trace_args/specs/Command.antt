@@ -1,5 +1,5 @@
 -- What a command line asks for, as plain data.
-use Rattle.std.specs.Prelude.{ℕ, Bool, List, Option, option_map}
+use Rattle.std.specs.Prelude.{ℕ, Bool, List, Option}
 use Rattle.trace_args.specs.declared.command.Command.{Command}
 use Rattle.trace_args.specs.declared.command.Command.TheVariants as code
 use Rattle.trace_args.specs.declared.command.ReportWords.{ReportWords}
@@ -25,13 +25,13 @@ pub data CommandData : Type 0 where
 abbrev pub report_view : ReportWords → ReportData
 report_view w =
     record {
-        input = w.input.now;
-        full = w.full;
-        latency = w.latency;
-        no_hard = w.no_hard;
-        no_soft = w.no_soft;
-        cpus = w.cpus;
-        workers = w.workers
+      input = w.input.now;
+      full = w.full;
+      latency = w.latency;
+      no_hard = w.no_hard;
+      no_soft = w.no_soft;
+      cpus = w.cpus;
+      workers = w.workers;
     }
 
 abbrev pub dump_view : DumpWords → DumpData

@@ -1,7 +1,7 @@
 -- The LIST of `--cpu`: numbers from 0 to 1,023, or two of them around `-` with the first at most the second, separated by
 -- `,` or `:`.
 -- Source: trace-cmd-report(1), `--cpu`.
-use Rattle.std.specs.Prelude.{ℕ, Bool, true, false, ◌==◌, ◌&&◌, ◌||◌, nat_le, List, [], ◌∷◌, ◌+◌, map, Option, Some, None, option_map, if◌then◌else◌}
+use Rattle.std.specs.Prelude.{ℕ, Bool, ◌==◌, ◌&&◌, ◌||◌, nat_le, List, [], ◌∷◌, ◌+◌, map, Option, Some, None, option_map, if◌then◌else◌}
 use Rattle.std.specs.List.{list_any, slice_split, range_with_len}
 use Rattle.std.specs.Option.{option_and_then, option_map_or}
 use Rattle.trace_args.specs.Cut.{cut}

@@ -1,5 +1,5 @@
 -- The reading of settings one after another: what they say so far, and one more of them.
-use Rattle.std.specs.Prelude.{ℕ, ◌==◌, Bool, true, false, ◌||◌, ◌&&◌, not, ◌≡◌, List, [], ◌∷◌, map, replicate, Option, Some, None, option_map, unwrap_or, is_some, codes, Result, Ok, Err, if◌then◌else◌, MatchResult}
+use Rattle.std.specs.Prelude.{ℕ, ◌==◌, Bool, false, ◌||◌, ◌&&◌, not, ◌≡◌, List, [], ◌∷◌, map, Option, Some, None, option_map, unwrap_or, is_some, codes, Result, Ok, Err, if◌then◌else◌, MatchResult}
 use Rattle.std.specs.List.{list_any, slice_index_or}
 use Rattle.std.specs.Option.{option_and_then}
 use Rattle.trace_args.specs.declared.fault.WordFault.{WordFault}
@@ -34,15 +34,15 @@ pub record Seen : Type 0 where
 abbrev pub seen_in : List Setting → Seen
 seen_in settings =
     record {
-        input = value_of valued.Input settings;
-        cpus = option_and_then cpu_set (value_of valued.Cpus settings);
-        workers = option_and_then worker_count (value_of valued.Workers settings);
-        full = is_set flag.FullTime settings;
-        latency = is_set flag.Latency settings;
-        no_hard = is_set flag.NoHard settings;
-        no_soft = is_set flag.NoSoft settings;
-        all = is_set flag.All settings;
-        named = map (λ section. is_set (flag.Section section) settings) sections
+      input = value_of valued.Input settings;
+      cpus = option_and_then cpu_set (value_of valued.Cpus settings);
+      workers = option_and_then worker_count (value_of valued.Workers settings);
+      full = is_set flag.FullTime settings;
+      latency = is_set flag.Latency settings;
+      no_hard = is_set flag.NoHard settings;
+      no_soft = is_set flag.NoSoft settings;
+      all = is_set flag.All settings;
+      named = map (λ section. is_set (flag.Section section) settings) sections;
     }
 
 abbrev pub is_flag : FlagOption → FlagOption → Bool
@@ -58,15 +58,15 @@ either (x ∷ xs) (y ∷ ys) = (x || y) ∷ either xs ys
 abbrev pub with_flag : Seen → FlagOption → Seen
 with_flag seen given =
     record {
-        input = seen.input;
-        cpus = seen.cpus;
-        workers = seen.workers;
-        full = is_flag given flag.FullTime || seen.full;
-        latency = is_flag given flag.Latency || seen.latency;
-        no_hard = is_flag given flag.NoHard || seen.no_hard;
-        no_soft = is_flag given flag.NoSoft || seen.no_soft;
-        all = is_flag given flag.All || seen.all;
-        named = either (map (λ section. is_flag given (flag.Section section)) sections) seen.named
+      input = seen.input;
+      cpus = seen.cpus;
+      workers = seen.workers;
+      full = is_flag given flag.FullTime || seen.full;
+      latency = is_flag given flag.Latency || seen.latency;
+      no_hard = is_flag given flag.NoHard || seen.no_hard;
+      no_soft = is_flag given flag.NoSoft || seen.no_soft;
+      all = is_flag given flag.All || seen.all;
+      named = either (map (λ section. is_flag given (flag.Section section)) sections) seen.named;
     }
 
 -- whether an option has its value
@@ -116,13 +116,13 @@ steps (setting ∷ settings) seen = and_steps (steps settings) (step seen settin
 abbrev pub report_seen : Seen → ReportData
 report_seen seen =
     record {
-        input = unwrap_or seen.input (codes "trace.dat");
-        full = seen.full;
-        latency = seen.latency;
-        no_hard = seen.no_hard;
-        no_soft = seen.no_soft;
-        cpus = seen.cpus;
-        workers = unwrap_or seen.workers 1
+      input = unwrap_or seen.input (codes "trace.dat");
+      full = seen.full;
+      latency = seen.latency;
+      no_hard = seen.no_hard;
+      no_soft = seen.no_soft;
+      cpus = seen.cpus;
+      workers = unwrap_or seen.workers 1;
     }
 
 abbrev pub names_any_seen : Seen → Bool
@@ -144,15 +144,15 @@ command_seen tool.Dump seen = Dump (dump_seen seen)
 abbrev pub given_view : Given → Seen
 given_view given =
     record {
-        input = option_map (λ text. text.now) given.input;
-        cpus = given.cpus;
-        workers = given.workers;
-        full = given.full;
-        latency = given.latency;
-        no_hard = given.no_hard;
-        no_soft = given.no_soft;
-        all = given.all;
-        named = given.named
+      input = option_map (λ text. text.now) given.input;
+      cpus = given.cpus;
+      workers = given.workers;
+      full = given.full;
+      latency = given.latency;
+      no_hard = given.no_hard;
+      no_soft = given.no_soft;
+      all = given.all;
+      named = given.named;
     }
 
 -- a call took one more setting, or answered what is wrong with it

@@ -1,7 +1,7 @@
 -- How options and operands are spelled in words: rows of short options, values in the same or in the next word, `--name=value`,
 -- and `--`.
 -- Source: POSIX, Base Definitions, 12.2 Utility Syntax Guidelines; getopt_long(3).
-use Rattle.std.specs.Prelude.{ℕ, ◌+◌, ◌≡◌, ◌≢◌, false, List, [], ◌∷◌, ◌++◌, map, length, Option, Some, None, Bool, ◌==◌}
+use Rattle.std.specs.Prelude.{ℕ, ◌+◌, ◌≡◌, ◌≢◌, false, List, [], ◌∷◌, ◌++◌, map, length, Some, None, Bool, ◌==◌}
 use Rattle.std.specs.List.{list_any, AllZip}
 use Rattle.trace_args.specs.declared.tool.Tool.{Tool}
 use Rattle.trace_args.specs.declared.option.FlagOption.{FlagOption}
@@ -33,23 +33,63 @@ operands k (word ∷ words) = Operand (text k word) ∷ operands (k + 1) words
 
 -- an option's word, with its value's, or an operand; the first of the words has the number k
 pub data Group (command : Tool) : ℕ → List (List ℕ) → List Setting → Type 0 where
-  empty_operand : (k : ℕ) → Group command k ([] ∷ []) (Operand (text k []) ∷ [])
-  operand : (k c : ℕ) (cs : List ℕ) → c ≢ 45 → Group command k ((c ∷ cs) ∷ []) (Operand (text k (c ∷ cs)) ∷ [])
-  row : (k : ℕ) (letters : List ℕ) (flags : List FlagOption) → letters ≢ [] → AreFlags command letters flags → Group command k ((45 ∷ letters) ∷ []) (given flags)
-  row_with_value : (k letter b : ℕ) (letters bytes : List ℕ) (flags : List FlagOption) (valued : ValuedOption) → AreFlags command letters flags → option_named command (short letter) ≡ Some (option.Valued valued) → Group command k ((45 ∷ (letters ++ (letter ∷ b ∷ bytes))) ∷ []) (given flags ++ (Valued valued k (Some (text k (b ∷ bytes))) ∷ []))
-  row_and_value : (k letter : ℕ) (letters value : List ℕ) (flags : List FlagOption) (valued : ValuedOption) → AreFlags command letters flags → option_named command (short letter) ≡ Some (option.Valued valued) → Group command k ((45 ∷ (letters ++ (letter ∷ []))) ∷ value ∷ []) (given flags ++ (Valued valued k (Some (text (k + 1) value)) ∷ []))
-  long_flag : (k : ℕ) (name : List ℕ) (flag : FlagOption) → IsName name → option_named command (long name) ≡ Some (option.Flag flag) → Group command k (long name ∷ []) (Flag flag ∷ [])
-  long_with_value : (k : ℕ) (name value : List ℕ) (valued : ValuedOption) → IsName name → option_named command (long name) ≡ Some (option.Valued valued) → Group command k ((long name ++ (61 ∷ value)) ∷ []) (Valued valued k (Some (text k value)) ∷ [])
-  long_and_value : (k : ℕ) (name value : List ℕ) (valued : ValuedOption) → IsName name → option_named command (long name) ≡ Some (option.Valued valued) → Group command k (long name ∷ value ∷ []) (Valued valued k (Some (text (k + 1) value)) ∷ [])
+  -- a word that does not begin with a dash
+  empty_operand : (k : ℕ)
+      → Group command k ([] ∷ []) (Operand (text k []) ∷ [])
+  operand : (k c : ℕ) (cs : List ℕ) → c ≢ 45
+      → Group command k ((c ∷ cs) ∷ []) (Operand (text k (c ∷ cs)) ∷ [])
+  -- a row of flags, alone, or before an option with the rest of the word or the next word as its value
+  row : (k : ℕ) (letters : List ℕ) (flags : List FlagOption) → letters ≢ [] → AreFlags command letters flags
+      → Group command k ((45 ∷ letters) ∷ []) (given flags)
+  row_with_value : (k letter b : ℕ) (letters bytes : List ℕ) (flags : List FlagOption) (valued : ValuedOption)
+      → AreFlags command letters flags → option_named command (short letter) ≡ Some (option.Valued valued)
+      → Group command k
+      ((45 ∷ (letters ++ (letter ∷ b ∷ bytes))) ∷ [])
+      (given flags ++ (Valued valued k (Some (text k (b ∷ bytes))) ∷ []))
+  row_and_value : (k letter : ℕ) (letters value : List ℕ) (flags : List FlagOption) (valued : ValuedOption)
+      → AreFlags command letters flags → option_named command (short letter) ≡ Some (option.Valued valued)
+      → Group command k
+      ((45 ∷ (letters ++ (letter ∷ []))) ∷ value ∷ [])
+      (given flags ++ (Valued valued k (Some (text (k + 1) value)) ∷ []))
+  -- a long option, alone, or with a value behind `=` or in the next word
+  long_flag : (k : ℕ) (name : List ℕ) (flag : FlagOption)
+      → IsName name → option_named command (long name) ≡ Some (option.Flag flag)
+      → Group command k (long name ∷ []) (Flag flag ∷ [])
+  long_with_value : (k : ℕ) (name value : List ℕ) (valued : ValuedOption)
+      → IsName name → option_named command (long name) ≡ Some (option.Valued valued)
+      → Group command k ((long name ++ (61 ∷ value)) ∷ []) (Valued valued k (Some (text k value)) ∷ [])
+  long_and_value : (k : ℕ) (name value : List ℕ) (valued : ValuedOption)
+      → IsName name → option_named command (long name) ≡ Some (option.Valued valued)
+      → Group command k (long name ∷ value ∷ []) (Valued valued k (Some (text (k + 1) value)) ∷ [])
 
 -- what all the words say, up to the first that is no option of the command; the first of them has the number k
 pub data Says (command : Tool) : ℕ → List (List ℕ) → List Setting → Type 0 where
-  end : (k : ℕ) → Says command k [] []
-  more : (k : ℕ) (words rest : List (List ℕ)) (first later : List Setting) → Group command k words first → Says command (k + length words) rest later → Says command k (words ++ rest) (first ++ later)
-  only_operands : (k : ℕ) (rest : List (List ℕ)) → Says command k (long [] ∷ rest) (operands (k + 1) rest)
-  row_without_value : (k letter : ℕ) (letters : List ℕ) (flags : List FlagOption) (valued : ValuedOption) → AreFlags command letters flags → option_named command (short letter) ≡ Some (option.Valued valued) → Says command k ((45 ∷ (letters ++ (letter ∷ []))) ∷ []) (given flags ++ (Valued valued k None ∷ []))
-  long_without_value : (k : ℕ) (name : List ℕ) (valued : ValuedOption) → IsName name → option_named command (long name) ≡ Some (option.Valued valued) → Says command k (long name ∷ []) (Valued valued k None ∷ [])
-  dash_alone : (k : ℕ) (rest : List (List ℕ)) → Says command k ((45 ∷ []) ∷ rest) (Stray k ∷ [])
-  unknown_letter : (k letter : ℕ) (letters others : List ℕ) (flags : List FlagOption) (rest : List (List ℕ)) → AreFlags command letters flags → option_named command (short letter) ≡ None → (letters ≡ [] → letter ≢ 45) → Says command k ((45 ∷ (letters ++ (letter ∷ others))) ∷ rest) (given flags ++ (Stray k ∷ []))
-  unknown_name : (k : ℕ) (name : List ℕ) (rest : List (List ℕ)) → IsName name → name ≢ [] → option_named command (long name) ≡ None → Says command k (long name ∷ rest) (Stray k ∷ [])
-  unknown_with_value : (k : ℕ) (name value : List ℕ) (rest : List (List ℕ)) → IsName name → ((valued : ValuedOption) → option_named command (long name) ≢ Some (option.Valued valued)) → Says command k ((long name ++ (61 ∷ value)) ∷ rest) (Stray k ∷ [])
+  end : (k : ℕ)
+      → Says command k [] []
+  more : (k : ℕ) (words rest : List (List ℕ)) (first later : List Setting)
+      → Group command k words first → Says command (k + length words) rest later
+      → Says command k (words ++ rest) (first ++ later)
+  -- `--`
+  only_operands : (k : ℕ) (rest : List (List ℕ))
+      → Says command k (long [] ∷ rest) (operands (k + 1) rest)
+  -- an option whose value is not there
+  row_without_value : (k letter : ℕ) (letters : List ℕ) (flags : List FlagOption) (valued : ValuedOption)
+      → AreFlags command letters flags → option_named command (short letter) ≡ Some (option.Valued valued)
+      → Says command k
+      ((45 ∷ (letters ++ (letter ∷ []))) ∷ [])
+      (given flags ++ (Valued valued k None ∷ []))
+  long_without_value : (k : ℕ) (name : List ℕ) (valued : ValuedOption)
+      → IsName name → option_named command (long name) ≡ Some (option.Valued valued)
+      → Says command k (long name ∷ []) (Valued valued k None ∷ [])
+  -- a word that is no option: a dash, a letter behind flags, a long name, and one with a value that it does not take
+  dash_alone : (k : ℕ) (rest : List (List ℕ))
+      → Says command k ((45 ∷ []) ∷ rest) (Stray k ∷ [])
+  unknown_letter : (k letter : ℕ) (letters others : List ℕ) (flags : List FlagOption) (rest : List (List ℕ))
+      → AreFlags command letters flags → option_named command (short letter) ≡ None → (letters ≡ [] → letter ≢ 45)
+      → Says command k ((45 ∷ (letters ++ (letter ∷ others))) ∷ rest) (given flags ++ (Stray k ∷ []))
+  unknown_name : (k : ℕ) (name : List ℕ) (rest : List (List ℕ))
+      → IsName name → name ≢ [] → option_named command (long name) ≡ None
+      → Says command k (long name ∷ rest) (Stray k ∷ [])
+  unknown_with_value : (k : ℕ) (name value : List ℕ) (rest : List (List ℕ))
+      → IsName name → ((valued : ValuedOption) → option_named command (long name) ≢ Some (option.Valued valued))
+      → Says command k ((long name ++ (61 ∷ value)) ∷ rest) (Stray k ∷ [])

@@ -20,3 +20,10 @@ number_of (c ∷ cs) =
 abbrev pub number_within : ℕ → ℕ → List ℕ → Option ℕ
 number_within least most text =
     option_and_then (λ n. if nat_le least n && nat_le n most then Some n else None) (number_of text)
+
+-- a number with one digit more, while it is at most the most
+abbrev pub with_digit : ℕ → ℕ → ℕ → Option ℕ
+with_digit value digit most =
+    if is_ascii_digit digit && nat_le (10 * value + (digit - 48)) most
+    then Some (10 * value + (digit - 48))
+    else None

@@ -1,6 +1,6 @@
 -- The options of each command: one row an option, as it is written, and which it is.
 -- Source: trace-cmd-report(1) and trace-cmd-dump(1), `OPTIONS`.
-use Rattle.std.specs.Prelude.{ℕ, List, [], ◌∷◌, ◌++◌, map, Option, option_map, codes}
+use Rattle.std.specs.Prelude.{ℕ, List, [], ◌∷◌, map, Option, option_map, codes}
 use Rattle.std.specs.List.{find}
 use Rattle.std.specs.Str.{bytes_eq}
 use Rattle.trace_args.specs.Sections.{sections, section_name}
@@ -34,18 +34,18 @@ long name = 45 ∷ 45 ∷ name
 abbrev pub options_of : Tool → List OptionRow
 options_of tool.Report =
     valued (codes "-i") Input
-        ∷ flag (codes "-t") FullTime
-        ∷ flag (codes "-l") Latency
-        ∷ flag (codes "-I") NoHard
-        ∷ flag (codes "-S") NoSoft
-        ∷ flag (codes "-N") NoPlugins
-        ∷ valued (codes "--cpu") Cpus
-        ∷ valued (codes "--workers") Workers
-        ∷ []
+    ∷ flag (codes "-t") FullTime
+    ∷ flag (codes "-l") Latency
+    ∷ flag (codes "-I") NoHard
+    ∷ flag (codes "-S") NoSoft
+    ∷ flag (codes "-N") NoPlugins
+    ∷ valued (codes "--cpu") Cpus
+    ∷ valued (codes "--workers") Workers
+    ∷ []
 options_of tool.Dump =
     valued (codes "-i") Input
-        ∷ flag (codes "--all") All
-        ∷ map (λ section. flag (long (section_name section)) (Section section)) sections
+    ∷ flag (codes "--all") All
+    ∷ map (λ section. flag (long (section_name section)) (Section section)) sections
 
 -- the option of the command that is so written
 abbrev pub option_named : Tool → List ℕ → Option KnownOption

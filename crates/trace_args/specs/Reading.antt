@@ -68,13 +68,13 @@ input_of settings = unwrap_or (value_of valued.Input settings) (codes "trace.dat
 abbrev pub report_of : List Setting → ReportData
 report_of settings =
     record {
-        input = input_of settings;
-        full = is_set flag.FullTime settings;
-        latency = is_set flag.Latency settings;
-        no_hard = is_set flag.NoHard settings;
-        no_soft = is_set flag.NoSoft settings;
-        cpus = option_and_then cpu_set (value_of valued.Cpus settings);
-        workers = unwrap_or (option_and_then worker_count (value_of valued.Workers settings)) 1
+      input = input_of settings;
+      full = is_set flag.FullTime settings;
+      latency = is_set flag.Latency settings;
+      no_hard = is_set flag.NoHard settings;
+      no_soft = is_set flag.NoSoft settings;
+      cpus = option_and_then cpu_set (value_of valued.Cpus settings);
+      workers = unwrap_or (option_and_then worker_count (value_of valued.Workers settings)) 1;
     }
 
 -- `--all` means every section but this one

@@ -8,18 +8,18 @@ use Rattle.trace_args.specs.declared.section.Section.TheVariants.{Summary, HeadP
 abbrev pub sections : List Section
 sections =
     Summary
-        ∷ HeadPage
-        ∷ HeadEvent
-        ∷ FtraceEvents
-        ∷ Systems
-        ∷ Events
-        ∷ Kallsyms
-        ∷ Printk
-        ∷ CmdLines
-        ∷ Options
-        ∷ Flyrecord
-        ∷ Validate
-        ∷ []
+    ∷ HeadPage
+    ∷ HeadEvent
+    ∷ FtraceEvents
+    ∷ Systems
+    ∷ Events
+    ∷ Kallsyms
+    ∷ Printk
+    ∷ CmdLines
+    ∷ Options
+    ∷ Flyrecord
+    ∷ Validate
+    ∷ []
 
 -- the place of a section in that list
 abbrev pub place_of : Section → ℕ

@@ -64,9 +64,9 @@ assigned_said k value (Some (option.Flag flag)) = stray k
 abbrev pub long_said : Tool → ℕ → List ℕ → Said
 long_said command k name =
     option_map_or
-        (λ p. assigned_said k p.after (option_named command (long p.before)))
-        (cut is_equals name)
-        (named_said k (option_named command (long name)))
+    (λ p. assigned_said k p.after (option_named command (long p.before)))
+    (cut is_equals name)
+    (named_said k (option_named command (long name)))
 
 -- what stands behind a first dash
 abbrev pub behind_dash : List ℕ → Option (List ℕ)

@@ -25,8 +25,8 @@ pub fn cpu_set(text: &[u8]) -> Option<CpuSet>
     Some(set)
 }
 
-#[tactic(auto, using(crate::proofs::CutLaws::split_by_position, crate::proofs::CutLaws::position_inside))]
 // What stands before the first separator, and behind it, where there is one.
+#[tactic(auto, using(crate::proofs::CutLaws::split_by_position, crate::proofs::CutLaws::position_inside))]
 fn first_piece(text: &[u8]) -> (&[u8], Option<&[u8]>)
     ensures split { slice_split is_separator text.now
         ≡ result.0.now ∷ option_map_or (λ rest. slice_split is_separator rest.now) result.1 [] }
@@ -41,6 +41,7 @@ fn first_piece(text: &[u8]) -> (&[u8], Option<&[u8]>)
     }
 }
 
+// The range that a piece spells.
 fn range(piece: &[u8]) -> Option<(u32, u32)>
     ensures value { option_map range_view result ≡ range_of piece.now }
     ensures bounds { IfSome result (λ range. (range.0 ≤ range.1) × (range.1 < 1024)) }
@@ -58,6 +59,7 @@ fn range(piece: &[u8]) -> Option<(u32, u32)>
     }
 }
 
+// What stands before and behind the first dash.
 #[tactic(auto, using(crate::proofs::CutLaws::cut_by_position, crate::proofs::CutLaws::position_inside))]
 fn around_dash(piece: &[u8]) -> Option<(&[u8], &[u8])>
     ensures { option_map parts_view result ≡ cut is_dash piece.now }

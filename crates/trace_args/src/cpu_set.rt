@@ -3,7 +3,6 @@ ghost use Rattle.std.specs.List.{slice_index_or};
 ghost use Rattle.trace_args.specs.CpuList.{with_range};
 ghost use Rattle.trace_args.specs.Views.{range_view};
 
-
 use std::marker::Model;
 
 /// A set of processor numbers from 0 to 1,023. Contracts see for each number whether it is in the set.

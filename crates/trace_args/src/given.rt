@@ -4,7 +4,7 @@ ghost use Rattle.std.specs.Prelude.{◌≡◌, [], option_map};
 ghost use Rattle.std.specs.List.{list_any};
 ghost use Rattle.trace_args.specs.Command.{dump_view, report_view};
 ghost use Rattle.trace_args.specs.Faults.{worker_count};
-ghost use Rattle.trace_args.specs.Given.{Answers, dump_seen, given_view, has, is_printed_seen, names_any_seen, report_seen, seen_in, step, with_flag, with_text, with_valued, with_value};
+ghost use Rattle.trace_args.specs.Given.{Answers, dump_seen, given_view, has, is_printed_seen, names_any_seen, report_seen, seen_in, step, with_flag, with_text, with_valued};
 ghost use Rattle.trace_args.specs.Views.{setting_view, text_view};
 
 use crate::command::{DumpWords, ReportWords};
@@ -16,23 +16,23 @@ use crate::option::{FlagOption, ValuedOption};
 use crate::section::Section;
 use crate::setting::{Setting, Value};
 
-/// What was given, of whatever command.
+/// The options and operands that were given, of whatever command.
 #[derive(Drop)]
 pub struct Given<'a> {
-    pub input: Option<&'a str>,
-    pub cpus: Option<CpuSet>,
-    pub workers: Option<u32>,
-    pub full: bool,
-    pub latency: bool,
-    pub no_hard: bool,
-    pub no_soft: bool,
-    pub all: bool,
-    // Which sections are named, in their order.
-    pub named: [bool; 12],
+    input: Option<&'a str>,
+    cpus: Option<CpuSet>,
+    workers: Option<u32>,
+    full: bool,
+    latency: bool,
+    no_hard: bool,
+    no_soft: bool,
+    all: bool,
+    // For each section whether its option was given, in the order of a dump.
+    named: [bool; 12],
 }
 
 impl<'a> Given<'a> {
-    /// Nothing.
+    /// Nothing was given.
     pub fn new() -> Given<'a>
         ensures { given_view result ≡ seen_in [] }
     {
@@ -59,8 +59,12 @@ impl<'a> Given<'a> {
                 Ok(())
             }
             Setting::Valued(option, word, value) => self.take_valued(option, word, value),
-            Setting::Operand(value) => self.take_valued(ValuedOption::Input, value.word, Some(value)),
-            Setting::Stray(word) => Err(WordFault { word, kind: WordKind::Unknown }),
+            Setting::Operand(value) => self.take_valued(
+                ValuedOption::Input,
+                value.word,
+                Some(value),
+            ),
+            Setting::Stray(word) => Err(WordKind::Unknown.at(word)),
         }
     }
 
@@ -88,14 +92,20 @@ impl<'a> Given<'a> {
         }
     }
 
-    fn take_valued(&mut self, option: ValuedOption, word: u64, value: Option<Value<'a>>) -> Result<(), WordFault>
-        ensures { Answers (with_valued (given_view self.old) option word (option_map text_view value.entry)) result self.new }
+    fn take_valued(
+        &mut self,
+        option: ValuedOption,
+        word: u64,
+        value: Option<Value<'a>>,
+    ) -> Result<(), WordFault>
+        ensures { Answers (with_valued (given_view self.old) option word (option_map text_view value.entry))
+            result self.new }
     {
         if self.has(option) {
-            return Err(WordFault { word, kind: WordKind::Repeated });
+            return Err(WordKind::Repeated.at(word));
         }
         match value {
-            None => Err(WordFault { word, kind: WordKind::MissingValue }),
+            None => Err(WordKind::MissingValue.at(word)),
             Some(value) => self.take_text(option, value),
         }
     }
@@ -107,8 +117,14 @@ impl<'a> Given<'a> {
         let word = value.word;
         match option {
             ValuedOption::Input => self.input = Some(value.text),
-            ValuedOption::Cpus => self.cpus = Some(cpu_set(bytes).ok_or(WordFault { word, kind: WordKind::BadCpuList })?),
-            ValuedOption::Workers => self.workers = Some(worker_count(bytes).ok_or(WordFault { word, kind: WordKind::BadNumber })?),
+            ValuedOption::Cpus => {
+                let cpus = cpu_set(bytes).ok_or(WordKind::BadCpuList.at(word))?;
+                self.cpus = Some(cpus);
+            }
+            ValuedOption::Workers => {
+                let workers = worker_count(bytes).ok_or(WordKind::BadNumber.at(word))?;
+                self.workers = Some(workers);
+            }
         }
         Ok(())
     }

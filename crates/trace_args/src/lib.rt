@@ -6,6 +6,7 @@ mod cpu_list;
 mod cpu_set;
 mod fault;
 mod given;
+mod laws;
 mod number;
 mod option;
 mod read;
@@ -17,5 +18,9 @@ mod tool;
 pub use command::{Command, DumpWords, ReportWords};
 pub use cpu_set::CpuSet;
 pub use fault::{WordFault, WordKind};
+pub use laws::{members_of_ranges, one_reading};
 pub use read::read_words;
 pub use section::Section;
+
+#[cfg(test)]
+mod tests;

@@ -1,8 +1,7 @@
 // Decimal numbers in a text.
 
-ghost use Rattle.std.specs.Prelude.{◌≡◌, ◌+◌, ◌-◌, ◌*◌, ◌&&◌, nat_le, None, Some, if◌then◌else◌};
-ghost use Rattle.std.specs.Char.{is_ascii_digit};
-ghost use Rattle.trace_args.specs.Number.{number_within};
+ghost use Rattle.std.specs.Prelude.{◌≡◌};
+ghost use Rattle.trace_args.specs.Number.{number_within, with_digit};
 
 /// The number that the text spells, where it spells one from `least` to `most`.
 pub fn number_within(text: &[u8], least: u32, most: u32) -> Option<u32>
@@ -15,16 +14,24 @@ pub fn number_within(text: &[u8], least: u32, most: u32) -> Option<u32>
     for byte in text {
         value = with_digit(value, *byte, most)?;
     }
-    if least <= value && value <= most { Some(value) } else { None }
+    if least <= value && value <= most {
+        Some(value)
+    } else {
+        None
+    }
 }
 
 // The number with one more digit, while it is at most `most`.
 fn with_digit(value: u32, byte: u8, most: u32) -> Option<u32>
-    ensures { result ≡ (if is_ascii_digit byte && nat_le (10 * value + (byte - 48)) most then Some (10 * value + (byte - 48)) else None) }
+    ensures { result ≡ with_digit value byte most }
 {
     if !byte.is_ascii_digit() {
         return None;
     }
     let longer = u64::from(value) * 10 + u64::from(byte - b'0');
-    if longer <= u64::from(most) { Some(longer as u32) } else { None }
+    if longer <= u64::from(most) {
+        Some(longer as u32)
+    } else {
+        None
+    }
 }

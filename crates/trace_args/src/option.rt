@@ -5,27 +5,37 @@ use crate::section::Section;
 use crate::tool::Tool;
 
 /// An option without a value.
-#[derive(Clone, Copy, Debug, PartialEq, Eq)]
+#[derive(Clone, Copy)]
 pub enum FlagOption {
+    /// `-t`: times to the nanosecond.
     FullTime,
+    /// `-l`: the latency columns.
     Latency,
+    /// `-I`: no events in a hard interrupt.
     NoHard,
+    /// `-S`: no events in a soft interrupt.
     NoSoft,
+    /// `-N`: no plugins, of which there are none.
     NoPlugins,
+    /// A section of a dump.
     Section(Section),
+    /// `--all`: all sections of a dump but `validate`.
     All,
 }
 
 /// An option with a value.
-#[derive(Clone, Copy, Debug, PartialEq, Eq)]
+#[derive(Clone, Copy)]
 pub enum ValuedOption {
+    /// `-i`: the name of the file.
     Input,
+    /// `--cpu`: a list of processors.
     Cpus,
+    /// `--workers`: a number of threads.
     Workers,
 }
 
 /// An option of a command.
-#[derive(Clone, Copy, Debug, PartialEq, Eq)]
+#[derive(Clone, Copy)]
 pub enum KnownOption {
     Flag(FlagOption),
     Valued(ValuedOption),

@@ -4,14 +4,13 @@ ghost use Rattle.trace_args.specs.Given.{GivenAnswer, command_seen, given_view, 
 ghost use Rattle.trace_args.specs.Reading.{CommandAnswer, HasFault, IsAnswer, Reads, reading, tool_of};
 ghost use Rattle.trace_args.specs.Settings.{AnyWord, settings};
 
-use std::alloc::Global;
-use trace_base::Words;
-
 use crate::command::Command;
 use crate::fault::{WordFault, WordKind};
 use crate::given::Given;
 use crate::settings::Settings;
 use crate::tool::Tool;
+use std::alloc::Global;
+use trace_base::Words;
 
 /// Reads the words of a command line, the program's own name left out.
 ///
@@ -51,18 +50,12 @@ fn read_tool(words: &Words) -> Result<Tool, WordFault>
     ensures { result ≡ tool_of words.now }
 {
     if words.is_empty() {
-        return Err(WordFault {
-            word: 1,
-            kind: WordKind::NoCommand,
-        });
+        return Err(WordKind::NoCommand.at(1));
     }
     match words.word(0) {
         "report" => Ok(Tool::Report),
         "dump" => Ok(Tool::Dump),
-        _ => Err(WordFault {
-            word: 1,
-            kind: WordKind::Unknown,
-        }),
+        _ => Err(WordKind::Unknown.at(1)),
     }
 }
 

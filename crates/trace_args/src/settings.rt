@@ -5,14 +5,13 @@ ghost use Rattle.std.specs.Iterator.{YieldsFirstBy, item_count};
 ghost use Rattle.trace_args.specs.Cut.{cut};
 ghost use Rattle.trace_args.specs.Grammar.{is_equals};
 ghost use Rattle.trace_args.specs.Settings.{AnyWord, OnlyOperands, Wanting, assigned_said, behind_dash, dashed_said, letter_said, long_said, named_said, row_said, says, settings, stray};
-ghost use Rattle.trace_args.specs.SettingsView.{Gives, GivesOne, IsNextWord, settings_left, stepped, then_left};
+ghost use Rattle.trace_args.specs.SettingsView.{Gives, GivesOne, IsNextWord, settings_left, stepped};
 ghost use Rattle.trace_args.specs.Views.{parts_view, setting_view};
-
-use trace_base::Words;
 
 use crate::option::{FlagOption, KnownOption, ValuedOption};
 use crate::setting::{Setting, Value};
 use crate::tool::Tool;
+use trace_base::Words;
 
 /// The settings that the words behind a command say, from the left, up to the first word that is no option.
 #[derive(Drop)]
@@ -68,7 +67,7 @@ impl<'a> Settings<'a> {
 
     // An option with a value in the next word.
     fn wanting(&mut self, option: ValuedOption) -> Setting<'a>
-        ensures { GivesOne (then_left self.old (says [] (Wanting option self.old.next))) result self.new }
+        ensures { GivesOne self.old (says [] (Wanting option self.old.next)) result self.new }
     {
         let word = self.next as u64;
         self.place = Place::AnyWord;
@@ -78,7 +77,7 @@ impl<'a> Settings<'a> {
 
     // A word that is no option: nothing is read behind it.
     fn stray(&mut self) -> Setting<'a>
-        ensures { GivesOne (then_left self.old (stray self.old.next)) result self.new }
+        ensures { GivesOne self.old (stray self.old.next) result self.new }
     {
         let word = self.next as u64;
         self.next = self.words.len();
@@ -89,7 +88,7 @@ impl<'a> Settings<'a> {
     // The first letter of a row.
     fn letter(&mut self, row: &'a str) -> Setting<'a>
         requires { 0 < length row.now }
-        ensures { GivesOne (then_left self.old (row_said self.old.tool self.old.next row.now)) result self.new }
+        ensures { GivesOne self.old (row_said self.old.tool self.old.next row.now) result self.new }
     {
         let letter = row.as_bytes()[0];
         match self.tool.short_option(letter) {
@@ -100,7 +99,9 @@ impl<'a> Settings<'a> {
 
     // An option of a row, and what is left of the row.
     fn known_letter(&mut self, option: KnownOption, rest: &'a str) -> Setting<'a>
-        ensures { GivesOne (then_left self.old (letter_said self.old.next rest.now (row_said self.old.tool self.old.next rest.now) (Some option))) result self.new }
+        ensures { GivesOne self.old
+            (letter_said self.old.next rest.now (row_said self.old.tool self.old.next rest.now) (Some option))
+            result self.new }
     {
         match option {
             KnownOption::Flag(flag) => {
@@ -114,7 +115,8 @@ impl<'a> Settings<'a> {
 
     // An option with this value in its word.
     fn assigned(&mut self, option: ValuedOption, text: &'a str) -> Setting<'a>
-        ensures { GivesOne (then_left self.old (assigned_said self.old.next text.now (Some (KnownOption.Valued option)))) result self.new }
+        ensures { GivesOne self.old
+            (assigned_said self.old.next text.now (Some (KnownOption.Valued option))) result self.new }
     {
         let word = self.next as u64;
         self.place = Place::AnyWord;
@@ -123,7 +125,7 @@ impl<'a> Settings<'a> {
 
     // A long option, by what stands behind its dashes.
     fn long(&mut self, name: &'a str) -> Setting<'a>
-        ensures { GivesOne (then_left self.old (long_said self.old.tool self.old.next name.now)) result self.new }
+        ensures { GivesOne self.old (long_said self.old.tool self.old.next name.now) result self.new }
     {
         match around_equals(name) {
             Some((name, value)) => match self.tool.long_option(name) {
@@ -140,7 +142,7 @@ impl<'a> Settings<'a> {
 
     // A flag that is its whole word.
     fn flag(&mut self, flag: FlagOption) -> Setting<'a>
-        ensures { GivesOne (then_left self.old (named_said self.old.next (Some (KnownOption.Flag flag)))) result self.new }
+        ensures { GivesOne self.old (named_said self.old.next (Some (KnownOption.Flag flag))) result self.new }
     {
         self.place = Place::AnyWord;
         Setting::Flag(flag)
@@ -148,7 +150,7 @@ impl<'a> Settings<'a> {
 
     // A word that is taken as it is.
     fn operand(&mut self) -> Option<Setting<'a>>
-        ensures { Gives (then_left self.old (says [] OnlyOperands)) result self.new }
+        ensures { Gives self.old (says [] OnlyOperands) result self.new }
     {
         self.place = Place::Operands;
         let word = self.next_word()?;
@@ -157,7 +159,7 @@ impl<'a> Settings<'a> {
 
     // A word of which this stands behind its first dash.
     fn dashed(&mut self, rest: &'a str) -> Option<Setting<'a>>
-        ensures { Gives (then_left self.old (dashed_said self.old.tool self.old.next rest.now)) result self.new }
+        ensures { Gives self.old (dashed_said self.old.tool self.old.next rest.now) result self.new }
     {
         if rest.is_empty() {
             return Some(self.stray());
@@ -171,7 +173,7 @@ impl<'a> Settings<'a> {
 
     // A word that may be an option.
     fn word(&mut self) -> Option<Setting<'a>>
-        ensures { Gives (then_left self.old (says [] AnyWord)) result self.new }
+        ensures { Gives self.old (says [] AnyWord) result self.new }
     {
         self.place = Place::AnyWord;
         let word = self.next_word()?;

@@ -1,5 +1,5 @@
-/// A command whose options are read.
-#[derive(Clone, Copy, Debug, PartialEq, Eq)]
+/// A command, whose options are read.
+#[derive(Clone, Copy)]
 pub enum Tool {
     Report,
     Dump,

@@ -9,9 +9,9 @@ returns-in_err-value c =
     let inside : i < length text = omega arith in
     let split : drop i text ≡ get_or text i 0 ∷ drop (i + 1) text = rw (add-one, drop-cons text i 0) in
     c.from_residual.ensures
-        ∙ sym (number_on-stop c.args.least c.loop-byte.value (get_or text i 0) c.args.most (drop (i + 1) text) (sym c.with_digit.ensures ∙ c.in_err-value.was))
-        ∙ ap (λ digits. within c.args.least c.args.most (number_on c.loop-byte.value digits)) (sym split)
-        ∙ c.loop-byte.invariant
+    ∙ sym (number_on-stop c.args.least c.loop-byte.value (get_or text i 0) c.args.most (drop (i + 1) text) (sym c.with_digit.ensures ∙ c.in_err-value.was))
+    ∙ ap (λ digits. within c.args.least c.args.most (number_on c.loop-byte.value digits)) (sym split)
+    ∙ c.loop-byte.invariant
 
 pub loop-byte-preserved : goal.loop-byte-preserved
 loop-byte-preserved c =
@@ -20,5 +20,5 @@ loop-byte-preserved c =
     let inside : i < length text = omega arith in
     let split : drop i text ≡ get_or text i 0 ∷ drop (i + 1) text = rw (add-one, drop-cons text i 0) in
     ap (within c.args.least c.args.most)
-        (sym (number_on-step c.loop-byte.value (get_or text i 0) c.args.most c.in_ok-value.value (drop (i + 1) text) (sym c.with_digit.ensures ∙ c.in_ok-value.was)) ∙ ap (number_on c.loop-byte.value) (sym split))
-        ∙ c.loop-byte.invariant
+    (sym (number_on-step c.loop-byte.value (get_or text i 0) c.args.most c.in_ok-value.value (drop (i + 1) text) (sym c.with_digit.ensures ∙ c.in_ok-value.was)) ∙ ap (number_on c.loop-byte.value) (sym split))
+    ∙ c.loop-byte.invariant

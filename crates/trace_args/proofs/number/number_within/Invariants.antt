@@ -1,4 +1,4 @@
-use Rattle.std.proofs.Common.{◌≡◌, ◌≤◌, drop}
+use Rattle.std.proofs.Common.{◌≡◌, drop}
 use Rattle.trace_args.specs.Number.{number_within}
 use Rattle.trace_args.proofs.NumberLaws.{number_on, within}
 use Rattle.trace_args.proofs.number.number_within.Given as goal

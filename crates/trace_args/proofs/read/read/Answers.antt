@@ -1,4 +1,4 @@
-use Rattle.std.proofs.Common.{Ok, Err, rules, sym, ap, ◌∙◌}
+use Rattle.std.proofs.Common.{Ok, Err, sym, ap, ◌∙◌}
 use Rattle.trace_args.proofs.ReadingLaws.{fault_answer, reading_no_tool, reading_steps}
 use Rattle.trace_args.specs.Reading.{reading}
 use Rattle.trace_args.proofs.read.read.Goals as goal
@@ -18,4 +18,4 @@ returns-in_err-given c =
 pub returns : goal.returns
 returns c =
     reading_steps c.args.words.now c.in_ok-tool.tool _ (sym c.in_ok-tool.ensures) c.in_ok-given.ensures
-        ∙ ap Ok (sym c.finish.ensures)
+    ∙ ap Ok (sym c.finish.ensures)

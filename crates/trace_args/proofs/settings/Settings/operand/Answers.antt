@@ -1,4 +1,4 @@
-use Rattle.std.proofs.Common.{◌≡◌, [], refl, ap, ◌∙◌}
+use Rattle.std.proofs.Common.{refl, ap, ◌∙◌}
 use Rattle.trace_args.specs.declared.settings.Settings.{Settings}
 use Rattle.trace_args.specs.declared.settings.Place.TheVariants as place
 use Rattle.trace_args.specs.Setting.{Operand}

@@ -1,9 +1,9 @@
-use Rattle.std.proofs.Common.{◌≡◌, [], List, refl, ap, subst, sym, ◌∙◌}
+use Rattle.std.proofs.Common.{List, refl, ap, subst, sym, ◌∙◌}
 use Rattle.trace_args.specs.declared.settings.Settings.{Settings}
 use Rattle.trace_args.specs.declared.settings.Place.TheVariants as place
 use Rattle.trace_args.specs.Setting.{Setting, Operand}
 use Rattle.trace_args.specs.Settings.{AnyWord}
-use Rattle.trace_args.specs.SettingsView.{Gives, settings_left}
+use Rattle.trace_args.specs.SettingsView.{FirstOf, settings_left}
 use Rattle.trace_args.specs.Views.{text_view}
 use Rattle.trace_args.proofs.SettingsLaws.{word_first, word_none, dashed_then}
 use Rattle.trace_args.proofs.settings.Settings.word.Goals as goal
@@ -28,4 +28,4 @@ unfolding between
 returns-in-Some c =
     let word = c.in_ok-word.word in
     let same = dashed_then (between c.args.self.now) c.next_word.new.self word.word word.text.now c.in-Some.rest.now c.in_ok-word.ensures.word c.in_ok-word.ensures.stepped c.in-Some.ensures in
-    subst (λ (before : List Setting). Gives before c.dashed.result c.dashed.new.self) (sym same) c.dashed.ensures
+    subst (λ (before : List Setting). FirstOf before c.dashed.result c.dashed.new.self) (sym same) c.dashed.ensures
