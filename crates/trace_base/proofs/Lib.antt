@@ -1,3 +1,10 @@
 pub mod Gains
 pub mod Fills
 pub mod PendingLemmas
+pub mod FieldNumbers
+pub mod FieldSteps
+pub mod FieldRuns
+pub mod FieldNames
+pub mod FieldEntries
+pub mod FieldDeclarations
+pub mod FieldLines

@@ -4,6 +4,7 @@
 
 mod byte_text;
 mod counts;
+mod field_line;
 mod layout;
 mod list_of;
 mod memory;
@@ -20,6 +21,7 @@ mod words;
 
 pub use byte_text::ByteText;
 pub use counts::Counts;
+pub use field_line::{FieldLine, one_field, read_field_line};
 pub use layout::Layout;
 pub use list_of::ListOf;
 pub use memory::{MemFile, MemFolder, MemSink, NoGate};

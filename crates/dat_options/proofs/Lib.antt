@@ -1,0 +1,11 @@
+pub mod Steps
+pub mod Numbers
+pub mod Fronts
+pub mod Places
+pub mod OptionsLaws
+pub mod TableLaws
+pub mod Writes
+pub mod Entries
+pub mod FirstLaws
+pub mod OptionsFound
+pub mod TableFound

@@ -1,0 +1,27 @@
+-- What a call that reads a file's header, or a part of it, may answer.
+use Rattle.std.specs.Prelude.{Option, Some, None, Result, Ok, Err, ◌≡◌, ℕ, ◌-◌, List, length, IfSome}
+use Rattle.dat_options.specs.declared.fault.OpenFault.{OpenFault}
+use Rattle.dat_options.specs.declared.fault.OpenFault.TheVariants.{Truncated, Read, Memory}
+
+-- the call answered just this, unless a read failed or there was no memory
+abbrev pub Answers : {T : Type 0} → Result T OpenFault → Result T OpenFault → Type 0
+Answers (Ok value) expected = expected ≡ Ok value
+Answers (Err Read) expected = Unit {0}
+Answers (Err Memory) expected = Unit {0}
+Answers (Err fault) expected = expected ≡ Err fault
+
+-- the call answered what is said of the file's bytes, where the file tells them
+abbrev pub AnswersTold : {T : Type 0} → (List ℕ → Result T OpenFault) → Option (List ℕ) → Result T OpenFault → Type 0
+AnswersTold expected told result = IfSome told (λ bytes. Answers result (expected bytes))
+
+-- what was found with the place behind it, or the length of a file that has none there
+abbrev pub found_in : {X : Type 0} → List ℕ → Option (X × List ℕ) → Result (X × ℕ) OpenFault
+found_in bytes None = Err (Truncated (length bytes))
+found_in bytes (Some found) = Ok (found.0, length bytes - length found.1)
+
+-- the file ended early, and was that long, or a read failed, or there was no memory
+abbrev pub IsEnd : ℕ → OpenFault → Type 0
+IsEnd size (Truncated place) = place ≡ size
+IsEnd size Read = Unit {0}
+IsEnd size Memory = Unit {0}
+IsEnd size fault = ⊥
