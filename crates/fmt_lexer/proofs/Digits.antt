@@ -1,0 +1,36 @@
+-- The number that digits write, as more of them are read.
+use Rattle.std.proofs.Common.{◌≡◌, ℕ, ◌+◌, ◌*◌, ◌<◌, ◌≤◌, List, map, ◌++◌, length, take, drop, get_or, ltb, true, false, inl, inr, sym, ap, ◌∙◌, arith}
+use Rattle.std.specs.Char.{digit_value}
+use Rattle.std.specs.Str.Parse.{digits_value}
+use Rattle.std.specs.Int.Digits.{number_from_digits_after, number_from_digits}
+use Rattle.std.proofs.lemmas.Int.Digits.{digits_value_is, number_after_append, number_after_ge, digits_value_more}
+use Rattle.std.proofs.lemmas.Bool.{le-ltb, lt-ltb, cases_lt}
+use Rattle.std.proofs.lemmas.List.{map-append, take-append-drop, take_all}
+
+-- more digits behind do not make it less
+pub digits_value-take-le : (radix : ℕ) (ds : List ℕ) (i : ℕ) → 0 < radix → digits_value radix (take i ds) ≤ digits_value radix ds
+digits_value-take-le radix ds i some =
+    let front : List ℕ = map digit_value (take i ds) in
+    let back : List ℕ = map digit_value (drop i ds) in
+    let parts : map digit_value ds ≡ front ++ back = ap (map digit_value) (sym (take-append-drop i ds)) ∙ map-append digit_value (take i ds) (drop i ds) in
+    let whole : digits_value radix ds ≡ number_from_digits_after radix (number_from_digits radix front) back =
+    digits_value_is radix ds ∙ ap (number_from_digits radix) parts ∙ number_after_append radix 0 front back in
+    omega (arith, whole, digits_value_is radix (take i ds), number_after_ge radix (number_from_digits radix front) back some)
+
+-- one more digit
+pub with_digit_is : (radix : ℕ) (ds : List ℕ) (i number digit : ℕ) → i < length ds → digit ≡ digit_value (get_or ds i 0) → number ≡ digits_value radix (take i ds) → number * radix + digit ≡ digits_value radix (take (i + 1) ds)
+with_digit_is radix ds i number digit h d e =
+    ap (λ (n : ℕ). n * radix + digit) e ∙ ap (λ (n : ℕ). digits_value radix (take i ds) * radix + n) d ∙ sym (digits_value_more radix ds i h)
+
+-- the digits so far write too large a number, and so do all
+pub too_long : (radix : ℕ) (ds : List ℕ) (i number limit : ℕ) → 0 < radix → number ≡ digits_value radix (take i ds) → (number < limit → ⊥) → ltb (digits_value radix ds) limit ≡ false
+too_long radix ds i number limit some e never =
+    le-ltb _ _ (elim (cases_lt number limit) [
+      | inl below ↦ absurd (never below)
+      | inr long ↦ omega (arith, e, digits_value-take-le radix ds i some)
+    ])
+
+pub all_read : (radix : ℕ) (ds : List ℕ) (i number limit : ℕ) → length ds ≤ i → number ≡ digits_value radix (take i ds) → number < limit → ltb (digits_value radix ds) limit ≡ true
+all_read radix ds i number limit all e small =
+    let whole : take i ds ≡ ds = take_all i ds all in
+    lt-ltb _ _ (omega (arith, small, e, ap (digits_value radix) whole))

@@ -1,0 +1,15 @@
+pub mod Steps
+pub mod Runs
+pub mod Digits
+pub mod Closing
+pub mod Suffixes
+pub mod Numbers
+pub mod Marks
+pub mod Quotes
+pub mod Texts
+pub mod Beginnings
+pub mod FirstTokens
+pub mod Rows
+pub mod Places
+pub mod Loop
+pub mod Results

@@ -1,0 +1,21 @@
+//! The tokens of a print fmt: the C expression that an event's format text ends in.
+//!
+//! [`tokens`] cuts a text into names, numbers, letters, texts and marks. It keeps no state beside the
+//! place that it has reached, and gives kinds and places alone: what a token means is left to those who
+//! read its bytes.
+#![tactic(auto)]
+
+mod bytes;
+mod first;
+pub mod laws;
+mod lexer;
+mod mark;
+mod number;
+mod quoted;
+#[cfg(test)]
+mod tests;
+mod token;
+
+pub use lexer::tokens;
+pub use number::{Base, NumberParts, number_parts};
+pub use token::{Token, TokenKind};

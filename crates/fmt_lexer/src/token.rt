@@ -1,0 +1,41 @@
+//! What a token is, and where it stands.
+
+ghost use Rattle.std.specs.Prelude.{◌≡◌};
+
+/// The kind of a token.
+#[derive(Clone, Copy, Debug, PartialEq, Eq)]
+pub enum TokenKind {
+    /// A letter or `_`, and the letters, digits and `_` behind it.
+    Name,
+    /// Decimal, `0x` hexadecimal or `0` octal digits, with C's suffixes of `u` and `l`.
+    Number,
+    /// One byte or one escape between two `'`.
+    Letter,
+    /// Any bytes and escapes between two `"`.
+    Text,
+    /// An operator, a bracket or another mark of C's expressions.
+    Mark,
+}
+
+/// A token of a text.
+#[derive(Clone, Copy, Debug, PartialEq, Eq)]
+pub struct Token {
+    pub kind: TokenKind,
+    /// The place of its first byte in the text.
+    pub start: u32,
+    /// The place behind its last byte.
+    pub end: u32,
+}
+
+impl Token {
+    ghost use Rattle.fmt_lexer.specs.Tokens.{IsTokenOf, bytes_of};
+
+    /// The bytes that the token stands for in its text.
+    #[tactic(auto, using(crate::proofs::Rows::token_range))]
+    pub fn bytes<'a>(&self, text: &'a [u8]) -> &'a [u8]
+        requires { IsTokenOf text.now self.now }
+        ensures { result.now ≡ bytes_of text.now self.now }
+    {
+        &text[self.start as usize..self.end as usize]
+    }
+}
