@@ -77,18 +77,21 @@ fn around(text: &[u8], at: usize) -> (&[u8], &[u8])
     (&text[..at], &text[at + 1..])
 }
 
+// The place of the first separator.
 fn separator_place(text: &[u8]) -> Option<usize>
     ensures { result ≡ position is_separator text.now }
 {
     text.iter().position(|byte| *byte == b',' || *byte == b':')
 }
 
+// The place of the first dash.
 fn dash_place(text: &[u8]) -> Option<usize>
     ensures { result ≡ position is_dash text.now }
 {
     text.iter().position(|byte| *byte == b'-')
 }
 
+// The number of a processor.
 fn cpu_number(text: &[u8]) -> Option<u32>
     ensures value { result ≡ cpu_number text.now }
     ensures bound { IfSome result (λ cpu. cpu < 1024) }

@@ -50,6 +50,7 @@ impl CpuSet {
     }
 }
 
+// Sets the members from `first` to `last`.
 fn fill(members: &mut [bool], first: usize, last: usize)
     requires order { first ≤ last }
     requires bound { last < length members.old }

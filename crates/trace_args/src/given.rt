@@ -82,6 +82,7 @@ impl<'a> Given<'a> {
         }
     }
 
+    // Whether the option has its value.
     fn has(&self, option: ValuedOption) -> bool
         ensures { result ≡ has (given_view self.now) option }
     {
@@ -167,6 +168,7 @@ impl<'a> Given<'a> {
         }
     }
 
+    // Whether the section is printed: it is named, is one of all, or is the one that is printed where none is named.
     fn prints(&self, section: Section) -> bool
         ensures { result ≡ is_printed_seen (given_view self.now) section }
     {
@@ -175,6 +177,7 @@ impl<'a> Given<'a> {
             || (!self.names_any() && section == Section::Summary)
     }
 
+    // Whether an option names a section, or all.
     fn names_any(&self) -> bool
         ensures { result ≡ names_any_seen (given_view self.now) }
     {
@@ -182,12 +185,14 @@ impl<'a> Given<'a> {
     }
 }
 
+// How many workers the text asks for.
 fn worker_count(text: &[u8]) -> Option<u32>
     ensures { result ≡ worker_count text.now }
 {
     number_within(text, 1, 64)
 }
 
+// Whether one of them is set.
 fn any(named: &[bool]) -> bool
     ensures { result ≡ list_any (λ named. named) named.now }
 {

@@ -9,12 +9,17 @@ ghost use Rattle.trace_args.specs.declared.fault.WordFault.{WordFault};
 
 /// Words have at most one reading and at most one first fault, and never both.
 pub fn one_reading()
-    ensures one_command { (words : List (List ℕ)) (a b : CommandData) → Reads words a → Reads words b → a ≡ b }
-    ensures one_fault { (words : List (List ℕ)) (f g : WordFault) → HasFault words f → HasFault words g → f ≡ g }
-    ensures not_both { (words : List (List ℕ)) (a : CommandData) (f : WordFault) → Reads words a → HasFault words f → ⊥ }
+    ensures one_command { (words : List (List ℕ)) (a b : CommandData)
+        → Reads words a → Reads words b → a ≡ b }
+    ensures one_fault { (words : List (List ℕ)) (f g : WordFault)
+        → HasFault words f → HasFault words g → f ≡ g }
+    ensures not_both { (words : List (List ℕ)) (a : CommandData) (f : WordFault)
+        → Reads words a → HasFault words f → ⊥ }
 {}
 
 /// The set of some ranges has a number exactly where it lies below the limit and in one of the ranges.
 pub fn members_of_ranges()
-    ensures { (limit : ℕ) (ranges : List Range) (cpu : ℕ) → slice_index_or (members_below limit ranges) cpu false ≡ (nat_lt cpu limit && list_any (is_in cpu) ranges) }
+    ensures { (limit : ℕ) (ranges : List Range) (cpu : ℕ)
+        → slice_index_or (members_below limit ranges) cpu false
+        ≡ (nat_lt cpu limit && list_any (is_in cpu) ranges) }
 {}

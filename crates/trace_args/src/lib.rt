@@ -1,4 +1,8 @@
 //! The words of a command line, read into a command.
+//!
+//! Words say settings: flags, options with their values, and operands (`specs/Grammar.antt`). Each setting may have a fault
+//! of its own behind those before it (`specs/Faults.antt`), and settings without one ask for a command
+//! (`specs/Reading.antt`). The code goes over the words once: `Settings` yields what they say, and `Given` keeps it.
 #![tactic(auto)]
 
 mod command;

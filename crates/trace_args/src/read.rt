@@ -14,12 +14,14 @@ use trace_base::Words;
 
 /// Reads the words of a command line, the program's own name left out.
 ///
-/// The first word is the command; behind it stand the command's options and operands, by the utility syntax of POSIX with
-/// long options. Only `WordKind::Memory` may stand in place of the reading or of its first fault, and nothing takes memory
-/// yet.
+/// The first word is the command. Behind it stand its options and operands, by the utility syntax of POSIX (Base
+/// Definitions, 12.2) with long options as in getopt_long(3); trace-cmd-report(1) and trace-cmd-dump(1) have the options.
+/// The fault is the first from the left. Only `WordKind::Memory` may stand in place of the reading or of its first fault,
+/// and nothing takes memory yet.
 pub fn read_words<'a>(_alloc: Global, words: &'a Words) -> Result<Command<'a>, WordFault>
     ensures reads { IfOk result (λ command. Reads words.now (command_view command)) }
-    ensures first_fault { IfErr result (λ fault. fault.kind ≢ WordKind.Memory → HasFault words.now fault) }
+    ensures first_fault { IfErr result
+        (λ fault. fault.kind ≢ WordKind.Memory → HasFault words.now fault) }
     ensures exact { IsAnswer words.now result }
     ensures takes_no_memory { IfErr result (λ fault. fault.kind ≢ WordKind.Memory) }
 {

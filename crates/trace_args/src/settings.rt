@@ -13,7 +13,7 @@ use crate::setting::{Setting, Value};
 use crate::tool::Tool;
 use trace_base::Words;
 
-/// The settings that the words behind a command say, from the left, up to the first word that is no option.
+/// The settings that the words behind a command say, from the left, up to the first word that is no option of it.
 #[derive(Drop)]
 pub struct Settings<'a> {
     tool: Tool,
@@ -142,7 +142,8 @@ impl<'a> Settings<'a> {
 
     // A flag that is its whole word.
     fn flag(&mut self, flag: FlagOption) -> Setting<'a>
-        ensures { GivesOne self.old (named_said self.old.next (Some (KnownOption.Flag flag))) result self.new }
+        ensures { GivesOne self.old (named_said self.old.next (Some (KnownOption.Flag flag)))
+            result self.new }
     {
         self.place = Place::AnyWord;
         Setting::Flag(flag)
