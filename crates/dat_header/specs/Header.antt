@@ -1,68 +1,134 @@
--- What a file's header is: for now that of a little-endian file with a long of 8, pages of 4,096, empty texts, no formats, no
--- options and at most one processor. Source: trace-cmd.dat.v6(5).
-use Rattle.std.specs.Prelude.{Option, None, IfSome, Result, Ok, Err, ℕ, ◌≡◌, ◌+◌, ◌*◌, List, [], ◌∷◌, ◌++◌, replicate, length, take, drop, nat_le, if◌then◌else◌, codes}
-use Rattle.std.specs.Str.{bytes_eq}
-use Rattle.trace_base.specs.Number.{num, bytes_of}
+-- The header that a file has, or what is wrong with the file, computed step by step.
+use Rattle.std.specs.Prelude.{ℕ, ◌+◌, ◌∷◌, List, [], length, drop, Option, Some, None, Result, Ok, Err, if◌then◌else◌}
+use Rattle.std.specs.Option.{option_map}
+use Rattle.trace_base.specs.declared.order.Order.{Order}
 use Rattle.trace_base.specs.declared.order.Order.TheVariants.{Little}
 use Rattle.trace_base.specs.declared.layout.Layout.{Layout}
 use Rattle.trace_base.specs.declared.part.Part.{Part}
+use Rattle.dat_options.specs.declared.option.Opt.{Opt}
 use Rattle.dat_options.specs.declared.fault.OpenFault.{OpenFault}
-use Rattle.dat_options.specs.declared.fault.OpenFault.TheVariants.{BadSection, Read, Memory}
-use Rattle.dat_header.specs.declared.plain.Front.{Front}
-use Rattle.dat_header.specs.declared.plain.Front.TheVariants.{NoProcessor, OneProcessor, Other}
+use Rattle.dat_options.specs.declared.fault.OpenFault.TheVariants.{NotTrace, BadEndian, BadLong, BadPageSize, BadHeaderPage, BadSection, TooManyCpus, Read, Memory}
+use Rattle.dat_options.specs.Options.{options_from}
+use Rattle.dat_options.specs.Table.{table_from}
+use Rattle.dat_options.specs.Answer.{AnswersTold}
 use Rattle.dat_header.specs.declared.header.Header.{Header}
+use Rattle.dat_header.specs.declared.header.System.{System}
 use Rattle.dat_header.specs.declared.header.Body.{Body}
-use Rattle.dat_header.specs.declared.header.Body.TheVariants.{Fly}
+use Rattle.dat_header.specs.declared.header.Body.TheVariants.{Latency, Fly}
+use Rattle.dat_header.specs.declared.pieces.Machine.{Machine}
+use Rattle.dat_header.specs.declared.pieces.PageText.{PageText}
+use Rattle.dat_header.specs.declared.pieces.Carried.{Carried}
+use Rattle.dat_header.specs.declared.pieces.Sections.{Sections}
+use Rattle.dat_header.specs.declared.pieces.LastSection.{LastSection}
+use Rattle.dat_header.specs.declared.pieces.LastSection.TheVariants as kind
+use Rattle.dat_header.specs.PageText.{layout_of}
+use Rattle.dat_header.specs.Items.{magic_word, version_word, page_word, event_word, options_word, latency_word, fly_word, section_words, body_words}
+use Rattle.dat_header.specs.Refusal.{begins_with, word_fault, version_fault}
+use Rattle.dat_header.specs.Steps.{Found, ◌>>=◌, or_wrong}
+use Rattle.dat_header.specs.Small.{word_at, bytes_at, number_at, value_at, text_at, formats_at, systems_at, order_of, long_of, page_of, cpus_of}
 
--- magic, version 6, little-endian, long 8, page 4096, two empty texts, no formats, three empty texts
-unfoldable pub plain_front : List ℕ
-plain_front = 0x17 ∷ 0x08 ∷ 0x44 ∷ codes "tracing" ++ codes "6" ++ 0 ∷ 0 ∷ 8 ∷ 0 ∷ 0x10 ∷ 0 ∷ 0 ∷ []
-    ++ codes "header_page" ++ replicate 9 0 ++ codes "header_event" ++ replicate 9 0 ++ replicate 24 0
+-- the word of version 6
+unfoldable pub version_at : List ℕ → ℕ → Result ℕ OpenFault
+version_at file at = word_at version_word (version_fault at (drop at file)) file at
 
--- the bytes up to the table of parts
-unfoldable pub plain_start : ℕ → List ℕ
-plain_start cpus = plain_front ++ bytes_of Little 4 cpus ++ codes "flyrecord" ++ 0 ∷ []
+-- the byte order, the user's long and the page size
+unfoldable pub machine_at : List ℕ → ℕ → Found Machine
+machine_at file at = do
+  (order, at_long) ← value_at 1 Little order_of (BadEndian at) file at
+  (long, at_page) ← value_at 1 Little long_of (BadLong at_long) file at_long
+  (page, after) ← value_at 4 order page_of (BadPageSize at_page) file at_page
+  Ok (record { order = order; long = long; page = page }, after)
 
-abbrev pub plain_layout : Layout
-plain_layout = record { order = Little; time_at = 0; commit_at = 8; commit_size = 8; data_at = 16; page = 4096 }
+-- the header_page text and the layout that it gives
+unfoldable pub page_text_at : Machine → List ℕ → ℕ → Found PageText
+page_text_at machine file at = do
+  (size, at_text) ← number_at 8 machine.order file at
+  (text, after) ← bytes_at size file at_text
+  layout ← or_wrong (BadHeaderPage at_text) (layout_of machine.order machine.long machine.page text)
+  Ok (record { text = text; layout = layout }, after)
 
-abbrev pub plain_header : List Part → Header
-plain_header parts = record {
-  order = Little;
-  long = 8;
-  page = 4096;
-  layout = plain_layout;
-  page_text = [];
-  event_text = [];
-  ftrace = [];
-  systems = [];
-  kallsyms = [];
-  printk = [];
-  cmdlines = [];
-  cpus = length parts;
-  options = None;
-  body = Fly parts;
-  end = 97 + 16 * length parts;
-}
+-- the texts that are carried unread
+unfoldable pub carried_at : Order → List ℕ → ℕ → Found Carried
+carried_at order file at = do
+  (event_text, after) ← text_at 8 order file at
+  (ftrace, after) ← formats_at order file after
+  (systems, after) ← systems_at order file after
+  (kallsyms, after) ← text_at 4 order file after
+  (printk, after) ← text_at 4 order file after
+  (cmdlines, after) ← text_at 8 order file after
+  Ok (record { event_text = event_text; ftrace = ftrace; systems = systems; kallsyms = kallsyms; printk = printk; cmdlines = cmdlines }, after)
 
--- the entry of a table that these bytes begin with
-abbrev pub part_at : List ℕ → Part
-part_at bytes = record { offset = num Little (take 8 bytes); size = num Little (take 8 (drop 8 bytes)) }
+-- the last section that bytes begin with
+abbrev pub last_in : List ℕ → Option LastSection
+last_in there = if begins_with there latency_word then Some kind.Latency else if begins_with there fly_word then Some kind.Fly else None
 
--- what the bytes up to the table say
-abbrev pub front_of : List ℕ → Front
-front_of front =
-    if bytes_eq front (plain_start 0) then NoProcessor
-    else (if bytes_eq front (plain_start 1) then OneProcessor else Other)
+-- the same, or what is wrong where these bytes are there of a file of that size
+abbrev pub last_word_in : List (List ℕ) → ℕ → List ℕ → ℕ → Result LastSection OpenFault
+last_word_in words at there size = or_wrong (word_fault words (BadSection at) there size) (last_in there)
 
-abbrev pub header_from : Front → List ℕ → Result Header OpenFault
-header_from NoProcessor file = Ok (plain_header [])
-header_from OneProcessor file = if nat_le 113 (length file) then Ok (plain_header (part_at (drop 97 file) ∷ [])) else Err (BadSection 0)
-header_from Other file = Err (BadSection 0)
+unfoldable pub last_word_at : List (List ℕ) → List ℕ → ℕ → Found LastSection
+last_word_at words file at = do
+  last ← last_word_in words at (drop at file) (length file)
+  Ok (last, at + 10)
 
--- the header that a file begins with, or why it has none
+-- the first section, if it is the last one too, and none where it is that of options
+abbrev pub first_word_in : ℕ → List ℕ → ℕ → Result (Option LastSection) OpenFault
+first_word_in at there size =
+    if begins_with there options_word then Ok None
+    else do
+      last ← last_word_in section_words at there size
+      Ok (Some last)
+
+unfoldable pub first_word_at : List ℕ → ℕ → Found (Option LastSection)
+first_word_at file at = do
+  first ← first_word_in at (drop at file) (length file)
+  Ok (first, at + 10)
+
+-- what stands behind the last section's word
+abbrev pub body_at : Order → ℕ → LastSection → List ℕ → ℕ → Found Body
+body_at order cpus kind.Latency file at = Ok (Latency, at)
+body_at order cpus kind.Fly file at = do
+  (parts, after) ← table_from order cpus at file
+  Ok (Fly parts, after)
+
+-- options and the last section
+unfoldable pub behind_options_at : Order → ℕ → List ℕ → ℕ → Found Sections
+behind_options_at order cpus file at = do
+  (options, at_last) ← options_from order at file
+  (last, after) ← last_word_at body_words file at_last
+  (body, end) ← body_at order cpus last file after
+  Ok (record { options = Some options; body = body }, end)
+
+abbrev pub behind_first_at : Order → ℕ → Option LastSection → List ℕ → ℕ → Found Sections
+behind_first_at order cpus None file at = behind_options_at order cpus file at
+behind_first_at order cpus (Some last) file at = do
+  (body, end) ← body_at order cpus last file at
+  Ok (record { options = None; body = body }, end)
+
+-- the sections behind the number of processors
+unfoldable pub sections_at : Order → ℕ → List ℕ → ℕ → Found Sections
+sections_at order cpus file at = do
+  (first, after) ← first_word_at file at
+  behind_first_at order cpus first file after
+
+-- the header of these pieces
+abbrev pub joined : Machine → PageText → Carried → ℕ → Sections → ℕ → Header
+joined machine page carried cpus sections end =
+    record { order = machine.order; long = machine.long; page = machine.page; layout = page.layout; page_text = page.text; event_text = carried.event_text; ftrace = carried.ftrace; systems = carried.systems; kallsyms = carried.kallsyms; printk = carried.printk; cmdlines = carried.cmdlines; cpus = cpus; options = sections.options; body = sections.body; end = end }
+
+-- the header that a file begins with, or what is wrong with it
 unfoldable pub header_of : List ℕ → Result Header OpenFault
-header_of file = header_from (front_of (take 97 file)) file
+header_of file = do
+  at_version ← word_at magic_word (NotTrace 0) file 0
+  at_order ← version_at file at_version
+  (machine, after) ← machine_at file at_order
+  at_page ← word_at page_word (BadSection after) file after
+  (page, after) ← page_text_at machine file at_page
+  at_event ← word_at event_word (BadSection after) file after
+  (carried, at_cpus) ← carried_at machine.order file at_event
+  (cpus, after) ← value_at 4 machine.order cpus_of (TooManyCpus at_cpus) file at_cpus
+  (sections, end) ← sections_at machine.order cpus file after
+  Ok (joined machine page carried cpus sections end)
 
 -- it says what is wrong with the file's bytes
 abbrev pub IsRefusal : OpenFault → Type 0
@@ -70,30 +136,6 @@ IsRefusal Read = ⊥
 IsRefusal Memory = ⊥
 IsRefusal fault = Unit {0}
 
--- a call answered this, unless it found no memory or a read failed
-abbrev pub Answers : Result Header OpenFault → Result Header OpenFault → Type 0
-Answers (Ok header) expected = expected ≡ Ok header
-Answers (Err Read) expected = Unit {0}
-Answers (Err Memory) expected = Unit {0}
-Answers (Err fault) expected = expected ≡ Err fault
-
--- the same of a file, where it tells its bytes
+-- what a call answered that read the header of a file, where the file tells its bytes
 abbrev pub ReadsHeader : Option (List ℕ) → Result Header OpenFault → Type 0
-ReadsHeader told result = IfSome told (λ bytes. Answers result (header_of bytes))
-
--- the parts of the processors' data; a latency file has none
-abbrev pub parts_of : Body → List Part
-parts_of (Fly parts) = parts
-parts_of body = []
-
--- what stands before the table, of a file that tells its bytes
-abbrev pub StartsAs : Option (List ℕ) → Front → Type 0
-StartsAs told front = IfSome told (λ bytes. front_of (take 97 bytes) ≡ front)
-
--- the entry of the table, of a file that tells its bytes
-abbrev pub IsPartOf : Option (List ℕ) → Part → Type 0
-IsPartOf told part = IfSome told (λ bytes. part ≡ part_at (drop 97 bytes))
-
--- the answer for a file that tells its bytes and starts as one with one processor does
-abbrev pub AnswersOne : Option (List ℕ) → Result Header OpenFault → Type 0
-AnswersOne told result = IfSome told (λ bytes. Answers result (header_from OneProcessor bytes))
+ReadsHeader told result = AnswersTold header_of told result

@@ -1,10 +1,23 @@
-//! The header of a trace file.
+//! The header of a trace file, read and written.
 #![tactic(auto)]
 
+mod carried;
 mod header;
-mod plain;
+mod instances;
+mod laws;
+mod layout;
+mod lengths;
+mod machine;
+mod pieces;
+mod put;
 mod read;
+mod sections;
+mod small;
+mod write;
 
 pub use dat_options::{OpenFault, Opt};
 pub use header::{Body, Header, System};
+pub use laws::{header_is_computed, header_reads_back, one_header};
+pub use lengths::header_len;
 pub use read::read_header;
+pub use write::write_header;

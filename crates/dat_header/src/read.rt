@@ -1,145 +1,111 @@
-ghost use Rattle.std.specs.Prelude.{◌≡◌, ◌≤◌, ◌<◌, [], ◌∷◌, length, IfOk, IfErr, IsErrOf};
-ghost use Rattle.trace_base.specs.Causes.{HasCause, Rose, raised};
+// The whole header, read piece after piece.
+
+ghost use Rattle.std.specs.Prelude.{◌≡◌, ◌≤◌, length, IfOk, IsErrOf};
+ghost use Rattle.trace_base.specs.Causes.{Rose, raised};
 ghost use Rattle.trace_base.specs.Layout.{IsLayout};
-ghost use Rattle.dat_header.specs.Header.{AnswersOne, IsPartOf, ReadsHeader, StartsAs, part_at, parts_of, plain_header};
+ghost use Rattle.dat_header.specs.Header.{ReadsHeader, header_of, joined, version_at};
+ghost use Rattle.dat_header.specs.Allowed.{IsHeader, IsBody};
+ghost use Rattle.dat_header.specs.Refusal.{version_fault};
+ghost use Rattle.dat_header.specs.Reading.{Steps, seen};
 
-use crate::header::{Body, Header};
-use crate::plain::{FRONT, Front, read_front};
+use crate::carried::read_carried;
+use crate::header::Header;
+use crate::layout::read_page_text;
+use crate::machine::{read_cpus, read_machine};
+use crate::pieces::{Carried, Machine, PageText, Sections};
+use crate::sections::read_sections;
+use crate::small::{read_there, read_word, word_in};
 use dat_options::OpenFault;
-use std::alloc::{AllocError, Global};
-use trace_base::{ByteText, Failed, File, Layout, ListOf, Order, Part, read_all, read_u64};
+use std::alloc::Global;
+use trace_base::File;
 
-/// Reads the header that the file begins with, each of its bytes once and no other byte.
+/// Reads the header that a file begins with (trace-cmd.dat.v6(5)). Each byte of the header is read once, and no other byte.
 ///
-/// For now only the simplest headers are read: every other file is refused as `BadSection` at byte 0.
+/// # Errors
+/// Every fault but the last two says what is wrong with the file, and where: the place of the first byte of the first item
+/// that is wrong (of `BadHeaderPage` the text's), or the file's length where the file ends inside an item. `Read` comes only
+/// where a read failed, and `Memory` only where there was no memory; no memory is taken for what is not there.
 pub fn read_header<F: File>(alloc: Global, file: &mut F) -> Result<Header, OpenFault>
     ensures answer { ReadsHeader (F.bytes file.old) result }
     ensures read { IsErrOf result OpenFault.Read → Rose (F.faults file.old) (F.faults file.new) }
     ensures later { F.faults file.old ≤ F.faults file.new }
     ensures reads { IfOk result (λ header. F.reads file.new ≤ raised (F.reads file.old) header.end) }
     ensures end_inside { IfOk result (λ header. header.end ≤ F.size file.old) }
+    ensures allowed { IfOk result IsHeader }
     ensures layout { IfOk result (λ header. IsLayout header.layout) }
-    ensures parts { IfOk result (λ header. length (parts_of header.body) ≡ header.cpus) }
-    ensures few { IfOk result (λ header. header.cpus ≤ 1024) }
+    ensures cpus { IfOk result (λ header. header.cpus ≤ 1024) }
+    ensures parts { IfOk result (λ header. IsBody header.cpus header.body) }
     ensures bytes { F.bytes file.new ≡ F.bytes file.old }
     ensures size { F.size file.new ≡ F.size file.old }
 {
-    match read_start(file)? {
-        Front::NoProcessor => Ok(plain(ListOf::from_vec(Vec::new(alloc)), 0, alloc)),
-        Front::OneProcessor => read_one(alloc, file),
-        Front::Other => Err(OpenFault::BadSection(0)),
-    }
+    read_pieces(alloc, file)
 }
 
-// The header of a file that starts as one with one processor does.
-fn read_one<F: File>(alloc: Global, file: &mut F) -> Result<Header, OpenFault>
-    ensures answer { AnswersOne (F.bytes file.old) result }
-    ensures read { IsErrOf result OpenFault.Read → Rose (F.faults file.old) (F.faults file.new) }
-    ensures later { F.faults file.old ≤ F.faults file.new }
-    ensures reads { IfOk result (λ header. F.reads file.new ≤ raised (F.reads file.old) 16) }
-    ensures end { IfOk result (λ header. header.end ≡ 113) }
-    ensures end_inside { IfOk result (λ header. header.end ≤ F.size file.old) }
-    ensures layout { IfOk result (λ header. IsLayout header.layout) }
-    ensures parts { IfOk result (λ header. length (parts_of header.body) ≡ header.cpus) }
-    ensures few { IfOk result (λ header. header.cpus ≤ 1024) }
-    ensures bytes { F.bytes file.new ≡ F.bytes file.old }
-    ensures size { F.size file.new ≡ F.size file.old }
+// The header, as one step of reading.
+fn read_pieces<F: File>(alloc: Global, file: &mut F) -> Result<Header, OpenFault>
+    ensures allowed { IfOk result IsHeader }
+    ensures steps { Steps (λ header. header.end) header_of 0 (seen F.bytes F.size F.faults F.reads file.old) (seen F.bytes F.size F.faults F.reads file.new) result }
 {
-    if file.len() < 113 {
-        return Err(OpenFault::BadSection(0));
-    }
-    let part = read_part(file)?;
-    match one_part(part, alloc) {
-        Ok(parts) => Ok(plain(parts, 1, alloc)),
-        Err(_) => Err(OpenFault::Memory),
-    }
+    let at_version = read_word(file, 0, b"\x17\x08\x44tracing", OpenFault::NotTrace(0))?;
+    let at_order = read_version(file, at_version)?;
+    let (machine, after) = read_machine(file, at_order)?;
+    let at_page = read_word(file, after, b"header_page\0", OpenFault::BadSection(after))?;
+    let (page, after) = read_page_text(alloc, &machine, file, at_page)?;
+    let at_event = read_word(file, after, b"header_event\0", OpenFault::BadSection(after))?;
+    let (carried, at_cpus) = read_carried(alloc, machine.order, file, at_event)?;
+    let (cpus, after) = read_cpus(machine.order, file, at_cpus)?;
+    let (sections, end) = read_sections(alloc, machine.order, cpus, file, after)?;
+    Ok(joined(machine, page, carried, cpus, sections, end))
 }
 
-// What stands before the table of parts.
-fn read_start<F: File>(file: &mut F) -> Result<Front, OpenFault>
-    ensures start { IfOk result (StartsAs (F.bytes file.old)) }
-    ensures whole { IfOk result (λ front. (front ≡ Front.Other → ⊥) → F.size file.old < 97 → ⊥) }
-    ensures fault { IfErr result (λ fault. fault ≡ OpenFault.Read) }
-    ensures cause { HasCause (F.faults file.old) (F.faults file.new) result }
-    ensures reads { F.reads file.new ≤ raised (F.reads file.old) 97 }
-    ensures bytes { F.bytes file.new ≡ F.bytes file.old }
-    ensures size { F.size file.new ≡ F.size file.old }
+// The word of the file's version.
+fn read_version<F: File>(file: &mut F, at: u64) -> Result<u64, OpenFault>
+    requires inside { at ≤ F.size file.old }
+    ensures { Steps (λ next. next) (λ bytes. version_at bytes at) at (seen F.bytes F.size F.faults F.reads file.old) (seen F.bytes F.size F.faults F.reads file.new) result }
 {
-    let mut front = [0; FRONT];
-    let front = &mut front[..file.len().min(FRONT as u64) as usize];
-    match read_all(file, 0, front) {
-        Ok(()) => Ok(read_front(front)),
-        Err(Failed) => Err(OpenFault::Read),
+    let mut buffer = [0; 2];
+    let count = read_there(file, at, &mut buffer)?;
+    let there = &buffer[..count];
+    word_in(there, b"6\0", version_fault(there, at), at, file.len())
+}
+
+// The fault of another version than 6, where these bytes are there.
+fn version_fault(there: &[u8], at: u64) -> OpenFault
+    ensures { result ≡ version_fault at there.now }
+{
+    if there.starts_with(b"7\0") {
+        OpenFault::Compressed(at)
+    } else {
+        OpenFault::OtherVersion(at)
     }
 }
 
-// The only entry of the table.
-fn read_part<F: File>(file: &mut F) -> Result<Part, OpenFault>
-    requires { 113 ≤ F.size file.old }
-    ensures part { IfOk result (IsPartOf (F.bytes file.old)) }
-    ensures fault { IfErr result (λ fault. fault ≡ OpenFault.Read) }
-    ensures cause { HasCause (F.faults file.old) (F.faults file.new) result }
-    ensures reads { F.reads file.new ≤ raised (F.reads file.old) 16 }
-    ensures bytes { F.bytes file.new ≡ F.bytes file.old }
-    ensures size { F.size file.new ≡ F.size file.old }
-{
-    let mut entry = [0; 16];
-    match read_all(file, FRONT as u64, &mut entry) {
-        Ok(()) => Ok(part_of(&entry)),
-        Err(Failed) => Err(OpenFault::Read),
-    }
-}
-
-fn part_of(entry: &[u8]) -> Part
-    requires { 16 ≤ length entry.now }
-    ensures { result ≡ part_at entry.now }
-{
-    let (offset, size) = entry.split_at(8);
-    Part {
-        offset: read_u64(Order::Little, offset),
-        size: read_u64(Order::Little, size),
-    }
-}
-
-fn one_part(part: Part, alloc: Global) -> Result<ListOf<Part>, AllocError>
-    ensures { IfOk result (λ parts. parts ≡ part ∷ []) }
-{
-    let parts = vec![in alloc; part]?;
-    Ok(ListOf::from_vec(parts))
-}
-
-fn plain(parts: ListOf<Part>, cpus: u32, alloc: Global) -> Header
-    requires { cpus ≡ length parts }
-    ensures { result ≡ plain_header parts }
+// The header of these pieces.
+fn joined(
+    machine: Machine,
+    page: PageText,
+    carried: Carried,
+    cpus: u32,
+    sections: Sections,
+    end: u64,
+) -> Header
+    ensures { result ≡ joined machine page carried cpus sections end }
 {
     Header {
-        order: Order::Little,
-        long: 8,
-        page: 4096,
-        layout: Layout {
-            order: Order::Little,
-            time_at: 0,
-            commit_at: 8,
-            commit_size: 8,
-            data_at: 16,
-            page: 4096,
-        },
-        page_text: no_text(alloc),
-        event_text: no_text(alloc),
-        ftrace: ListOf::from_vec(Vec::new(alloc)),
-        systems: ListOf::from_vec(Vec::new(alloc)),
-        kallsyms: no_text(alloc),
-        printk: no_text(alloc),
-        cmdlines: no_text(alloc),
+        order: machine.order,
+        long: machine.long,
+        page: machine.page,
+        layout: page.layout,
+        page_text: page.text,
+        event_text: carried.event_text,
+        ftrace: carried.ftrace,
+        systems: carried.systems,
+        kallsyms: carried.kallsyms,
+        printk: carried.printk,
+        cmdlines: carried.cmdlines,
         cpus,
-        options: None,
-        body: Body::Fly(parts),
-        end: FRONT as u64 + 16 * cpus as u64,
+        options: sections.options,
+        body: sections.body,
+        end,
     }
-}
-
-fn no_text(alloc: Global) -> ByteText
-    ensures { result ≡ [] }
-{
-    ByteText::from_vec(Vec::new(alloc))
 }

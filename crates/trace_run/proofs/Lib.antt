@@ -1,9 +1,11 @@
+pub mod Putting
 pub mod Lines
 pub mod Said
 pub mod Copying
 pub mod Printing
 pub mod Latency
 pub mod PartsPrinted
+pub mod Selection
 pub mod Endings
 pub mod LoadingLists
 pub mod LoadingPages

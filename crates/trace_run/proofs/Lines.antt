@@ -1,27 +1,23 @@
--- A line's columns, piece by piece.
-use Rattle.std.proofs.Common.{◌≡◌, ℕ, ◌/◌, ◌%◌, ◌^◌, List, [], ◌∷◌, ◌++◌, append_assoc, refl}
+-- The columns of a task, piece by piece.
+use Rattle.std.proofs.Common.{◌≡◌, ℕ, List, [], ◌∷◌, ◌++◌, append_assoc, Option, Result, subst}
 use Rattle.std.specs.Prelude.{codes}
-use Rattle.std.specs.Fmt.{decimal, signed_decimal}
+use Rattle.std.specs.Fmt.{signed_decimal}
 use Rattle.trace_base.specs.declared.order.Order.{Order}
-use Rattle.trace_run.specs.Text.{text, fill, right, left, zeros}
-use Rattle.trace_run.specs.Line.{event_line, event_id, event_pid, task_name, micros, time_text}
+use Rattle.trace_base.specs.Pending.{Puts}
+use Rattle.trace_run.specs.declared.show.Show.{Show}
+use Rattle.trace_run.specs.Text.{text, fill, right, left}
+use Rattle.trace_run.specs.Line.{task_text, event_pid, task_name, task_width}
 
--- the pieces between which a column's words and fillings stand apart
-abbrev pub columns : (spaces task gap pid spaces_behind zeros_before cpu spaces_before second zeros_between micro id : List ℕ) → List (List ℕ)
-columns spaces task gap pid spaces_behind zeros_before cpu spaces_before second zeros_between micro id =
-    spaces ∷ task ∷ gap ∷ pid ∷ spaces_behind ∷ codes " [" ∷ zeros_before ∷ cpu ∷ codes "] " ∷ spaces_before ∷ second ∷ codes "." ∷ zeros_between ∷ micro
-    ∷ codes ": [UNKNOWN EVENT " ∷ id ∷ codes "]\n" ∷ []
+apart : (a task pid b : List ℕ) → text (a ∷ task ∷ codes "-" ∷ pid ∷ b ∷ []) ≡ text ((a ++ task) ∷ codes "-" ∷ (pid ++ b) ∷ [])
+apart a task pid b = simp append_assoc
 
-joined_columns : (a task pid b d cpu e second f micro id : List ℕ)
-    → text (columns a task (codes "-") pid b d cpu e second f micro id)
-    ≡ text ((a ++ task) ∷ codes "-" ∷ (pid ++ b) ∷ codes " [" ∷ (d ++ cpu) ∷ codes "] " ∷ ((e ++ second) ++ codes "." ++ (f ++ micro)) ∷ codes ": [UNKNOWN EVENT " ∷ id ∷ codes "]\n" ∷ [])
-joined_columns a task pid b d cpu e second f micro id = simp append_assoc
+pub task_columns : (show : Show) (order : Order) (payload a task pid b : List ℕ) (width : ℕ)
+    → a ≡ fill 32 width task → b ≡ fill 32 5 pid → width ≡ task_width show
+    → task ≡ task_name (event_pid order payload) → pid ≡ signed_decimal (event_pid order payload)
+    → text (a ∷ task ∷ codes "-" ∷ pid ∷ b ∷ []) ≡ task_text show order payload
+task_columns show order payload a task pid b width a_is b_is width_is task_is pid_is =
+    rw (a_is, b_is, width_is, task_is, pid_is) (apart _ _ _ _)
 
-pub event_columns : (order : Order) (number time : ℕ) (payload a task pid b d cpu e second f micro id : List ℕ)
-    → a ≡ fill 32 16 task → b ≡ fill 32 5 pid → d ≡ fill 48 3 cpu → e ≡ fill 32 5 second → f ≡ fill 48 6 micro
-    → task ≡ task_name (event_pid order payload) → pid ≡ signed_decimal (event_pid order payload) → cpu ≡ decimal number
-    → second ≡ decimal (micros time / 10 ^ 6) → micro ≡ decimal (micros time % 10 ^ 6) → id ≡ decimal (event_id order payload)
-    → text (columns a task (codes "-") pid b d cpu e second f micro id) ≡ event_line order number time payload
-event_columns order number time payload a task pid b d cpu e second f micro id a_is b_is d_is e_is f_is task_is pid_is cpu_is second_is micro_is id_is =
-    rw (a_is, b_is, d_is, e_is, f_is, task_is, pid_is, cpu_is, second_is, micro_is, id_is)
-    (joined_columns _ _ _ _ _ _ _ _ _ _ _)
+pub puts_same : {T E : Type 0} (piece same : List ℕ) (old now : Option (List ℕ)) (waiting waiting_now : List ℕ) (result : Result T E) → piece ≡ same
+    → Puts piece old waiting now waiting_now result → Puts same old waiting now waiting_now result
+puts_same piece same old now waiting waiting_now result is puts = subst (λ (text : List ℕ). Puts text old waiting now waiting_now result) is puts

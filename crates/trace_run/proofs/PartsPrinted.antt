@@ -7,9 +7,11 @@ use Rattle.trace_base.specs.Writing.{Gained, GainedPrefix}
 use Rattle.subpage.specs.Arrangement.{Keyed}
 use Rattle.subpage.specs.Cut.{Cut, cut_of, reached_of}
 use Rattle.trace_run.specs.Loaded.{LoadedData, AreLoaded, cut_in, reached_in}
-use Rattle.trace_run.specs.Meaning.{Meaning, ended, selected}
+use Rattle.trace_args.specs.Command.{ReportData}
+use Rattle.trace_run.specs.Meaning.{Meaning, ended, selected, show_of}
 use Rattle.trace_run.specs.Printed.{report_pieces, parts_meaning, PrintsParts}
 use Rattle.trace_run.specs.Reported.{Writes}
+use Rattle.trace_run.specs.declared.show.Show.{Show}
 use Rattle.trace_run.specs.Text.{text}
 use Rattle.trace_run.specs.declared.status.Status.{Status}
 use Rattle.trace_run.specs.declared.status.Status.TheVariants.{Done, Malformed, WriteFault}
@@ -20,27 +22,29 @@ writes_ended : (m : Meaning) (cut : Option Cut) (status : Status) (old now : Opt
 writes_ended m None status old now is means gained = subst (λ (s : Status). Writes m s old now) (sym is) (sym is ∙ means, gained)
 writes_ended m (Some cut) status old now is means gained = subst (λ (s : Status). Writes m s old now) (sym is) (sym is ∙ means, gained)
 
-items_are : (layout : Layout) (bytes : List ℕ) (parts : List Part) (chosen : List (ℕ × Part)) (loaded : List LoadedData) (items : List Keyed) → IsLayout layout
-    → chosen ≡ selected parts → AreLoaded layout (Some bytes) chosen loaded → items ≡ reached_in layout loaded → items ≡ reached_of layout bytes (selected parts)
-items_are layout bytes parts chosen loaded items allowed all are reached =
+items_are : (words : ReportData) (layout : Layout) (bytes : List ℕ) (parts : List Part) (chosen : List (ℕ × Part)) (loaded : List LoadedData) (items : List Keyed) → IsLayout layout
+    → chosen ≡ selected words.cpus parts → AreLoaded layout (Some bytes) chosen loaded → items ≡ reached_in layout loaded → items ≡ reached_of layout bytes (selected words.cpus parts)
+items_are words layout bytes parts chosen loaded items allowed all are reached =
     reached ∙ reached_is layout bytes chosen loaded allowed are ∙ ap (reached_of layout bytes) all
 
-pub parts_printed : (cpus : ℕ) (layout : Layout) (parts : List Part) (told : Option (List ℕ)) (chosen : List (ℕ × Part)) (loaded : List LoadedData) (items : List Keyed)
-    (cut : Option Cut) (status : Status) (old now : Option (List ℕ)) → IsLayout layout → chosen ≡ selected parts → AreLoaded layout told chosen loaded
-    → items ≡ reached_in layout loaded → cut ≡ cut_in layout loaded → status ≡ ended cut → Gained old now (text (report_pieces cpus layout.order items))
-    → PrintsParts cpus layout parts told status old now
-parts_printed cpus layout parts None chosen loaded items cut status old now allowed all are reached cuts is gained = tt
-parts_printed cpus layout parts (Some bytes) chosen loaded items cut status old now allowed all are reached cuts is gained =
-    writes_ended (parts_meaning cpus layout parts bytes) cut status old now is
+pub parts_printed : (words : ReportData) (cpus : ℕ) (layout : Layout) (parts : List Part) (told : Option (List ℕ)) (chosen : List (ℕ × Part)) (loaded : List LoadedData) (items : List Keyed)
+    (cut : Option Cut) (status : Status) (old now : Option (List ℕ)) (show : Show) → show ≡ show_of words → IsLayout layout → chosen ≡ selected words.cpus parts → AreLoaded layout told chosen loaded
+    → items ≡ reached_in layout loaded → cut ≡ cut_in layout loaded → status ≡ ended cut → Gained old now (text (report_pieces cpus show layout.order items))
+    → PrintsParts words cpus layout parts told status old now
+parts_printed words cpus layout parts None chosen loaded items cut status old now show shown allowed all are reached cuts is gained = tt
+parts_printed words cpus layout parts (Some bytes) chosen loaded items cut status old now show shown allowed all are reached cuts is gained =
+    writes_ended (parts_meaning words cpus layout parts bytes) cut status old now is
     (is ∙ ap ended (cuts ∙ cut_is layout bytes chosen loaded allowed are ∙ ap (cut_of layout bytes) all))
-    (subst (λ (known : List Keyed). Gained old now (text (report_pieces cpus layout.order known)))
-    (items_are layout bytes parts chosen loaded items allowed all are reached) gained)
+    (subst (λ (known : List Keyed). Gained old now (text (report_pieces cpus (show_of words) layout.order known)))
+    (items_are words layout bytes parts chosen loaded items allowed all are reached)
+    (subst (λ (by : Show). Gained old now (text (report_pieces cpus by layout.order items))) shown gained))
 
-pub parts_stopped : (cpus : ℕ) (layout : Layout) (parts : List Part) (told : Option (List ℕ)) (chosen : List (ℕ × Part)) (loaded : List LoadedData) (items : List Keyed)
-    (old now : Option (List ℕ)) → IsLayout layout → chosen ≡ selected parts → AreLoaded layout told chosen loaded
-    → items ≡ reached_in layout loaded → GainedPrefix old now (text (report_pieces cpus layout.order items))
-    → PrintsParts cpus layout parts told WriteFault old now
-parts_stopped cpus layout parts None chosen loaded items old now allowed all are reached stopped = tt
-parts_stopped cpus layout parts (Some bytes) chosen loaded items old now allowed all are reached stopped =
-    subst (λ (known : List Keyed). GainedPrefix old now (text (report_pieces cpus layout.order known)))
-    (items_are layout bytes parts chosen loaded items allowed all are reached) stopped
+pub parts_stopped : (words : ReportData) (cpus : ℕ) (layout : Layout) (parts : List Part) (told : Option (List ℕ)) (chosen : List (ℕ × Part)) (loaded : List LoadedData) (items : List Keyed)
+    (old now : Option (List ℕ)) (show : Show) → show ≡ show_of words → IsLayout layout → chosen ≡ selected words.cpus parts → AreLoaded layout told chosen loaded
+    → items ≡ reached_in layout loaded → GainedPrefix old now (text (report_pieces cpus show layout.order items))
+    → PrintsParts words cpus layout parts told WriteFault old now
+parts_stopped words cpus layout parts None chosen loaded items old now show shown allowed all are reached stopped = tt
+parts_stopped words cpus layout parts (Some bytes) chosen loaded items old now show shown allowed all are reached stopped =
+    subst (λ (known : List Keyed). GainedPrefix old now (text (report_pieces cpus (show_of words) layout.order known)))
+    (items_are words layout bytes parts chosen loaded items allowed all are reached)
+    (subst (λ (by : Show). GainedPrefix old now (text (report_pieces cpus by layout.order items))) shown stopped)

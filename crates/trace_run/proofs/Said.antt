@@ -1,9 +1,17 @@
 -- What was said, by what a sink gained.
-use Rattle.std.proofs.Common.{◌≡◌, ℕ, ◌≤◌, List, Option, Result, Ok, Err, OnOk, OnErr}
+use Rattle.std.proofs.Common.{◌≡◌, ℕ, ◌≤◌, List, [], ◌∷◌, ◌++◌, append_assoc, refl, Option, Result, Ok, Err, OnOk, OnErr, ◌∙◌, sym, subst}
 use Rattle.trace_base.specs.Causes.{HasCause, Rose}
 use Rattle.trace_base.specs.Writing.{Gained, GainedPrefix}
 use Rattle.trace_base.proofs.Gains.{prefix_whole}
-use Rattle.trace_run.specs.Messages.{Says}
+use Rattle.trace_args.specs.declared.fault.WordFault.{WordFault}
+use Rattle.trace_args.specs.Command.{CommandData}
+use Rattle.trace_run.specs.declared.status.Status.TheVariants.{Usage, NoMemory}
+use Rattle.trace_run.specs.declared.status.Status.{Status}
+use Rattle.std.proofs.lemmas.List.{append-nil}
+use Rattle.std.specs.Prelude.{codes}
+use Rattle.trace_run.specs.Text.{text}
+use Rattle.trace_run.specs.Meaning.{input_of}
+use Rattle.trace_run.specs.Messages.{Says, line_read, message, usage_line}
 
 pub says_of : {T E : Type 0} (result : Result T E) (line : List ℕ) (before now : Option (List ℕ)) (faults_before faults_now : ℕ)
     → OnOk result (Gained before now line) → OnErr result (GainedPrefix before now line) → HasCause faults_before faults_now result
@@ -12,3 +20,38 @@ says_of (Ok value) line before now faults_before faults_now gained prefix cause 
     record { prefix = prefix_whole before now line gained; whole = λ calm. gained }
 says_of (Err error) line before now faults_before faults_now gained prefix cause =
     record { prefix = prefix; whole = λ calm. absurd (calm cause.failed) }
+
+-- want of memory says the same, whatever the words are
+pub wanting : (read : Result CommandData WordFault) → line_read read NoMemory ≡ message [] NoMemory
+wanting (Ok command) = refl
+wanting (Err fault) = refl
+
+-- what is said of words without a reading
+pub usage_said : (fault : WordFault) (read : Result CommandData WordFault) (before now : Option (List ℕ)) (faults_before faults_now : ℕ) → read ≡ Err fault
+    → Says (usage_line fault) before now faults_before faults_now → Says (line_read read Usage) before now faults_before faults_now
+usage_said fault read before now faults_before faults_now is says =
+    subst (λ (reading : Result CommandData WordFault). Says (line_read reading Usage) before now faults_before faults_now) (sym is) says
+
+-- what is said of a command's input
+pub command_said : (command : CommandData) (read : Result CommandData WordFault) (input : List ℕ) (status : Status) (before now : Option (List ℕ)) (faults_before faults_now : ℕ)
+    → read ≡ Ok command → input ≡ input_of command → Says (message input status) before now faults_before faults_now → Says (line_read read status) before now faults_before faults_now
+command_said command read input status before now faults_before faults_now is named says =
+    subst (λ (reading : Result CommandData WordFault). Says (line_read reading status) before now faults_before faults_now) (sym is)
+    (subst (λ (name : List ℕ). Says (message name status) before now faults_before faults_now) named says)
+
+-- a text that was pushed in four pieces
+pub four_pushed : (none first second third fourth a b c d page cpu : List ℕ) → none ≡ [] → first ≡ none ++ a → second ≡ first ++ b → third ≡ second ++ c → fourth ≡ third ++ d
+    → b ≡ page → d ≡ cpu → fourth ≡ text (a ∷ page ∷ c ∷ cpu ∷ [])
+four_pushed none first second third fourth a b c d page cpu none_is first_is second_is third_is fourth_is page_is cpu_is =
+    rw (fourth_is, third_is, second_is, first_is, none_is, page_is, cpu_is) (joined a page c cpu)
+  where
+    joined : (a b c d : List ℕ) → (((([] ++ a) ++ b) ++ c) ++ d) ≡ text (a ∷ b ∷ c ∷ d ∷ [])
+    joined a b c d = simp (append_assoc, append-nil)
+
+-- what is said of an input, by what its name and the text are
+pub said_of : (input name what said : List ℕ) (before now : Option (List ℕ)) (faults_before faults_now : ℕ) → name ≡ input → said ≡ what
+    → Says (text (codes "trace-cmd: " ∷ name ∷ codes ": " ∷ said ∷ codes "\n" ∷ [])) before now faults_before faults_now
+    → Says (text (codes "trace-cmd: " ∷ input ∷ codes ": " ∷ what ∷ codes "\n" ∷ [])) before now faults_before faults_now
+said_of input name what said before now faults_before faults_now named is says =
+    subst (λ (n : List ℕ). Says (text (codes "trace-cmd: " ∷ n ∷ codes ": " ∷ what ∷ codes "\n" ∷ [])) before now faults_before faults_now) named
+    (subst (λ (w : List ℕ). Says (text (codes "trace-cmd: " ∷ name ∷ codes ": " ∷ w ∷ codes "\n" ∷ [])) before now faults_before faults_now) is says)

@@ -1,21 +1,23 @@
 -- When each answer may come, and what a run leaves of the folder's counts.
-use Rattle.std.specs.Prelude.{Option, None, Some, ◌≡◌, ◌≢◌, ◌⊎◌, ◌+◌, ◌-◌, ◌^◌, ◌<◌, ℕ, List, IfSome}
+use Rattle.std.specs.Prelude.{Option, None, Some, Result, Ok, Err, ◌≡◌, ◌≢◌, ◌⊎◌, ◌+◌, ◌-◌, ◌^◌, ◌<◌, ℕ, List, IfSome}
 use Rattle.trace_base.specs.declared.counts.Counts.{Counts}
 use Rattle.trace_base.specs.Causes.{Rose}
 use Rattle.dat_header.specs.Header.{IsRefusal}
 use Rattle.trace_run.specs.declared.status.Status.{Status}
 use Rattle.trace_run.specs.declared.status.Status.TheVariants.{Done, Refused, ReadFault, WriteFault, NoMemory}
-use Rattle.trace_run.specs.Commands.{Command, report, command_of}
+use Rattle.trace_args.specs.declared.fault.WordFault.{WordFault}
+use Rattle.trace_args.specs.Command.{CommandData, Report, Dump}
 use Rattle.trace_run.specs.Ending.{Outside, write_faults}
 use Rattle.trace_run.specs.Meaning.{Meaning, Target, on_out, on_folder, meaning, command_meaning}
 
 -- what a command writes to
-abbrev pub command_target : Command → Target
-command_target (report input) = on_out
+abbrev pub target_of : CommandData → Target
+target_of (Report words) = on_out
+target_of (Dump words) = on_out
 
-abbrev pub target_of : Option Command → Target
-target_of None = on_out
-target_of (Some command) = command_target command
+abbrev pub target_read : Result CommandData WordFault → Target
+target_read (Ok command) = target_of command
+target_read (Err fault) = on_out
 
 -- a fault is answered only where its count rose, also over objects that tell no bytes; a refusal is always one of the file's bytes
 abbrev pub HasRisen : Target → Status → Outside → Outside → Type 0
@@ -40,7 +42,7 @@ MissesNothingElse m before now = m.status ≢ ReadFault → now.misses ≡ befor
 abbrev pub RunMisses : List (List ℕ) → Outside → Outside → Type 0
 RunMisses words before now = IfSome before.files (λ files. MissesNothingElse (meaning words files) before.counts now.counts)
 
-abbrev pub CommandMisses : Command → Outside → Outside → Type 0
+abbrev pub CommandMisses : CommandData → Outside → Outside → Type 0
 CommandMisses command before now = IfSome before.files (λ files. MissesNothingElse (command_meaning command files) before.counts now.counts)
 
 -- where no count rose, what means Done is Done or finds no memory

@@ -9,7 +9,7 @@ use Rattle.trace_base.specs.Writing.{Gained, GainedPrefix}
 use Rattle.trace_run.specs.declared.status.Status.{Status}
 use Rattle.trace_run.specs.declared.status.Status.TheVariants.{ReadFault, WriteFault, NoMemory}
 use Rattle.trace_run.specs.Text.{text}
-use Rattle.trace_run.specs.Commands.{Command}
+use Rattle.trace_args.specs.Command.{CommandData}
 use Rattle.trace_run.specs.Meaning.{Meaning, NewFile, Target, on_out, on_folder, meaning, command_meaning}
 
 -- a sink at one moment
@@ -87,5 +87,5 @@ abbrev pub Runs : List (List ℕ) → Status → Outside → Outside → Type 0
 Runs words status before now = IfSome before.files (λ files. Ends (meaning words files) status before now)
 
 -- the part of it that does one command
-abbrev pub RunsCommand : Command → Status → Outside → Outside → Type 0
+abbrev pub RunsCommand : CommandData → Status → Outside → Outside → Type 0
 RunsCommand command status before now = IfSome before.files (λ files. Ends (command_meaning command files) status before now)

@@ -1,6 +1,5 @@
 pub mod Text
 pub mod Line
-pub mod Commands
 pub mod Meaning
 pub mod Ending
 pub mod Causes

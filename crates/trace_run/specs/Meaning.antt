@@ -1,6 +1,6 @@
 -- What a run means, from its words and the files alone.
-use Rattle.std.specs.Prelude.{Option, Result, Ok, Err, None, Some, ℕ, List, [], ◌∷◌, map, drop}
-use Rattle.std.specs.List.{enumerate_from}
+use Rattle.std.specs.Prelude.{Option, Result, Ok, Err, None, Some, ℕ, Bool, true, false, List, [], ◌∷◌, map, filter, drop}
+use Rattle.std.specs.List.{enumerate_from, slice_index_or}
 use Rattle.std.specs.FinMap.{get}
 use Rattle.trace_base.specs.Names.{NamedFiles}
 use Rattle.trace_base.specs.declared.part.Part.{Part}
@@ -12,8 +12,12 @@ use Rattle.dat_header.specs.Header.{header_of}
 use Rattle.subpage.specs.Cut.{Cut, cut_of, reached_of}
 use Rattle.trace_run.specs.declared.status.Status.{Status}
 use Rattle.trace_run.specs.declared.status.Status.TheVariants.{Done, Usage, Refused, Malformed, ReadFault}
-use Rattle.trace_run.specs.Commands.{Command, report, command_of}
+use Rattle.trace_args.specs.declared.fault.WordFault.{WordFault}
+use Rattle.trace_args.specs.Command.{CommandData, Report, Dump, ReportData, DumpData}
+use Rattle.trace_args.specs.Reading.{reading}
+use Rattle.trace_run.specs.declared.show.Show.{Show}
 use Rattle.trace_run.specs.Line.{line, cpus_line}
+use Rattle.dump_tool.specs.Dump.{dump_text}
 
 -- a new file: its name and its bytes
 pub record NewFile : Type 0 where
@@ -45,33 +49,52 @@ abbrev pub ended : Option Cut → Status
 ended None = Done
 ended (Some cut) = Malformed cut.cpu cut.page
 
--- the processors that a report shows, with their numbers: all of them
-abbrev pub selected : List Part → List (ℕ × Part)
-selected parts = enumerate_from 0 parts
+-- whether the words choose this processor: all of them where they name none
+abbrev pub is_chosen : Option (List Bool) → ℕ → Bool
+is_chosen None cpu = true
+is_chosen (Some cpus) cpu = slice_index_or cpus cpu false
+
+-- the processors that a report shows, with their numbers
+abbrev pub selected : Option (List Bool) → List Part → List (ℕ × Part)
+selected cpus parts = filter (λ part. is_chosen cpus part.0) (enumerate_from 0 parts)
+
+abbrev pub show_of : ReportData → Show
+show_of words = record { full = words.full; latency = words.latency; no_hard = words.no_hard; no_soft = words.no_soft }
 
 -- a line for each reached item; of a latency file the rest of its bytes
-abbrev pub report_body : Header → List ℕ → Body → Meaning
-report_body header bytes Latency = prints (cpus_line header.cpus ∷ map (λ byte. byte ∷ []) (drop header.end bytes)) Done
-report_body header bytes (Fly parts) =
-    prints (cpus_line header.cpus ∷ map (line header.layout.order) (reached_of header.layout bytes (selected parts)))
-    (ended (cut_of header.layout bytes (selected parts)))
+abbrev pub report_body : ReportData → Header → List ℕ → Body → Meaning
+report_body words header bytes Latency = prints (cpus_line header.cpus ∷ map (λ byte. byte ∷ []) (drop header.end bytes)) Done
+report_body words header bytes (Fly parts) =
+    prints (cpus_line header.cpus ∷ map (line (show_of words) header.layout.order) (reached_of header.layout bytes (selected words.cpus parts)))
+    (ended (cut_of header.layout bytes (selected words.cpus parts)))
 
 -- the report of a file's bytes, with the header that they begin with or why they have none
-abbrev pub report_of : Result Header OpenFault → List ℕ → Meaning
-report_of (Ok header) bytes = report_body header bytes header.body
-report_of (Err fault) bytes = only on_out (Refused fault)
+abbrev pub report_of : ReportData → Result Header OpenFault → List ℕ → Meaning
+report_of words (Ok header) bytes = report_body words header bytes header.body
+report_of words (Err fault) bytes = only on_out (Refused fault)
+
+-- the header's sections
+abbrev pub dump_of : DumpData → Result Header OpenFault → Meaning
+dump_of words (Ok header) = prints (dump_text words header ∷ []) Done
+dump_of words (Err fault) = only on_out (Refused fault)
 
 -- a command, of what the folder has under the input's name
-abbrev pub command_means : Command → Option (List ℕ) → Meaning
-command_means (report input) None = only on_out ReadFault
-command_means (report input) (Some bytes) = report_of (header_of bytes) bytes
+abbrev pub command_means : CommandData → Option (List ℕ) → Meaning
+command_means command None = only on_out ReadFault
+command_means (Report words) (Some bytes) = report_of words (header_of bytes) bytes
+command_means (Dump words) (Some bytes) = dump_of words (header_of bytes)
 
-abbrev pub command_meaning : Command → NamedFiles → Meaning
-command_meaning (report input) files = command_means (report input) (get files input)
+-- the name of the input
+abbrev pub input_of : CommandData → List ℕ
+input_of (Report words) = words.input
+input_of (Dump words) = words.input
 
-abbrev pub meaning_of : Option Command → NamedFiles → Meaning
-meaning_of None files = only on_out Usage
-meaning_of (Some command) files = command_meaning command files
+abbrev pub command_meaning : CommandData → NamedFiles → Meaning
+command_meaning command files = command_means command (get files (input_of command))
+
+abbrev pub meaning_of : Result CommandData WordFault → NamedFiles → Meaning
+meaning_of (Ok command) files = command_meaning command files
+meaning_of (Err fault) files = only on_out Usage
 
 abbrev pub meaning : List (List ℕ) → NamedFiles → Meaning
-meaning words files = meaning_of (command_of words) files
+meaning words files = meaning_of (reading words) files

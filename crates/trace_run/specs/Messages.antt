@@ -1,5 +1,5 @@
 -- The one line that a run says of an answer that is not Done.
-use Rattle.std.specs.Prelude.{Option, ◌≡◌, ℕ, List, [], ◌∷◌, codes}
+use Rattle.std.specs.Prelude.{Option, Result, Ok, Err, ◌≡◌, ℕ, List, [], ◌∷◌, codes}
 use Rattle.std.specs.Fmt.{decimal}
 use Rattle.dat_options.specs.declared.fault.OpenFault.{OpenFault}
 use Rattle.dat_options.specs.declared.fault.OpenFault.TheVariants.{NotTrace, Compressed, OtherVersion, BadEndian, BadLong, BadPageSize, BadHeaderPage, BadSection, Truncated, TooManyCpus, Read, Memory}
@@ -8,7 +8,11 @@ use Rattle.trace_base.specs.Writing.{Gained, GainedPrefix}
 use Rattle.trace_run.specs.declared.status.Status.{Status}
 use Rattle.trace_run.specs.declared.status.Status.TheVariants.{Done, Usage, Refused, Malformed, ReadFault, WriteFault, NoMemory}
 use Rattle.trace_run.specs.Text.{text}
-use Rattle.trace_run.specs.Commands.{input_of, command_of}
+use Rattle.trace_args.specs.declared.fault.WordFault.{WordFault}
+use Rattle.trace_args.specs.Command.{CommandData}
+use Rattle.trace_args.specs.KindText.{kind_text}
+use Rattle.trace_args.specs.Reading.{reading}
+use Rattle.trace_run.specs.Meaning.{input_of}
 
 abbrev pub fault_text : OpenFault → List ℕ
 fault_text (NotTrace place) = codes "not a trace file"
@@ -38,19 +42,36 @@ fault_place (TooManyCpus place) = place
 fault_place Read = 0
 fault_place Memory = 0
 
--- the line, of an input of this name; nothing for Done
+-- the line for a fault of the words
+abbrev pub usage_line : WordFault → List ℕ
+usage_line fault = text (codes "trace-cmd: word " ∷ decimal fault.word ∷ codes ": " ∷ kind_text fault.kind ∷ codes "\n" ∷ [])
+
+-- what is wrong with an input, and where
+abbrev pub refused_text : OpenFault → List ℕ
+refused_text fault = text (fault_text fault ∷ codes " at byte " ∷ decimal (fault_place fault) ∷ [])
+
+abbrev pub malformed_text : ℕ → ℕ → List ℕ
+malformed_text cpu page = text (codes "malformed sub-page " ∷ decimal page ∷ codes " of processor " ∷ decimal cpu ∷ [])
+
+-- the line for another answer, of an input of this name; nothing for Done
 abbrev pub message : List ℕ → Status → List ℕ
 message input Done = []
-message input Usage = codes "trace-cmd: word 1: unknown word\n"
-message input (Refused fault) = text (codes "trace-cmd: " ∷ input ∷ codes ": " ∷ fault_text fault ∷ codes " at byte " ∷ decimal (fault_place fault) ∷ codes "\n" ∷ [])
-message input (Malformed cpu page) = text (codes "trace-cmd: " ∷ input ∷ codes ": malformed sub-page " ∷ decimal page ∷ codes " of processor " ∷ decimal cpu ∷ codes "\n" ∷ [])
+message input Usage = []
+message input (Refused fault) = text (codes "trace-cmd: " ∷ input ∷ codes ": " ∷ refused_text fault ∷ codes "\n" ∷ [])
+message input (Malformed cpu page) = text (codes "trace-cmd: " ∷ input ∷ codes ": " ∷ malformed_text cpu page ∷ codes "\n" ∷ [])
 message input ReadFault = text (codes "trace-cmd: " ∷ input ∷ codes ": read failed\n" ∷ [])
 message input WriteFault = codes "trace-cmd: write failed\n"
 message input NoMemory = codes "trace-cmd: out of memory\n"
 
+-- the line for this reading and this answer
+abbrev pub line_read : Result CommandData WordFault → Status → List ℕ
+line_read (Ok command) status = message (input_of command) status
+line_read (Err fault) Usage = usage_line fault
+line_read (Err fault) status = message [] status
+
 -- the line for these words and this answer
 abbrev pub line_of : List (List ℕ) → Status → List ℕ
-line_of words status = message (input_of (command_of words)) status
+line_of words status = line_read (reading words) status
 
 -- the sink gained the line, or a prefix of it where its own count of faults rose
 pub record Says (line : List ℕ) (before now : Option (List ℕ)) (faults_before faults_now : ℕ) : Type 0 where

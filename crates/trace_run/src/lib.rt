@@ -1,16 +1,19 @@
 //! The program's top call: words and files in, lines, a message and a status out.
 #![tactic(auto)]
 
+mod dump;
+mod laws;
 mod line;
 mod messages;
-mod reading;
 mod report;
 mod rest;
+mod show;
 mod status;
 #[cfg(test)]
 mod tests;
 mod top;
 mod whole;
 
+pub use laws::selection_rises;
 pub use status::Status;
 pub use top::run;

@@ -1,11 +1,14 @@
-ghost use Rattle.std.specs.Prelude.{◌≡◌, [], ◌∷◌, codes};
+ghost use Rattle.std.specs.Prelude.{◌≡◌, ◌≤◌, [], ◌∷◌, codes, length};
 ghost use Rattle.std.specs.List.{flat_map};
 ghost use Rattle.trace_run.specs.Text.{text};
-ghost use Rattle.trace_run.specs.Messages.{message, fault_text, fault_place, Says};
+ghost use Rattle.trace_run.specs.Messages as spec;
+ghost use Rattle.trace_run.specs.Messages.{message, usage_line, fault_text, fault_place, Says};
 
 use crate::status::Status;
+use arrayvec::ArrayString;
 use dat_header::OpenFault;
 use itoa::Buffer;
+use trace_args::WordFault;
 use trace_base::{Sink, write_parts};
 
 /// Says the line of the answer, of an input of this name. Nothing is said of `Done`.
@@ -14,19 +17,11 @@ pub(crate) fn say<E: Sink>(input: &str, status: Status, err: &mut E)
 {
     let input = input.as_bytes();
     match status {
-        Status::Done => {}
-        Status::Usage => say_parts(&[b"trace-cmd: word 1: unknown word\n"], err),
-        Status::Refused(fault) => {
-            let mut digits = Buffer::new();
-            let place = digits.format(place_of(fault)).as_bytes();
-            say_refused(input, text_of(fault).as_bytes(), place, err)
-        }
+        // what is said of words is said by `say_usage`
+        Status::Done | Status::Usage => {}
+        Status::Refused(fault) => say_of(input, refused_text(fault).as_bytes(), err),
         Status::Malformed { cpu, page } => {
-            let mut page_digits = Buffer::new();
-            let mut cpu_digits = Buffer::new();
-            let page = page_digits.format(page).as_bytes();
-            let cpu = cpu_digits.format(cpu).as_bytes();
-            say_malformed(input, page, cpu, err)
+            say_of(input, malformed_text(cpu, page).as_bytes(), err)
         }
         Status::ReadFault => say_parts(&[b"trace-cmd: ", input, b": read failed\n"], err),
         Status::WriteFault => say_parts(&[b"trace-cmd: write failed\n"], err),
@@ -34,36 +29,58 @@ pub(crate) fn say<E: Sink>(input: &str, status: Status, err: &mut E)
     }
 }
 
-fn say_refused<'a, E: Sink>(input: &'a [u8], fault: &'a [u8], place: &'a [u8], err: &mut E)
-    ensures { Says (text (codes "trace-cmd: " ∷ input.now ∷ codes ": " ∷ fault.now ∷ codes " at byte " ∷ place.now ∷ codes "\n" ∷ []))
+/// Says what is wrong with the words.
+pub(crate) fn say_usage<E: Sink>(fault: WordFault, err: &mut E)
+    ensures { Says (usage_line fault) (E.written err.old) (E.written err.new) (E.faults err.old) (E.faults err.new) }
+{
+    let mut digits = Buffer::new();
+    let word = digits.format(fault.word).as_bytes();
+    say_parts(
+        &[
+            b"trace-cmd: word ",
+            word,
+            b": ",
+            fault.kind.text().as_bytes(),
+            b"\n",
+        ],
+        err,
+    )
+}
+
+// Says this of an input.
+fn say_of<'a, E: Sink>(input: &'a [u8], what: &'a [u8], err: &mut E)
+    ensures { Says (text (codes "trace-cmd: " ∷ input.now ∷ codes ": " ∷ what.now ∷ codes "\n" ∷ []))
         (E.written err.old) (E.written err.new) (E.faults err.old) (E.faults err.new) }
 {
-    let parts: [&'a [u8]; 7] = [
-        b"trace-cmd: ",
-        input,
-        b": ",
-        fault,
-        b" at byte ",
-        place,
-        b"\n",
-    ];
+    let parts: [&'a [u8]; 5] = [b"trace-cmd: ", input, b": ", what, b"\n"];
     say_parts(&parts, err)
 }
 
-fn say_malformed<'a, E: Sink>(input: &'a [u8], page: &'a [u8], cpu: &'a [u8], err: &mut E)
-    ensures { Says (text (codes "trace-cmd: " ∷ input.now ∷ codes ": malformed sub-page " ∷ page.now ∷ codes " of processor " ∷ cpu.now ∷ codes "\n" ∷ []))
-        (E.written err.old) (E.written err.new) (E.faults err.old) (E.faults err.new) }
+// The longest text is that of a malformed sub-buffer, with two numbers.
+const LONGEST: usize = 80;
+
+fn refused_text(fault: OpenFault) -> ArrayString<LONGEST>
+    ensures { result.bytes ≡ spec.refused_text fault }
 {
-    let parts: [&'a [u8]; 7] = [
-        b"trace-cmd: ",
-        input,
-        b": malformed sub-page ",
-        page,
-        b" of processor ",
-        cpu,
-        b"\n",
-    ];
-    say_parts(&parts, err)
+    let mut digits = Buffer::new();
+    let mut what = ArrayString::new();
+    what.push_str(text_of(fault));
+    what.push_str(" at byte ");
+    what.push_str(digits.format(place_of(fault)));
+    what
+}
+
+fn malformed_text(cpu: u32, page: u64) -> ArrayString<LONGEST>
+    ensures { result.bytes ≡ spec.malformed_text cpu page }
+{
+    let mut page_digits = Buffer::new();
+    let mut cpu_digits = Buffer::new();
+    let mut what = ArrayString::new();
+    what.push_str("malformed sub-page ");
+    what.push_str(page_digits.format(page));
+    what.push_str(" of processor ");
+    what.push_str(cpu_digits.format(cpu));
+    what
 }
 
 // A fault of the message's own sink changes nothing else.
@@ -74,7 +91,8 @@ fn say_parts<E: Sink>(parts: &[&[u8]], err: &mut E)
 }
 
 fn text_of(fault: OpenFault) -> &'static str
-    ensures { result.now ≡ fault_text fault }
+    ensures value { result.now ≡ fault_text fault }
+    ensures short { length result.now ≤ 22 }
 {
     match fault {
         OpenFault::NotTrace(_) => "not a trace file",

@@ -1,11 +1,13 @@
-ghost use Rattle.std.specs.Prelude.{◌≡◌, ◌≤◌, ◌++◌, [], ◌∷◌, map, length, option_map, IfOk, OnOk, OnErr};
+ghost use Rattle.std.specs.Prelude.{◌≡◌, ◌≤◌, ◌++◌, [], ◌∷◌, filter, map, length, option_map, IfOk, OnOk, OnErr};
 ghost use Rattle.trace_base.specs.Causes.{HasCause, Rose};
 ghost use Rattle.trace_base.specs.Layout.{IsLayout};
 ghost use Rattle.trace_base.specs.Writing.{Gained, GainedPrefix};
-ghost use Rattle.dat_header.specs.Header.{parts_of};
-ghost use Rattle.trace_run.specs.Commands as Command;
+ghost use Rattle.dat_header.specs.Allowed.{IsBody};
+ghost use Rattle.trace_args.specs.Command as Command;
+ghost use Rattle.trace_args.specs.Command.{report_view};
 ghost use Rattle.trace_run.specs.Causes.{ClosesAll, CommandMisses, HasRisen, OnRefused};
-ghost use Rattle.trace_run.specs.Meaning.{ended, on_out, selected};
+ghost use Rattle.trace_run.specs.Meaning as spec;
+ghost use Rattle.trace_run.specs.Meaning.{ended, on_out, selected, show_of};
 ghost use Rattle.trace_run.specs.Ending.{RunsCommand, beside, sink_seen};
 ghost use Rattle.trace_run.specs.Reported.{Reports, Prints};
 ghost use Rattle.trace_run.specs.Printed.{PrintsParts, PrintsLatency, report_pieces};
@@ -15,34 +17,36 @@ ghost use Rattle.trace_run.specs.Text.{text};
 
 use crate::line::{put_cpus, put_line};
 use crate::rest::{CopyFault, copy_rest};
+use crate::show::Show;
 use crate::status::Status;
 use crate::whole::{Cut, Entry, LoadFault, load, reach};
 use dat_header::{Body, Header, OpenFault, read_header};
 use std::alloc::{AllocError, Global};
+use trace_args::{CpuSet, ReportWords};
 use trace_base::{Failed, File, Folder, Layout, Order, Part, Pending, Sink};
 
 /// Prints the report of an input.
 pub(crate) fn report<F: Folder, O: Sink>(
     alloc: Global,
-    input: &str,
+    words: &ReportWords<'_>,
     folder: &mut F,
     out: &mut O,
 ) -> Status
-    ensures ends { RunsCommand (Command.report input.now) result
+    ensures ends { RunsCommand (Command.Report (report_view words.now)) result
         (beside F.files F.counts folder.old (sink_seen O.written O.faults out.old))
         (beside F.files F.counts folder.new (sink_seen O.written O.faults out.new)) }
     ensures causes { HasRisen on_out result
         (beside F.files F.counts folder.old (sink_seen O.written O.faults out.old))
         (beside F.files F.counts folder.new (sink_seen O.written O.faults out.new)) }
-    ensures misses { CommandMisses (Command.report input.now)
+    ensures misses { CommandMisses (Command.Report (report_view words.now))
         (beside F.files F.counts folder.old (sink_seen O.written O.faults out.old))
         (beside F.files F.counts folder.new (sink_seen O.written O.faults out.new)) }
     ensures closes { ClosesAll (F.counts folder.old) (F.counts folder.new) }
 {
-    match folder.open_file(input) {
+    match folder.open_file(words.input) {
         Err(Failed) => Status::ReadFault,
         Ok(mut file) => {
-            let status = report_file(alloc, &mut file, out);
+            let status = report_file(alloc, words, &mut file, out);
             folder.close_file(file);
             status
         }
@@ -50,15 +54,20 @@ pub(crate) fn report<F: Folder, O: Sink>(
 }
 
 // Reports a file that was just opened.
-fn report_file<I: File, O: Sink>(alloc: Global, file: &mut I, out: &mut O) -> Status
-    ensures reports { Reports (I.bytes file.old) result (O.written out.old) (O.written out.new) }
+fn report_file<I: File, O: Sink>(
+    alloc: Global,
+    words: &ReportWords<'_>,
+    file: &mut I,
+    out: &mut O,
+) -> Status
+    ensures reports { Reports (report_view words.now) (I.bytes file.old) result (O.written out.old) (O.written out.new) }
     ensures read_fault { result ≡ Status.ReadFault → Rose (I.faults file.old) (I.faults file.new) }
     ensures write_fault { result ≡ Status.WriteFault → Rose (O.faults out.old) (O.faults out.new) }
     ensures refused { OnRefused result }
     ensures later { I.faults file.old ≤ I.faults file.new }
 {
     match read_header(alloc, file) {
-        Ok(header) => print_report(alloc, &header, file, out),
+        Ok(header) => print_report(alloc, words, &header, file, out),
         Err(OpenFault::Read) => Status::ReadFault,
         Err(OpenFault::Memory) => Status::NoMemory,
         Err(fault) => Status::Refused(fault),
@@ -68,15 +77,16 @@ fn report_file<I: File, O: Sink>(alloc: Global, file: &mut I, out: &mut O) -> St
 // Prints what follows a header.
 fn print_report<I: File, O: Sink>(
     alloc: Global,
+    words: &ReportWords<'_>,
     header: &Header,
     file: &mut I,
     out: &mut O,
 ) -> Status
     requires allowed { IsLayout header.now.layout }
     requires inside { header.now.end ≤ I.size file.old }
-    requires parts { length (parts_of header.now.body) ≡ header.now.cpus }
+    requires parts { IsBody header.now.cpus header.now.body }
     requires few { header.now.cpus ≤ 1024 }
-    ensures prints { Prints header.now (I.bytes file.old) result (O.written out.old) (O.written out.new) }
+    ensures prints { Prints (report_view words.now) header.now (I.bytes file.old) result (O.written out.old) (O.written out.new) }
     ensures read_fault { result ≡ Status.ReadFault → Rose (I.faults file.old) (I.faults file.new) }
     ensures write_fault { result ≡ Status.WriteFault → Rose (O.faults out.old) (O.faults out.new) }
     ensures refused { OnRefused result }
@@ -87,6 +97,7 @@ fn print_report<I: File, O: Sink>(
         Body::Fly(parts) => {
             print_parts(
                 alloc,
+                words,
                 header.cpus,
                 &header.layout,
                 parts.as_slice(),
@@ -115,7 +126,7 @@ fn print_latency<I: File, O: Sink>(
     let (Ok(mut buffer), Ok(mut pending)) = (copy_buffer(alloc), Pending::new(alloc)) else {
         return Status::NoMemory;
     };
-    match print_lines(cpus, Order::Little, &[], &mut pending, out) {
+    match print_lines(cpus, Show::PLAIN, Order::Little, &[], &mut pending, out) {
         Ok(()) => {}
         Err(Failed) => return Status::WriteFault,
     }
@@ -135,6 +146,7 @@ fn copy_buffer(alloc: Global) -> Result<Vec<u8>, AllocError>
 // Prints the lines of the processors' items in the order in which they happened.
 fn print_parts<I: File, O: Sink>(
     alloc: Global,
+    words: &ReportWords<'_>,
     cpus: u32,
     layout: &Layout,
     parts: &[Part],
@@ -143,13 +155,13 @@ fn print_parts<I: File, O: Sink>(
 ) -> Status
     requires allowed { IsLayout layout.now }
     requires few { length parts.now ≤ 1024 }
-    ensures prints { PrintsParts cpus layout.now parts.now (I.bytes file.old) result (O.written out.old) (O.written out.new) }
+    ensures prints { PrintsParts (report_view words.now) cpus layout.now parts.now (I.bytes file.old) result (O.written out.old) (O.written out.new) }
     ensures read_fault { result ≡ Status.ReadFault → Rose (I.faults file.old) (I.faults file.new) }
     ensures write_fault { result ≡ Status.WriteFault → Rose (O.faults out.old) (O.faults out.new) }
     ensures refused { OnRefused result }
     ensures later { I.faults file.old ≤ I.faults file.new }
 {
-    let Ok(selected) = select(alloc, parts) else {
+    let Ok(selected) = select(alloc, &words.cpus, parts) else {
         return Status::NoMemory;
     };
     let loaded = match load(alloc, layout, &selected, file) {
@@ -163,42 +175,87 @@ fn print_parts<I: File, O: Sink>(
     let Ok(mut pending) = Pending::new(alloc) else {
         return Status::NoMemory;
     };
-    match print_lines(cpus, layout.order, &reached.entries, &mut pending, out) {
+    match print_lines(
+        cpus,
+        shown_by(words),
+        layout.order,
+        &reached.entries,
+        &mut pending,
+        out,
+    ) {
         Ok(()) => end_at(reached.cut),
         Err(Failed) => Status::WriteFault,
     }
 }
 
-// Every processor with its number.
-fn select(alloc: Global, parts: &[Part]) -> Result<Vec<(u32, Part)>, AllocError>
+// The processors that the words choose, with their numbers.
+fn select(
+    alloc: Global,
+    cpus: &Option<CpuSet>,
+    parts: &[Part],
+) -> Result<Vec<(u32, Part)>, AllocError>
     requires { length parts.now ≤ 1024 }
-    ensures { IfOk result (λ chosen. chosen.items ≡ selected parts.now) }
+    ensures { IfOk result (λ chosen. chosen.items ≡ selected cpus.now parts.now) }
 {
     let mut chosen = Vec::with_capacity(alloc, parts.len())?;
     let mut cpu = 0;
     for part in parts {
-        chosen.push((cpu, *part))?;
+        push_chosen(&mut chosen, cpus, (cpu, *part))?;
         cpu += 1;
     }
     Ok(chosen)
 }
 
+fn push_chosen(
+    chosen: &mut Vec<(u32, Part)>,
+    cpus: &Option<CpuSet>,
+    part: (u32, Part),
+) -> Result<(), AllocError>
+    ensures { OnOk result (chosen.new.items ≡ chosen.old.items ++ filter (λ numbered. spec.is_chosen cpus.now numbered.0) (part ∷ [])) }
+{
+    if is_chosen(cpus, part.0) {
+        chosen.push(part)?;
+    }
+    Ok(())
+}
+
+fn is_chosen(cpus: &Option<CpuSet>, cpu: u32) -> bool
+    ensures { result ≡ spec.is_chosen cpus.now cpu }
+{
+    match cpus {
+        None => true,
+        Some(cpus) => cpus.has(cpu),
+    }
+}
+
+fn shown_by(words: &ReportWords<'_>) -> Show
+    ensures { result ≡ show_of (report_view words.now) }
+{
+    Show {
+        full: words.full,
+        latency: words.latency,
+        no_hard: words.no_hard,
+        no_soft: words.no_soft,
+    }
+}
+
 // Prints the first line and the lines of these items.
 fn print_lines<O: Sink>(
     cpus: u32,
+    show: Show,
     order: Order,
     entries: &[Entry<'_>],
     pending: &mut Pending,
     out: &mut O,
 ) -> Result<(), Failed>
     requires { pending.old ≡ [] }
-    ensures gained { OnOk result (Gained (O.written out.old) (O.written out.new) (text (report_pieces cpus order (map entry_view entries.now)))) }
-    ensures prefix { OnErr result (GainedPrefix (O.written out.old) (O.written out.new) (text (report_pieces cpus order (map entry_view entries.now)))) }
+    ensures gained { OnOk result (Gained (O.written out.old) (O.written out.new) (text (report_pieces cpus show order (map entry_view entries.now)))) }
+    ensures prefix { OnErr result (GainedPrefix (O.written out.old) (O.written out.new) (text (report_pieces cpus show order (map entry_view entries.now)))) }
     ensures cause { HasCause (O.faults out.old) (O.faults out.new) result }
 {
     put_cpus(pending, out, cpus)?;
     for entry in entries {
-        put_line(pending, out, order, entry)?;
+        put_line(pending, out, show, order, entry)?;
     }
     pending.flush(out)
 }

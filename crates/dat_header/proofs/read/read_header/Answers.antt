@@ -1,16 +1,24 @@
-use Rattle.std.proofs.Common.{ap, ◌∙◌, subst, Option, List, ℕ}
-use Rattle.dat_header.specs.Header.{plain_header, AnswersOne}
-use Rattle.dat_header.proofs.Told.{without, one, unknown}
+use Rattle.std.proofs.Common.{◌≤◌}
+use Rattle.std.proofs.lemmas.Result.{IfOk-weaker}
+use Rattle.dat_header.specs.Allowed.{IsHeader, IsBody}
+use Rattle.trace_base.specs.Layout.{IsLayout}
+use Rattle.dat_header.proofs.Headers.{header_layout, reads_whole}
 use Rattle.dat_header.proofs.read.read_header.Goals as goal
 
-pub returns-in-NoProcessor-clause-answer : goal.returns-in-NoProcessor-clause-answer
-returns-in-NoProcessor-clause-answer g c =
-    without _ _ _ c.in_ok-read_start.ensures.start c.in-NoProcessor.is (c.plain.ensures ∙ ap plain_header (c.from_vec.ensures ∙ c.new.ensures.items))
+pub returns-clause-answer : goal.returns-clause-answer
+returns-clause-answer g c = c.read_pieces.ensures.steps.answer
 
-pub returns-in-OneProcessor-clause-answer : goal.returns-in-OneProcessor-clause-answer
-returns-in-OneProcessor-clause-answer g c =
-    one _ _ _ c.in_ok-read_start.ensures.start c.in-OneProcessor.is
-    (subst (λ (told : Option (List ℕ)). AnswersOne told c.read_one.result) c.read_start.ensures.bytes c.read_one.ensures.answer)
+pub returns-clause-read : goal.returns-clause-read
+returns-clause-read g c = c.read_pieces.ensures.steps.cause
 
-pub returns-in-Other-clause-answer : goal.returns-in-Other-clause-answer
-returns-in-Other-clause-answer g c = unknown _ _ c.in_ok-read_start.ensures.start c.in-Other.is
+pub returns-clause-reads : goal.returns-clause-reads
+returns-clause-reads g c = reads_whole _ _ _ c.read_pieces.ensures.steps.reads
+
+pub returns-clause-layout : goal.returns-clause-layout
+returns-clause-layout g c = IfOk-weaker c.read_pieces.result IsHeader (λ header. IsLayout header.layout) header_layout c.read_pieces.ensures.allowed
+
+pub returns-clause-cpus : goal.returns-clause-cpus
+returns-clause-cpus g c = IfOk-weaker c.read_pieces.result IsHeader (λ header. header.cpus ≤ 1024) (λ header is. is.cpus) c.read_pieces.ensures.allowed
+
+pub returns-clause-parts : goal.returns-clause-parts
+returns-clause-parts g c = IfOk-weaker c.read_pieces.result IsHeader (λ header. IsBody header.cpus header.body) (λ header is. is.body) c.read_pieces.ensures.allowed

@@ -1,0 +1,163 @@
+-- One piece written behind another.
+use Rattle.std.proofs.Common.{◌≡◌, ℕ, suc, ◌+◌, ◌<◌, ◌≤◌, List, [], ◌∷◌, ◌++◌, length, take, drop, get_or, Option, None, Some, Result, Ok, Err, OnOk, OnErr, IfSome, not, refl, sym, ap, subst, ◌∙◌, append_assoc, arith}
+use Rattle.std.proofs.lemmas.List.{append-nil, take_more, take-append-drop, take_all, drop-drop}
+use Rattle.std.proofs.lemmas.List.Concat.{flat_map-cons}
+use Rattle.std.proofs.lemmas.Grind.{flat_map-append}
+use Rattle.std.proofs.lemmas.List.Elements.{All-filter, All-push}
+use Rattle.std.specs.List.{All, filter, flat_map}
+use Rattle.trace_base.specs.Causes.{HasCause}
+use Rattle.trace_base.specs.Writing.{Gained, GainedPrefix}
+use Rattle.trace_base.proofs.Gains.{gained_both, prefix_behind, prefix_of_parts, gained_nothing}
+use Rattle.dat_options.proofs.Writes.{prefix_in_front}
+use Rattle.trace_base.specs.Number.{bytes_of}
+use Rattle.trace_base.specs.declared.order.Order.{Order}
+use Rattle.trace_base.specs.declared.part.Part.{Part}
+use Rattle.dat_options.specs.declared.option.Opt.{Opt}
+use Rattle.dat_options.specs.Options.{IsOption, options_text}
+use Rattle.dat_options.specs.Table.{table_text}
+use Rattle.dat_header.specs.declared.header.Header.{Header}
+use Rattle.dat_header.specs.declared.header.System.{System}
+use Rattle.dat_header.specs.declared.header.Body.TheVariants.{Fly}
+use Rattle.dat_header.specs.Items.{Item, system_text, magic_word, version_word, page_word, event_word, options_word, fly_word, order_byte, sized, formats_text, systems_text, section_items, items, text}
+use Rattle.dat_header.specs.Written.{SinkSeen, Writes, options_section, is_instance, with_parts, header_text}
+
+-- by the clauses of a call that writes
+pub writes_by : {E : Type 0} (text : List ℕ) (before now : SinkSeen) (result : Result (Unit {0}) E) → OnOk result (Gained before.told now.told text) → OnErr result (GainedPrefix before.told now.told text)
+    → now.name ≡ before.name → HasCause before.faults now.faults result → Writes text before now result
+writes_by text before now result gained prefix name cause = record { gained = gained; prefix = prefix; name = name; later = cause.later; failed = cause.failed }
+
+-- the same text
+pub writes_as : {E : Type 0} (text other : List ℕ) (before now : SinkSeen) (result : Result (Unit {0}) E) → text ≡ other → Writes text before now result → Writes other before now result
+writes_as text other before now result same writes = subst (λ (t : List ℕ). Writes t before now result) same writes
+
+-- nothing
+pub writes_nothing : {E : Type 0} (done : Unit {0}) (now : SinkSeen) → Writes {E = E} [] now now (Ok done)
+writes_nothing done now = record { gained = gained_nothing now.told; prefix = tt; name = refl; later = omega arith; failed = tt }
+
+-- a piece, and then another
+pub writes_then : {E : Type 0} (one two : List ℕ) (before mid now : SinkSeen) (done : Unit {0}) (result : Result (Unit {0}) E) → Writes {E = E} one before mid (Ok done) → Writes two mid now result → Writes (one ++ two) before now result
+writes_then one two before mid now done (Ok last) first second = record {
+  gained = gained_both before.told mid.told now.told one two first.gained second.gained;
+  prefix = tt;
+  name = second.name ∙ first.name;
+  later = omega (arith, first.later, second.later);
+  failed = tt;
+}
+writes_then one two before mid now done (Err fault) first second = record {
+  gained = tt;
+  prefix = prefix_behind before.told mid.told now.told one two [] (one ++ two) (ap (λ back. one ++ back) (sym (append-nil two))) first.gained second.prefix;
+  name = second.name ∙ first.name;
+  later = omega (arith, first.later, second.later);
+  failed = omega (arith, first.later, second.failed);
+}
+
+-- a piece that failed, and no other behind it
+pub writes_failed : {E : Type 0} (one two : List ℕ) (before now : SinkSeen) (fault : E) → Writes one before now (Err fault) → Writes (one ++ two) before now (Err fault)
+writes_failed one two before now fault first = record {
+  gained = tt;
+  prefix = prefix_in_front before.told now.told one two first.prefix;
+  name = first.name;
+  later = first.later;
+  failed = first.failed;
+}
+
+-- one item more of a row
+pub writes_more : {E X : Type 0} (f : X → List ℕ) (xs : List X) (i : ℕ) (x : X) (before mid now : SinkSeen) (done last : Unit {0}) → i < length xs → x ≡ get_or xs i x
+    → Writes {E = E} (flat_map f (take i xs)) before mid (Ok done) → Writes {E = E} (f x) mid now (Ok last) → Writes {E = E} (flat_map f (take (i + 1) xs)) before now (Ok last)
+writes_more f xs i x before mid now done last inside is first second =
+    let longer : flat_map f (take (i + 1) xs) ≡ flat_map f (take i xs) ++ f x =
+    ap (flat_map f) (take_more xs i x inside) ∙ flat_map-append f (take i xs) (get_or xs i x ∷ [])
+    ∙ ap (λ t. flat_map f (take i xs) ++ t) (flat_map-cons f (get_or xs i x) [] ∙ append-nil (f (get_or xs i x)) ∙ ap f (sym is)) in
+    writes_as _ _ before now (Ok last) (sym longer) (writes_then (flat_map f (take i xs)) (f x) before mid now done (Ok last) first second)
+
+pub writes_row_failed : {E X : Type 0} (f : X → List ℕ) (xs : List X) (i : ℕ) (x : X) (before mid now : SinkSeen) (done : Unit {0}) (fault : E) → i < length xs → x ≡ get_or xs i x
+    → Writes {E = E} (flat_map f (take i xs)) before mid (Ok done) → Writes (f x) mid now (Err fault) → Writes (flat_map f xs) before now (Err fault)
+writes_row_failed f xs i x before mid now done fault inside is first second =
+    let both = writes_then (flat_map f (take i xs)) (f x) before mid now done (Err fault) first second in
+    record {
+      gained = tt;
+      prefix = prefix_of_parts f xs i x before.told mid.told now.told inside first.gained (subst (λ y. GainedPrefix mid.told now.told (f y)) is second.prefix);
+      name = both.name;
+      later = both.later;
+      failed = both.failed;
+    }
+
+pub writes_row : {E X : Type 0} (f : X → List ℕ) (xs : List X) (i : ℕ) (before now : SinkSeen) (done : Unit {0}) → length xs ≤ i → Writes {E = E} (flat_map f (take i xs)) before now (Ok done) → Writes {E = E} (flat_map f xs) before now (Ok done)
+writes_row f xs i before now done all writes = writes_as _ _ before now (Ok done) (ap (flat_map f) (take_all i xs all)) writes
+
+-- the text of the pieces from the magic bytes to the header_page text
+pub front_text : (header : Header)
+    → (magic_word ++ (version_word ++ (order_byte header.order ∷ header.long ∷ (bytes_of header.order 4 header.page ++ page_word)))) ++ sized 8 header.order header.page_text ≡ text (take 7 (items header))
+unfolding items
+front_text header =
+    let page = bytes_of header.order 4 header.page in
+    let content = sized 8 header.order header.page_text in
+    ap (λ (t : List ℕ). magic_word ++ (version_word ++ (order_byte header.order ∷ header.long ∷ t))) (append_assoc page page_word content ∙ ap (λ (t : List ℕ). page ++ (page_word ++ t)) (sym (append-nil content)))
+
+pub front_by : (header : Header) (order : ℕ) (page : List ℕ) → order ≡ order_byte header.order → page ≡ bytes_of header.order 4 header.page
+    → (magic_word ++ (version_word ++ (order ∷ header.long ∷ (page ++ page_word)))) ++ sized 8 header.order header.page_text ≡ text (take 7 (items header))
+front_by header order page one two =
+    ap (λ (n : ℕ). (magic_word ++ (version_word ++ (n ∷ header.long ∷ (page ++ page_word)))) ++ sized 8 header.order header.page_text) one
+    ∙ ap (λ (t : List ℕ). (magic_word ++ (version_word ++ (order_byte header.order ∷ header.long ∷ (t ++ page_word)))) ++ sized 8 header.order header.page_text) two
+    ∙ front_text header
+
+-- the text of a system by its pieces
+pub system_joined : (order : Order) (system : System) (name : List ℕ) → name ≡ system.name → (name ++ 0 ∷ []) ++ formats_text order system.formats ≡ system_text order system
+system_joined order system name is =
+    ap (λ (n : List ℕ). (n ++ 0 ∷ []) ++ formats_text order system.formats) is ∙ append_assoc system.name (0 ∷ []) (formats_text order system.formats)
+
+pub texts_text : (header : Header)
+    → event_word ++ (sized 8 header.order header.event_text ++ (formats_text header.order header.ftrace ++ (systems_text header.order header.systems
+    ++ (sized 4 header.order header.kallsyms ++ (sized 4 header.order header.printk ++ sized 8 header.order header.cmdlines))))) ≡ text (take 7 (drop 7 (items header)))
+unfolding items
+texts_text header =
+    ap (λ (t : List ℕ). event_word ++ (sized 8 header.order header.event_text ++ (formats_text header.order header.ftrace ++ (systems_text header.order header.systems ++ (sized 4 header.order header.kallsyms ++ (sized 4 header.order header.printk ++ t))))))
+    (sym (append-nil (sized 8 header.order header.cmdlines)))
+
+end_by : (order : Order) (cpus : ℕ) (options : Option (List Opt)) (parts : List Part)
+    → bytes_of order 4 cpus ++ (options_section order options ++ (fly_word ++ table_text order parts)) ≡ bytes_of order 4 cpus ++ text (section_items order options (Fly parts))
+end_by order cpus None parts = ap (λ (t : List ℕ). bytes_of order 4 cpus ++ (fly_word ++ t)) (sym (append-nil (table_text order parts)))
+end_by order cpus (Some options) parts =
+    ap (λ (t : List ℕ). bytes_of order 4 cpus ++ t) (append_assoc options_word (options_text order options) (fly_word ++ table_text order parts))
+    ∙ ap (λ (t : List ℕ). bytes_of order 4 cpus ++ (options_word ++ (options_text order options ++ (fly_word ++ t)))) (sym (append-nil (table_text order parts)))
+
+pub end_text : (header : Header) (parts : List Part)
+    → bytes_of header.order 4 header.cpus ++ (options_section header.order header.options ++ (fly_word ++ table_text header.order parts)) ≡ text (drop 14 (items (with_parts header parts)))
+unfolding items
+end_text header parts = end_by header.order header.cpus header.options parts
+
+same_front : (header : Header) (parts : List Part) → take 7 (items header) ≡ take 7 (items (with_parts header parts))
+unfolding items
+same_front header parts = refl
+
+same_texts : (header : Header) (parts : List Part) → take 7 (drop 7 (items header)) ≡ take 7 (drop 7 (items (with_parts header parts)))
+unfolding items
+same_texts header parts = refl
+
+in_three : (xs : List Item) → text (take 7 xs) ++ (text (take 7 (drop 7 xs)) ++ text (drop 14 xs)) ≡ text xs
+in_three xs =
+    let bytes_in = λ (item : Item). item.bytes in
+    ap (λ (ys : List Item). text (take 7 xs) ++ (text (take 7 (drop 7 xs)) ++ text ys)) (sym (drop-drop 7 7 xs))
+    ∙ ap (λ (t : List ℕ). text (take 7 xs) ++ t) (sym (flat_map-append bytes_in (take 7 (drop 7 xs)) (drop 7 (drop 7 xs))) ∙ ap text (take-append-drop 7 (drop 7 xs)))
+    ∙ sym (flat_map-append bytes_in (take 7 xs) (drop 7 xs)) ∙ ap text (take-append-drop 7 xs)
+
+-- the three pieces are the whole
+pub whole_text : (header : Header) (parts : List Part) → text (take 7 (items header)) ++ (text (take 7 (drop 7 (items header))) ++ text (drop 14 (items (with_parts header parts)))) ≡ header_text header parts
+whole_text header parts =
+    ap (λ (xs : List Item). text xs ++ (text (take 7 (drop 7 (items header))) ++ text (drop 14 (items (with_parts header parts))))) (same_front header parts)
+    ∙ ap (λ (xs : List Item). text (take 7 (items (with_parts header parts))) ++ (text xs ++ text (drop 14 (items (with_parts header parts))))) (same_texts header parts)
+    ∙ in_three (items (with_parts header parts))
+
+-- options of which some were taken away are allowed still
+pub still_options : (told : Option (List Opt)) (options items kept result : List Opt) → Some options ≡ told → items ≡ options → kept ≡ filter (λ option. not (is_instance option)) items → result ≡ kept
+    → IfSome told (All IsOption) → All IsOption result
+still_options told options items kept result is same filtered last all =
+    let own : All IsOption options = subst (λ (t : Option (List Opt)). IfSome t (All IsOption)) (sym is) all in
+    subst (All IsOption) (sym (last ∙ filtered ∙ ap (filter (λ option. not (is_instance option))) same)) (All-filter (λ option. not (is_instance option)) IsOption options own)
+
+-- what holds of each item so far
+pub all_taken : {X : Type 0} (P : X → Type 0) (xs : List X) (i : ℕ) (d : X) → i < length xs → All P (take i xs) → P (get_or xs i d) → All P (take (i + 1) xs)
+all_taken P xs i d inside all one = subst (All P) (sym (take_more xs i d inside)) (All-push P (take i xs) (get_or xs i d) all one)
+
+pub all_of : {X : Type 0} (P : X → Type 0) (xs : List X) (i : ℕ) → length xs ≤ i → All P (take i xs) → All P xs
+all_of P xs i whole all = subst (All P) (take_all i xs whole) all

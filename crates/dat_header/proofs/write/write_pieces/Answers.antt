@@ -1,0 +1,18 @@
+use Rattle.std.proofs.Common.{arith, rules, sym, take, drop}
+use Rattle.std.proofs.lemmas.Result.{err_from_is_err_and}
+use Rattle.dat_header.specs.Items.{items, text, sized, formats_text, system_text, systems_text}
+use Rattle.dat_header.proofs.Written.{writes_by, writes_as, writes_nothing, writes_then, writes_failed, writes_more, writes_row_failed, writes_row, texts_text, end_text, whole_text}
+use Rattle.dat_header.proofs.write.write_pieces.Goals as goal
+
+pub returns-in_err-write_front : goal.returns-in_err-write_front
+returns-in_err-write_front g c =
+    let p = err_from_is_err_and c.from_residual.result c.from_residual.ensures.1 in
+    rw (p.1, p.2) (writes_as _ _ _ _ _ (whole_text c.args.header.now c.args.parts.now) (writes_failed _ _ _ _ _ c.in_err-write_front.ensures))
+
+pub returns-in_err-write_texts : goal.returns-in_err-write_texts
+returns-in_err-write_texts g c =
+    let p = err_from_is_err_and c.from_residual-in_err-write_texts.result c.from_residual-in_err-write_texts.ensures.1 in
+    rw (p.1, p.2) (writes_as _ _ _ _ _ (whole_text c.args.header.now c.args.parts.now) (writes_then _ _ _ _ _ _ _ c.in_ok-write_front.ensures (writes_failed _ _ _ _ _ c.in_err-write_texts.ensures)))
+
+pub returns : goal.returns
+returns g c = writes_as _ _ _ _ _ (whole_text c.args.header.now c.args.parts.now) (writes_then _ _ _ _ _ _ _ c.in_ok-write_front.ensures (writes_then _ _ _ _ _ _ _ c.in_ok-write_texts.ensures (c.write_end.ensures)))

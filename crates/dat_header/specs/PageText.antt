@@ -1,0 +1,57 @@
+-- The layout that a header_page text gives to the file's sub-buffers.
+-- Source: trace-cmd.dat.v6(5), `header_page`; the text is the kernel's events/header_page. The limits on the places are this
+-- program's.
+use Rattle.std.specs.Prelude.{◌+◌, ◌%◌, ◌==◌, ◌&&◌, ◌||◌, Bool, ℕ, nat_le, List, [], ◌∷◌, Option, Some, None, option_and_then, if◌then◌else◌, codes}
+use Rattle.std.specs.List.{find, filter_map, slice_split}
+use Rattle.std.specs.Str.{bytes_eq}
+use Rattle.trace_base.specs.FieldLine.{FieldData}
+use Rattle.trace_base.specs.FieldReading.{field_line}
+use Rattle.trace_base.specs.declared.order.Order.{Order}
+use Rattle.trace_base.specs.declared.layout.Layout.{Layout}
+
+infixl 10 ◌>>=◌
+abbrev pub ◌>>=◌ : {V W : Type 0} → Option V → (V → Option W) → Option W
+value >>= next = option_and_then next value
+
+-- an empty text: the timestamp, a commit word of the user's long, and the data behind it
+abbrev pub plain_layout : Order → ℕ → ℕ → Layout
+plain_layout order long page = record { order = order; time_at = 0; commit_at = 8; commit_size = long; data_at = 8 + long; page = page }
+
+-- the lines of a text, split at newlines
+abbrev pub lines_of : List ℕ → List (List ℕ)
+lines_of text = slice_split (λ byte. byte == 10) text
+
+-- the field lines of a text
+abbrev pub field_lines : List ℕ → List FieldData
+field_lines text = filter_map field_line (lines_of text)
+
+-- the first line of a name counts
+abbrev pub line_named : List ℕ → List FieldData → Option FieldData
+line_named name lines = find (λ line. bytes_eq line.declaration.name name) lines
+
+-- a timestamp and a commit word of 4 or 8 bytes, apart from each other and in front of data that begin early at a multiple of 4
+abbrev pub may_be : Layout → Bool
+may_be layout = (layout.commit_size == 4 || layout.commit_size == 8)
+    && (nat_le (layout.time_at + 8) layout.commit_at || nat_le (layout.commit_at + layout.commit_size) layout.time_at)
+    && nat_le (layout.time_at + 8) layout.data_at
+    && nat_le (layout.commit_at + layout.commit_size) layout.data_at
+    && layout.data_at % 4 == 0
+    && nat_le layout.data_at 256
+
+-- the layout by these three lines, with a timestamp of 64 bits and data that end with the page
+abbrev pub layout_by : Order → ℕ → FieldData → FieldData → FieldData → Option Layout
+layout_by order page time commit content =
+    let layout : Layout = record { order = order; time_at = time.offset; commit_at = commit.offset; commit_size = commit.size; data_at = content.offset; page = page } in
+    if time.size == 8 && content.offset + content.size == page && may_be layout then Some layout else None
+
+abbrev pub layout_by_lines : Order → ℕ → List FieldData → Option Layout
+layout_by_lines order page lines = do
+  time ← line_named (codes "timestamp") lines
+  commit ← line_named (codes "commit") lines
+  content ← line_named (codes "data") lines
+  layout_by order page time commit content
+
+-- the layout of a file with this order, user's long, page size and header_page text
+unfoldable pub layout_of : Order → ℕ → ℕ → List ℕ → Option Layout
+layout_of order long page [] = Some (plain_layout order long page)
+layout_of order long page (byte ∷ text) = layout_by_lines order page (field_lines (byte ∷ text))

@@ -1,0 +1,59 @@
+-- What writing a header writes: the header with a table of these parts.
+use Rattle.std.specs.Prelude.{◌≡◌, ◌+◌, ℕ, List, [], ◌++◌, Option, None, Some, length, not, ◌==◌, ◌||◌, ◌≤◌, Bool, OnOk, OnErr, Result}
+use Rattle.std.specs.List.{filter, flat_map}
+use Rattle.std.specs.Option.{option_map}
+use Rattle.trace_base.specs.declared.order.Order.{Order}
+use Rattle.trace_base.specs.declared.part.Part.{Part}
+use Rattle.trace_base.specs.Causes.{Rose}
+use Rattle.trace_base.specs.Writing.{Gained, GainedPrefix}
+use Rattle.dat_options.specs.declared.option.Opt.{Opt}
+use Rattle.dat_options.specs.Options.{option_text, options_text}
+use Rattle.dat_header.specs.declared.header.Header.{Header}
+use Rattle.dat_header.specs.declared.header.Body.TheVariants.{Fly}
+use Rattle.dat_header.specs.Items.{items, text, options_word}
+
+-- the header with these parts
+abbrev pub with_parts : Header → List Part → Header
+with_parts header parts = record header { body = Fly parts }
+
+abbrev pub header_text : Header → List Part → List ℕ
+header_text header parts = text (items (with_parts header parts))
+
+-- the header that is written: these parts, and the place behind it
+abbrev pub written : Header → List Part → Header
+written header parts = record header { body = Fly parts; end = length (header_text header parts) }
+
+-- the section of options, if there is one
+abbrev pub options_section : Order → Option (List Opt) → List ℕ
+options_section order None = []
+options_section order (Some options) = options_word ++ options_text order options
+
+-- how long the section of options is, the word that begins it and the id that ends it included
+abbrev pub section_len : Order → Option (List Opt) → ℕ
+section_len order None = 0
+section_len order (Some options) = length (flat_map (option_text order) options) + 12
+
+-- an option that says where another instance's data stand, or which clock there is
+abbrev pub is_instance : Opt → Bool
+is_instance option = option.id == 3 || option.id == 4
+
+-- the header without those options
+abbrev pub without_instances : Header → Header
+without_instances header = record header { options = option_map (filter (λ option. not (is_instance option))) header.options }
+
+-- what contracts see of a sink
+pub record SinkSeen : Type 0 where
+  pub told : Option (List ℕ)
+  pub name : List ℕ
+  pub faults : ℕ
+
+abbrev pub sink : {O : Type 0} → (O → Option (List ℕ)) → (O → List ℕ) → (O → ℕ) → O → SinkSeen
+sink told name faults out = record { told = told out; name = name out; faults = faults out }
+
+-- the text was written, or after a fault a prefix of it
+pub record Writes {E : Type 0} (text : List ℕ) (before now : SinkSeen) (result : Result (Unit {0}) E) : Type 0 where
+  pub gained : OnOk result (Gained before.told now.told text)
+  pub prefix : OnErr result (GainedPrefix before.told now.told text)
+  pub name : now.name ≡ before.name
+  pub later : before.faults ≤ now.faults
+  pub failed : OnErr result (Rose before.faults now.faults)

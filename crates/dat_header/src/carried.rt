@@ -1,0 +1,135 @@
+// The texts that are carried unread: formats of events, symbols and command lines.
+
+ghost use Rattle.std.specs.Prelude.{◌≡◌, ◌^◌, ◌<◌, ◌≤◌, length, IfOk};
+ghost use Rattle.std.specs.List.{All};
+ghost use Rattle.dat_header.specs.Allowed.{AreFormats, IsSystem, AreSystems};
+ghost use Rattle.dat_header.specs.Pieces.{IsCarried};
+ghost use Rattle.dat_header.specs.Header.{carried_at};
+ghost use Rattle.dat_header.specs.Reading.{Steps, seen};
+ghost use Rattle.dat_header.specs.Small.{texts_at, formats_at, system_at, each_system_at, systems_at};
+
+use crate::header::System;
+use crate::pieces::Carried;
+use crate::small::{read_long_text, read_name, read_number, read_text};
+use dat_options::OpenFault;
+use std::alloc::Global;
+use trace_base::{ByteText, File, ListOf, Order};
+
+pub(crate) fn read_carried<F: File>(
+    alloc: Global,
+    order: Order,
+    file: &mut F,
+    at: u64,
+) -> Result<(Carried, u64), OpenFault>
+    requires inside { at ≤ F.size file.old }
+    ensures allowed { IfOk result (λ found. IsCarried found.0) }
+    ensures steps { Steps (λ found. found.1) (λ bytes. carried_at order bytes at) at (seen F.bytes F.size F.faults F.reads file.old) (seen F.bytes F.size F.faults F.reads file.new) result }
+{
+    let (event_text, after) = read_long_text(alloc, order, file, at)?;
+    let (ftrace, after) = read_formats(alloc, order, file, after)?;
+    let (systems, after) = read_systems(alloc, order, file, after)?;
+    let (kallsyms, after) = read_text(alloc, order, file, after)?;
+    let (printk, after) = read_text(alloc, order, file, after)?;
+    let (cmdlines, after) = read_long_text(alloc, order, file, after)?;
+    let carried = Carried {
+        event_text,
+        ftrace,
+        systems,
+        kallsyms,
+        printk,
+        cmdlines,
+    };
+    Ok((carried, after))
+}
+
+// Format texts behind their number.
+fn read_formats<F: File>(
+    alloc: Global,
+    order: Order,
+    file: &mut F,
+    at: u64,
+) -> Result<(ListOf<ByteText>, u64), OpenFault>
+    requires inside { at ≤ F.size file.old }
+    ensures allowed { IfOk result (λ found. AreFormats found.0) }
+    ensures steps { Steps (λ found. found.1) (λ bytes. formats_at order bytes at) at (seen F.bytes F.size F.faults F.reads file.old) (seen F.bytes F.size F.faults F.reads file.new) result }
+{
+    let (count, after) = read_number(order, file, at)?;
+    read_texts(alloc, order, count, file, after)
+}
+
+// So many texts, each behind its 64-bit size. Memory is taken only for those that are there.
+fn read_texts<F: File>(
+    alloc: Global,
+    order: Order,
+    count: u32,
+    file: &mut F,
+    at: u64,
+) -> Result<(ListOf<ByteText>, u64), OpenFault>
+    requires inside { at ≤ F.size file.old }
+    ensures allowed { IfOk result (λ found. (length found.0 ≡ count) × All (λ text. length text < 2 ^ 64) found.0) }
+    ensures steps { Steps (λ found. found.1) (λ bytes. texts_at count order bytes at) at (seen F.bytes F.size F.faults F.reads file.old) (seen F.bytes F.size F.faults F.reads file.new) result }
+{
+    let mut texts = Vec::new(alloc);
+    let mut place = at;
+    for _done in 0..count {
+        let (text, after) = read_long_text(alloc, order, file, place)?;
+        place = after;
+        let Ok(()) = texts.push(text) else {
+            return Err(OpenFault::Memory);
+        };
+    }
+    Ok((ListOf::from_vec(texts), place))
+}
+
+fn read_system<F: File>(
+    alloc: Global,
+    order: Order,
+    file: &mut F,
+    at: u64,
+) -> Result<(System, u64), OpenFault>
+    requires inside { at ≤ F.size file.old }
+    ensures allowed { IfOk result (λ found. IsSystem found.0) }
+    ensures steps { Steps (λ found. found.1) (λ bytes. system_at order bytes at) at (seen F.bytes F.size F.faults F.reads file.old) (seen F.bytes F.size F.faults F.reads file.new) result }
+{
+    let (name, after) = read_name(alloc, file, at)?;
+    let (formats, after) = read_formats(alloc, order, file, after)?;
+    Ok((System { name, formats }, after))
+}
+
+// Systems behind their number. Memory is taken only for those that are there.
+fn read_systems<F: File>(
+    alloc: Global,
+    order: Order,
+    file: &mut F,
+    at: u64,
+) -> Result<(ListOf<System>, u64), OpenFault>
+    requires inside { at ≤ F.size file.old }
+    ensures allowed { IfOk result (λ found. AreSystems found.0) }
+    ensures steps { Steps (λ found. found.1) (λ bytes. systems_at order bytes at) at (seen F.bytes F.size F.faults F.reads file.old) (seen F.bytes F.size F.faults F.reads file.new) result }
+{
+    let (count, after) = read_number(order, file, at)?;
+    read_each_system(alloc, order, count, file, after)
+}
+
+fn read_each_system<F: File>(
+    alloc: Global,
+    order: Order,
+    count: u32,
+    file: &mut F,
+    at: u64,
+) -> Result<(ListOf<System>, u64), OpenFault>
+    requires inside { at ≤ F.size file.old }
+    ensures allowed { IfOk result (λ found. (length found.0 ≡ count) × All IsSystem found.0) }
+    ensures steps { Steps (λ found. found.1) (λ bytes. each_system_at count order bytes at) at (seen F.bytes F.size F.faults F.reads file.old) (seen F.bytes F.size F.faults F.reads file.new) result }
+{
+    let mut systems = Vec::new(alloc);
+    let mut place = at;
+    for _done in 0..count {
+        let (system, after) = read_system(alloc, order, file, place)?;
+        place = after;
+        let Ok(()) = systems.push(system) else {
+            return Err(OpenFault::Memory);
+        };
+    }
+    Ok((ListOf::from_vec(systems), place))
+}

@@ -1,0 +1,138 @@
+// The layout that a header_page text gives.
+
+ghost use Rattle.std.specs.Prelude.{◌≡◌, ◌==◌, ◌<◌, ◌≤◌, ◌∷◌, length, IfOk, IfSome};
+ghost use Rattle.std.specs.List.{position};
+ghost use Rattle.std.specs.Option.{option_map};
+ghost use Rattle.trace_base.specs.FieldReading.{field_view};
+ghost use Rattle.trace_base.specs.Layout.{IsLayout};
+ghost use Rattle.dat_header.specs.PageText.{field_lines, lines_of, layout_of, layout_by, line_named, may_be, plain_layout};
+ghost use Rattle.dat_header.specs.Lines.{lines_left};
+ghost use Rattle.dat_header.specs.Pieces.{IsMachine, IsPageText};
+ghost use Rattle.dat_header.specs.Header.{page_text_at};
+ghost use Rattle.dat_header.specs.Reading.{Steps, seen};
+
+use crate::pieces::{Machine, PageText};
+use crate::small::{read_content, read_long_number};
+use dat_options::OpenFault;
+use std::alloc::Global;
+use trace_base::{FieldLine, File, Layout, read_field_line};
+
+// The header_page text of a file with such a machine.
+pub(crate) fn read_page_text<F: File>(
+    alloc: Global,
+    machine: &Machine,
+    file: &mut F,
+    at: u64,
+) -> Result<(PageText, u64), OpenFault>
+    requires machine { IsMachine machine.now }
+    requires inside { at ≤ F.size file.old }
+    ensures allowed { IfOk result (λ found. IsPageText machine.now found.0) }
+    ensures steps { Steps (λ found. found.1) (λ bytes. page_text_at machine.now bytes at) at (seen F.bytes F.size F.faults F.reads file.old) (seen F.bytes F.size F.faults F.reads file.new) result }
+{
+    let (size, at_text) = read_long_number(machine.order, file, at)?;
+    let (text, after) = read_content(alloc, size, file, at_text)?;
+    match layout_of(machine, text.as_bytes()) {
+        Some(layout) => Ok((PageText { text, layout }, after)),
+        None => Err(OpenFault::BadHeaderPage(at_text)),
+    }
+}
+
+#[tactic(auto, unfolding(crate::specs::PageText::layout_of))]
+fn layout_of(machine: &Machine, text: &[u8]) -> Option<Layout>
+    requires { IsMachine machine.now }
+    ensures { result ≡ layout_of machine.now.order machine.now.long machine.now.page text.now }
+{
+    if text.is_empty() {
+        return Some(plain_layout(machine));
+    }
+    let time = line_named(text, b"timestamp")?;
+    let commit = line_named(text, b"commit")?;
+    let data = line_named(text, b"data")?;
+    layout_by(machine, &time, &commit, &data)
+}
+
+fn plain_layout(machine: &Machine) -> Layout
+    requires { IsMachine machine.now }
+    ensures { result ≡ plain_layout machine.now.order machine.now.long machine.now.page }
+{
+    Layout {
+        order: machine.order,
+        time_at: 0,
+        commit_at: 8,
+        commit_size: machine.long,
+        data_at: 8 + machine.long,
+        page: machine.page,
+    }
+}
+
+// The first field line of this name.
+fn line_named<'a>(text: &'a [u8], name: &[u8]) -> Option<FieldLine<'a>>
+    ensures { option_map field_view result ≡ line_named name.now (field_lines text.now) }
+{
+    let mut left = Some(text);
+    while let Some(lines) = left {
+        let (line, after) = first_line(lines);
+        if let Some(field) = read_field_line(line)
+            && field.name == name
+        {
+            return Some(field);
+        }
+        left = after;
+    }
+    None
+}
+
+// The first line of a text, and what stands behind the newline that ends it.
+fn first_line(text: &[u8]) -> (&[u8], Option<&[u8]>)
+    ensures split { lines_of text.now ≡ result.0.now ∷ lines_left result.1 }
+    ensures shorter { IfSome result.1 (λ rest. length rest.now < length text.now) }
+{
+    match newline(text) {
+        Some(end) => (&text[..end], Some(&text[end + 1..])),
+        None => (text, None),
+    }
+}
+
+fn newline(text: &[u8]) -> Option<usize>
+    ensures { result ≡ position (λ byte. byte == 10) text.now }
+{
+    text.iter().position(|byte| *byte == b'\n')
+}
+
+fn layout_by(
+    machine: &Machine,
+    time: &FieldLine<'_>,
+    commit: &FieldLine<'_>,
+    data: &FieldLine<'_>,
+) -> Option<Layout>
+    ensures { result ≡ layout_by machine.now.order machine.now.page (field_view time.now) (field_view commit.now) (field_view data.now) }
+{
+    let layout = Layout {
+        order: machine.order,
+        time_at: time.offset,
+        commit_at: commit.offset,
+        commit_size: commit.size,
+        data_at: data.offset,
+        page: machine.page,
+    };
+    let ends_with_page = data.offset as u64 + data.size as u64 == machine.page as u64;
+    if time.size == 8 && ends_with_page && may_be(&layout) {
+        Some(layout)
+    } else {
+        None
+    }
+}
+
+fn may_be(layout: &Layout) -> bool
+    ensures { result ≡ may_be layout.now }
+{
+    let time_end = layout.time_at as u64 + 8;
+    let commit_end = layout.commit_at as u64 + layout.commit_size as u64;
+    let data_at = layout.data_at as u64;
+    (layout.commit_size == 4 || layout.commit_size == 8)
+        && (time_end <= layout.commit_at as u64 || commit_end <= layout.time_at as u64)
+        && time_end <= data_at
+        && commit_end <= data_at
+        && data_at % 4 == 0
+        && data_at <= 256
+}

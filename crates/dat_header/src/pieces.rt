@@ -1,0 +1,45 @@
+// What the pieces of a header say, as they are read one behind another.
+
+use crate::header::{Body, System};
+use dat_options::Opt;
+use trace_base::{ByteText, Layout, ListOf, Order};
+
+// Of the machine that the file was recorded on.
+#[derive(Clone, Copy)]
+pub(crate) struct Machine {
+    pub(crate) order: Order,
+    pub(crate) long: u32,
+    pub(crate) page: u32,
+}
+
+// The header_page text, with the layout that it gives.
+#[derive(Drop)]
+pub(crate) struct PageText {
+    pub(crate) text: ByteText,
+    pub(crate) layout: Layout,
+}
+
+// The texts that are carried unread.
+#[derive(Drop)]
+pub(crate) struct Carried {
+    pub(crate) event_text: ByteText,
+    pub(crate) ftrace: ListOf<ByteText>,
+    pub(crate) systems: ListOf<System>,
+    pub(crate) kallsyms: ByteText,
+    pub(crate) printk: ByteText,
+    pub(crate) cmdlines: ByteText,
+}
+
+// What stands behind the number of processors.
+#[derive(Drop)]
+pub(crate) struct Sections {
+    pub(crate) options: Option<ListOf<Opt>>,
+    pub(crate) body: Body,
+}
+
+// What the last section is.
+#[derive(Clone, Copy)]
+pub(crate) enum LastSection {
+    Latency,
+    Fly,
+}

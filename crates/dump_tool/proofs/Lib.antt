@@ -1,0 +1,3 @@
+mod Putting
+mod Parts
+mod Chosen

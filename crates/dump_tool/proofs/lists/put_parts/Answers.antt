@@ -1,0 +1,16 @@
+use Rattle.std.specs.Prelude.{codes, length}
+use Rattle.std.specs.List.{flat_map, enumerate_from}
+use Rattle.dump_tool.specs.Texts.{heading}
+use Rattle.dump_tool.specs.Lists.{part_line}
+use Rattle.dump_tool.proofs.Putting.{put_both, stopped_first}
+use Rattle.dump_tool.proofs.lists.put_parts.Goals as goal
+
+pub returns-in_err-put_heading-clause-puts : goal.returns-in_err-put_heading-clause-puts
+returns-in_err-put_heading-clause-puts g c =
+    stopped_first (heading (codes "flyrecord") (length c.args.parts.now)) (flat_map part_line (enumerate_from 0 c.args.parts.now)) _ _ _ _
+    c.from_residual.result c.from_residual.ensures.0 c.in_err-put_heading.ensures.puts
+
+pub returns-clause-puts : goal.returns-clause-puts
+returns-clause-puts g c =
+    put_both (heading (codes "flyrecord") (length c.args.parts.now)) (flat_map part_line (enumerate_from 0 c.args.parts.now)) _ _ _ _ _ _
+    c.put_part_lines.result c.in_ok-put_heading.ensures.puts c.put_part_lines.ensures.puts

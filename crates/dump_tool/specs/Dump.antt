@@ -1,0 +1,38 @@
+-- What a dump prints of a header. Source: trace-cmd-dump(1).
+use Rattle.std.specs.Prelude.{ℕ, Bool, false, List, slice_index_or, codes}
+use Rattle.std.specs.List.{filter, flat_map}
+use Rattle.trace_args.specs.Command.{DumpData}
+use Rattle.trace_args.specs.Sections.{sections, place_of}
+use Rattle.trace_args.specs.declared.section.Section.{Section}
+use Rattle.trace_args.specs.declared.section.Section.TheVariants.{Summary, HeadPage, HeadEvent, FtraceEvents, Systems, Events, Kallsyms, Printk, CmdLines, Options, Flyrecord, Validate}
+use Rattle.dat_header.specs.declared.header.Header.{Header}
+use Rattle.dump_tool.specs.Texts.{stored_text}
+use Rattle.dump_tool.specs.Lists.{ftrace_text, systems_text, events_text, options_of, options_text, body_text}
+use Rattle.dump_tool.specs.Summary.{summary_text}
+
+-- the text of a section, for the header of a file with this name
+abbrev pub section_text : List ℕ → Header → Section → List ℕ
+section_text name header Summary = summary_text name header
+section_text name header HeadPage = stored_text (codes "header_page") header.page_text
+section_text name header HeadEvent = stored_text (codes "header_event") header.event_text
+section_text name header FtraceEvents = ftrace_text header.ftrace
+section_text name header Systems = systems_text header.systems
+section_text name header Events = events_text header.systems
+section_text name header Kallsyms = stored_text (codes "kallsyms") header.kallsyms
+section_text name header Printk = stored_text (codes "printk formats") header.printk
+section_text name header CmdLines = stored_text (codes "command lines") header.cmdlines
+section_text name header Options = options_text (options_of header.options)
+section_text name header Flyrecord = body_text header.body
+section_text name header Validate = codes "valid\n"
+
+-- a section is chosen by the words
+abbrev pub is_chosen : DumpData → Section → Bool
+is_chosen words section = slice_index_or words.sections (place_of section) false
+
+-- the texts of those of these sections that are chosen
+abbrev pub chosen_text : DumpData → Header → List Section → List ℕ
+chosen_text words header some = flat_map (section_text words.input header) (filter (is_chosen words) some)
+
+-- the texts of the chosen sections, in the order of the sections and not of the words
+abbrev pub dump_text : DumpData → Header → List ℕ
+dump_text words header = chosen_text words header sections

@@ -1,0 +1,5 @@
+pub mod Texts
+pub mod Lists
+pub mod Summary
+pub mod RowText
+pub mod Dump

@@ -1,0 +1,11 @@
+//! What `dump` prints: the text of every section of a trace file's header.
+#![tactic(auto)]
+
+mod lines;
+mod lists;
+mod sections;
+mod summary;
+#[cfg(test)]
+mod tests;
+
+pub use sections::dump;

@@ -1,0 +1,96 @@
+// The lines that sections are made of.
+
+ghost use Rattle.std.specs.Prelude.{◌≡◌};
+ghost use Rattle.trace_base.specs.Causes.{HasCause};
+ghost use Rattle.trace_base.specs.Pending.{Puts};
+ghost use Rattle.dump_tool.specs.Texts as spec;
+
+use itoa::Buffer;
+use trace_base::{Failed, Pending, Sink};
+
+/// Puts a name and what it stands for on a line of their own.
+pub(crate) fn put_value<'a, O: Sink>(
+    pending: &mut Pending,
+    out: &mut O,
+    name: &'a [u8],
+    value: &'a [u8],
+) -> Result<(), Failed>
+    ensures puts { Puts (spec.value_line name.now value.now) (O.written out.old) pending.old (O.written out.new) pending.new result }
+    ensures name { O.name out.new ≡ O.name out.old }
+    ensures cause { HasCause (O.faults out.old) (O.faults out.new) result }
+{
+    pending.put_parts(out, &[name, b" ", value, b"\n"])
+}
+
+/// Puts a name and a count on a line of their own.
+pub(crate) fn put_count<O: Sink>(
+    pending: &mut Pending,
+    out: &mut O,
+    name: &[u8],
+    count: u128,
+) -> Result<(), Failed>
+    ensures puts { Puts (spec.count_line name.now count) (O.written out.old) pending.old (O.written out.new) pending.new result }
+    ensures name { O.name out.new ≡ O.name out.old }
+    ensures cause { HasCause (O.faults out.old) (O.faults out.new) result }
+{
+    let mut digits = Buffer::new();
+    put_value(pending, out, name, digits.format(count).as_bytes())
+}
+
+/// Puts the line above a list of so many entries.
+pub(crate) fn put_heading<O: Sink>(
+    pending: &mut Pending,
+    out: &mut O,
+    name: &'static str,
+    count: u128,
+) -> Result<(), Failed>
+    ensures puts { Puts (spec.heading name.now count) (O.written out.old) pending.old (O.written out.new) pending.new result }
+    ensures name { O.name out.new ≡ O.name out.old }
+    ensures cause { HasCause (O.faults out.old) (O.faults out.new) result }
+{
+    let mut digits = Buffer::new();
+    let count = digits.format(count).as_bytes();
+    pending.put_parts(out, &[b"[", name.as_bytes(), b" ", count, b"]\n"])
+}
+
+/// Puts a stored text below a line with its name and its size.
+pub(crate) fn put_text<O: Sink>(
+    pending: &mut Pending,
+    out: &mut O,
+    name: &[u8],
+    text: &[u8],
+) -> Result<(), Failed>
+    ensures puts { Puts (spec.stored_text name.now text.now) (O.written out.old) pending.old (O.written out.new) pending.new result }
+    ensures name { O.name out.new ≡ O.name out.old }
+    ensures cause { HasCause (O.faults out.old) (O.faults out.new) result }
+{
+    let mut digits = Buffer::new();
+    let size = digits.format(text.len()).as_bytes();
+    put_sized(pending, out, name, size, text)
+}
+
+fn put_sized<'a, O: Sink>(
+    pending: &mut Pending,
+    out: &mut O,
+    name: &'a [u8],
+    size: &'a [u8],
+    text: &'a [u8],
+) -> Result<(), Failed>
+    ensures puts { Puts (spec.sized_text name.now size.now text.now) (O.written out.old) pending.old (O.written out.new) pending.new result }
+    ensures name { O.name out.new ≡ O.name out.old }
+    ensures cause { HasCause (O.faults out.old) (O.faults out.new) result }
+{
+    let end: &'a [u8] = line_end(text);
+    let parts: [&'a [u8]; 7] = [b"[", name, b" ", size, b" bytes]\n", text, end];
+    pending.put_parts(out, &parts)
+}
+
+// What is printed behind a stored text.
+fn line_end(text: &[u8]) -> &'static [u8]
+    ensures { result.now ≡ spec.line_end text.now }
+{
+    match text.last() {
+        None | Some(b'\n') => b"",
+        Some(_) => b"\n",
+    }
+}

@@ -1,0 +1,80 @@
+ghost use Rattle.std.specs.Prelude.{◌≡◌, [], OnOk, OnErr};
+ghost use Rattle.trace_base.specs.Causes.{HasCause};
+ghost use Rattle.trace_base.specs.Pending.{Puts};
+ghost use Rattle.trace_base.specs.Writing.{Gained, GainedPrefix};
+ghost use Rattle.trace_args.specs.Command.{dump_view};
+ghost use Rattle.dump_tool.specs.Dump.{dump_text, section_text};
+
+use crate::lines::put_text;
+use crate::lists::{options_of, put_body, put_events, put_ftrace, put_options, put_systems};
+use crate::summary::put_summary;
+use dat_header::Header;
+use trace_args::{DumpWords, Section};
+use trace_base::{Failed, Pending, Sink};
+
+/// Prints the sections of a header that the words choose, in the order of `Section::ALL` (trace-cmd-dump(1)).
+///
+/// Takes no memory: the text goes out through `pending`, and after `Ok` none of it waits there. After `Failed` the sink has a
+/// prefix of it.
+pub fn dump<O: Sink>(
+    words: &DumpWords<'_>,
+    header: &Header,
+    pending: &mut Pending,
+    out: &mut O,
+) -> Result<(), Failed>
+    requires { pending.old ≡ [] }
+    ensures gained { OnOk result (Gained (O.written out.old) (O.written out.new) (dump_text (dump_view words.now) header.now)) }
+    ensures prefix { OnErr result (GainedPrefix (O.written out.old) (O.written out.new) (dump_text (dump_view words.now) header.now)) }
+    ensures empty { OnOk result (pending.new ≡ []) }
+    ensures name { O.name out.new ≡ O.name out.old }
+    ensures cause { HasCause (O.faults out.old) (O.faults out.new) result }
+{
+    put_chosen(pending, out, words, header)?;
+    pending.flush(out)
+}
+
+// Puts the sections that the words choose.
+fn put_chosen<O: Sink>(
+    pending: &mut Pending,
+    out: &mut O,
+    words: &DumpWords<'_>,
+    header: &Header,
+) -> Result<(), Failed>
+    ensures puts { Puts (dump_text (dump_view words.now) header.now) (O.written out.old) pending.old (O.written out.new) pending.new result }
+    ensures name { O.name out.new ≡ O.name out.old }
+    ensures cause { HasCause (O.faults out.old) (O.faults out.new) result }
+{
+    for section in &Section::ALL {
+        if words.sections[section.place()] {
+            put_section(pending, out, *section, words.input, header)?;
+        }
+    }
+    Ok(())
+}
+
+fn put_section<O: Sink>(
+    pending: &mut Pending,
+    out: &mut O,
+    section: Section,
+    name: &str,
+    header: &Header,
+) -> Result<(), Failed>
+    ensures puts { Puts (section_text name.now header.now section) (O.written out.old) pending.old (O.written out.new) pending.new result }
+    ensures name { O.name out.new ≡ O.name out.old }
+    ensures cause { HasCause (O.faults out.old) (O.faults out.new) result }
+{
+    match section {
+        Section::Summary => put_summary(pending, out, name, header),
+        Section::HeadPage => put_text(pending, out, b"header_page", header.page_text.as_bytes()),
+        Section::HeadEvent => put_text(pending, out, b"header_event", header.event_text.as_bytes()),
+        Section::FtraceEvents => put_ftrace(pending, out, header.ftrace.as_slice()),
+        Section::Systems => put_systems(pending, out, header.systems.as_slice()),
+        Section::Events => put_events(pending, out, header.systems.as_slice()),
+        Section::Kallsyms => put_text(pending, out, b"kallsyms", header.kallsyms.as_bytes()),
+        Section::Printk => put_text(pending, out, b"printk formats", header.printk.as_bytes()),
+        Section::CmdLines => put_text(pending, out, b"command lines", header.cmdlines.as_bytes()),
+        Section::Options => put_options(pending, out, options_of(header)),
+        Section::Flyrecord => put_body(pending, out, &header.body),
+        Section::Validate => pending.put(out, b"valid\n"),
+    }
+}
