@@ -1,5 +1,5 @@
 -- Which word of some stands at a place, by the bytes that are there of it.
-use Rattle.std.proofs.Common.{◌≡◌, ℕ, ◌+◌, ◌-◌, ◌<◌, ◌≤◌, Bool, true, false, cond, if◌then◌else◌, ◌||◌, inl, inr, min, List, [], ◌∷◌, map, length, take, drop, Option, None, Some, Result, Ok, Err, IfSome, refl, sym, ap, subst, ◌∙◌, arith}
+use Rattle.std.proofs.Common.{◌≡◌, ℕ, ◌+◌, ◌-◌, ◌≤◌, Bool, true, false, if◌then◌else◌, ◌||◌, inl, inr, min, List, [], ◌∷◌, map, length, take, drop, Option, None, Some, Result, Ok, Err, IfSome, refl, sym, ap, subst, ◌∙◌, arith}
 use Rattle.std.proofs.lemmas.Bool.{cases_Bool, false≢true}
 use Rattle.std.proofs.lemmas.List.{length-take, take-take}
 use Rattle.std.proofs.lemmas.Slice.Eq.{bytes_eq-Decides}
@@ -10,7 +10,6 @@ use Rattle.trace_base.specs.Reading.{GivesBytesAt}
 use Rattle.dat_options.specs.declared.fault.OpenFault.{OpenFault}
 use Rattle.dat_options.specs.declared.fault.OpenFault.TheVariants.{BadSection, Truncated, Read}
 use Rattle.dat_options.specs.Answer.{Answers, AnswersTold}
-use Rattle.dat_options.proofs.Steps.{some_is}
 use Rattle.dat_header.specs.declared.pieces.LastSection.{LastSection}
 use Rattle.dat_header.specs.declared.pieces.LastSection.TheVariants as kind
 use Rattle.dat_header.specs.Items.{options_word, latency_word, fly_word, body_words, section_words}

@@ -1,7 +1,7 @@
 -- Options and tables are read as they are spelled.
-use Rattle.std.proofs.Common.{◌≡◌, ◌≢◌, ℕ, zero, suc, ◌+◌, ◌-◌, ◌*◌, ◌^◌, ◌<◌, ◌≤◌, Bool, true, false, cond, eqb, ltb, List, [], ◌∷◌, ◌++◌, length, take, drop, Option, None, Some, Result, Ok, Err, refl, sym, ap, subst, ◌∙◌, ◌⊎◌, append_assoc, inl, inr, arith}
-use Rattle.std.proofs.lemmas.Bool.{cases_Bool, cases_lt, le-ltb, lt-ltb, ltb-false, eqb-true, eqb-false}
-use Rattle.std.proofs.lemmas.List.{length-append, length-drop, length-take, take-append-drop, take_at, drop_at, append-nil}
+use Rattle.std.proofs.Common.{◌≡◌, ◌≢◌, ℕ, zero, suc, ◌+◌, ◌-◌, ◌^◌, ◌<◌, ◌≤◌, Bool, false, cond, eqb, ltb, List, [], ◌∷◌, ◌++◌, length, take, drop, Option, None, Some, refl, sym, ap, subst, ◌∙◌, ◌⊎◌, append_assoc, inl, inr, arith}
+use Rattle.std.proofs.lemmas.Bool.{cases_Bool, le-ltb, ltb-false, eqb-true, eqb-false}
+use Rattle.std.proofs.lemmas.List.{length-append, length-drop, length-take, take-append-drop}
 use Rattle.std.proofs.lemmas.List.Concat.{flat_map-cons}
 use Rattle.std.proofs.lemmas.List.Elements.{All-take, All-drop, All-cons}
 use Rattle.std.specs.List.{All, flat_map}
@@ -11,13 +11,12 @@ use Rattle.trace_base.specs.Number.{num, bytes_of}
 use Rattle.trace_base.specs.declared.order.Order.{Order}
 use Rattle.trace_base.specs.declared.part.Part.{Part}
 use Rattle.dat_options.specs.declared.option.Opt.{Opt}
-use Rattle.dat_options.specs.declared.fault.OpenFault.{OpenFault}
 use Rattle.dat_options.specs.declared.fault.OpenFault.TheVariants.{Truncated}
 use Rattle.dat_options.specs.Answer.{found_in}
 use Rattle.dat_options.specs.Front.{piece_at, number_at}
 use Rattle.dat_options.specs.Options.{IsOption, option_text, options_text, option_behind, option_at, with_first, options_below, options_at, options_from}
 use Rattle.dat_options.specs.Table.{IsPart, part_text, table_text, part_at, table_at, table_from}
-use Rattle.dat_options.proofs.Numbers.{IsBytes, limit, length-bytes_of, bytes_back}
+use Rattle.dat_options.proofs.Numbers.{IsBytes, limit, bytes_back}
 use Rattle.dat_options.proofs.OptionsLaws.{options_again}
 use Rattle.dat_options.proofs.TableLaws.{table_again}
 use Rattle.dat_options.proofs.Steps.{some_is}

@@ -1,7 +1,7 @@
 -- What is computed of a file is its header, or its refusal.
-use Rattle.std.proofs.Common.{◌≡◌, ℕ, zero, suc, ◌+◌, ◌-◌, ◌<◌, ◌≤◌, Bool, true, false, cond, ltb, List, [], ◌∷◌, ◌++◌, length, take, drop, Option, None, Some, Result, Ok, Err, refl, sym, ap, subst, ◌∙◌, ◌⊎◌, ◌↔◌, inl, inr, append_assoc, arith}
+use Rattle.std.proofs.Common.{◌≡◌, ℕ, zero, suc, ◌+◌, ◌-◌, ◌≤◌, Bool, true, false, cond, ltb, List, [], ◌∷◌, ◌++◌, length, take, drop, Option, None, Some, Result, Ok, Err, refl, sym, ap, subst, ◌∙◌, inl, inr, append_assoc, arith}
 use Rattle.std.proofs.lemmas.Bool.{cases_lt}
-use Rattle.std.proofs.lemmas.List.{length-append, append-nil, take-append-drop}
+use Rattle.std.proofs.lemmas.List.{append-nil, take-append-drop}
 use Rattle.std.proofs.lemmas.Grind.{flat_map-append}
 use Rattle.std.proofs.Math.Seq.{take-add}
 use Rattle.std.specs.List.{All, slice_get, list_any}
@@ -21,12 +21,12 @@ use Rattle.dat_header.specs.Items.{Item, Kind, word, version, value, page_text, 
 use Rattle.dat_header.specs.Refusal.{begins_with, version_fault, seventh, fault_at, front, Refuses}
 use Rattle.dat_header.specs.Spelling.{Spells, HasHeader, BeginsWith}
 use Rattle.dat_header.specs.Small.{word_at, value_at, cpus_of}
-use Rattle.dat_header.specs.Header.{version_at, machine_at, page_text_at, carried_at, sections_at, joined, header_of, IsRefusal}
+use Rattle.dat_header.specs.Header.{version_at, machine_at, page_text_at, carried_at, sections_at, header_of, IsRefusal}
 use Rattle.dat_header.specs.Steps.{Found, ◌>>=◌}
 use Rattle.dat_header.specs.Laws.{AreBytes, SpellingsDiffer, OneHeader, ReadsBack, ComputesHeader, ComputesRefusal, RefusesByBytes}
 use Rattle.dat_options.proofs.Steps.{some_is}
-use Rattle.dat_header.proofs.Grammar.{Reads, Stands, found_value, err_or_ok, at_ok, at_err, not_both, same_value, same_fault}
-use Rattle.dat_header.proofs.Wrongs.{Right, Wrong}
+use Rattle.dat_header.proofs.Grammar.{found_value, err_or_ok}
+use Rattle.dat_header.proofs.Wrongs.{Wrong}
 use Rattle.dat_header.proofs.WholeRight.{whole_at, IsOpen, right_whole}
 
 -- the header with its end

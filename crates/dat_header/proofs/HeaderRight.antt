@@ -1,47 +1,33 @@
 -- The whole header is read as it is spelled, or its first wrong item is found.
-use Rattle.std.proofs.Common.{◌≡◌, ℕ, zero, suc, ◌+◌, ◌-◌, ◌^◌, ◌<◌, ◌≤◌, Bool, true, false, cond, ltb, List, [], ◌∷◌, ◌++◌, length, take, drop, Option, None, Some, Result, Ok, Err, IfSome, refl, sym, ap, subst, ◌∙◌, ◌⊎◌, inl, inr, append_assoc, arith}
-use Rattle.std.proofs.lemmas.Bool.{cases_Bool, cases_lt, le-ltb, lt-ltb}
-use Rattle.std.proofs.lemmas.List.{length-append, length-drop, length-take, take_at, take-append-drop, drop-drop, take_all}
-use Rattle.std.proofs.lemmas.Slice.Eq.{bytes_eq-Decides}
-use Rattle.std.specs.Str.{bytes_eq}
-use Rattle.std.specs.List.{All, slice_get}
+use Rattle.std.proofs.Common.{◌≡◌, ℕ, ◌+◌, ◌<◌, ◌≤◌, Bool, true, false, cond, ltb, List, [], ◌∷◌, ◌++◌, length, take, drop, Ok, Err, refl, sym, ap, subst, ◌∙◌, inl, inr, append_assoc, arith}
+use Rattle.std.proofs.lemmas.Bool.{cases_lt, le-ltb, lt-ltb}
+use Rattle.std.proofs.lemmas.List.{length-append, length-drop}
 use Rattle.trace_base.specs.Number.{num, bytes_of}
 use Rattle.trace_base.specs.declared.order.Order.{Order}
-use Rattle.trace_base.specs.declared.order.Order.TheVariants.{Little, Big}
+use Rattle.trace_base.specs.declared.order.Order.TheVariants.{Little}
 use Rattle.trace_base.specs.declared.layout.Layout.{Layout}
-use Rattle.trace_base.specs.declared.part.Part.{Part}
-use Rattle.dat_options.specs.declared.option.Opt.{Opt}
 use Rattle.dat_options.specs.declared.fault.OpenFault.{OpenFault}
-use Rattle.dat_options.specs.declared.fault.OpenFault.TheVariants.{Truncated, NotTrace, BadEndian, BadLong, BadPageSize, BadHeaderPage, BadSection, TooManyCpus}
-use Rattle.dat_options.specs.Options.{IsOption, options_text, options_from}
-use Rattle.dat_options.specs.Table.{IsPart, table_text, table_from}
-use Rattle.dat_options.proofs.Numbers.{limit, length-bytes_of, num_again}
-use Rattle.dat_header.specs.declared.header.Header.{Header}
+use Rattle.dat_options.specs.declared.fault.OpenFault.TheVariants.{Truncated, BadEndian, BadLong, BadPageSize, BadHeaderPage}
+use Rattle.dat_options.proofs.Numbers.{limit}
 use Rattle.dat_header.specs.declared.header.System.{System}
-use Rattle.dat_header.specs.declared.header.Body.{Body}
-use Rattle.dat_header.specs.declared.header.Body.TheVariants.{Latency, Fly}
 use Rattle.dat_header.specs.declared.pieces.Machine.{Machine}
 use Rattle.dat_header.specs.declared.pieces.PageText.{PageText}
 use Rattle.dat_header.specs.declared.pieces.Carried.{Carried}
-use Rattle.dat_header.specs.declared.pieces.Sections.{Sections}
-use Rattle.dat_header.specs.declared.pieces.LastSection.{LastSection}
-use Rattle.dat_header.specs.declared.pieces.LastSection.TheVariants as kind
-use Rattle.dat_header.specs.Allowed.{IsLong, IsPageSize, AreFormats, AreSystems, IsBody, IsHeader}
-use Rattle.dat_header.specs.Pieces.{IsMachine, IsPageText, IsCarried, AreSections}
+use Rattle.dat_header.specs.Allowed.{AreFormats, AreSystems}
+use Rattle.dat_header.specs.Pieces.{IsMachine, IsPageText, IsCarried}
 use Rattle.dat_header.specs.PageText.{plain_layout, layout_of}
-use Rattle.dat_header.specs.Items.{Item, Kind, word, version, value, page_text, carried, text, magic_word, version_word, page_word, event_word, options_word, latency_word, fly_word, order_byte, sized, formats_text, systems_text, section_words, body_words, body_items, section_items, items}
-use Rattle.dat_header.specs.Refusal.{begins_with, word_fault, version_fault, fault_at}
-use Rattle.dat_header.specs.Small.{word_at, bytes_at, number_at, value_at, text_at, formats_at, systems_at, order_of, long_of, page_of, cpus_of}
-use Rattle.dat_header.specs.Header.{version_at, machine_at, page_text_at, carried_at, last_in, last_word_in, last_word_at, first_word_in, first_word_at, body_at, behind_options_at, behind_first_at, sections_at, joined, header_of}
+use Rattle.dat_header.specs.Items.{Item, value, page_text, carried, order_byte, sized, formats_text, systems_text}
+use Rattle.dat_header.specs.Refusal.{fault_at}
+use Rattle.dat_header.specs.Small.{bytes_at, number_at, value_at, text_at, formats_at, systems_at, order_of, long_of, page_of}
+use Rattle.dat_header.specs.Header.{machine_at, page_text_at, carried_at}
 use Rattle.dat_header.specs.Steps.{Found, ◌>>=◌, or_wrong}
 use Rattle.dat_header.specs.Laws.{AreBytes}
 use Rattle.dat_header.proofs.Values.{checked_is, checked_not}
-use Rattle.dat_header.proofs.Grammar.{Reads, Stands, found_value, err_or_ok, at_ok, at_err, not_both, same_value, same_fault, behind, room, reads_as}
-use Rattle.dat_header.proofs.Wrongs.{Right, Wrong, one_item, right_item, right_made, rights_then, rights_none, rights_as}
-use Rattle.dat_header.proofs.Texts.{EndsEarly, reads_bytes, reads_number, reads_text, text_end}
+use Rattle.dat_header.proofs.Grammar.{Stands, found_value, err_or_ok, at_ok, at_err, not_both, same_value, same_fault, behind, room}
+use Rattle.dat_header.proofs.Wrongs.{Right, one_item, right_item, rights_then, rights_none, rights_as}
+use Rattle.dat_header.proofs.Texts.{reads_bytes, reads_number, reads_text, text_end}
 use Rattle.dat_header.proofs.Systems.{reads_formats, formats_end, reads_systems, systems_end}
-use Rattle.dat_header.proofs.Fronts.{reads_options, options_end, reads_table, table_end}
-use Rattle.dat_header.proofs.ItemRights.{number_long, number_short, options_of, right_order, right_long, right_page, right_cpus, right_word, right_carried}
+use Rattle.dat_header.proofs.ItemRights.{number_long, number_short, options_of, right_order, right_long, right_page, right_carried}
 use Rattle.dat_header.proofs.ReadPieces.{bytes_found, bytes_short}
 
 -- items 3 to 5

@@ -1,6 +1,6 @@
 -- The header of pieces whose values are allowed.
-use Rattle.std.proofs.Common.{◌≡◌, ℕ, ◌+◌, ◌-◌, ◌%◌, ◌^◌, ◌<◌, ◌≤◌, ◌⊎◌, inl, inr, Bool, true, false, ◌&&◌, ◌||◌, eqb, leb, cond, List, [], ◌∷◌, Option, Some, None, Result, Ok, Err, IfOk, refl, sym, ap, subst, ◌∙◌, arith}
-use Rattle.std.proofs.lemmas.Bool.{leb-true, eqb-true, cases_Bool, false≢true}
+use Rattle.std.proofs.Common.{◌≡◌, ℕ, ◌+◌, ◌-◌, ◌%◌, ◌≤◌, ◌⊎◌, inl, inr, Bool, true, false, ◌&&◌, ◌||◌, eqb, leb, List, [], ◌∷◌, Option, Some, None, Result, Ok, Err, IfOk, refl, ap, subst, arith}
+use Rattle.std.proofs.lemmas.Bool.{leb-true, eqb-true, false≢true}
 use Rattle.std.proofs.Math.Pow.{pow_mono}
 use Rattle.std.specs.Prelude.{option_and_then, codes, if◌then◌else◌}
 use Rattle.dat_options.proofs.Steps.{some_is}
@@ -17,7 +17,7 @@ use Rattle.dat_header.specs.declared.pieces.Carried.{Carried}
 use Rattle.dat_header.specs.declared.pieces.Sections.{Sections}
 use Rattle.dat_header.specs.Allowed.{IsHeader, IsLong, IsPageSize}
 use Rattle.dat_header.specs.Pieces.{IsMachine, IsPageText, IsCarried, AreSections}
-use Rattle.dat_header.specs.PageText.{plain_layout, may_be, layout_by, layout_by_lines, line_named, field_lines, layout_of}
+use Rattle.dat_header.specs.PageText.{plain_layout, may_be, layout_by, line_named, field_lines, layout_of}
 use Rattle.dat_header.specs.Header.{joined}
 
 abbrev pub found_header : Header → Result Header OpenFault

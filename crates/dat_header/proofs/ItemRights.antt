@@ -1,26 +1,23 @@
 -- Each item of a header is read as it is spelled, or is wrong as its kind says.
-use Rattle.std.proofs.Common.{◌≡◌, ◌≢◌, ℕ, zero, suc, ◌+◌, ◌-◌, ◌^◌, ◌<◌, ◌≤◌, Bool, true, false, cond, ◌||◌, eqb, ltb, List, [], ◌∷◌, ◌++◌, length, take, drop, Option, None, Some, Result, Ok, Err, refl, sym, ap, subst, ◌∙◌, ◌⊎◌, inl, inr, append_assoc, arith}
+use Rattle.std.proofs.Common.{◌≡◌, ℕ, ◌+◌, ◌^◌, ◌<◌, ◌≤◌, Bool, true, false, cond, ◌||◌, eqb, ltb, List, [], ◌∷◌, ◌++◌, length, take, drop, Option, None, Some, Result, Ok, Err, refl, sym, ap, subst, ◌∙◌, ◌⊎◌, inl, inr, arith}
 use Rattle.std.proofs.Math.Pow.{pow_mono}
 use Rattle.std.proofs.lemmas.Bool.{cases_Bool, cases_lt, le-ltb, lt-ltb, ltb-false, eqb-true, false≢true}
-use Rattle.std.proofs.lemmas.List.{length-append, length-drop, length-take, take_at, take-append-drop, drop-drop}
+use Rattle.std.proofs.lemmas.List.{length-drop, length-take, take_at, take-append-drop, drop-drop}
 use Rattle.std.proofs.lemmas.Slice.Eq.{bytes_eq-Decides}
-use Rattle.std.specs.Str.{bytes_eq}
-use Rattle.std.specs.List.{All}
 use Rattle.trace_base.specs.Number.{num, bytes_of}
 use Rattle.trace_base.specs.declared.order.Order.{Order}
 use Rattle.trace_base.specs.declared.order.Order.TheVariants.{Little, Big}
 use Rattle.dat_options.specs.declared.fault.OpenFault.{OpenFault}
 use Rattle.dat_options.specs.declared.fault.OpenFault.TheVariants.{Truncated, BadEndian, BadLong, BadPageSize, TooManyCpus}
-use Rattle.dat_options.proofs.Numbers.{limit, length-bytes_of}
+use Rattle.dat_options.proofs.Numbers.{limit}
 use Rattle.dat_options.proofs.Steps.{some_is}
 use Rattle.dat_header.specs.Allowed.{IsLong, IsPageSize}
-use Rattle.dat_header.specs.Items.{Item, Kind, word, version, value, carried, order_byte, version_word}
-use Rattle.dat_header.specs.Refusal.{begins_with, word_fault, version_fault, fault_at}
+use Rattle.dat_header.specs.Items.{Kind, value, carried, order_byte}
+use Rattle.dat_header.specs.Refusal.{begins_with, word_fault, fault_at}
 use Rattle.dat_header.specs.Small.{word_at, number_at, bytes_at, value_at, order_of, long_of, page_of, cpus_of}
-use Rattle.dat_header.specs.Header.{version_at}
-use Rattle.dat_header.specs.Steps.{Found, ◌>>=◌, or_wrong}
+use Rattle.dat_header.specs.Steps.{Found, ◌>>=◌}
 use Rattle.dat_header.specs.Laws.{AreBytes}
-use Rattle.dat_header.proofs.Values.{checked_is, checked_not, long_known, page_known, page_allowed, IsListed}
+use Rattle.dat_header.proofs.Values.{checked_is, checked_not, page_known, page_allowed, IsListed}
 use Rattle.dat_header.proofs.ReadPieces.{bytes_found, bytes_short}
 use Rattle.dat_header.proofs.Grammar.{Reads, Stands, found_value, err_or_ok, at_ok, at_err, not_both, same_value, same_fault}
 use Rattle.dat_header.proofs.Wrongs.{Right, one_item, right_item}

@@ -1,5 +1,5 @@
 -- Bytes and numbers read of a file.
-use Rattle.std.proofs.Common.{◌≡◌, ℕ, ◌+◌, ◌-◌, ◌<◌, ◌≤◌, Bool, true, false, ltb, List, length, take, drop, Option, None, Some, Result, Ok, Err, IfSome, refl, sym, ap, subst, ◌∙◌, arith}
+use Rattle.std.proofs.Common.{◌≡◌, ℕ, ◌+◌, ◌<◌, ◌≤◌, true, false, ltb, List, length, take, drop, Option, None, Some, Ok, Err, IfSome, refl, sym, ap, subst, ◌∙◌, arith}
 use Rattle.std.proofs.lemmas.Bool.{le-ltb, lt-ltb}
 use Rattle.std.proofs.lemmas.List.{length-drop, take_all}
 use Rattle.trace_base.specs.Causes.{Rose, raised}
@@ -8,9 +8,9 @@ use Rattle.trace_base.specs.Reading.{GivesBytesAt}
 use Rattle.trace_base.specs.declared.order.Order.{Order}
 use Rattle.dat_options.specs.declared.fault.OpenFault.{OpenFault}
 use Rattle.dat_options.specs.declared.fault.OpenFault.TheVariants.{Truncated, Read, Memory}
-use Rattle.dat_options.specs.Answer.{Answers, AnswersTold}
+use Rattle.dat_options.specs.Answer.{AnswersTold}
 use Rattle.dat_options.specs.Piece.{FillsFrom, GivesPiece}
-use Rattle.dat_header.specs.Steps.{Found, ◌>>=◌}
+use Rattle.dat_header.specs.Steps.{Found}
 use Rattle.dat_header.specs.Small.{bytes_at, number_at}
 use Rattle.dat_header.specs.Reading.{FileSeen, Steps}
 use Rattle.dat_header.proofs.Steps.{erring, erring_is, steps_then, steps_here, steps_failed}

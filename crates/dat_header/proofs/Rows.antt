@@ -1,17 +1,14 @@
 -- Rows of bytes, texts and systems that are read one by one: what is left tells the same as all.
-use Rattle.std.proofs.Common.{◌≡◌, ℕ, zero, suc, ◌+◌, ◌*◌, ◌<◌, ◌≤◌, Bool, true, false, cond, if◌then◌else◌, eqb, ltb, List, [], ◌∷◌, ◌++◌, length, take, drop, Option, None, Some, Result, Ok, Err, refl, sym, ap, subst, ◌∙◌, append_assoc, add-zero, inl, inr, arith}
+use Rattle.std.proofs.Common.{◌≡◌, ℕ, suc, ◌+◌, ◌*◌, ◌≤◌, Bool, true, false, if◌then◌else◌, eqb, ltb, List, [], ◌∷◌, ◌++◌, length, drop, Option, None, Some, Result, Ok, Err, refl, sym, ap, subst, ◌∙◌, append_assoc, add-zero, inl, inr, arith}
 use Rattle.std.proofs.lemmas.Bool.{le-ltb, cases_Bool}
-use Rattle.std.proofs.lemmas.List.{append-nil, length-drop, drop-drop, length-append}
+use Rattle.std.proofs.lemmas.List.{append-nil, drop-drop}
 use Rattle.std.proofs.lemmas.List.Elements.{All-push}
 use Rattle.std.specs.List.{All}
 use Rattle.std.specs.Option.{option_map}
-use Rattle.trace_base.specs.Number.{num}
-use Rattle.trace_base.specs.declared.order.Order.{Order}
 use Rattle.trace_base.specs.declared.order.Order.TheVariants.{Little}
 use Rattle.dat_options.specs.declared.fault.OpenFault.{OpenFault}
 use Rattle.dat_options.specs.declared.fault.OpenFault.TheVariants.{Truncated, Memory}
-use Rattle.dat_options.specs.Answer.{Answers, AnswersTold}
-use Rattle.dat_header.specs.declared.header.System.{System}
+use Rattle.dat_options.specs.Answer.{AnswersTold}
 use Rattle.dat_header.specs.Steps.{Found, ◌>>=◌, or_wrong}
 use Rattle.dat_header.specs.Small.{bytes_at, number_at, before_nul, name_at, row_at}
 use Rattle.dat_header.specs.Reading.{FileSeen, Steps}

@@ -1,9 +1,8 @@
 -- The sections behind the number of processors are read as they are spelled, or their first wrong item is found.
-use Rattle.std.proofs.Common.{◌≡◌, ℕ, zero, suc, ◌+◌, ◌-◌, ◌<◌, ◌≤◌, Bool, true, false, cond, if◌then◌else◌, List, [], ◌∷◌, ◌++◌, length, take, drop, Option, None, Some, Result, Ok, Err, IfSome, refl, sym, ap, subst, ◌∙◌, ◌⊎◌, inl, inr, arith}
-use Rattle.std.proofs.lemmas.Bool.{cases_Bool, false≢true}
-use Rattle.std.proofs.lemmas.List.{length-append, length-drop, length-take, take_at, take-append-drop, drop-drop}
+use Rattle.std.proofs.Common.{◌≡◌, ℕ, zero, suc, ◌+◌, ◌≤◌, Bool, true, false, if◌then◌else◌, List, [], ◌∷◌, ◌++◌, length, take, drop, Option, None, Some, Result, Ok, Err, refl, sym, ap, subst, ◌∙◌, inl, inr, arith}
+use Rattle.std.proofs.lemmas.Bool.{cases_Bool}
+use Rattle.std.proofs.lemmas.List.{length-drop, length-take, take_at, take-append-drop, drop-drop}
 use Rattle.std.proofs.lemmas.Slice.Eq.{bytes_eq-Decides}
-use Rattle.std.specs.Str.{bytes_eq}
 use Rattle.std.specs.List.{All}
 use Rattle.std.proofs.lemmas.List.Elements.{All-cons}
 use Rattle.trace_base.specs.declared.order.Order.{Order}
@@ -13,7 +12,6 @@ use Rattle.dat_options.specs.declared.fault.OpenFault.{OpenFault}
 use Rattle.dat_options.specs.declared.fault.OpenFault.TheVariants.{BadSection}
 use Rattle.dat_options.specs.Options.{IsOption, options_text, options_from}
 use Rattle.dat_options.specs.Table.{IsPart, table_text, table_from}
-use Rattle.dat_options.proofs.Steps.{some_is}
 use Rattle.dat_header.specs.declared.header.Body.{Body}
 use Rattle.dat_header.specs.declared.header.Body.TheVariants.{Latency, Fly}
 use Rattle.dat_header.specs.declared.pieces.Sections.{Sections}
@@ -21,15 +19,13 @@ use Rattle.dat_header.specs.declared.pieces.LastSection.{LastSection}
 use Rattle.dat_header.specs.declared.pieces.LastSection.TheVariants as kind
 use Rattle.dat_header.specs.Allowed.{IsBody}
 use Rattle.dat_header.specs.Pieces.{AreSections}
-use Rattle.dat_header.specs.Items.{Item, Kind, word, carried, options_word, latency_word, fly_word, section_words, body_words, body_items, section_items}
-use Rattle.dat_header.specs.Refusal.{begins_with, word_fault, fault_at}
-use Rattle.dat_header.specs.Header.{last_in, last_word_in, last_word_at, first_word_in, first_word_at, body_at, behind_options_at, behind_first_at, sections_at}
+use Rattle.dat_header.specs.Items.{Item, word, carried, options_word, latency_word, fly_word, section_words, body_words, section_items}
+use Rattle.dat_header.specs.Refusal.{begins_with, word_fault}
+use Rattle.dat_header.specs.Header.{last_in, last_word_in, last_word_at, first_word_at, body_at, behind_options_at, behind_first_at, sections_at}
 use Rattle.dat_header.specs.Steps.{Found, ◌>>=◌, or_wrong}
-use Rattle.dat_header.specs.Laws.{AreBytes}
 use Rattle.dat_header.proofs.Values.{checked_is, checked_not}
-use Rattle.dat_header.proofs.Grammar.{Reads, Stands, found_value, err_or_ok, at_ok, at_err, not_both, same_value, same_fault}
+use Rattle.dat_header.proofs.Grammar.{Stands, found_value, not_both, same_value, same_fault}
 use Rattle.dat_header.proofs.Wrongs.{Right, one_item, right_item, right_made, rights_then, rights_none, rights_as}
-use Rattle.dat_header.proofs.Texts.{EndsEarly}
 use Rattle.dat_header.proofs.Fronts.{reads_options, options_end, reads_table, table_end}
 use Rattle.dat_header.proofs.ItemRights.{options_of, right_carried}
 

@@ -1,13 +1,12 @@
 -- Names, formats and systems are read as they are spelled.
-use Rattle.std.proofs.Common.{◌≡◌, ◌≢◌, ℕ, zero, suc, ◌+◌, ◌-◌, ◌^◌, ◌<◌, ◌≤◌, Bool, true, false, cond, eqb, List, [], ◌∷◌, ◌++◌, length, take, drop, Option, None, Some, Result, Ok, Err, refl, sym, ap, subst, ◌∙◌, ◌⊎◌, append_assoc, inl, inr, arith}
+use Rattle.std.proofs.Common.{◌≡◌, ◌≢◌, ℕ, ◌+◌, ◌<◌, ◌≤◌, Bool, false, cond, eqb, List, [], ◌∷◌, ◌++◌, length, drop, Option, None, Some, Ok, refl, sym, ap, subst, ◌∙◌, ◌⊎◌, append_assoc, inl, inr, arith}
 use Rattle.std.proofs.lemmas.Bool.{cases_Bool, ne_eqb, eqb-true, eqb-false}
-use Rattle.std.proofs.lemmas.List.{length-append, length-drop, append-nil, drop-drop}
+use Rattle.std.proofs.lemmas.List.{length-append, length-drop, append-nil}
 use Rattle.std.proofs.lemmas.List.Elements.{All-head, All-tail, All-cons}
 use Rattle.std.specs.List.{All, flat_map}
 use Rattle.std.specs.Option.{option_map}
 use Rattle.trace_base.specs.Number.{bytes_of}
 use Rattle.trace_base.specs.declared.order.Order.{Order}
-use Rattle.dat_options.specs.declared.fault.OpenFault.{OpenFault}
 use Rattle.dat_options.specs.declared.fault.OpenFault.TheVariants.{Truncated}
 use Rattle.dat_options.proofs.Numbers.{limit}
 use Rattle.dat_options.proofs.Steps.{some_is}
@@ -15,7 +14,7 @@ use Rattle.dat_header.specs.declared.header.System.{System}
 use Rattle.dat_header.specs.Allowed.{IsName, AreFormats, IsSystem, AreSystems}
 use Rattle.dat_header.specs.Items.{sized, sized_texts, formats_text, system_text, systems_text}
 use Rattle.dat_header.specs.Small.{number_at, text_at, texts_at, formats_at, before_nul, name_at, system_at, each_system_at, systems_at}
-use Rattle.dat_header.specs.Steps.{Found, ◌>>=◌, or_wrong}
+use Rattle.dat_header.specs.Steps.{Found, ◌>>=◌}
 use Rattle.dat_header.specs.Laws.{AreBytes}
 use Rattle.dat_header.proofs.Values.{checked_is, checked_not}
 use Rattle.dat_header.proofs.Grammar.{Reads, Stands, found_value, not_both, same_value, same_fault, behind, reads_then, reads_none, reads_as}

@@ -1,26 +1,22 @@
 -- Numbers, texts, names and rows of them are read as they are spelled.
-use Rattle.std.proofs.Common.{◌≡◌, ◌≢◌, ℕ, zero, suc, ◌+◌, ◌-◌, ◌*◌, ◌^◌, ◌<◌, ◌≤◌, Bool, true, false, cond, eqb, ltb, get_or, List, [], ◌∷◌, ◌++◌, length, take, drop, reverse, Option, None, Some, Result, Ok, Err, refl, sym, ap, subst, ◌∙◌, append_assoc, inl, inr, arith}
-use Rattle.std.proofs.lemmas.Bool.{cases_lt, cases_Bool, le-ltb, lt-ltb, ltb-true, ltb-false, ne_eqb, eqb-true, eqb-false}
-use Rattle.std.proofs.lemmas.List.{length-append, length-drop, length-take, length-reverse, take_at, take-append-drop, drop-drop, append-nil, get_or_past, get_or-reverse}
+use Rattle.std.proofs.Common.{◌≡◌, ℕ, zero, suc, ◌+◌, ◌-◌, ◌<◌, ◌≤◌, false, ltb, List, [], ◌∷◌, ◌++◌, length, take, drop, reverse, Ok, Err, refl, sym, ap, subst, ◌∙◌, append_assoc, inl, inr, arith}
+use Rattle.std.proofs.lemmas.Bool.{cases_lt, le-ltb}
+use Rattle.std.proofs.lemmas.List.{length-append, length-drop, length-take, length-reverse, take_at, take-append-drop, drop-drop, get_or_past, get_or-reverse}
 use Rattle.std.proofs.lemmas.List.Concat.{flat_map-cons}
 use Rattle.std.proofs.lemmas.List.Elements.{All-take, All-drop, All-head, All-tail, All-cons}
 use Rattle.std.specs.List.{All, flat_map}
-use Rattle.std.specs.Option.{option_map}
 use Rattle.trace_base.specs.Number.{num, bytes_of, low_first}
 use Rattle.trace_base.specs.declared.order.Order.{Order}
 use Rattle.trace_base.specs.declared.order.Order.TheVariants.{Little, Big}
 use Rattle.dat_options.specs.declared.fault.OpenFault.{OpenFault}
 use Rattle.dat_options.specs.declared.fault.OpenFault.TheVariants.{Truncated}
 use Rattle.dat_options.proofs.Numbers.{IsBytes, limit, length-bytes_of, num_again, bytes_back}
-use Rattle.dat_options.proofs.Steps.{some_is}
-use Rattle.dat_header.specs.declared.header.System.{System}
-use Rattle.dat_header.specs.Allowed.{IsName, AreFormats, IsSystem, AreSystems}
-use Rattle.dat_header.specs.Items.{sized, sized_texts, formats_text, system_text, systems_text}
-use Rattle.dat_header.specs.Small.{bytes_at, number_at, text_at, row_at, texts_at, formats_at, before_nul, name_at, system_at, each_system_at, systems_at}
-use Rattle.dat_header.specs.Steps.{Found, ◌>>=◌, or_wrong}
+use Rattle.dat_header.specs.Items.{sized}
+use Rattle.dat_header.specs.Small.{bytes_at, number_at, text_at, row_at}
+use Rattle.dat_header.specs.Steps.{Found, ◌>>=◌}
 use Rattle.dat_header.specs.Laws.{AreBytes}
 use Rattle.dat_header.proofs.ReadPieces.{bytes_found, bytes_short}
-use Rattle.dat_header.proofs.Grammar.{Reads, Stands, found_value, err_or_ok, at_ok, at_err, not_both, same_value, same_fault, behind, room, reads_then, reads_none, reads_as}
+use Rattle.dat_header.proofs.Grammar.{Reads, Stands, found_value, err_or_ok, at_ok, at_err, not_both, same_value, same_fault, behind, room, reads_then, reads_as}
 
 -- the fault of a reader that can only meet the file's end
 abbrev pub EndsEarly : {V : Type 0} → (List ℕ → ℕ → Found V) → Type 0

@@ -1,8 +1,5 @@
 -- The whole header is read as it is spelled, or its first wrong item is found.
-use Rattle.std.proofs.Common.{◌≡◌, ℕ, zero, suc, ◌+◌, ◌-◌, ◌<◌, ◌≤◌, List, [], ◌∷◌, ◌++◌, length, take, drop, Option, None, Some, Result, Ok, Err, refl, sym, ap, subst, ◌∙◌, ◌⊎◌, inl, inr, append_assoc, add-zero, arith}
-use Rattle.std.specs.List.{All, slice_get}
-use Rattle.trace_base.specs.declared.order.Order.{Order}
-use Rattle.dat_options.specs.declared.fault.OpenFault.{OpenFault}
+use Rattle.std.proofs.Common.{◌≡◌, ℕ, ◌≤◌, List, [], ◌∷◌, drop, Ok, refl, sym, ap}
 use Rattle.dat_options.specs.declared.fault.OpenFault.TheVariants.{NotTrace, BadSection, TooManyCpus}
 use Rattle.dat_header.specs.declared.header.Header.{Header}
 use Rattle.dat_header.specs.declared.pieces.Machine.{Machine}
@@ -11,15 +8,12 @@ use Rattle.dat_header.specs.declared.pieces.Carried.{Carried}
 use Rattle.dat_header.specs.declared.pieces.Sections.{Sections}
 use Rattle.dat_header.specs.Allowed.{IsHeader}
 use Rattle.dat_header.specs.Pieces.{IsMachine, IsPageText, IsCarried, AreSections}
-use Rattle.dat_header.specs.Items.{Item, Kind, word, version, text, magic_word, version_word, page_word, event_word, items}
-use Rattle.dat_header.specs.Refusal.{version_fault, fault_at, front, Refuses}
-use Rattle.dat_header.specs.Spelling.{Spells, HasHeader, BeginsWith}
-use Rattle.dat_header.specs.Small.{word_at, value_at, cpus_of}
-use Rattle.dat_header.specs.Header.{version_at, machine_at, page_text_at, carried_at, sections_at, joined, header_of}
+use Rattle.dat_header.specs.Items.{word, version, magic_word, version_word, page_word, event_word, items}
+use Rattle.dat_header.specs.Refusal.{version_fault}
+use Rattle.dat_header.specs.Small.{value_at, cpus_of}
+use Rattle.dat_header.specs.Header.{machine_at, page_text_at, carried_at, sections_at, joined}
 use Rattle.dat_header.specs.Steps.{Found, ◌>>=◌}
-use Rattle.dat_header.specs.Laws.{AreBytes}
-use Rattle.dat_header.proofs.Grammar.{Reads, Stands, found_value, err_or_ok, at_ok, at_err, not_both, same_value, same_fault}
-use Rattle.dat_header.proofs.Wrongs.{Right, Wrong, one_item, right_made, rights_then, rights_none, rights_as}
+use Rattle.dat_header.proofs.Wrongs.{Right, right_made, rights_then, rights_as}
 use Rattle.dat_header.proofs.ItemRights.{right_word, read_fixed, right_cpus}
 use Rattle.dat_header.proofs.HeaderRight.{right_machine, machine_items, right_page_text, carried_items, right_carried_texts}
 use Rattle.dat_header.proofs.SectionsRight.{right_sections}

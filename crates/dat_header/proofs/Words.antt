@@ -1,15 +1,14 @@
 -- Words that stand at a place, by the bytes that are there of them.
-use Rattle.std.proofs.Common.{◌≡◌, ℕ, ◌+◌, ◌-◌, ◌<◌, ◌≤◌, Bool, true, false, cond, ◌||◌, inl, inr, min, List, [], ◌∷◌, length, take, drop, Option, None, Some, Result, Ok, Err, IfOk, IfErr, IfSome, refl, sym, ap, subst, ◌∙◌, arith}
+use Rattle.std.proofs.Common.{◌≡◌, ℕ, ◌+◌, ◌-◌, ◌≤◌, Bool, true, false, cond, inl, inr, min, List, [], ◌∷◌, length, take, drop, Option, None, Some, Result, Ok, Err, IfOk, IfSome, refl, sym, ap, subst, ◌∙◌, arith}
 use Rattle.std.proofs.lemmas.Bool.{cases_lt, cases_Bool, false≢true}
 use Rattle.std.proofs.Math.Bool.{or-false}
 use Rattle.std.proofs.lemmas.List.{length-drop, length-take, take_all, take-take}
 use Rattle.std.proofs.lemmas.Slice.Eq.{bytes_eq-Decides}
 use Rattle.std.specs.Str.{bytes_eq}
-use Rattle.std.specs.List.{list_any}
-use Rattle.trace_base.specs.Causes.{Rose, raised}
+use Rattle.trace_base.specs.Causes.{raised}
 use Rattle.trace_base.specs.Reading.{GivesBytesAt}
 use Rattle.dat_options.specs.declared.fault.OpenFault.{OpenFault}
-use Rattle.dat_options.specs.declared.fault.OpenFault.TheVariants.{Truncated, Compressed, OtherVersion, Read, Memory}
+use Rattle.dat_options.specs.declared.fault.OpenFault.TheVariants.{Truncated, Compressed, OtherVersion, Read}
 use Rattle.dat_options.specs.Answer.{Answers, AnswersTold}
 use Rattle.dat_header.specs.Header.{IsRefusal, version_at}
 use Rattle.dat_header.specs.Refusal.{begins_with, word_fault, version_fault, seventh}

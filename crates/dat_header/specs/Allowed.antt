@@ -1,7 +1,7 @@
 -- The values that a header may have.
 -- Source: trace-cmd.dat.v6(5); that the page size is a power of two from 4,096 to 65,536 and that there are at most 1,024
 -- processors are limits of this program.
-use Rattle.std.specs.Prelude.{◌≡◌, ◌≢◌, ℕ, ◌^◌, ◌<◌, ◌≤◌, ◌⊎◌, List, length, Option, Some, IfSome}
+use Rattle.std.specs.Prelude.{◌≡◌, ◌≢◌, ℕ, ◌^◌, ◌<◌, ◌≤◌, ◌⊎◌, List, length, Some, IfSome}
 use Rattle.std.specs.List.{All}
 use Rattle.dat_options.specs.Options.{IsOption}
 use Rattle.dat_options.specs.Table.{IsPart}

@@ -1,18 +1,13 @@
 -- The header that a file has, or what is wrong with the file, computed step by step.
-use Rattle.std.specs.Prelude.{ℕ, ◌+◌, ◌∷◌, List, [], length, drop, Option, Some, None, Result, Ok, Err, if◌then◌else◌}
-use Rattle.std.specs.Option.{option_map}
+use Rattle.std.specs.Prelude.{ℕ, ◌+◌, List, length, drop, Option, Some, None, Result, Ok, if◌then◌else◌}
 use Rattle.trace_base.specs.declared.order.Order.{Order}
 use Rattle.trace_base.specs.declared.order.Order.TheVariants.{Little}
-use Rattle.trace_base.specs.declared.layout.Layout.{Layout}
-use Rattle.trace_base.specs.declared.part.Part.{Part}
-use Rattle.dat_options.specs.declared.option.Opt.{Opt}
 use Rattle.dat_options.specs.declared.fault.OpenFault.{OpenFault}
 use Rattle.dat_options.specs.declared.fault.OpenFault.TheVariants.{NotTrace, BadEndian, BadLong, BadPageSize, BadHeaderPage, BadSection, TooManyCpus, Read, Memory}
 use Rattle.dat_options.specs.Options.{options_from}
 use Rattle.dat_options.specs.Table.{table_from}
 use Rattle.dat_options.specs.Answer.{AnswersTold}
 use Rattle.dat_header.specs.declared.header.Header.{Header}
-use Rattle.dat_header.specs.declared.header.System.{System}
 use Rattle.dat_header.specs.declared.header.Body.{Body}
 use Rattle.dat_header.specs.declared.header.Body.TheVariants.{Latency, Fly}
 use Rattle.dat_header.specs.declared.pieces.Machine.{Machine}

@@ -1,9 +1,8 @@
 -- What is wrong with a file that has no header, and where.
-use Rattle.std.specs.Prelude.{◌≡◌, ◌<◌, ℕ, ◌+◌, nat_lt, Bool, ◌&&◌, List, [], ◌∷◌, length, take, drop, slice_get, Option, Some, if◌then◌else◌, codes}
+use Rattle.std.specs.Prelude.{◌≡◌, ℕ, ◌+◌, nat_lt, Bool, List, [], ◌∷◌, length, take, drop, slice_get, Some, if◌then◌else◌}
 use Rattle.std.specs.List.{list_any}
 use Rattle.std.specs.Str.{bytes_eq}
 use Rattle.trace_base.specs.Number.{num}
-use Rattle.trace_base.specs.declared.order.Order.{Order}
 use Rattle.dat_options.specs.declared.fault.OpenFault.{OpenFault}
 use Rattle.dat_options.specs.declared.fault.OpenFault.TheVariants.{Compressed, OtherVersion, BadHeaderPage, Truncated}
 use Rattle.dat_header.specs.declared.header.Header.{Header}

@@ -13,6 +13,7 @@ ghost use Rattle.dat_header.specs.Reading.{Steps, seen};
 
 use crate::pieces::{Machine, PageText};
 use crate::small::{read_content, read_long_number};
+use bstr::ByteSlice;
 use dat_options::OpenFault;
 use std::alloc::Global;
 use trace_base::{FieldLine, File, Layout, read_field_line};
@@ -47,8 +48,8 @@ fn layout_of(machine: &Machine, text: &[u8]) -> Option<Layout>
     }
     let time = line_named(text, b"timestamp")?;
     let commit = line_named(text, b"commit")?;
-    let data = line_named(text, b"data")?;
-    layout_by(machine, &time, &commit, &data)
+    let content = line_named(text, b"data")?;
+    layout_by(machine, &time, &commit, &content)
 }
 
 fn plain_layout(machine: &Machine) -> Layout
@@ -96,26 +97,26 @@ fn first_line(text: &[u8]) -> (&[u8], Option<&[u8]>)
 fn newline(text: &[u8]) -> Option<usize>
     ensures { result ≡ position (λ byte. byte == 10) text.now }
 {
-    text.iter().position(|byte| *byte == b'\n')
+    text.find_byte(b'\n')
 }
 
 fn layout_by(
     machine: &Machine,
     time: &FieldLine<'_>,
     commit: &FieldLine<'_>,
-    data: &FieldLine<'_>,
+    content: &FieldLine<'_>,
 ) -> Option<Layout>
-    ensures { result ≡ layout_by machine.now.order machine.now.page (field_view time.now) (field_view commit.now) (field_view data.now) }
+    ensures { result ≡ layout_by machine.now.order machine.now.page (field_view time.now) (field_view commit.now) (field_view content.now) }
 {
     let layout = Layout {
         order: machine.order,
         time_at: time.offset,
         commit_at: commit.offset,
         commit_size: commit.size,
-        data_at: data.offset,
+        data_at: content.offset,
         page: machine.page,
     };
-    let ends_with_page = data.offset as u64 + data.size as u64 == machine.page as u64;
+    let ends_with_page = content.offset as u64 + content.size as u64 == machine.page as u64;
     if time.size == 8 && ends_with_page && may_be(&layout) {
         Some(layout)
     } else {

@@ -13,6 +13,8 @@ mod put;
 mod read;
 mod sections;
 mod small;
+#[cfg(test)]
+mod tests;
 mod write;
 
 pub use dat_options::{OpenFault, Opt};

@@ -1,4 +1,4 @@
-use Rattle.std.proofs.Common.{rules, refl, arith}
+use Rattle.std.proofs.Common.{refl, arith}
 use Rattle.std.proofs.lemmas.Result.{err_from_is_err_and}
 use Rattle.dat_header.specs.Header.{carried_at}
 use Rattle.dat_header.proofs.Steps.{steps_then, steps_failed, steps_here}

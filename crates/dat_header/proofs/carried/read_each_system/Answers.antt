@@ -1,4 +1,4 @@
-use Rattle.std.proofs.Common.{◌≡◌, ◌-◌, suc, refl, ℕ, arith, rules}
+use Rattle.std.proofs.Common.{◌-◌, suc, refl, arith, rules}
 use Rattle.std.proofs.lemmas.Result.{err_from_is_err_and}
 use Rattle.dat_header.specs.Allowed.{IsSystem}
 use Rattle.dat_header.specs.Small.{system_at}

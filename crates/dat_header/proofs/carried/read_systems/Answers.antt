@@ -1,7 +1,6 @@
-use Rattle.std.proofs.Common.{rules, refl, arith}
 use Rattle.std.proofs.lemmas.Result.{err_from_is_err_and}
 use Rattle.dat_header.specs.Small.{systems_at}
-use Rattle.dat_header.proofs.Steps.{steps_then, steps_failed, steps_here}
+use Rattle.dat_header.proofs.Steps.{steps_then, steps_failed}
 use Rattle.dat_header.proofs.carried.read_systems.Goals as goal
 
 pub returns-in_err-count-clause-steps : goal.returns-in_err-count-clause-steps

@@ -3,4 +3,4 @@ use Rattle.dat_header.proofs.Layouts.{layout_found}
 use Rattle.dat_header.proofs.layout.layout_of.Goals as goal
 
 pub returns : goal.returns
-returns c = c.layout_by.ensures ∙ layout_found _ _ _ c.args.text.now _ _ _ (sym c.is_empty.ensures ∙ c.if-is_empty.false) c.in_ok-time.ensures c.in_ok-commit.ensures c.in_ok-data.ensures
+returns c = c.layout_by.ensures ∙ layout_found _ _ _ c.args.text.now _ _ _ (sym c.is_empty.ensures ∙ c.if-is_empty.false) c.in_ok-time.ensures c.in_ok-commit.ensures c.in_ok-content.ensures

@@ -1,4 +1,4 @@
-use Rattle.std.proofs.Common.{ap, sym, refl, ◌∙◌, List, ℕ, arith, rules}
+use Rattle.std.proofs.Common.{ap, sym, refl, ◌∙◌, List, ℕ, arith}
 use Rattle.std.proofs.lemmas.Result.{err_from_is_err_and}
 use Rattle.dat_header.specs.Header.{page_text_at}
 use Rattle.dat_header.specs.PageText.{layout_of}

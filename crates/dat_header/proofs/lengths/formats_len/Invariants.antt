@@ -1,8 +1,7 @@
 use Rattle.std.proofs.Common.{◌≡◌, length, take}
 use Rattle.std.specs.List.{flat_map}
 use Rattle.trace_base.specs.declared.order.Order.{Order}
-use Rattle.dat_options.specs.Options.{option_text}
-use Rattle.dat_header.specs.Items.{sized, system_text}
+use Rattle.dat_header.specs.Items.{sized}
 use Rattle.dat_header.proofs.Wrapped.{wrapped}
 use Rattle.dat_header.proofs.lengths.formats_len.Given as goal
 

@@ -1,6 +1,5 @@
 use Rattle.std.proofs.Common.{refl, arith}
 use Rattle.dat_options.specs.Options.{option_text}
-use Rattle.dat_header.specs.Items.{sized, system_text}
 use Rattle.dat_header.proofs.Wrapped.{options_more, row_whole}
 use Rattle.dat_header.proofs.lengths.options_len.Goals as goal
 

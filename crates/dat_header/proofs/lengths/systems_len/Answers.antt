@@ -1,6 +1,5 @@
 use Rattle.std.proofs.Common.{refl, arith}
-use Rattle.dat_options.specs.Options.{option_text}
-use Rattle.dat_header.specs.Items.{sized, system_text}
+use Rattle.dat_header.specs.Items.{system_text}
 use Rattle.dat_header.proofs.Wrapped.{systems_more, row_whole}
 use Rattle.dat_header.proofs.lengths.systems_len.Goals as goal
 

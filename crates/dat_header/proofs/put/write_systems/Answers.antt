@@ -1,7 +1,7 @@
-use Rattle.std.proofs.Common.{ap, arith, rules, sym, take, drop}
+use Rattle.std.proofs.Common.{ap}
 use Rattle.std.proofs.lemmas.Result.{err_from_is_err_and}
-use Rattle.dat_header.specs.Items.{items, text, sized, formats_text, system_text, systems_text}
-use Rattle.dat_header.proofs.Written.{writes_by, writes_as, writes_nothing, writes_then, writes_failed, writes_more, writes_row_failed, writes_row, texts_text, end_text, whole_text}
+use Rattle.dat_header.specs.Items.{systems_text}
+use Rattle.dat_header.proofs.Written.{writes_as, writes_then, writes_failed}
 use Rattle.dat_header.proofs.put.write_systems.Goals as goal
 
 pub returns-in_err-write_number : goal.returns-in_err-write_number

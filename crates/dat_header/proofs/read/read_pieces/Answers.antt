@@ -1,8 +1,8 @@
-use Rattle.std.proofs.Common.{rules, refl, sym, ap, subst, arith}
+use Rattle.std.proofs.Common.{sym, ap, subst, arith}
 use Rattle.std.proofs.lemmas.Result.{err_from_is_err_and}
 use Rattle.dat_header.specs.declared.header.Header.{Header}
 use Rattle.dat_header.specs.Allowed.{IsHeader}
-use Rattle.dat_header.proofs.Headers.{found_header, header_allowed, layout_allowed}
+use Rattle.dat_header.proofs.Headers.{found_header, header_allowed}
 use Rattle.dat_header.specs.Header.{header_of}
 use Rattle.dat_header.proofs.Steps.{steps_then, steps_failed, steps_here}
 use Rattle.dat_header.proofs.read.read_pieces.Goals as goal

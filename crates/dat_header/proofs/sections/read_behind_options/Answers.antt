@@ -1,4 +1,4 @@
-use Rattle.std.proofs.Common.{ap, refl, sym, arith, rules, List, ℕ, Option, None, Some}
+use Rattle.std.proofs.Common.{refl, arith}
 use Rattle.std.proofs.lemmas.Result.{err_from_is_err_and}
 use Rattle.dat_header.specs.Header.{behind_options_at}
 use Rattle.dat_header.proofs.Steps.{steps_then, steps_failed, steps_here, steps_found, steps_fault}

@@ -1,4 +1,4 @@
-use Rattle.std.proofs.Common.{ap, refl, sym, arith, rules, List, ℕ, Option, None, Some}
+use Rattle.std.proofs.Common.{ap, refl, sym, arith, List, ℕ}
 use Rattle.std.proofs.lemmas.Result.{err_from_is_err_and}
 use Rattle.dat_header.specs.declared.pieces.LastSection.{LastSection}
 use Rattle.dat_header.specs.declared.pieces.LastSection.TheVariants.{Latency, Fly}

@@ -1,6 +1,5 @@
 use Rattle.std.proofs.Common.{◌∙◌, rules}
 use Rattle.std.proofs.lemmas.Result.{err_from_is_err_and}
-use Rattle.dat_header.specs.Items.{body_words}
 use Rattle.dat_header.specs.Header.{first_word_in, first_word_at}
 use Rattle.dat_header.proofs.Choices.{choice_found, choice_failed, first_chooses}
 use Rattle.dat_header.proofs.sections.read_first_word.Goals as goal

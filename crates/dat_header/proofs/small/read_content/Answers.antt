@@ -1,4 +1,3 @@
-use Rattle.std.proofs.Common.{ap, rules}
 use Rattle.std.proofs.lemmas.Result.{err_from_is_err_and}
 use Rattle.dat_header.proofs.ReadPieces.{content_found, content_failed, failed_piece}
 use Rattle.dat_header.proofs.small.read_content.Goals as goal

@@ -1,4 +1,4 @@
-use Rattle.std.proofs.Common.{ap, rules}
+use Rattle.std.proofs.Common.{rules}
 use Rattle.std.proofs.lemmas.Result.{err_from_is_err_and}
 use Rattle.dat_header.proofs.ReadPieces.{number_found, number_failed}
 use Rattle.dat_header.proofs.small.read_long_number.Goals as goal

@@ -1,7 +1,6 @@
-use Rattle.std.proofs.Common.{◌≡◌, ◌≢◌, false, eqb, refl, arith, rules, ℕ, List, [], subst, sym}
+use Rattle.std.proofs.Common.{◌≢◌, refl, arith, rules}
 use Rattle.std.proofs.lemmas.Bool.{ne_eqb, eq-eqb}
 use Rattle.std.proofs.lemmas.Result.{err_from_is_err_and}
-use Rattle.std.specs.List.{All}
 use Rattle.dat_header.proofs.Rows.{name_begins, name_more, name_failed, name_ends, goes_on_memory, all_more}
 use Rattle.dat_header.proofs.small.read_name.Goals as goal
 

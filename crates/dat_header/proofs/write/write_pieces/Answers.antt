@@ -1,7 +1,5 @@
-use Rattle.std.proofs.Common.{arith, rules, sym, take, drop}
 use Rattle.std.proofs.lemmas.Result.{err_from_is_err_and}
-use Rattle.dat_header.specs.Items.{items, text, sized, formats_text, system_text, systems_text}
-use Rattle.dat_header.proofs.Written.{writes_by, writes_as, writes_nothing, writes_then, writes_failed, writes_more, writes_row_failed, writes_row, texts_text, end_text, whole_text}
+use Rattle.dat_header.proofs.Written.{writes_as, writes_then, writes_failed, whole_text}
 use Rattle.dat_header.proofs.write.write_pieces.Goals as goal
 
 pub returns-in_err-write_front : goal.returns-in_err-write_front
