@@ -6,17 +6,17 @@ use Rattle.std.proofs.lemmas.Slice.Eq.{bytes_eq-Decides}
 use Rattle.std.specs.Str.{bytes_eq}
 use Rattle.std.specs.List.{list_any}
 use denote.Ref.{Bor}
-use Rattle.trace_base.specs.Reading.{GivesBytesAt}
+use Rattle.trace_outside.specs.Reading.{GivesBytesAt}
 use Rattle.dat_options.specs.declared.fault.OpenFault.{OpenFault}
 use Rattle.dat_options.specs.declared.fault.OpenFault.TheVariants.{BadSection, Truncated, Read}
-use Rattle.dat_options.specs.Answer.{Answers, AnswersTold}
+use Rattle.dat_options.specs.Answer.{AnswersUnlessFaulty, AnswersTold}
 use Rattle.dat_header.specs.declared.pieces.LastSection.{LastSection}
 use Rattle.dat_header.specs.declared.pieces.LastSection.TheVariants as kind
 use Rattle.dat_header.specs.Items.{options_word, latency_word, fly_word, body_words, section_words}
 use Rattle.dat_header.specs.Refusal.{begins_with, word_fault}
-use Rattle.dat_header.specs.Steps.{Found, ◌>>=◌, or_wrong}
+use Rattle.dat_header.specs.Found.{Found, ◌>>=◌, or_wrong}
 use Rattle.dat_header.specs.Header.{IsRefusal, last_in, last_word_in, first_word_in}
-use Rattle.dat_header.specs.Reading.{FileSeen, Steps, GivesThere}
+use Rattle.dat_header.specs.Steps.{FileSeen, Steps, GivesThere}
 use Rattle.dat_header.proofs.Steps.{erring, erring_is, answers_itself, steps_found, steps_fault}
 use Rattle.dat_header.proofs.Words.{cut_same, there_is}
 
@@ -142,7 +142,7 @@ told_choice {V} choose (Some file) at size count buffer chooses is given counted
     let there = there_is count 10 at buffer file given (omega (arith, counted, is)) in
     let same = ap (λ (t : List ℕ). choose t size) there ∙ chooses.by_front (drop at file) size ∙ ap (λ (n : ℕ). choose (drop at file) n) (sym is) in
     let whole : Result V OpenFault → Found V = λ r. r >>= λ value. Ok (value, at + 10) in
-    subst (λ (r : Result V OpenFault). Answers (whole (choose (take count buffer) size)) (whole r)) same (answers_itself (whole (choose (take count buffer) size)))
+    subst (λ (r : Result V OpenFault). AnswersUnlessFaulty (whole (choose (take count buffer) size)) (whole r)) same (answers_itself (whole (choose (take count buffer) size)))
 
 -- the choice of a word by the bytes that are there of it
 pub choice_found : {V : Type 0} (choose : List ℕ → ℕ → Result V OpenFault) (at count size : ℕ) (buffer : List ℕ) (value : V) (before now : FileSeen) → Chooses choose
@@ -167,7 +167,7 @@ choice_failed {V} choose at count size buffer fault before now chooses is long w
     let err : choose (take count buffer) before.size ≡ Err fault = sym (chosen ∙ ap (λ (n : ℕ). choose (take count buffer) n) same) in
     let told = subst (λ (r : Result V OpenFault). AnswersTold (chosen_at choose at) before.bytes (r >>= λ v. Ok (v, at + 10))) err (told_choice choose before.bytes at before.size count buffer chooses is gives.given counted) in
     steps_fault V (chosen_at choose at) at fault before now told gives.bytes gives.size gives.later
-    (λ e. absurd (subst IsRefusal (erring_is V fault Read e) (chooses.refuses (take count buffer) before.size fault err)))
+    (λ e. absurd (subst IsRefusal (erring_is V fault Read e) (chooses.refuses (take count buffer) before.size fault err))) gives.most
 
 any_of : (test : List ℕ → Bool) (words : List (Bor (List ℕ))) → list_any (λ word. test word.now) words ≡ list_any test (map (λ word. word.now) words)
 any_of test [] = refl

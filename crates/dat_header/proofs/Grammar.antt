@@ -2,8 +2,8 @@
 use Rattle.std.proofs.Common.{◌≡◌, ℕ, ◌+◌, ◌≤◌, List, [], ◌++◌, length, drop, Ok, Err, refl, sym, ap, subst, ◌∙◌, ◌⊎◌, append_assoc, inl, inr, arith}
 use Rattle.std.proofs.lemmas.List.{length-append, length-drop, drop_at, drop-drop}
 use Rattle.dat_options.specs.declared.fault.OpenFault.{OpenFault}
-use Rattle.dat_header.specs.Steps.{Found, ◌>>=◌}
-use Rattle.dat_header.specs.Laws.{AreBytes}
+use Rattle.dat_header.specs.Found.{Found, ◌>>=◌}
+use Rattle.dat_options.specs.Place.{AreBytes}
 
 abbrev pub found_value : {V : Type 0} → V → ℕ → Found V
 found_value value end = Ok (value, end)

@@ -19,11 +19,12 @@ use Rattle.dat_header.specs.declared.header.Body.TheVariants.{Latency, Fly}
 use Rattle.dat_header.specs.Allowed.{IsHeader}
 use Rattle.dat_header.specs.Items.{Item, Kind, word, version, value, page_text, carried, text, magic_word, version_word, page_word, event_word, section_words, body_words, section_items, items}
 use Rattle.dat_header.specs.Refusal.{begins_with, version_fault, seventh, fault_at, front, Refuses}
-use Rattle.dat_header.specs.Spelling.{Spells, HasHeader, BeginsWith}
-use Rattle.dat_header.specs.Small.{word_at, value_at, cpus_of}
+use Rattle.dat_header.specs.Spelling.{SpellsHeader, HasHeader, BeginsWith}
+use Rattle.dat_header.specs.ItemsAt.{word_at, value_at, cpus_of}
 use Rattle.dat_header.specs.Header.{version_at, machine_at, page_text_at, carried_at, sections_at, header_of, IsRefusal}
-use Rattle.dat_header.specs.Steps.{Found, ◌>>=◌}
-use Rattle.dat_header.specs.Laws.{AreBytes, SpellingsDiffer, OneHeader, ReadsBack, ComputesHeader, ComputesRefusal, RefusesByBytes}
+use Rattle.dat_header.specs.Found.{Found, ◌>>=◌}
+use Rattle.dat_options.specs.Place.{AreBytes}
+use Rattle.dat_header.specs.Laws.{SpellingsDiffer, OneHeader, ReadsBack, ComputesHeader, ComputesRefusal, RefusesByBytes}
 use Rattle.dat_options.proofs.Steps.{some_is}
 use Rattle.dat_header.proofs.Grammar.{found_value, err_or_ok}
 use Rattle.dat_header.proofs.Wrongs.{Wrong}
@@ -116,9 +117,6 @@ found_is file header end bytes e =
       },
       (drop end file, stands.here),
     )
-
-read_of : (file : List ℕ) → (whole_at file 0 >>= closed) ≡ header_of file
-read_of file = header_is file
 
 pub computes_header : ComputesHeader
 computes_header file header bytes = (
@@ -278,7 +276,7 @@ pub refuses_by_bytes : RefusesByBytes
 refuses_by_bytes file fault refuses = subst IsRefusal (sym refuses.is) (one_refuses (items refuses.header) refuses.count refuses.item (all_refuse refuses.header) refuses.next file (length (front refuses.count refuses.header)))
 
 -- what is written is spelled by the header with these parts
-pub written_spelled : (header : Header) (parts : List Part) → IsHeader header → length parts ≡ header.cpus → All IsPart parts → Spells (written header parts) (header_text header parts)
+pub written_spelled : (header : Header) (parts : List Part) → IsHeader header → length parts ≡ header.cpus → All IsPart parts → SpellsHeader (written header parts) (header_text header parts)
 written_spelled header parts h each words = record {
   allowed = record {
     long = h.long;

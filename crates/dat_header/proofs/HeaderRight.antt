@@ -18,10 +18,10 @@ use Rattle.dat_header.specs.Pieces.{IsMachine, IsPageText, IsCarried}
 use Rattle.dat_header.specs.PageText.{plain_layout, layout_of}
 use Rattle.dat_header.specs.Items.{Item, value, page_text, carried, order_byte, sized, formats_text, systems_text}
 use Rattle.dat_header.specs.Refusal.{fault_at}
-use Rattle.dat_header.specs.Small.{bytes_at, number_at, value_at, text_at, formats_at, systems_at, order_of, long_of, page_of}
+use Rattle.dat_header.specs.ItemsAt.{bytes_at, number_at, value_at, text_at, formats_at, systems_at, order_of, long_of, page_of}
 use Rattle.dat_header.specs.Header.{machine_at, page_text_at, carried_at}
-use Rattle.dat_header.specs.Steps.{Found, ◌>>=◌, or_wrong}
-use Rattle.dat_header.specs.Laws.{AreBytes}
+use Rattle.dat_header.specs.Found.{Found, ◌>>=◌, or_wrong}
+use Rattle.dat_options.specs.Place.{AreBytes}
 use Rattle.dat_header.proofs.Values.{checked_is, checked_not}
 use Rattle.dat_header.proofs.Grammar.{Stands, found_value, err_or_ok, at_ok, at_err, not_both, same_value, same_fault, behind, room}
 use Rattle.dat_header.proofs.Wrongs.{Right, one_item, right_item, rights_then, rights_none, rights_as}
@@ -62,9 +62,6 @@ page_of_text content layout = record { text = content; layout = layout }
 module _ (machine : Machine) where
   abbrev page_read : List ℕ → ℕ → ℕ → List ℕ → ℕ → Found PageText
   page_read file at at_text content after = or_wrong (BadHeaderPage at_text) (layout_of machine.order machine.long machine.page content) >>= λ layout. Ok (page_of_text content layout, after)
-
-  abbrev page_behind : List ℕ → ℕ → ℕ → ℕ → Found PageText
-  page_behind file at size at_text = bytes_at size file at_text >>= λ content. page_read file at at_text content.0 content.1
 
   page_again : (file : List ℕ) (at : ℕ) (page : PageText) (rest : List ℕ) → at ≤ length file → IsPageText machine page → drop at file ≡ sized 8 machine.order page.text ++ rest
       → page_text_at machine file at ≡ Ok (page, at + length (sized 8 machine.order page.text))

@@ -5,7 +5,7 @@ use Rattle.std.proofs.Math.Pow.{pow_mono}
 use Rattle.std.specs.Prelude.{option_and_then, codes, if◌then◌else◌}
 use Rattle.dat_options.proofs.Steps.{some_is}
 use Rattle.trace_base.specs.FieldLine.{FieldData}
-use Rattle.trace_base.specs.Causes.{raised}
+use Rattle.trace_outside.specs.Causes.{raised}
 use Rattle.trace_base.specs.Layout.{IsLayout}
 use Rattle.trace_base.specs.declared.order.Order.{Order}
 use Rattle.trace_base.specs.declared.layout.Layout.{Layout}

@@ -14,9 +14,9 @@ use Rattle.dat_options.proofs.Steps.{some_is}
 use Rattle.dat_header.specs.Allowed.{IsLong, IsPageSize}
 use Rattle.dat_header.specs.Items.{Kind, value, carried, order_byte}
 use Rattle.dat_header.specs.Refusal.{begins_with, word_fault, fault_at}
-use Rattle.dat_header.specs.Small.{word_at, number_at, bytes_at, value_at, order_of, long_of, page_of, cpus_of}
-use Rattle.dat_header.specs.Steps.{Found, ◌>>=◌}
-use Rattle.dat_header.specs.Laws.{AreBytes}
+use Rattle.dat_header.specs.ItemsAt.{word_at, number_at, bytes_at, value_at, order_of, long_of, page_of, cpus_of}
+use Rattle.dat_header.specs.Found.{Found, ◌>>=◌}
+use Rattle.dat_options.specs.Place.{AreBytes}
 use Rattle.dat_header.proofs.Values.{checked_is, checked_not, page_known, page_allowed, IsListed}
 use Rattle.dat_header.proofs.ReadPieces.{bytes_found, bytes_short}
 use Rattle.dat_header.proofs.Grammar.{Reads, Stands, found_value, err_or_ok, at_ok, at_err, not_both, same_value, same_fault}

@@ -9,9 +9,9 @@ use Rattle.trace_base.specs.declared.order.Order.TheVariants.{Little}
 use Rattle.dat_options.specs.declared.fault.OpenFault.{OpenFault}
 use Rattle.dat_options.specs.declared.fault.OpenFault.TheVariants.{Truncated, Memory}
 use Rattle.dat_options.specs.Answer.{AnswersTold}
-use Rattle.dat_header.specs.Steps.{Found, ◌>>=◌, or_wrong}
-use Rattle.dat_header.specs.Small.{bytes_at, number_at, before_nul, name_at, row_at}
-use Rattle.dat_header.specs.Reading.{FileSeen, Steps}
+use Rattle.dat_header.specs.Found.{Found, ◌>>=◌, or_wrong}
+use Rattle.dat_header.specs.ItemsAt.{bytes_at, number_at, before_nul, name_at, row_at}
+use Rattle.dat_header.specs.Steps.{FileSeen, Steps}
 use Rattle.dat_header.proofs.Steps.{steps_same, steps_then, steps_here, steps_failed}
 
 -- whatever the rest from here answers, the whole answers
@@ -19,17 +19,17 @@ abbrev pub GoesOn : {V : Type 0} → (List ℕ → Found V) → ℕ → FileSeen
 GoesOn {V} whole at before rest place now =
     (later : FileSeen) (result : Found V) → Steps (λ found. found.1) rest place now later result → Steps (λ found. found.1) whole at before later result
 
-pub goes_on_itself : {V : Type 0} (whole rest : List ℕ → Found V) (at : ℕ) (now : FileSeen) → ((bytes : List ℕ) → rest bytes ≡ whole bytes) → GoesOn whole at now rest at now
+goes_on_itself : {V : Type 0} (whole rest : List ℕ → Found V) (at : ℕ) (now : FileSeen) → ((bytes : List ℕ) → rest bytes ≡ whole bytes) → GoesOn whole at now rest at now
 goes_on_itself whole rest at now same later result steps = steps_same (λ found. found.1) rest whole at now later result same steps
 
 -- one step of a row, and the rest behind it
-pub goes_on_step : {V W : Type 0} (whole rest : List ℕ → Found V) (first : List ℕ → Found W) (next : W → ℕ → List ℕ → Found V) (at place after : ℕ) (value : W) (before mid now : FileSeen)
+goes_on_step : {V W : Type 0} (whole rest : List ℕ → Found V) (first : List ℕ → Found W) (next : W → ℕ → List ℕ → Found V) (at place after : ℕ) (value : W) (before mid now : FileSeen)
     → ((bytes : List ℕ) → (first bytes >>= λ found. next found.0 found.1 bytes) ≡ rest bytes)
     → GoesOn whole at before rest place mid → Steps (λ found. found.1) first place mid now (Ok (value, after)) → GoesOn whole at before (next value after) after now
 goes_on_step whole rest first next at place after value before mid now same on step later result steps =
     on later result (steps_same (λ found. found.1) _ rest place mid later result same (steps_then (λ found. found.1) (λ found. found.1) first (λ found. next found.0 found.1) place mid now later (value, after) result step steps))
 
-pub goes_on_failed : {V W : Type 0} (whole rest : List ℕ → Found V) (first : List ℕ → Found W) (next : W → ℕ → List ℕ → Found V) (at place : ℕ) (fault : OpenFault) (before mid now : FileSeen)
+goes_on_failed : {V W : Type 0} (whole rest : List ℕ → Found V) (first : List ℕ → Found W) (next : W → ℕ → List ℕ → Found V) (at place : ℕ) (fault : OpenFault) (before mid now : FileSeen)
     → ((bytes : List ℕ) → (first bytes >>= λ found. next found.0 found.1 bytes) ≡ rest bytes)
     → GoesOn whole at before rest place mid → Steps (λ found. found.1) first place mid now (Err fault) → Steps (λ found. found.1) whole at before now (Err fault)
 goes_on_failed whole rest first next at place fault before mid now same on step =
@@ -48,6 +48,7 @@ goes_on_memory whole rest at place before now on = on now (Err Memory) (record {
   later = omega arith;
   cause = λ e. cc;
   reads = tt;
+  most = omega arith;
   forward = tt;
   inside = tt;
 })

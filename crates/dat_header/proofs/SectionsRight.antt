@@ -22,7 +22,7 @@ use Rattle.dat_header.specs.Pieces.{AreSections}
 use Rattle.dat_header.specs.Items.{Item, word, carried, options_word, latency_word, fly_word, section_words, body_words, section_items}
 use Rattle.dat_header.specs.Refusal.{begins_with, word_fault}
 use Rattle.dat_header.specs.Header.{last_in, last_word_in, last_word_at, first_word_at, body_at, behind_options_at, behind_first_at, sections_at}
-use Rattle.dat_header.specs.Steps.{Found, ◌>>=◌, or_wrong}
+use Rattle.dat_header.specs.Found.{Found, ◌>>=◌, or_wrong}
 use Rattle.dat_header.proofs.Values.{checked_is, checked_not}
 use Rattle.dat_header.proofs.Grammar.{Stands, found_value, not_both, same_value, same_fault}
 use Rattle.dat_header.proofs.Wrongs.{Right, one_item, right_item, right_made, rights_then, rights_none, rights_as}

@@ -1,12 +1,12 @@
 -- One step of reading behind another.
 use Rattle.std.proofs.Common.{◌≡◌, ℕ, ◌≤◌, ◌-◌, List, Option, None, Some, Result, Ok, Err, refl, sym, ap, subst, ◌∙◌, arith}
-use Rattle.trace_base.specs.Causes.{Rose, raised}
+use Rattle.trace_outside.specs.Causes.{Rose, raised}
 use Rattle.dat_options.specs.declared.fault.OpenFault.{OpenFault}
 use Rattle.dat_options.specs.declared.fault.OpenFault.TheVariants.{Read, Memory}
-use Rattle.dat_options.specs.Answer.{Answers, AnswersTold}
-use Rattle.dat_header.specs.Steps.{Found, ◌>>=◌}
+use Rattle.dat_options.specs.Answer.{AnswersUnlessFaulty, AnswersTold}
+use Rattle.dat_header.specs.Found.{Found, ◌>>=◌}
 use Rattle.dat_header.specs.Header.{IsRefusal}
-use Rattle.dat_header.specs.Reading.{FileSeen, Steps}
+use Rattle.dat_header.specs.Steps.{FileSeen, Steps}
 
 abbrev pub erring : (V : Type 0) → OpenFault → Result V OpenFault
 erring V fault = Err fault
@@ -15,8 +15,8 @@ pub erring_is : (V : Type 0) (fault other : OpenFault) → erring V fault ≡ er
 erring_is V fault other e = cc
 
 answers_behind : {V W : Type 0} (first : Result V OpenFault) (next : V → Result W OpenFault) (value : V) (result : Result W OpenFault)
-    → first ≡ Ok value → Answers result (next value) → Answers result (first >>= next)
-answers_behind {V} first next value result is answers = subst (λ (r : Result V OpenFault). Answers result (r >>= next)) (sym is) answers
+    → first ≡ Ok value → AnswersUnlessFaulty result (next value) → AnswersUnlessFaulty result (first >>= next)
+answers_behind {V} first next value result is answers = subst (λ (r : Result V OpenFault). AnswersUnlessFaulty result (r >>= next)) (sym is) answers
 
 told_then : {V W : Type 0} (told : Option (List ℕ)) (first : List ℕ → Result V OpenFault) (next : V → List ℕ → Result W OpenFault) (value : V) (result : Result W OpenFault)
     → AnswersTold first told (Ok value) → AnswersTold (next value) told result → AnswersTold (λ bytes. first bytes >>= λ v. next v bytes) told result
@@ -24,7 +24,7 @@ told_then None first next value result one two = tt
 told_then (Some bytes) first next value result one two = answers_behind (first bytes) (λ v. next v bytes) value result one two
 
 answers_failed : {V W : Type 0} (fault : OpenFault) (first : Result V OpenFault) (next : V → Result W OpenFault)
-    → Answers (Err fault) first → Answers {T = W} (Err fault) (first >>= next)
+    → AnswersUnlessFaulty (Err fault) first → AnswersUnlessFaulty {T = W} (Err fault) (first >>= next)
 answers_failed Read first next is = tt
 answers_failed Memory first next is = tt
 answers_failed fault first next is = ap (λ r. r >>= next) is
@@ -46,6 +46,7 @@ steps_then place end first next at before mid now value (Ok w) one two = record 
   later = omega (arith, one.later, two.later);
   cause = λ is. cc;
   reads = omega (arith, one.reads, two.reads, one.forward, two.forward);
+  most = omega (arith, one.reads, two.most, one.inside, one.forward, one.size);
   forward = omega (arith, one.forward, two.forward);
   inside = omega (arith, one.size, two.inside);
 }
@@ -56,6 +57,7 @@ steps_then place end first next at before mid now value (Err fault) one two = re
   later = omega (arith, one.later, two.later);
   cause = λ is. let rose : Rose mid.faults now.faults = two.cause is in omega (arith, one.later, rose);
   reads = tt;
+  most = omega (arith, one.reads, two.most, one.inside, one.forward, one.size);
   forward = tt;
   inside = tt;
 }
@@ -71,11 +73,12 @@ steps_failed {V} {W} place end first next at before now fault one = record {
   later = one.later;
   cause = λ is. one.cause (cc);
   reads = tt;
+  most = one.most;
   forward = tt;
   inside = tt;
 }
 
-pub answers_itself : {V : Type 0} (result : Result V OpenFault) → Answers result result
+pub answers_itself : {V : Type 0} (result : Result V OpenFault) → AnswersUnlessFaulty result result
 answers_itself (Ok value) = refl
 answers_itself (Err Read) = tt
 answers_itself (Err Memory) = tt
@@ -83,7 +86,7 @@ answers_itself (Err fault) = refl
 
 told_itself : {V : Type 0} (told : Option (List ℕ)) (expected result : Result V OpenFault) → expected ≡ result → AnswersTold (λ bytes. expected) told result
 told_itself None expected result is = tt
-told_itself {V} (Some bytes) expected result is = subst (λ (r : Result V OpenFault). Answers result r) (sym is) (answers_itself result)
+told_itself {V} (Some bytes) expected result is = subst (λ (r : Result V OpenFault). AnswersUnlessFaulty result r) (sym is) (answers_itself result)
 
 -- a value that the bytes have no say in, with nothing read for it
 pub steps_here : {V : Type 0} (end : V → ℕ) (expected : Result V OpenFault) (at : ℕ) (now : FileSeen) (value : V)
@@ -95,6 +98,7 @@ steps_here end expected at now value is ends within = record {
   later = omega arith;
   cause = λ e. cc;
   reads = omega arith;
+  most = omega arith;
   forward = omega (arith, ends);
   inside = omega (arith, ends, within);
 }
@@ -109,6 +113,7 @@ steps_wrong end expected at now wrong is refusal = record {
   later = omega arith;
   cause = λ e. absurd (subst IsRefusal (erring_is _ _ _ e) refusal);
   reads = tt;
+  most = omega arith;
   forward = tt;
   inside = tt;
 }
@@ -116,7 +121,7 @@ steps_wrong end expected at now wrong is refusal = record {
 told_same : {V : Type 0} (told : Option (List ℕ)) (first other : List ℕ → Result V OpenFault) (result : Result V OpenFault) → ((bytes : List ℕ) → first bytes ≡ other bytes)
     → AnswersTold first told result → AnswersTold other told result
 told_same None first other result same answers = tt
-told_same {V} (Some bytes) first other result same answers = subst (λ (r : Result V OpenFault). Answers result r) (same bytes) answers
+told_same {V} (Some bytes) first other result same answers = subst (λ (r : Result V OpenFault). AnswersUnlessFaulty result r) (same bytes) answers
 
 -- steps of which the same is expected
 pub steps_same : {V : Type 0} (next : V → ℕ) (first other : List ℕ → Result V OpenFault) (at : ℕ) (before now : FileSeen) (result : Result V OpenFault)
@@ -128,6 +133,7 @@ steps_same next first other at before now result same steps = record {
   later = steps.later;
   cause = steps.cause;
   reads = steps.reads;
+  most = steps.most;
   forward = steps.forward;
   inside = steps.inside;
 }
@@ -143,20 +149,23 @@ steps_found expected at end value before now answer bytes size later reads forwa
   later = later;
   cause = λ e. cc;
   reads = reads;
+  most = omega (arith, reads, inside);
   forward = forward;
   inside = inside;
 }
 
 pub steps_fault : {V : Type 0} (X : Type 0) (expected : List ℕ → Found V) (at : ℕ) (fault : OpenFault) (before now : FileSeen) → AnswersTold expected before.bytes (Err fault)
     → now.bytes ≡ before.bytes → now.size ≡ before.size → before.faults ≤ now.faults → (erring X fault ≡ erring X Read → Rose before.faults now.faults)
+    → now.reads ≤ raised before.reads (before.size - at)
     → Steps (λ found. found.1) expected at before now (Err fault)
-steps_fault X expected at fault before now answer bytes size later cause = record {
+steps_fault X expected at fault before now answer bytes size later cause most = record {
   answer = answer;
   bytes = bytes;
   size = size;
   later = later;
   cause = λ e. cause (ap (erring X) (erring_is _ _ _ e));
   reads = tt;
+  most = most;
   forward = tt;
   inside = tt;
 }

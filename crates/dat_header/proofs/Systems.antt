@@ -11,11 +11,11 @@ use Rattle.dat_options.specs.declared.fault.OpenFault.TheVariants.{Truncated}
 use Rattle.dat_options.proofs.Numbers.{limit}
 use Rattle.dat_options.proofs.Steps.{some_is}
 use Rattle.dat_header.specs.declared.header.System.{System}
-use Rattle.dat_header.specs.Allowed.{IsName, AreFormats, IsSystem, AreSystems}
+use Rattle.dat_header.specs.Allowed.{IsSystemName, AreFormats, IsSystem, AreSystems}
 use Rattle.dat_header.specs.Items.{sized, sized_texts, formats_text, system_text, systems_text}
-use Rattle.dat_header.specs.Small.{number_at, text_at, texts_at, formats_at, before_nul, name_at, system_at, each_system_at, systems_at}
-use Rattle.dat_header.specs.Steps.{Found, ◌>>=◌}
-use Rattle.dat_header.specs.Laws.{AreBytes}
+use Rattle.dat_header.specs.ItemsAt.{number_at, text_at, texts_at, formats_at, before_nul, name_at, system_at, each_system_at, systems_at}
+use Rattle.dat_header.specs.Found.{Found, ◌>>=◌}
+use Rattle.dat_options.specs.Place.{AreBytes}
 use Rattle.dat_header.proofs.Values.{checked_is, checked_not}
 use Rattle.dat_header.proofs.Grammar.{Reads, Stands, found_value, not_both, same_value, same_fault, behind, reads_then, reads_none, reads_as}
 use Rattle.dat_header.proofs.Texts.{EndsEarly, reads_number, number_end, reads_text, text_end, reads_row, row_end, then_end, none_end}
@@ -24,14 +24,14 @@ use Rattle.dat_header.proofs.Texts.{EndsEarly, reads_number, number_end, reads_t
 abbrev pub name_text : List ℕ → List ℕ
 name_text name = name ++ 0 ∷ []
 
-nul_again : (name rest : List ℕ) → IsName name → before_nul (name ++ (0 ∷ rest)) ≡ Some name
+nul_again : (name rest : List ℕ) → IsSystemName name → before_nul (name ++ (0 ∷ rest)) ≡ Some name
 nul_again [] rest is = refl
 nul_again (byte ∷ name) rest is =
     let other : eqb byte 0 ≡ false = ne_eqb byte 0 (All-head (λ b. b ≢ 0) byte name is) in
     rw other (ap (option_map (λ n. byte ∷ n)) (nul_again name rest (All-tail (λ b. b ≢ 0) byte name is)))
 
 abbrev NulStands : List ℕ → List ℕ → Type 0
-NulStands bytes name = IsName name × ((rest : List ℕ) × (bytes ≡ name_text name ++ rest))
+NulStands bytes name = IsSystemName name × ((rest : List ℕ) × (bytes ≡ name_text name ++ rest))
 
 nul_sound : (bytes name : List ℕ) → before_nul bytes ≡ Some name → NulStands bytes name
 nul_sound [] name e = cc
@@ -60,13 +60,13 @@ name_cases (Some name) = inr (name, refl)
 abbrev after_name : ℕ → List ℕ → Found (List ℕ)
 after_name at name = Ok (name, at + length name + 1)
 
-name_again : (file : List ℕ) (at : ℕ) (name rest : List ℕ) → IsName name → drop at file ≡ name_text name ++ rest → name_at file at ≡ Ok (name, at + length (name_text name))
+name_again : (file : List ℕ) (at : ℕ) (name rest : List ℕ) → IsSystemName name → drop at file ≡ name_text name ++ rest → name_at file at ≡ Ok (name, at + length (name_text name))
 unfolding name_at
 name_again file at name rest is here =
     checked_is (Truncated (length file)) (before_nul (drop at file)) (after_name at) name (ap before_nul (here ∙ append_assoc name (0 ∷ []) rest) ∙ nul_again name rest is)
     ∙ ap (λ (n : ℕ). found_value name n) (omega (arith, length-append name (0 ∷ [])))
 
-name_sound : (file : List ℕ) (at : ℕ) (name : List ℕ) (end : ℕ) → AreBytes file → at ≤ length file → name_at file at ≡ Ok (name, end) → Stands name_text IsName file at name end
+name_sound : (file : List ℕ) (at : ℕ) (name : List ℕ) (end : ℕ) → AreBytes file → at ≤ length file → name_at file at ≡ Ok (name, end) → Stands name_text IsSystemName file at name end
 unfolding name_at
 name_sound file at name end bytes within e = elim (name_cases (before_nul (drop at file))) [
   | inl none ↦ absurd (not_both _ (name, end) (Truncated (length file)) e (checked_not (Truncated (length file)) (before_nul (drop at file)) (after_name at) none))
@@ -77,7 +77,7 @@ name_sound file at name end bytes within e = elim (name_cases (before_nul (drop 
       let whole : length (drop at file) ≡ length (name_text found.0 ++ stands.1.0) = ap length stands.1.1 in
       let rest : stands.1.0 ≡ drop end file =
       sym (behind file (name_text found.0) stands.1.0 at stands.1.1) ∙ ap (λ (n : ℕ). drop n file) (let p : at + length (name_text found.0) ≡ end = omega (arith, long, same.1) in p) in
-      let P : List ℕ → Type 0 = λ n. Stands name_text IsName file at n end in
+      let P : List ℕ → Type 0 = λ n. Stands name_text IsSystemName file at n end in
       subst P same.0 (record {
         is = stands.0;
         here = stands.1.1 ∙ ap (λ back. name_text found.0 ++ back) rest;
@@ -86,7 +86,7 @@ name_sound file at name end bytes within e = elim (name_cases (before_nul (drop 
       })
 ]
 
-pub reads_name : Reads name_text IsName name_at
+pub reads_name : Reads name_text IsSystemName name_at
 reads_name = record { again = λ file at name rest within is here. name_again file at name rest is here; sound = name_sound }
 
 pub name_end : EndsEarly name_at
@@ -114,14 +114,14 @@ unfolding system_at
 reads_system order = reads_as _ (system_text order) _ IsSystem _ (system_at order)
     (λ system is. record { name = is.0; formats = is.1.0 }) (λ system is. (is.name, (is.formats, refl)))
     (λ system is. ap (λ (t : List ℕ). name_text system.name ++ t) (append-nil (formats_text order system.formats)) ∙ append_assoc system.name (0 ∷ []) (formats_text order system.formats)) (λ file at. refl)
-    (reads_then name_text IsName name_at _ _ (λ name file named. formats_at order file named >>= λ found. Ok (record { name = name; formats = found.0 }, found.1)) (λ system. system.name) reads_name
+    (reads_then name_text IsSystemName name_at _ _ (λ name file named. formats_at order file named >>= λ found. Ok (record { name = name; formats = found.0 }, found.1)) (λ system. system.name) reads_name
     (λ name is. reads_then (formats_text order) AreFormats (formats_at order) _ _ (λ formats file end. Ok (record { name = name; formats = formats }, end)) (λ system. system.formats) (reads_formats order)
     (λ formats are. reads_none (record { name = name; formats = formats })) (λ formats system e. ap (λ (s : System). s.formats) e))
     (λ name system is. ap (λ (s : System). s.name) is.1))
 
 system_end : (order : Order) → EndsEarly (system_at order)
 unfolding system_at
-system_end order = then_end name_text IsName name_at (λ name file named. formats_at order file named >>= λ found. Ok (record { name = name; formats = found.0 }, found.1)) reads_name name_end
+system_end order = then_end name_text IsSystemName name_at (λ name file named. formats_at order file named >>= λ found. Ok (record { name = name; formats = found.0 }, found.1)) reads_name name_end
     (λ name is. then_end (formats_text order) AreFormats (formats_at order) (λ formats file end. Ok (record { name = name; formats = formats }, end)) (reads_formats order) (formats_end order)
     (λ formats are. none_end (record { name = name; formats = formats })))
 

@@ -1,32 +1,25 @@
 -- Numbers, texts, names and rows of them are read as they are spelled.
-use Rattle.std.proofs.Common.{◌≡◌, ℕ, zero, suc, ◌+◌, ◌-◌, ◌<◌, ◌≤◌, false, ltb, List, [], ◌∷◌, ◌++◌, length, take, drop, reverse, Ok, Err, refl, sym, ap, subst, ◌∙◌, append_assoc, inl, inr, arith}
+use Rattle.std.proofs.Common.{◌≡◌, ℕ, zero, suc, ◌+◌, ◌<◌, ◌≤◌, false, ltb, List, [], ◌∷◌, ◌++◌, length, take, drop, Ok, Err, refl, sym, ap, subst, ◌∙◌, append_assoc, inl, inr, arith}
 use Rattle.std.proofs.lemmas.Bool.{cases_lt, le-ltb}
-use Rattle.std.proofs.lemmas.List.{length-append, length-drop, length-take, length-reverse, take_at, take-append-drop, drop-drop, get_or_past, get_or-reverse}
+use Rattle.std.proofs.lemmas.List.{length-append, length-drop, length-take, take_at, take-append-drop, drop-drop}
 use Rattle.std.proofs.lemmas.List.Concat.{flat_map-cons}
 use Rattle.std.proofs.lemmas.List.Elements.{All-take, All-drop, All-head, All-tail, All-cons}
 use Rattle.std.specs.List.{All, flat_map}
-use Rattle.trace_base.specs.Number.{num, bytes_of, low_first}
+use Rattle.trace_base.specs.Number.{num, bytes_of}
 use Rattle.trace_base.specs.declared.order.Order.{Order}
-use Rattle.trace_base.specs.declared.order.Order.TheVariants.{Little, Big}
 use Rattle.dat_options.specs.declared.fault.OpenFault.{OpenFault}
 use Rattle.dat_options.specs.declared.fault.OpenFault.TheVariants.{Truncated}
-use Rattle.dat_options.proofs.Numbers.{IsBytes, limit, length-bytes_of, num_again, bytes_back}
+use Rattle.dat_options.proofs.Numbers.{IsBytes, limit, length-bytes_of, num_again, bytes_back, are_bytes, num_fits}
 use Rattle.dat_header.specs.Items.{sized}
-use Rattle.dat_header.specs.Small.{bytes_at, number_at, text_at, row_at}
-use Rattle.dat_header.specs.Steps.{Found, ◌>>=◌}
-use Rattle.dat_header.specs.Laws.{AreBytes}
+use Rattle.dat_header.specs.ItemsAt.{bytes_at, number_at, text_at, row_at}
+use Rattle.dat_header.specs.Found.{Found, ◌>>=◌}
+use Rattle.dat_options.specs.Place.{AreBytes}
 use Rattle.dat_header.proofs.ReadPieces.{bytes_found, bytes_short}
 use Rattle.dat_header.proofs.Grammar.{Reads, Stands, found_value, err_or_ok, at_ok, at_err, not_both, same_value, same_fault, behind, room, reads_then, reads_as}
 
 -- the fault of a reader that can only meet the file's end
 abbrev pub EndsEarly : {V : Type 0} → (List ℕ → ℕ → Found V) → Type 0
 EndsEarly read = (file : List ℕ) (at : ℕ) (fault : OpenFault) → AreBytes file → at ≤ length file → read file at ≡ Err fault → fault ≡ Truncated (length file)
-
-pub are_bytes : (bytes : List ℕ) → AreBytes bytes → IsBytes bytes
-are_bytes bytes all i = elim (cases_lt i (length bytes)) [
-  | inl inside ↦ all i 0 inside
-  | inr past ↦ subst (λ (b : ℕ). b < 256) (sym (get_or_past bytes i 0 past)) (omega arith)
-]
 
 bytes_again : (size : ℕ) (file : List ℕ) (at : ℕ) (text rest : List ℕ) → length text ≡ size → drop at file ≡ text ++ rest → bytes_at size file at ≡ Ok (text, at + length text)
 unfolding bytes_at
@@ -61,23 +54,6 @@ bytes_end size file at fault bytes within e = elim (cases_lt (length file) (at +
   | inl short ↦ same_fault (bytes_at size file at) fault (Truncated (length file)) e (bytes_short size at file within short)
   | inr enough ↦ absurd (not_both (bytes_at size file at) (take size (drop at file), at + size) fault (bytes_found size at file enough) e)
 ]
-
-low_fits : (bytes : List ℕ) → IsBytes bytes → low_first bytes < limit (length bytes)
-low_fits [] fit = omega arith
-low_fits (byte ∷ bytes) fit =
-    let first : byte < 256 = fit 0 in
-    let rest = low_fits bytes (λ i. fit (suc i)) in
-    omega (arith, first, rest)
-
-reverse_bytes : (bytes : List ℕ) → IsBytes bytes → IsBytes (reverse bytes)
-reverse_bytes bytes fit i = elim (cases_lt i (length bytes)) [
-  | inl inside ↦ subst (λ (b : ℕ). b < 256) (sym (get_or-reverse bytes i 0 inside)) (fit (length bytes - 1 - i))
-  | inr past ↦ subst (λ (b : ℕ). b < 256) (sym (get_or_past (reverse bytes) i 0 (omega (arith, past, length-reverse bytes)))) (omega arith)
-]
-
-pub num_fits : (order : Order) (bytes : List ℕ) → IsBytes bytes → num order bytes < limit (length bytes)
-num_fits Little bytes fit = low_fits bytes fit
-num_fits Big bytes fit = subst (λ (n : ℕ). low_first (reverse bytes) < limit n) (length-reverse bytes) (low_fits (reverse bytes) (reverse_bytes bytes fit))
 
 number_again : (width : ℕ) (order : Order) (file : List ℕ) (at number : ℕ) (rest : List ℕ) → number < limit width → drop at file ≡ bytes_of order width number ++ rest
     → number_at width order file at ≡ Ok (number, at + length (bytes_of order width number))

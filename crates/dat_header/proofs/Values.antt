@@ -4,10 +4,10 @@ use Rattle.std.proofs.lemmas.Bool.{ne_eqb}
 use Rattle.trace_base.specs.declared.order.Order.{Order}
 use Rattle.dat_options.specs.declared.fault.OpenFault.{OpenFault}
 use Rattle.dat_header.specs.Header.{IsRefusal}
-use Rattle.dat_header.specs.Steps.{Found, ◌>>=◌, or_wrong}
-use Rattle.dat_header.specs.Small.{number_at, value_at, long_of, page_of}
+use Rattle.dat_header.specs.Found.{Found, ◌>>=◌, or_wrong}
+use Rattle.dat_header.specs.ItemsAt.{number_at, value_at, long_of, page_of}
 use Rattle.dat_header.specs.Allowed.{IsLong, IsPageSize}
-use Rattle.dat_header.specs.Reading.{FileSeen, Steps}
+use Rattle.dat_header.specs.Steps.{FileSeen, Steps}
 use Rattle.dat_header.proofs.Steps.{steps_then, steps_failed, steps_here, steps_wrong}
 
 abbrev checked : {V : Type 0} → OpenFault → ℕ → Option V → Found V

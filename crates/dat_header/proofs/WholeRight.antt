@@ -10,9 +10,9 @@ use Rattle.dat_header.specs.Allowed.{IsHeader}
 use Rattle.dat_header.specs.Pieces.{IsMachine, IsPageText, IsCarried, AreSections}
 use Rattle.dat_header.specs.Items.{word, version, magic_word, version_word, page_word, event_word, items}
 use Rattle.dat_header.specs.Refusal.{version_fault}
-use Rattle.dat_header.specs.Small.{value_at, cpus_of}
+use Rattle.dat_header.specs.ItemsAt.{value_at, cpus_of}
 use Rattle.dat_header.specs.Header.{machine_at, page_text_at, carried_at, sections_at, joined}
-use Rattle.dat_header.specs.Steps.{Found, ◌>>=◌}
+use Rattle.dat_header.specs.Found.{Found, ◌>>=◌}
 use Rattle.dat_header.proofs.Wrongs.{Right, right_made, rights_then, rights_as}
 use Rattle.dat_header.proofs.ItemRights.{right_word, read_fixed, right_cpus}
 use Rattle.dat_header.proofs.HeaderRight.{right_machine, machine_items, right_page_text, carried_items, right_carried_texts}

@@ -5,16 +5,16 @@ use Rattle.std.proofs.Math.Bool.{or-false}
 use Rattle.std.proofs.lemmas.List.{length-drop, length-take, take_all, take-take}
 use Rattle.std.proofs.lemmas.Slice.Eq.{bytes_eq-Decides}
 use Rattle.std.specs.Str.{bytes_eq}
-use Rattle.trace_base.specs.Causes.{raised}
-use Rattle.trace_base.specs.Reading.{GivesBytesAt}
+use Rattle.trace_outside.specs.Causes.{raised}
+use Rattle.trace_outside.specs.Reading.{GivesBytesAt}
 use Rattle.dat_options.specs.declared.fault.OpenFault.{OpenFault}
 use Rattle.dat_options.specs.declared.fault.OpenFault.TheVariants.{Truncated, Compressed, OtherVersion, Read}
-use Rattle.dat_options.specs.Answer.{Answers, AnswersTold}
+use Rattle.dat_options.specs.Answer.{AnswersUnlessFaulty, AnswersTold}
 use Rattle.dat_header.specs.Header.{IsRefusal, version_at}
 use Rattle.dat_header.specs.Refusal.{begins_with, word_fault, version_fault, seventh}
 use Rattle.dat_header.specs.Items.{version_word}
-use Rattle.dat_header.specs.Small.{word_in, word_at}
-use Rattle.dat_header.specs.Reading.{FileSeen, Steps, GivesThere}
+use Rattle.dat_header.specs.ItemsAt.{word_in, word_at}
+use Rattle.dat_header.specs.Steps.{FileSeen, Steps, GivesThere}
 use Rattle.dat_header.proofs.Steps.{erring_is, answers_itself}
 
 bytes_apart : (xs ys : List ℕ) → (xs ≡ ys → ⊥) → bytes_eq xs ys ≡ false
@@ -80,7 +80,7 @@ told_word None word wrong at size count buffer is given counted = tt
 told_word (Some file) word wrong at size count buffer is given counted =
     let there = there_is count (length word) at buffer file given (omega (arith, counted, is)) in
     let same = ap (λ (n : ℕ). word_in word wrong (take count buffer) at n) (sym is) ∙ ap (λ (t : List ℕ). word_in word wrong t at (length file)) there ∙ word_by_front word wrong file at in
-    subst (λ (r : Result ℕ OpenFault). Answers (word_in word wrong (take count buffer) at size) r) same (answers_itself (word_in word wrong (take count buffer) at size))
+    subst (λ (r : Result ℕ OpenFault). AnswersUnlessFaulty (word_in word wrong (take count buffer) at size) r) same (answers_itself (word_in word wrong (take count buffer) at size))
 
 word_in_steps : (expected : List ℕ → Result ℕ OpenFault) (word : List ℕ) (wrong : OpenFault) (at count : ℕ) (buffer : List ℕ) (before now : FileSeen)
     → length buffer ≡ length word → at ≤ before.size → IsRefusal wrong → GivesThere at buffer before now (Ok count)
@@ -98,6 +98,7 @@ word_in_steps expected word wrong at count buffer before now long within refusal
       size = gives.size;
       later = gives.later;
       cause = λ e. absurd (chosen_refuses stands begins (at + length word) before.size wrong refusal e);
+      most = gives.most;
       reads = chosen_ends stands begins (at + length word) before.size wrong (λ value. now.reads ≤ raised before.reads (value - at)) (λ e. omega (arith, gives.reads, whole e));
       forward = chosen_ends stands begins (at + length word) before.size wrong (λ value. at ≤ value) (λ e. omega arith);
       inside = chosen_ends stands begins (at + length word) before.size wrong (λ value. value ≤ before.size) (λ e. omega (arith, counted, whole e, within));
@@ -122,7 +123,7 @@ told_version None at size count buffer is given counted = tt
 told_version (Some file) at size count buffer is given counted =
     let there = there_is count 2 at buffer file given (omega (arith, counted, is)) in
     let wrong : version_fault at (take count buffer) ≡ version_fault at (drop at file) = ap (version_fault at) there ∙ ap (λ (t : List ℕ). cond (bytes_eq t seventh) (Compressed at) (OtherVersion at)) (take-take 2 2 (drop at file) (omega arith)) in
-    subst (λ (w : OpenFault). Answers (word_in version_word (version_fault at (take count buffer)) (take count buffer) at size) (word_at version_word w file at)) wrong
+    subst (λ (w : OpenFault). AnswersUnlessFaulty (word_in version_word (version_fault at (take count buffer)) (take count buffer) at size) (word_at version_word w file at)) wrong
     (told_word (Some file) version_word (version_fault at (take count buffer)) at size count buffer is given counted)
 
 version_refuses : (at : ℕ) (there : List ℕ) → IsRefusal (version_fault at there)

@@ -5,9 +5,9 @@ use Rattle.std.proofs.lemmas.List.Concat.{flat_map-cons}
 use Rattle.std.proofs.lemmas.Grind.{flat_map-append}
 use Rattle.std.proofs.lemmas.List.Elements.{All-filter, All-push}
 use Rattle.std.specs.List.{All, filter, flat_map}
-use Rattle.trace_base.specs.Causes.{HasCause}
-use Rattle.trace_base.specs.Writing.{Gained, GainedPrefix}
-use Rattle.trace_base.proofs.Gains.{gained_both, prefix_behind, prefix_of_parts, gained_nothing}
+use Rattle.trace_outside.specs.Causes.{HasCause}
+use Rattle.trace_outside.specs.Writing.{Gained, GainedPrefix}
+use Rattle.trace_outside.proofs.Gains.{gained_both, prefix_behind, prefix_of_parts, gained_nothing}
 use Rattle.dat_options.proofs.Writes.{prefix_in_front}
 use Rattle.trace_base.specs.Number.{bytes_of}
 use Rattle.trace_base.specs.declared.order.Order.{Order}

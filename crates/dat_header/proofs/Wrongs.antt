@@ -9,8 +9,8 @@ use Rattle.dat_options.specs.declared.fault.OpenFault.{OpenFault}
 use Rattle.dat_options.proofs.Steps.{some_is}
 use Rattle.dat_header.specs.Items.{Item, Kind, text}
 use Rattle.dat_header.specs.Refusal.{fault_at}
-use Rattle.dat_header.specs.Steps.{Found, ◌>>=◌}
-use Rattle.dat_header.specs.Laws.{AreBytes}
+use Rattle.dat_header.specs.Found.{Found, ◌>>=◌}
+use Rattle.dat_options.specs.Place.{AreBytes}
 use Rattle.dat_header.proofs.Grammar.{Reads, Stands, found_value, err_or_ok, at_ok, at_err, not_both, same_value, same_fault, behind, reads_then, reads_none, reads_as}
 
 pub record Wrong {V : Type 0} (items : V → List Item) (allowed : V → Type 0) (file : List ℕ) (at : ℕ) (fault : OpenFault) : Type 0 where

@@ -18,8 +18,8 @@ abbrev pub IsPageSize : ℕ → Type 0
 IsPageSize page = (power : ℕ) × (12 ≤ power) × (power ≤ 16) × (page ≡ 2 ^ power)
 
 -- a name without NUL
-abbrev pub IsName : List ℕ → Type 0
-IsName name = All (λ byte. byte ≢ 0) name
+abbrev pub IsSystemName : List ℕ → Type 0
+IsSystemName name = All (λ byte. byte ≢ 0) name
 
 -- texts whose sizes and whose number fit the words before them
 pub record AreFormats (formats : List (List ℕ)) : Type 0 where
@@ -27,7 +27,7 @@ pub record AreFormats (formats : List (List ℕ)) : Type 0 where
   pub sized : All (λ text. length text < 2 ^ 64) formats
 
 pub record IsSystem (system : System) : Type 0 where
-  pub name : IsName system.name
+  pub name : IsSystemName system.name
   pub formats : AreFormats system.formats
 
 pub record AreSystems (systems : List System) : Type 0 where

@@ -19,8 +19,8 @@ use Rattle.dat_header.specs.declared.pieces.LastSection.TheVariants as kind
 use Rattle.dat_header.specs.PageText.{layout_of}
 use Rattle.dat_header.specs.Items.{magic_word, version_word, page_word, event_word, options_word, latency_word, fly_word, section_words, body_words}
 use Rattle.dat_header.specs.Refusal.{begins_with, word_fault, version_fault}
-use Rattle.dat_header.specs.Steps.{Found, ◌>>=◌, or_wrong}
-use Rattle.dat_header.specs.Small.{word_at, bytes_at, number_at, value_at, text_at, formats_at, systems_at, order_of, long_of, page_of, cpus_of}
+use Rattle.dat_header.specs.Found.{Found, ◌>>=◌, or_wrong}
+use Rattle.dat_header.specs.ItemsAt.{word_at, bytes_at, number_at, value_at, text_at, formats_at, systems_at, order_of, long_of, page_of, cpus_of}
 
 -- the word of version 6
 unfoldable pub version_at : List ℕ → ℕ → Result ℕ OpenFault

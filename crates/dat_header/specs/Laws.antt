@@ -1,18 +1,15 @@
 -- What holds of the definitions of a header.
-use Rattle.std.specs.Prelude.{◌≡◌, ◌<◌, ◌↔◌, List, ℕ, ◌++◌, Ok, Err}
-use Rattle.std.specs.List.{All}
+use Rattle.std.specs.Prelude.{◌≡◌, ◌↔◌, List, ℕ, ◌++◌, Ok, Err}
+use Rattle.dat_options.specs.Place.{AreBytes}
 use Rattle.dat_options.specs.declared.fault.OpenFault.{OpenFault}
 use Rattle.dat_header.specs.declared.header.Header.{Header}
-use Rattle.dat_header.specs.Spelling.{Spells, HasHeader, BeginsWith}
+use Rattle.dat_header.specs.Spelling.{SpellsHeader, HasHeader, BeginsWith}
 use Rattle.dat_header.specs.Refusal.{Refuses}
 use Rattle.dat_header.specs.Header.{header_of, IsRefusal}
 
-abbrev pub AreBytes : List ℕ → Type 0
-AreBytes file = All (λ byte. byte < 256) file
-
 -- No header's spelling begins with another header's spelling.
 abbrev pub SpellingsDiffer : Type 0
-SpellingsDiffer = (header other : Header) (bytes more : List ℕ) → Spells header bytes → Spells other more → BeginsWith more bytes → header ≡ other
+SpellingsDiffer = (header other : Header) (bytes more : List ℕ) → SpellsHeader header bytes → SpellsHeader other more → BeginsWith more bytes → header ≡ other
 
 -- A file has at most one header.
 abbrev pub OneHeader : Type 0
@@ -20,7 +17,7 @@ OneHeader = (file : List ℕ) (header other : Header) → HasHeader file header 
 
 -- What spells a header is read as that header, whatever follows it.
 abbrev pub ReadsBack : Type 0
-ReadsBack = (header : Header) (bytes rest : List ℕ) → Spells header bytes → header_of (bytes ++ rest) ≡ Ok header
+ReadsBack = (header : Header) (bytes rest : List ℕ) → SpellsHeader header bytes → header_of (bytes ++ rest) ≡ Ok header
 
 -- The computed header is the one that the file has.
 abbrev pub ComputesHeader : Type 0

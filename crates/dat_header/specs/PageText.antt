@@ -1,25 +1,18 @@
 -- The layout that a header_page text gives to the file's sub-buffers.
 -- Source: trace-cmd.dat.v6(5), `header_page`; the text is the kernel's events/header_page. The limits on the places are this
 -- program's.
-use Rattle.std.specs.Prelude.{◌+◌, ◌%◌, ◌==◌, ◌&&◌, ◌||◌, Bool, ℕ, nat_le, List, [], ◌∷◌, Option, Some, None, option_and_then, if◌then◌else◌, codes}
-use Rattle.std.specs.List.{find, filter_map, slice_split}
+use Rattle.std.specs.Prelude.{◌+◌, ◌%◌, ◌==◌, ◌&&◌, ◌||◌, Bool, ℕ, nat_le, List, [], ◌∷◌, Option, Some, None, if◌then◌else◌, codes}
+use Rattle.std.specs.List.{find, filter_map}
 use Rattle.std.specs.Str.{bytes_eq}
 use Rattle.trace_base.specs.FieldLine.{FieldData}
-use Rattle.trace_base.specs.FieldReading.{field_line}
+use Rattle.trace_base.specs.FieldReading.{field_line, ◌>>=◌}
+use Rattle.text_lines.specs.Lines.{lines_of}
 use Rattle.trace_base.specs.declared.order.Order.{Order}
 use Rattle.trace_base.specs.declared.layout.Layout.{Layout}
-
-infixl 10 ◌>>=◌
-abbrev pub ◌>>=◌ : {V W : Type 0} → Option V → (V → Option W) → Option W
-value >>= next = option_and_then next value
 
 -- an empty text: the timestamp, a commit word of the user's long, and the data behind it
 abbrev pub plain_layout : Order → ℕ → ℕ → Layout
 plain_layout order long page = record { order = order; time_at = 0; commit_at = 8; commit_size = long; data_at = 8 + long; page = page }
-
--- the lines of a text, split at newlines
-abbrev pub lines_of : List ℕ → List (List ℕ)
-lines_of text = slice_split (λ byte. byte == 10) text
 
 -- the field lines of a text
 abbrev pub field_lines : List ℕ → List FieldData

@@ -10,11 +10,11 @@ abbrev pub BeginsWith : List ℕ → List ℕ → Type 0
 BeginsWith file bytes = (rest : List ℕ) × (file ≡ bytes ++ rest)
 
 -- the bytes are the header's items, one behind another, and the header says how many they are
-pub record Spells (header : Header) (bytes : List ℕ) : Type 0 where
+pub record SpellsHeader (header : Header) (bytes : List ℕ) : Type 0 where
   pub allowed : IsHeader header
   pub joined : bytes ≡ text (items header)
   pub ends : header.end ≡ length bytes
 
 -- the file begins with a spelling of the header
 abbrev pub HasHeader : List ℕ → Header → Type 0
-HasHeader file header = (bytes : List ℕ) × Spells header bytes × BeginsWith file bytes
+HasHeader file header = (bytes : List ℕ) × SpellsHeader header bytes × BeginsWith file bytes

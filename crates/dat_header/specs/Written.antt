@@ -4,8 +4,8 @@ use Rattle.std.specs.List.{filter, flat_map}
 use Rattle.std.specs.Option.{option_map}
 use Rattle.trace_base.specs.declared.order.Order.{Order}
 use Rattle.trace_base.specs.declared.part.Part.{Part}
-use Rattle.trace_base.specs.Causes.{Rose}
-use Rattle.trace_base.specs.Writing.{Gained, GainedPrefix}
+use Rattle.trace_outside.specs.Causes.{Rose}
+use Rattle.trace_outside.specs.Writing.{Gained, GainedPrefix}
 use Rattle.dat_options.specs.declared.option.Opt.{Opt}
 use Rattle.dat_options.specs.Options.{option_text, options_text}
 use Rattle.dat_header.specs.declared.header.Header.{Header}

@@ -5,15 +5,16 @@ ghost use Rattle.std.specs.List.{All};
 ghost use Rattle.dat_header.specs.Allowed.{AreFormats, IsSystem, AreSystems};
 ghost use Rattle.dat_header.specs.Pieces.{IsCarried};
 ghost use Rattle.dat_header.specs.Header.{carried_at};
-ghost use Rattle.dat_header.specs.Reading.{Steps, seen};
-ghost use Rattle.dat_header.specs.Small.{texts_at, formats_at, system_at, each_system_at, systems_at};
+ghost use Rattle.dat_header.specs.Steps.{Steps, seen};
+ghost use Rattle.dat_header.specs.ItemsAt.{texts_at, formats_at, system_at, each_system_at, systems_at};
 
 use crate::header::System;
+use crate::items::{read_long_text, read_name, read_number, read_text};
 use crate::pieces::Carried;
-use crate::small::{read_long_text, read_name, read_number, read_text};
 use dat_options::OpenFault;
 use std::alloc::Global;
-use trace_base::{ByteText, File, ListOf, Order};
+use trace_base::{ByteText, ListOf, Order};
+use trace_outside::File;
 
 pub(crate) fn read_carried<F: File>(
     alloc: Global,

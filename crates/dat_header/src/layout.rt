@@ -1,22 +1,21 @@
 // The layout that a header_page text gives.
 
-ghost use Rattle.std.specs.Prelude.{◌≡◌, ◌==◌, ◌<◌, ◌≤◌, ◌∷◌, length, IfOk, IfSome};
-ghost use Rattle.std.specs.List.{position};
+ghost use Rattle.std.specs.Prelude.{◌≡◌, ◌≤◌, IfOk};
 ghost use Rattle.std.specs.Option.{option_map};
 ghost use Rattle.trace_base.specs.FieldReading.{field_view};
 ghost use Rattle.trace_base.specs.Layout.{IsLayout};
-ghost use Rattle.dat_header.specs.PageText.{field_lines, lines_of, layout_of, layout_by, line_named, may_be, plain_layout};
-ghost use Rattle.dat_header.specs.Lines.{lines_left};
+ghost use Rattle.dat_header.specs.PageText.{field_lines, layout_of, layout_by, line_named, may_be, plain_layout};
 ghost use Rattle.dat_header.specs.Pieces.{IsMachine, IsPageText};
 ghost use Rattle.dat_header.specs.Header.{page_text_at};
-ghost use Rattle.dat_header.specs.Reading.{Steps, seen};
+ghost use Rattle.dat_header.specs.Steps.{Steps, seen};
 
+use crate::items::{read_content, read_long_number};
 use crate::pieces::{Machine, PageText};
-use crate::small::{read_content, read_long_number};
-use bstr::ByteSlice;
 use dat_options::OpenFault;
 use std::alloc::Global;
-use trace_base::{FieldLine, File, Layout, read_field_line};
+use text_lines::first_line;
+use trace_base::{FieldLine, Layout, read_field_line};
+use trace_outside::File;
 
 // The header_page text of a file with such a machine.
 pub(crate) fn read_page_text<F: File>(
@@ -81,23 +80,6 @@ fn line_named<'a>(text: &'a [u8], name: &[u8]) -> Option<FieldLine<'a>>
         left = after;
     }
     None
-}
-
-// The first line of a text, and what stands behind the newline that ends it.
-fn first_line(text: &[u8]) -> (&[u8], Option<&[u8]>)
-    ensures split { lines_of text.now ≡ result.0.now ∷ lines_left result.1 }
-    ensures shorter { IfSome result.1 (λ rest. length rest.now < length text.now) }
-{
-    match newline(text) {
-        Some(end) => (&text[..end], Some(&text[end + 1..])),
-        None => (text, None),
-    }
-}
-
-fn newline(text: &[u8]) -> Option<usize>
-    ensures { result ≡ position (λ byte. byte == 10) text.now }
-{
-    text.find_byte(b'\n')
 }
 
 fn layout_by(

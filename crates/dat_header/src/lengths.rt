@@ -13,6 +13,24 @@ use crate::header::{Header, System};
 use dat_options::Opt;
 use trace_base::ByteText;
 
+// What each header has beside its texts, its lists and its table: words, numbers, sizes and counts.
+const FIXED: u64 = 97;
+
+// The word in front of the options, and the id that ends them.
+const AROUND_OPTIONS: u64 = 12;
+
+// The size in front of a text.
+const TEXT_SIZE: u64 = 8;
+
+// The NUL behind a system's name, and the number of its formats.
+const BEHIND_NAME: u64 = 5;
+
+// The id of an option and its size.
+const OPTION_HEAD: u64 = 6;
+
+// The offset of a part and its size.
+const PART: u64 = 16;
+
 /// How many bytes `write_header` writes of this header, whatever the parts, modulo 2^64.
 pub fn header_len(header: &Header) -> u64
     requires { IsHeader header.now }
@@ -20,10 +38,10 @@ pub fn header_len(header: &Header) -> u64
 {
     let texts = texts_len(header);
     let lists = lists_len(header);
-    97u64
+    FIXED
         .wrapping_add(texts)
         .wrapping_add(lists)
-        .wrapping_add(16 * header.cpus as u64)
+        .wrapping_add(PART * header.cpus as u64)
 }
 
 // The texts that stand alone, without their sizes.
@@ -46,7 +64,7 @@ fn lists_len(header: &Header) -> u64
     ensures { (order : Order) → result ≡ (length (sized_texts order header.now.ftrace) + length (flat_map (system_text order) header.now.systems) + section_len order header.now.options) % 2 ^ 64 }
 {
     let options = match &header.options {
-        Some(options) => options_len(options.as_slice()).wrapping_add(12),
+        Some(options) => options_len(options.as_slice()).wrapping_add(AROUND_OPTIONS),
         None => 0,
     };
     formats_len(header.ftrace.as_slice())
@@ -60,7 +78,7 @@ fn formats_len(texts: &[ByteText]) -> u64
     let mut total = 0u64;
     for content in texts {
         let size = content.as_bytes().len() as u64;
-        total = total.wrapping_add(8).wrapping_add(size);
+        total = total.wrapping_add(TEXT_SIZE).wrapping_add(size);
     }
     total
 }
@@ -74,7 +92,7 @@ fn systems_len(systems: &[System]) -> u64
         let formats = formats_len(system.formats.as_slice());
         total = total
             .wrapping_add(name)
-            .wrapping_add(5)
+            .wrapping_add(BEHIND_NAME)
             .wrapping_add(formats);
     }
     total
@@ -86,7 +104,7 @@ fn options_len(options: &[Opt]) -> u64
     let mut total = 0u64;
     for option in options {
         let size = option.bytes.as_bytes().len() as u64;
-        total = total.wrapping_add(6).wrapping_add(size);
+        total = total.wrapping_add(OPTION_HEAD).wrapping_add(size);
     }
     total
 }

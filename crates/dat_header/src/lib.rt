@@ -4,6 +4,7 @@
 mod carried;
 mod header;
 mod instances;
+mod items;
 mod laws;
 mod layout;
 mod lengths;
@@ -12,7 +13,6 @@ mod pieces;
 mod put;
 mod read;
 mod sections;
-mod small;
 #[cfg(test)]
 mod tests;
 mod write;

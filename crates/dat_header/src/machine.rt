@@ -5,13 +5,14 @@ ghost use Rattle.trace_base.specs.declared.order.Order.TheVariants.{Little};
 ghost use Rattle.dat_header.specs.Allowed.{IsLong, IsPageSize};
 ghost use Rattle.dat_header.specs.Pieces.{IsMachine};
 ghost use Rattle.dat_header.specs.Header.{machine_at};
-ghost use Rattle.dat_header.specs.Reading.{Steps, seen};
-ghost use Rattle.dat_header.specs.Small.{value_at, order_of, long_of, page_of, cpus_of};
+ghost use Rattle.dat_header.specs.Steps.{Steps, seen};
+ghost use Rattle.dat_header.specs.ItemsAt.{value_at, order_of, long_of, page_of, cpus_of};
 
+use crate::items::{read_byte, read_number};
 use crate::pieces::Machine;
-use crate::small::{read_byte, read_number};
 use dat_options::OpenFault;
-use trace_base::{File, Order};
+use trace_base::Order;
+use trace_outside::File;
 
 pub(crate) fn read_machine<F: File>(file: &mut F, at: u64) -> Result<(Machine, u64), OpenFault>
     requires inside { at ≤ F.size file.old }

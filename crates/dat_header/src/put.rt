@@ -9,9 +9,8 @@ ghost use Rattle.dat_header.specs.Written.{Writes, options_section, sink, with_p
 
 use crate::header::{Header, System};
 use dat_options::{write_options, write_table};
-use trace_base::{
-    ByteText, Failed, ListOf, Order, Part, Sink, put_u32, put_u64, write_all, write_parts,
-};
+use trace_base::{ByteText, ListOf, Order, Part, put_u32, put_u64};
+use trace_outside::{Failed, Sink, write_all, write_parts};
 
 // From the magic bytes to the header_page text.
 pub(crate) fn write_front<O: Sink>(header: &Header, out: &mut O) -> Result<(), Failed>

@@ -1,25 +1,26 @@
 // The whole header, read piece after piece.
 
 ghost use Rattle.std.specs.Prelude.{◌≡◌, ◌≤◌, length, IfOk, IsErrOf};
-ghost use Rattle.trace_base.specs.Causes.{Rose, raised};
+ghost use Rattle.trace_outside.specs.Causes.{Rose, raised};
 ghost use Rattle.trace_base.specs.Layout.{IsLayout};
 ghost use Rattle.dat_header.specs.Header.{ReadsHeader, header_of, joined, version_at};
 ghost use Rattle.dat_header.specs.Allowed.{IsHeader, IsBody};
 ghost use Rattle.dat_header.specs.Refusal.{version_fault};
-ghost use Rattle.dat_header.specs.Reading.{Steps, seen};
+ghost use Rattle.dat_header.specs.Steps.{Steps, seen};
 
 use crate::carried::read_carried;
 use crate::header::Header;
+use crate::items::{read_there, read_word, word_in};
 use crate::layout::read_page_text;
 use crate::machine::{read_cpus, read_machine};
 use crate::pieces::{Carried, Machine, PageText, Sections};
 use crate::sections::read_sections;
-use crate::small::{read_there, read_word, word_in};
 use dat_options::OpenFault;
 use std::alloc::Global;
-use trace_base::File;
+use trace_outside::File;
 
-/// Reads the header that a file begins with (trace-cmd.dat.v6(5)). Each byte of the header is read once, and no other byte.
+/// Reads the header that a file begins with (trace-cmd.dat.v6(5)). Each byte of the header is read once, and no other byte; of a
+/// file that has no header at most each byte once.
 ///
 /// # Errors
 /// Every fault but the last two says what is wrong with the file, and where: the place of the first byte of the first item
@@ -30,6 +31,7 @@ pub fn read_header<F: File>(alloc: Global, file: &mut F) -> Result<Header, OpenF
     ensures read { IsErrOf result OpenFault.Read → Rose (F.faults file.old) (F.faults file.new) }
     ensures later { F.faults file.old ≤ F.faults file.new }
     ensures reads { IfOk result (λ header. F.reads file.new ≤ raised (F.reads file.old) header.end) }
+    ensures most { F.reads file.new ≤ raised (F.reads file.old) (F.size file.old) }
     ensures end_inside { IfOk result (λ header. header.end ≤ F.size file.old) }
     ensures allowed { IfOk result IsHeader }
     ensures layout { IfOk result (λ header. IsLayout header.layout) }

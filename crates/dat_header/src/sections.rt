@@ -7,14 +7,15 @@ ghost use Rattle.dat_header.specs.Header.{sections_at, behind_options_at, body_a
 ghost use Rattle.dat_header.specs.Allowed.{IsBody};
 ghost use Rattle.dat_header.specs.Pieces.{AreSections};
 ghost use Rattle.dat_header.specs.Items.{body_words};
-ghost use Rattle.dat_header.specs.Reading.{Steps, seen};
+ghost use Rattle.dat_header.specs.Steps.{Steps, seen};
 
 use crate::header::Body;
+use crate::items::read_there;
 use crate::pieces::{LastSection, Sections};
-use crate::small::read_there;
 use dat_options::{OpenFault, read_options, read_table};
 use std::alloc::Global;
-use trace_base::{File, Order};
+use trace_base::Order;
+use trace_outside::File;
 
 const OPTIONS: [u8; 10] = *b"options  \0";
 

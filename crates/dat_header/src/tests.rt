@@ -4,7 +4,8 @@ ghost use Rattle.dat_header.specs.Allowed.{IsHeader};
 use crate::{Body, Header, OpenFault, read_header, write_header};
 use std::alloc::{AllocError, Global};
 use std::test::Fail;
-use trace_base::{ByteText, MemFile, MemSink, Order, Part};
+use trace_base::{ByteText, Order, Part};
+use trace_outside::{MemFile, MemSink};
 
 // The header of a little-endian file of one processor, with all texts empty and all counts 0. The page size stands at 14, the
 // size of the header_page text at 30, that of the symbols at 67, the number of processors at 83 and the last word at 87.
@@ -63,7 +64,7 @@ fn fault(opened: Result<Header, OpenFault>) -> Option<OpenFault> {
 #[test]
 fn what_is_wrong_is_told_with_its_place(rt: HostRuntime) -> Result<(), Fail> {
     let alloc = rt.alloc();
-    let rows: [(usize, &[u8], usize, OpenFault); 23] = [
+    let rows: [(usize, &[u8], usize, OpenFault); 25] = [
         (0, b"", 0, OpenFault::Truncated(0)),
         (0, b"x", 1, OpenFault::NotTrace(0)),
         (9, b"G", 113, OpenFault::NotTrace(0)),
@@ -79,6 +80,9 @@ fn what_is_wrong_is_told_with_its_place(rt: HostRuntime) -> Result<(), Fail> {
         (18, b"header_pagE", 113, OpenFault::BadSection(18)),
         (30, b"\x01", 113, OpenFault::BadHeaderPage(38)),
         (30, b"\x4c", 113, OpenFault::Truncated(113)),
+        // Counts of formats and of systems that no file could have: no memory is asked for them.
+        (59, b"\xff\xff\xff\xff", 113, OpenFault::Truncated(113)),
+        (63, b"\xff\xff\xff\xff", 113, OpenFault::Truncated(113)),
         (67, b"\x0a", 75, OpenFault::Truncated(75)),
         (83, b"\x01\x04\0\0", 113, OpenFault::TooManyCpus(83)),
         (87, b"x", 113, OpenFault::BadSection(87)),
@@ -212,8 +216,79 @@ fn every_list_is_read(rt: HostRuntime) -> Result<(), Fail> {
         return Err(Fail::from("a table"));
     };
     let offsets = [0x4000, 0x6000];
+    assert_eq!(rt; parts.as_slice().len(), offsets.len());
     for (part, offset) in parts.as_slice().iter().zip(offsets) {
         assert_eq!(rt; part.offset, offset);
+    }
+    Ok(())
+}
+
+// A hundred thousand bytes of a text.
+fn fill(bytes: &mut Vec<u8>) -> Result<(), AllocError> {
+    for _ in 0..100_000 {
+        bytes.push(b'x')?;
+    }
+    Ok(())
+}
+
+// A header of 1,024 processors with 1,000 formats of the ftrace system, where each text and the one option have 100,000 bytes.
+fn large(alloc: Global) -> Result<Vec<u8>, AllocError> {
+    let mut bytes = Vec::new(alloc);
+    bytes.extend_from_slice(&PLAIN[..51])?;
+    bytes.extend_from_slice(b"\xa0\x86\x01\0\0\0\0\0")?;
+    fill(&mut bytes)?;
+    bytes.extend_from_slice(b"\xe8\x03\0\0")?;
+    for _ in 0..1_000 {
+        bytes.extend_from_slice(b"\x01\0\0\0\0\0\0\0f")?;
+    }
+    let before: [&[u8]; 4] = [
+        b"\0\0\0\0\xa0\x86\x01\0",
+        b"\xa0\x86\x01\0",
+        b"\xa0\x86\x01\0\0\0\0\0",
+        b"\0\x04\0\0options  \0\x09\0\xa0\x86\x01\0",
+    ];
+    for head in before {
+        bytes.extend_from_slice(head)?;
+        fill(&mut bytes)?;
+    }
+    bytes.extend_from_slice(b"\0\0flyrecord\0")?;
+    for _ in 0..1_024 {
+        bytes.extend_from_slice(&[0; 16])?;
+    }
+    Ok(bytes)
+}
+
+// How many parts a table has.
+fn parts_in(body: &Body) -> usize {
+    match body {
+        Body::Latency => 0,
+        Body::Fly(parts) => parts.as_slice().len(),
+    }
+}
+
+#[test]
+fn a_large_header_is_read(rt: HostRuntime) -> Result<(), Fail> {
+    let alloc = rt.alloc();
+    let bytes = large(alloc)?;
+    let header = open(alloc, &bytes)?;
+    let Some(options) = &header.options else {
+        return Err(Fail::from("no options"));
+    };
+    let [option] = options.as_slice() else {
+        return Err(Fail::from("one option"));
+    };
+    let rows = [
+        (header.event_text.as_bytes().len(), 100_000),
+        (header.kallsyms.as_bytes().len(), 100_000),
+        (header.printk.as_bytes().len(), 100_000),
+        (header.cmdlines.as_bytes().len(), 100_000),
+        (option.bytes.as_bytes().len(), 100_000),
+        (header.ftrace.as_slice().len(), 1_000),
+        (parts_in(&header.body), 1_024),
+        (header.end as usize, bytes.len()),
+    ];
+    for (found, expected) in rows {
+        assert_eq!(rt; found, expected);
     }
     Ok(())
 }

@@ -2,17 +2,18 @@
 
 ghost use Rattle.std.specs.Prelude.{◌≡◌, ◌%◌, ◌^◌, length, IfOk, OnOk, OnErr};
 ghost use Rattle.std.specs.List.{All};
-ghost use Rattle.trace_base.specs.Causes.{HasCause};
-ghost use Rattle.trace_base.specs.Writing.{Gained, GainedPrefix};
+ghost use Rattle.trace_outside.specs.Causes.{HasCause};
+ghost use Rattle.trace_outside.specs.Writing.{Gained, GainedPrefix};
 ghost use Rattle.dat_options.specs.Table.{IsPart};
 ghost use Rattle.dat_header.specs.Allowed.{IsHeader};
-ghost use Rattle.dat_header.specs.Spelling.{Spells};
+ghost use Rattle.dat_header.specs.Spelling.{SpellsHeader};
 ghost use Rattle.dat_header.specs.Written.{Writes, header_text, sink, written};
 
 use crate::header::Header;
 use crate::lengths::header_len;
 use crate::put::{write_end, write_front, write_texts};
-use trace_base::{Failed, Part, Sink};
+use trace_base::Part;
+use trace_outside::{Failed, Sink};
 
 /// Writes the header with a table of these parts, and answers how many bytes that are, modulo 2^64 (trace-cmd.dat.v6(5)).
 ///
@@ -25,7 +26,7 @@ pub fn write_header<O: Sink>(header: &Header, parts: &[Part], out: &mut O) -> Re
     requires each { length parts.now ≡ header.now.cpus }
     ensures gained { OnOk result (Gained (O.written out.old) (O.written out.new) (header_text header.now parts.now)) }
     ensures prefix { OnErr result (GainedPrefix (O.written out.old) (O.written out.new) (header_text header.now parts.now)) }
-    ensures spelled { Spells (written header.now parts.now) (header_text header.now parts.now) }
+    ensures spelled { SpellsHeader (written header.now parts.now) (header_text header.now parts.now) }
     ensures len { IfOk result (λ len. len ≡ length (header_text header.now parts.now) % 2 ^ 64) }
     ensures name { O.name out.new ≡ O.name out.old }
     ensures cause { HasCause (O.faults out.old) (O.faults out.new) result }

@@ -3,12 +3,13 @@ use Rattle.std.proofs.Common.{◌≡◌, ◌≢◌, ℕ, ◌+◌, ◌^◌, ◌<�
 use Rattle.std.proofs.lemmas.List.{length-append, length-drop}
 use Rattle.trace_base.specs.declared.order.Order.{Order}
 use Rattle.trace_base.specs.Number.{bytes_of}
-use Rattle.trace_base.specs.Reading.{GivesBytesAt}
+use Rattle.trace_outside.specs.Reading.{GivesBytesAt}
 use Rattle.dat_options.specs.declared.option.Opt.{Opt}
-use Rattle.dat_options.specs.declared.fault.OpenFault.{OpenFault}
-use Rattle.dat_options.specs.declared.fault.OpenFault.TheVariants.{Truncated, Read, Memory}
+use Rattle.trace_outside.specs.declared.piece.PieceFault.{PieceFault}
+use Rattle.trace_outside.specs.declared.piece.PieceFault.TheVariants.{EndsEarly, Read, Memory}
 use Rattle.dat_options.specs.Place.{GoesOnWith}
-use Rattle.dat_options.specs.Piece.{FillsFrom, GivesPiece}
+use Rattle.dat_options.specs.Answer.{fault_of_piece}
+use Rattle.trace_outside.specs.Piece.{FillsFrom, GivesPiece}
 use Rattle.dat_options.specs.Options.{option_text, option_behind, option_at}
 use Rattle.dat_options.specs.OneOption.{ReadsFirst}
 use Rattle.dat_options.proofs.Numbers.{length-bytes_of}
@@ -20,21 +21,20 @@ use Rattle.dat_options.proofs.OptionsLaws.{id_again}
 abbrev pub HoldsAt : Option (List ℕ) → ℕ → List ℕ → Type 0
 HoldsAt told at text = IfSome told (λ bytes. GoesOnWith text at bytes)
 
--- where a fault other than the file's end needs no more
-pub faulty : (order : Order) (told : Option (List ℕ)) (size at : ℕ) (fault : OpenFault) (buffer : List ℕ) (place : ℕ)
+-- a fault other than the file's end needs no more
+pub faulty : (order : Order) (told : Option (List ℕ)) (size at : ℕ) (fault : PieceFault) (buffer : List ℕ) (place : ℕ)
     → (size < place + length buffer → IfSome told (λ bytes. option_at order (drop at bytes) ≡ None))
-    → FillsFrom told size place (Err fault) buffer → ReadsFirst order told size at (Err fault)
-faulty order told size at (Truncated end) buffer place short filled = (filled.0, short filled.1)
+    → FillsFrom told size place (Err fault) buffer → ReadsFirst order told size at (Err (fault_of_piece fault))
+faulty order told size at (EndsEarly end) buffer place short filled = (filled.0, short filled.1)
 faulty order told size at Read buffer place short filled = tt
-faulty order told size at fault buffer place short filled = absurd filled
+faulty order told size at Memory buffer place short filled = absurd filled
 
-pub faulty_piece : (order : Order) (told : Option (List ℕ)) (size at : ℕ) (fault : OpenFault) (count place : ℕ)
+pub faulty_piece : (order : Order) (told : Option (List ℕ)) (size at : ℕ) (fault : PieceFault) (count place : ℕ)
     → (size < place + count → IfSome told (λ bytes. option_at order (drop at bytes) ≡ None))
-    → GivesPiece told size place count (Err fault) → ReadsFirst order told size at (Err fault)
-faulty_piece order told size at (Truncated end) count place short given = (given.0, short given.1)
+    → GivesPiece told size place count (Err fault) → ReadsFirst order told size at (Err (fault_of_piece fault))
+faulty_piece order told size at (EndsEarly end) count place short given = (given.0, short given.1)
 faulty_piece order told size at Read count place short given = tt
 faulty_piece order told size at Memory count place short given = tt
-faulty_piece order told size at fault count place short given = absurd given
 
 -- no room for an id
 pub no_id : (order : Order) (told : Option (List ℕ)) (size at : ℕ) → IfSome told (λ bytes. length bytes ≡ size) → size < at + 2
@@ -104,12 +104,12 @@ pub given_holds : (told other : Option (List ℕ)) (at count : ℕ) (text : List
 given_holds told other at count text same long given = subst (λ (o : Option (List ℕ)). HoldsAt o at text) same (given_goes_on other at count text long given)
 
 -- a read changes neither the file's bytes nor its size
-pub fills_same : (told other : Option (List ℕ)) (size long place : ℕ) (result : Result Unit OpenFault) (buffer : List ℕ) → other ≡ told → long ≡ size
+pub fills_same : (told other : Option (List ℕ)) (size long place : ℕ) (result : Result Unit PieceFault) (buffer : List ℕ) → other ≡ told → long ≡ size
     → FillsFrom other long place result buffer → FillsFrom told size place result buffer
 fills_same told other size long place result buffer same as_long filled =
     subst (λ (o : Option (List ℕ)). FillsFrom o size place result buffer) same (subst (λ (n : ℕ). FillsFrom other n place result buffer) as_long filled)
 
-pub gives_same : (told other : Option (List ℕ)) (size long place count : ℕ) (result : Result (List ℕ) OpenFault) → other ≡ told → long ≡ size
+pub gives_same : (told other : Option (List ℕ)) (size long place count : ℕ) (result : Result (List ℕ) PieceFault) → other ≡ told → long ≡ size
     → GivesPiece other long place count result → GivesPiece told size place count result
 gives_same told other size long place count result same as_long given =
     subst (λ (o : Option (List ℕ)). GivesPiece o size place count result) same (subst (λ (n : ℕ). GivesPiece other n place count result) as_long given)

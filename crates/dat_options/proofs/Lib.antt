@@ -1,4 +1,5 @@
 pub mod Steps
+pub mod Pieces
 pub mod Numbers
 pub mod Fronts
 pub mod Places
@@ -9,3 +10,5 @@ pub mod Entries
 pub mod FirstLaws
 pub mod OptionsFound
 pub mod TableFound
+pub mod Sound
+pub mod Computed

@@ -7,6 +7,7 @@ use Rattle.std.proofs.Math.Nat.{mod-add-div}
 use Rattle.trace_base.specs.declared.order.Order.{Order}
 use Rattle.trace_base.specs.declared.order.Order.TheVariants.{Little, Big}
 use Rattle.trace_base.specs.Number.{low_first, num, low_bytes, bytes_of}
+use Rattle.dat_options.specs.Place.{AreBytes}
 
 abbrev pub IsBytes : List ℕ → Type 0
 IsBytes bytes = (i : ℕ) → get_or bytes i 0 < 256
@@ -58,3 +59,21 @@ number_spells order count n bytes long fit is =
     ap (λ (m : ℕ). bytes_of order count m) (is ∙ ap (num order) (take_all count bytes (omega arith)))
     ∙ ap (λ (k : ℕ). bytes_of order k (num order bytes)) (sym long)
     ∙ bytes_back order bytes fit
+
+pub are_bytes : (bytes : List ℕ) → AreBytes bytes → IsBytes bytes
+are_bytes bytes all i = elim (cases_lt i (length bytes)) [
+  | inl inside ↦ all i 0 inside
+  | inr past ↦ subst (λ (b : ℕ). b < 256) (sym (get_or_past bytes i 0 past)) (omega arith)
+]
+
+-- a number fits its bytes
+low_fits : (bytes : List ℕ) → IsBytes bytes → low_first bytes < limit (length bytes)
+low_fits [] fit = omega arith
+low_fits (byte ∷ bytes) fit =
+    let first : byte < 256 = fit 0 in
+    let rest = low_fits bytes (λ i. fit (suc i)) in
+    omega (arith, first, rest)
+
+pub num_fits : (order : Order) (bytes : List ℕ) → IsBytes bytes → num order bytes < limit (length bytes)
+num_fits Little bytes fit = low_fits bytes fit
+num_fits Big bytes fit = subst (λ (n : ℕ). low_first (reverse bytes) < limit n) (length-reverse bytes) (low_fits (reverse bytes) (IsBytes-reverse bytes fit))

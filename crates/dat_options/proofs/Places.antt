@@ -2,7 +2,7 @@
 use Rattle.std.proofs.Common.{◌≡◌, ℕ, ◌+◌, ◌≤◌, List, ◌++◌, length, take, drop, Option, None, Some, sym, ap, ◌∙◌, IfSome, arith}
 use Rattle.std.proofs.lemmas.List.{drop_at, take_all, length-append, length-take, take-append-drop, drop-drop}
 use Rattle.std.proofs.Math.Seq.{take-add}
-use Rattle.trace_base.specs.Reading.{GivesBytesAt}
+use Rattle.trace_outside.specs.Reading.{GivesBytesAt}
 use Rattle.dat_options.specs.Place.{StandsAt, GoesOnWith}
 
 pub stands_inside : (text : List ℕ) (at : ℕ) (bytes : List ℕ) (s : StandsAt text at bytes) → length bytes ≡ at + length text + length s.back

@@ -4,10 +4,12 @@ use Rattle.std.specs.List.{All}
 use Rattle.trace_base.specs.declared.order.Order.{Order}
 use Rattle.trace_base.specs.declared.part.Part.{Part}
 use Rattle.dat_options.specs.declared.fault.OpenFault.{OpenFault}
-use Rattle.dat_options.specs.declared.fault.OpenFault.TheVariants.{Truncated, Read, Memory}
+use Rattle.dat_options.specs.declared.fault.OpenFault.TheVariants.{Truncated, Memory}
 use Rattle.dat_options.specs.Place.{GoesOnWith}
-use Rattle.dat_options.specs.Answer.{AnswersTold}
-use Rattle.dat_options.specs.Piece.{GivesPiece}
+use Rattle.dat_options.specs.Answer.{AnswersTold, fault_of_piece}
+use Rattle.trace_outside.specs.declared.piece.PieceFault.{PieceFault}
+use Rattle.trace_outside.specs.declared.piece.PieceFault.TheVariants as piece
+use Rattle.trace_outside.specs.Piece.{GivesPiece}
 use Rattle.dat_options.specs.Table.{IsPart, table_text, HasTable, FindsTable, table_from}
 use Rattle.dat_options.proofs.Places.{stands_from, given_goes_on}
 use Rattle.dat_options.proofs.TableLaws.{length-table_text, table_has, table_past}
@@ -22,17 +24,16 @@ pub record Faulty (order : Order) (cpus : ℕ) (told : Option (List ℕ)) (at : 
   pub found : FindsTable order cpus at told (Err fault)
   pub exact : AnswersTold (table_from order cpus at) told (Err fault)
 
-pub faulty : (order : Order) (cpus : ℕ) (told : Option (List ℕ)) (size at : ℕ) (fault : OpenFault) → IfSome told (λ bytes. length bytes ≡ size)
-    → GivesPiece told size at (16 * cpus) (Err fault) → Faulty order cpus told at fault
-faulty order cpus None size at (Truncated end) whole given = record { found = tt; exact = tt }
-faulty order cpus (Some bytes) size at (Truncated end) whole given =
+pub faulty : (order : Order) (cpus : ℕ) (told : Option (List ℕ)) (size at : ℕ) (fault : PieceFault) → IfSome told (λ bytes. length bytes ≡ size)
+    → GivesPiece told size at (16 * cpus) (Err fault) → Faulty order cpus told at (fault_of_piece fault)
+faulty order cpus None size at (piece.EndsEarly end) whole given = record { found = tt; exact = tt }
+faulty order cpus (Some bytes) size at (piece.EndsEarly end) whole given =
     let past = table_past order cpus at bytes (omega (arith, whole, given.1)) ∙ ap (λ n. Err (Truncated n)) (whole ∙ sym given.0) in
     record { found = never_found order cpus at bytes (Truncated end) past; exact = past }
-faulty order cpus None size at Read whole given = record { found = tt; exact = tt }
-faulty order cpus (Some bytes) size at Read whole given = record { found = tt; exact = tt }
-faulty order cpus None size at Memory whole given = record { found = tt; exact = tt }
-faulty order cpus (Some bytes) size at Memory whole given = record { found = tt; exact = tt }
-faulty order cpus told size at fault whole given = absurd given
+faulty order cpus None size at piece.Read whole given = record { found = tt; exact = tt }
+faulty order cpus (Some bytes) size at piece.Read whole given = record { found = tt; exact = tt }
+faulty order cpus None size at piece.Memory whole given = record { found = tt; exact = tt }
+faulty order cpus (Some bytes) size at piece.Memory whole given = record { found = tt; exact = tt }
 
 -- want of memory says nothing
 pub wanting : (order : Order) (cpus : ℕ) (told : Option (List ℕ)) (at : ℕ) → Faulty order cpus told at Memory

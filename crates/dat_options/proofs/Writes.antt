@@ -3,8 +3,8 @@ use Rattle.std.proofs.Common.{◌≡◌, ℕ, List, [], ◌∷◌, ◌++◌, Opt
 use Rattle.trace_base.specs.declared.order.Order.{Order}
 use Rattle.trace_base.specs.declared.order.Order.TheVariants.{Little, Big}
 use Rattle.trace_base.specs.Number.{bytes_of}
-use Rattle.trace_base.specs.Writing.{GainedPrefix}
-use Rattle.trace_base.proofs.Gains.{gained_nothing, prefix_behind}
+use Rattle.trace_outside.specs.Writing.{GainedPrefix}
+use Rattle.trace_outside.proofs.Gains.{gained_nothing, prefix_behind}
 
 pub prefix_in_front : (before now : Option (List ℕ)) (one two : List ℕ) → GainedPrefix before now one → GainedPrefix before now (one ++ two)
 prefix_in_front before now one two gained = prefix_behind before before now [] one two (one ++ two) refl (gained_nothing before) gained

@@ -2,17 +2,19 @@
 use Rattle.std.specs.Prelude.{Option, Some, None, Result, Ok, Err, ◌≡◌, ℕ, ◌-◌, List, length, IfSome}
 use Rattle.dat_options.specs.declared.fault.OpenFault.{OpenFault}
 use Rattle.dat_options.specs.declared.fault.OpenFault.TheVariants.{Truncated, Read, Memory}
+use Rattle.trace_outside.specs.declared.piece.PieceFault.{PieceFault}
+use Rattle.trace_outside.specs.declared.piece.PieceFault.TheVariants as piece
 
 -- the call answered just this, unless a read failed or there was no memory
-abbrev pub Answers : {T : Type 0} → Result T OpenFault → Result T OpenFault → Type 0
-Answers (Ok value) expected = expected ≡ Ok value
-Answers (Err Read) expected = Unit {0}
-Answers (Err Memory) expected = Unit {0}
-Answers (Err fault) expected = expected ≡ Err fault
+abbrev pub AnswersUnlessFaulty : {T : Type 0} → Result T OpenFault → Result T OpenFault → Type 0
+AnswersUnlessFaulty (Ok value) expected = expected ≡ Ok value
+AnswersUnlessFaulty (Err Read) expected = Unit {0}
+AnswersUnlessFaulty (Err Memory) expected = Unit {0}
+AnswersUnlessFaulty (Err fault) expected = expected ≡ Err fault
 
 -- the call answered what is said of the file's bytes, where the file tells them
 abbrev pub AnswersTold : {T : Type 0} → (List ℕ → Result T OpenFault) → Option (List ℕ) → Result T OpenFault → Type 0
-AnswersTold expected told result = IfSome told (λ bytes. Answers result (expected bytes))
+AnswersTold expected told result = IfSome told (λ bytes. AnswersUnlessFaulty result (expected bytes))
 
 -- what was found with the place behind it, or the length of a file that has none there
 abbrev pub found_in : {X : Type 0} → List ℕ → Option (X × List ℕ) → Result (X × ℕ) OpenFault
@@ -25,3 +27,9 @@ IsEnd size (Truncated place) = place ≡ size
 IsEnd size Read = Unit {0}
 IsEnd size Memory = Unit {0}
 IsEnd size fault = ⊥
+
+-- a piece of the file was not read
+abbrev pub fault_of_piece : PieceFault → OpenFault
+fault_of_piece (piece.EndsEarly len) = Truncated len
+fault_of_piece piece.Read = Read
+fault_of_piece piece.Memory = Memory

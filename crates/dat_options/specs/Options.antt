@@ -1,6 +1,6 @@
 -- The options of a trace file: an id, a size and the bytes of each, and the id 0 behind the last.
 -- Source: trace-cmd.dat.v6(5), `options`.
-use Rattle.std.specs.Prelude.{◌≡◌, ◌≢◌, ℕ, zero, suc, ◌^◌, ◌<◌, nat_lt, ◌==◌, if◌then◌else◌, List, [], ◌∷◌, ◌++◌, length, drop, Option, Some, None, Result, Ok, Err, IfSome}
+use Rattle.std.specs.Prelude.{◌≡◌, ◌≢◌, ◌↔◌, ◌+◌, ℕ, zero, suc, ◌^◌, ◌<◌, nat_lt, ◌==◌, if◌then◌else◌, List, [], ◌∷◌, ◌++◌, length, drop, Option, Some, None, Result, Ok, Err, IfSome}
 use Rattle.std.specs.Option.{option_map}
 use Rattle.std.specs.List.{All, flat_map}
 use Rattle.trace_base.specs.declared.order.Order.{Order}
@@ -8,8 +8,9 @@ use Rattle.trace_base.specs.Number.{bytes_of}
 use Rattle.dat_options.specs.declared.option.Opt.{Opt}
 use Rattle.dat_options.specs.declared.fault.OpenFault.{OpenFault}
 use Rattle.dat_options.specs.declared.fault.OpenFault.TheVariants.{Truncated}
-use Rattle.dat_options.specs.Front.{◌>>=◌, piece_at, number_at}
-use Rattle.dat_options.specs.Place.{StandsAt}
+use Rattle.trace_base.specs.FieldReading.{◌>>=◌}
+use Rattle.dat_options.specs.Front.{leading_piece, leading_number}
+use Rattle.dat_options.specs.Place.{StandsAt, AreBytes}
 use Rattle.dat_options.specs.Answer.{found_in}
 
 -- the id is not the one that ends the list, and the size is a number of 32 bits
@@ -42,14 +43,14 @@ FindsOptions order at told (Err fault) = Unit {0}
 -- the option behind its id
 unfoldable pub option_behind : Order → ℕ → List ℕ → Option (Option Opt × List ℕ)
 option_behind order id bytes = do
-  size ← number_at order 4 bytes
-  content ← piece_at size.0 size.1
+  size ← leading_number order 4 bytes
+  content ← leading_piece size.0 size.1
   Some (Some (record { id = id; bytes = content.0 }), content.1)
 
 -- the option that bytes begin with, or none where they begin with the end of the list
 unfoldable pub option_at : Order → List ℕ → Option (Option Opt × List ℕ)
 option_at order bytes = do
-  id ← number_at order 2 bytes
+  id ← leading_number order 2 bytes
   if id.0 == 0 then Some (None, id.1) else option_behind order id.0 id.1
 
 abbrev pub with_first : Option Opt → List ℕ → Option (List Opt × List ℕ) → Option (List Opt × List ℕ)
@@ -78,3 +79,13 @@ OneOptions = (order : Order) (options others : List Opt) (at : ℕ) (bytes : Lis
 -- What is written is read again, whatever follows it.
 abbrev pub OptionsReadBack : Type 0
 OptionsReadBack = (order : Order) (options : List Opt) (rest : List ℕ) → All IsOption options → options_at order (options_text order options ++ rest) ≡ Some (options, rest)
+
+-- The computed options are those that a file has at the place, with the place behind them.
+abbrev pub ComputesOptions : Type 0
+ComputesOptions = (order : Order) (options : List Opt) (at end : ℕ) (bytes : List ℕ) → AreBytes bytes
+    → options_from order at bytes ≡ Ok (options, end) ↔ HasOptions order options at bytes × (end ≡ at + length (options_text order options))
+
+-- No options are computed exactly where a file has none at the place, and then the fault is that it ends early.
+abbrev pub ComputesNoOptions : Type 0
+ComputesNoOptions = (order : Order) (at : ℕ) (fault : OpenFault) (bytes : List ℕ) → AreBytes bytes
+    → options_from order at bytes ≡ Err fault ↔ (fault ≡ Truncated (length bytes)) × ((options : List Opt) → HasOptions order options at bytes → ⊥)

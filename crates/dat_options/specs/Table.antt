@@ -1,6 +1,6 @@
 -- The table of a trace file: the offset and the size of each processor's data, in order.
 -- Source: trace-cmd.dat.v6(5), the entries behind `flyrecord`.
-use Rattle.std.specs.Prelude.{◌≡◌, ℕ, zero, suc, ◌^◌, ◌<◌, nat_lt, if◌then◌else◌, List, [], ◌∷◌, ◌++◌, length, drop, Option, Some, None, Result, Ok, Err, IfSome}
+use Rattle.std.specs.Prelude.{◌≡◌, ◌↔◌, ◌+◌, ◌*◌, ℕ, zero, suc, ◌^◌, ◌<◌, nat_lt, if◌then◌else◌, List, [], ◌∷◌, ◌++◌, length, drop, Option, Some, None, Result, Ok, Err, IfSome}
 use Rattle.std.specs.Option.{option_map}
 use Rattle.std.specs.List.{All, flat_map}
 use Rattle.trace_base.specs.declared.order.Order.{Order}
@@ -8,8 +8,9 @@ use Rattle.trace_base.specs.declared.part.Part.{Part}
 use Rattle.trace_base.specs.Number.{bytes_of}
 use Rattle.dat_options.specs.declared.fault.OpenFault.{OpenFault}
 use Rattle.dat_options.specs.declared.fault.OpenFault.TheVariants.{Truncated}
-use Rattle.dat_options.specs.Front.{◌>>=◌, number_at}
-use Rattle.dat_options.specs.Place.{StandsAt}
+use Rattle.trace_base.specs.FieldReading.{◌>>=◌}
+use Rattle.dat_options.specs.Front.{leading_number}
+use Rattle.dat_options.specs.Place.{StandsAt, AreBytes}
 use Rattle.dat_options.specs.Answer.{found_in}
 
 -- both are numbers of 64 bits
@@ -38,8 +39,8 @@ FindsTable order cpus at told (Err fault) = Unit {0}
 -- the part that bytes begin with
 unfoldable pub part_at : Order → List ℕ → Option (Part × List ℕ)
 part_at order bytes = do
-  offset ← number_at order 8 bytes
-  size ← number_at order 8 offset.1
+  offset ← leading_number order 8 bytes
+  size ← leading_number order 8 offset.1
   Some (record { offset = offset.0; size = size.0 }, size.1)
 
 -- the parts of so many processors that bytes begin with, and the bytes behind them
@@ -60,3 +61,13 @@ OneTable = (order : Order) (cpus : ℕ) (parts others : List Part) (at : ℕ) (b
 -- What is written is read again, whatever follows it.
 abbrev pub TableReadsBack : Type 0
 TableReadsBack = (order : Order) (parts : List Part) (rest : List ℕ) → All IsPart parts → table_at order (length parts) (table_text order parts ++ rest) ≡ Some (parts, rest)
+
+-- The computed table is the one that a file has at the place, with the place behind it.
+abbrev pub ComputesTable : Type 0
+ComputesTable = (order : Order) (cpus : ℕ) (parts : List Part) (at end : ℕ) (bytes : List ℕ) → AreBytes bytes
+    → table_from order cpus at bytes ≡ Ok (parts, end) ↔ HasTable order cpus parts at bytes × (end ≡ at + 16 * cpus)
+
+-- No table is computed exactly where a file has none at the place, and then the fault is that it ends early.
+abbrev pub ComputesNoTable : Type 0
+ComputesNoTable = (order : Order) (cpus at : ℕ) (fault : OpenFault) (bytes : List ℕ) → AreBytes bytes
+    → table_from order cpus at bytes ≡ Err fault ↔ (fault ≡ Truncated (length bytes)) × ((parts : List Part) → HasTable order cpus parts at bytes → ⊥)

@@ -1,9 +1,13 @@
+ghost use Rattle.std.specs.Prelude.{◌≡◌};
+ghost use Rattle.dat_options.specs.Answer.{fault_of_piece};
+
 use thiserror::Error;
+use trace_outside::PieceFault;
 
 /// Why a file was not opened as a trace.
 ///
 /// All but the last two say what is wrong with the file's bytes, and where: the place of the first byte of the wrong item, or
-/// for `Truncated` the length of the file. The texts are those that the program prints before the place.
+/// for `Truncated` the length of the file.
 #[derive(Clone, Copy, Debug, PartialEq, Eq, Error)]
 pub enum OpenFault {
     /// The file does not begin with a trace's magic bytes.
@@ -42,4 +46,16 @@ pub enum OpenFault {
     /// There was no memory.
     #[error("out of memory")]
     Memory,
+}
+
+impl From<PieceFault> for OpenFault {
+    ghost from_gives = { λ fault opened. opened ≡ fault_of_piece fault };
+
+    fn from(fault: PieceFault) -> OpenFault {
+        match fault {
+            PieceFault::EndsEarly(len) => OpenFault::Truncated(len),
+            PieceFault::Read => OpenFault::Read,
+            PieceFault::Memory => OpenFault::Memory,
+        }
+    }
 }

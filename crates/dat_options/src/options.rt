@@ -2,27 +2,26 @@
 
 ghost use Rattle.std.specs.Prelude.{◌≡◌, ◌+◌, ◌-◌, ◌≤◌, length, IfOk, IfErr, OnOk, OnErr, IsErrOf};
 ghost use Rattle.std.specs.List.{All};
-ghost use Rattle.trace_base.specs.Causes.{HasCause, Rose, raised};
+ghost use Rattle.trace_outside.specs.Causes.{HasCause, Rose, raised};
 ghost use Rattle.trace_base.specs.Number.{bytes_of};
-ghost use Rattle.trace_base.specs.Writing.{Gained, GainedPrefix};
+ghost use Rattle.trace_outside.specs.Writing.{Gained, GainedPrefix};
 ghost use Rattle.dat_options.specs.Answer.{AnswersTold, IsEnd};
 ghost use Rattle.dat_options.specs.OneOption.{ReadsFirst};
 ghost use Rattle.dat_options.specs.Options.{IsOption, MayBeWritten, FindsOptions, option_text, options_text, options_from};
 
 use crate::fault::OpenFault;
 use crate::option::Opt;
-use crate::piece::{read_bytes, read_piece};
 use std::alloc::Global;
-use trace_base::{
-    Failed, File, ListOf, Order, Sink, put_u16, put_u32, read_u16, read_u32, write_all, write_parts,
-};
+use trace_base::{ListOf, Order, put_u16, put_u32, read_u16, read_u32};
+use trace_outside::{Failed, File, Sink, read_bytes, read_piece, write_all, write_parts};
 
 /// The options that stand in a file from `at` on, and the place behind the id that ends them. Each of their bytes is read
 /// once, and no other byte.
 ///
 /// # Errors
 /// `Truncated` with the file's length exactly where the file ends before the list does, `Read` where a read failed,
-/// `Memory` where there was no memory. No memory is taken for a size that runs past the file's end.
+/// `Memory` where there was no memory, only where the file has room for an option. No memory is taken for a size that runs
+/// past the file's end.
 pub fn read_options<F: File>(
     alloc: Global,
     order: Order,
@@ -35,6 +34,7 @@ pub fn read_options<F: File>(
     ensures behind { IfOk result (λ found. found.1 ≡ at + length (options_text order found.0)) }
     ensures inside { IfOk result (λ found. found.1 ≤ F.size file.old) }
     ensures fault { IfErr result (IsEnd (F.size file.old)) }
+    ensures memory { IsErrOf result OpenFault.Memory → at + 6 ≤ F.size file.old }
     ensures reads { IfOk result (λ found. F.reads file.new ≡ raised (F.reads file.old) (found.1 - at)) }
     ensures most { F.reads file.new ≤ raised (F.reads file.old) (F.size file.old - at) }
     ensures cause { IsErrOf result OpenFault.Read → Rose (F.faults file.old) (F.faults file.new) }
@@ -57,6 +57,7 @@ pub fn read_options<F: File>(
 }
 
 // The option at a place, or none where the list ends there, and the place behind it.
+#[tactic(auto, using(crate::proofs::Pieces::read_of_piece))]
 fn read_option<F: File>(
     alloc: Global,
     order: Order,
@@ -64,6 +65,7 @@ fn read_option<F: File>(
     at: u64,
 ) -> Result<(Option<Opt>, u64), OpenFault>
     ensures first { ReadsFirst order (F.bytes file.old) (F.size file.old) at result }
+    ensures memory { IsErrOf result OpenFault.Memory → at + 6 ≤ F.size file.old }
     ensures reads { IfOk result (λ found. F.reads file.new ≡ raised (F.reads file.old) (found.1 - at)) }
     ensures most { F.reads file.new ≤ raised (F.reads file.old) (F.size file.old - at) }
     ensures cause { IsErrOf result OpenFault.Read → Rose (F.faults file.old) (F.faults file.new) }

@@ -2,16 +2,15 @@
 
 ghost use Rattle.std.specs.Prelude.{◌≡◌, ◌+◌, ◌-◌, ◌*◌, ◌%◌, ◌≤◌, length, IfOk, IfErr, OnOk, OnErr, IsErrOf};
 ghost use Rattle.std.specs.List.{All};
-ghost use Rattle.trace_base.specs.Causes.{HasCause, Rose, raised};
-ghost use Rattle.trace_base.specs.Writing.{Gained, GainedPrefix};
+ghost use Rattle.trace_outside.specs.Causes.{HasCause, Rose, raised};
+ghost use Rattle.trace_outside.specs.Writing.{Gained, GainedPrefix};
 ghost use Rattle.dat_options.specs.Answer.{AnswersTold, IsEnd};
-ghost use Rattle.dat_options.specs.Piece.{ReadsNothingPast};
 ghost use Rattle.dat_options.specs.Table.{IsPart, FindsTable, part_text, table_text, table_from};
 
 use crate::fault::OpenFault;
-use crate::piece::read_bytes;
 use std::alloc::Global;
-use trace_base::{Failed, File, ListOf, Order, Part, Sink, put_u64, read_u64, write_all};
+use trace_base::{ListOf, Order, Part, put_u64, read_u64};
+use trace_outside::{Failed, File, Sink, read_bytes, write_all};
 
 // How many parts one write takes.
 const BLOCK: usize = 64;
@@ -20,8 +19,9 @@ const BLOCK: usize = 64;
 /// once, and no other byte.
 ///
 /// # Errors
-/// `Truncated` with the file's length exactly where the file ends before the table does; no memory is taken and nothing is read then. `Read`
-/// where a read failed, `Memory` where there was no memory.
+/// `Truncated` with the file's length exactly where the file ends before the table does; no memory is taken and nothing
+/// is read then. `Read` where a read failed, `Memory` where there was no memory, only where the table stands inside the file.
+#[tactic(auto, using(crate::proofs::Pieces::read_of_piece))]
 pub fn read_table<F: File>(
     alloc: Global,
     order: Order,
@@ -36,8 +36,9 @@ pub fn read_table<F: File>(
     ensures behind { IfOk result (λ found. found.1 ≡ at + 16 * cpus) }
     ensures inside { IfOk result (λ found. found.1 ≤ F.size file.old) }
     ensures fault { IfErr result (IsEnd (F.size file.old)) }
+    ensures memory { IsErrOf result OpenFault.Memory → at + 16 * cpus ≤ F.size file.old }
     ensures reads { IfOk result (λ found. F.reads file.new ≡ raised (F.reads file.old) (found.1 - at)) }
-    ensures unread { ReadsNothingPast result (F.reads file.old) (F.reads file.new) }
+    ensures unread { IsErrOf result (OpenFault.Truncated (F.size file.old)) → F.reads file.new ≡ F.reads file.old }
     ensures most { F.reads file.new ≤ raised (F.reads file.old) (F.size file.old - at) }
     ensures cause { IsErrOf result OpenFault.Read → Rose (F.faults file.old) (F.faults file.new) }
     ensures later { F.faults file.old ≤ F.faults file.new }

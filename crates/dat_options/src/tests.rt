@@ -1,7 +1,8 @@
 use crate::{OpenFault, Opt, read_options, read_table, write_options, write_table};
 use std::alloc::{AllocError, Global};
 use std::test::Fail;
-use trace_base::{ByteText, MemFile, MemSink, Order, Part};
+use trace_base::{ByteText, Order, Part};
+use trace_outside::{MemFile, MemSink};
 
 // Id 1 with four bytes, id 8 with three, and the end.
 const LITTLE: [u8; 21] = *b"\x01\0\x04\0\0\0\0\0\0\0\x08\0\x03\0\0\0abc\0\0";
@@ -121,7 +122,7 @@ fn options_are_written_and_read_again(rt: HostRuntime) -> Result<(), Fail> {
         let Ok((again, end)) = read_options(alloc, order, &mut file, 0) else {
             return Err(Fail::from("options"));
         };
-        assert_eq!(rt; end, 21);
+        assert_eq!(rt; (again.as_slice().len(), end), (2, 21));
         for (option, (id, bytes)) in again
             .as_slice()
             .iter()
@@ -130,6 +131,32 @@ fn options_are_written_and_read_again(rt: HostRuntime) -> Result<(), Fail> {
             assert_eq!(rt; option.id, id);
             assert_eq!(rt; option.bytes.as_bytes(), bytes);
         }
+    }
+    Ok(())
+}
+
+#[test]
+fn faults_are_told_with_their_place(rt: HostRuntime) -> Result<(), Fail> {
+    let alloc = rt.alloc();
+    let rows = [
+        (OpenFault::NotTrace(0), "not a trace file at byte 0"),
+        (
+            OpenFault::Compressed(10),
+            "version 7 is not read at byte 10",
+        ),
+        (OpenFault::OtherVersion(10), "unknown version at byte 10"),
+        (OpenFault::BadEndian(12), "bad byte order at byte 12"),
+        (OpenFault::BadLong(13), "bad long size at byte 13"),
+        (OpenFault::BadPageSize(14), "bad page size at byte 14"),
+        (OpenFault::BadHeaderPage(38), "bad header_page at byte 38"),
+        (OpenFault::BadSection(87), "bad section at byte 87"),
+        (OpenFault::Truncated(113), "file ends early at byte 113"),
+        (OpenFault::TooManyCpus(83), "too many processors at byte 83"),
+        (OpenFault::Read, "read failed"),
+        (OpenFault::Memory, "out of memory"),
+    ];
+    for (fault, text) in rows {
+        assert_eq!(rt; format!(in alloc; "{fault}")?.as_str(), text);
     }
     Ok(())
 }

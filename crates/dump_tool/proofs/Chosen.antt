@@ -4,10 +4,10 @@ use Rattle.std.specs.Prelude.{if◌then◌else◌}
 use Rattle.std.specs.List.{flat_map, filter}
 use Rattle.std.proofs.lemmas.List.{append-nil, take_all}
 use Rattle.std.proofs.lemmas.List.Concat.{flat_map-cons}
-use Rattle.trace_base.specs.Writing.{Gained, GainedPrefix}
-use Rattle.trace_base.specs.Pending.{Holds, Flushes}
-use Rattle.trace_base.proofs.Gains.{flat_map-parted}
-use Rattle.trace_base.proofs.PendingLemmas.{prefix_longer, flushed, flush_stopped}
+use Rattle.trace_outside.specs.Writing.{Gained, GainedPrefix}
+use Rattle.trace_outside.specs.Pending.{Holds, Flushes}
+use Rattle.trace_outside.proofs.Gains.{flat_map-parted}
+use Rattle.trace_outside.proofs.PendingLemmas.{prefix_longer, flushed, flush_stopped}
 use Rattle.trace_args.specs.Command.{DumpData}
 use Rattle.trace_args.specs.Sections.{sections}
 use Rattle.trace_args.specs.declared.section.Section.{Section}

@@ -4,9 +4,9 @@ use Rattle.std.proofs.lemmas.List.{append-nil, take_all, take_more}
 use Rattle.std.proofs.lemmas.List.Concat.{flat_map-cons}
 use Rattle.std.proofs.lemmas.Grind.{flat_map-append}
 use Rattle.std.specs.List.{flat_map}
-use Rattle.trace_base.specs.Writing.{Gained, GainedPrefix}
-use Rattle.trace_base.specs.Pending.{Holds, Puts, Flushes}
-use Rattle.trace_base.proofs.PendingLemmas.{holds_nothing, prefix_longer, parts_stopped, flushed, flush_stopped}
+use Rattle.trace_outside.specs.Writing.{Gained, GainedPrefix}
+use Rattle.trace_outside.specs.Pending.{Holds, Puts, Flushes}
+use Rattle.trace_outside.proofs.PendingLemmas.{holds_nothing, prefix_longer, parts_stopped, flushed, flush_stopped}
 
 -- a piece was put behind any text
 abbrev pub Put : List ℕ → Option (List ℕ) → List ℕ → Option (List ℕ) → List ℕ → Type 0

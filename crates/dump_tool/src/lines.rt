@@ -1,12 +1,11 @@
 // The lines that sections are made of.
 
 ghost use Rattle.std.specs.Prelude.{◌≡◌};
-ghost use Rattle.trace_base.specs.Causes.{HasCause};
-ghost use Rattle.trace_base.specs.Pending.{Puts};
+ghost use Rattle.trace_outside.specs.Pending.{PutsText, on_way};
 ghost use Rattle.dump_tool.specs.Texts as spec;
 
 use itoa::Buffer;
-use trace_base::{Failed, Pending, Sink};
+use trace_outside::{Failed, Pending, Sink};
 
 /// Puts a name and what it stands for on a line of their own.
 pub(crate) fn put_value<'a, O: Sink>(
@@ -15,9 +14,7 @@ pub(crate) fn put_value<'a, O: Sink>(
     name: &'a [u8],
     value: &'a [u8],
 ) -> Result<(), Failed>
-    ensures puts { Puts (spec.value_line name.now value.now) (O.written out.old) pending.old (O.written out.new) pending.new result }
-    ensures name { O.name out.new ≡ O.name out.old }
-    ensures cause { HasCause (O.faults out.old) (O.faults out.new) result }
+    ensures { PutsText (spec.value_line name.now value.now) (on_way O.written O.name O.faults out.old pending.old) (on_way O.written O.name O.faults out.new pending.new) result }
 {
     pending.put_parts(out, &[name, b" ", value, b"\n"])
 }
@@ -29,9 +26,7 @@ pub(crate) fn put_count<O: Sink>(
     name: &[u8],
     count: u128,
 ) -> Result<(), Failed>
-    ensures puts { Puts (spec.count_line name.now count) (O.written out.old) pending.old (O.written out.new) pending.new result }
-    ensures name { O.name out.new ≡ O.name out.old }
-    ensures cause { HasCause (O.faults out.old) (O.faults out.new) result }
+    ensures { PutsText (spec.count_line name.now count) (on_way O.written O.name O.faults out.old pending.old) (on_way O.written O.name O.faults out.new pending.new) result }
 {
     let mut digits = Buffer::new();
     put_value(pending, out, name, digits.format(count).as_bytes())
@@ -44,9 +39,7 @@ pub(crate) fn put_heading<O: Sink>(
     name: &'static str,
     count: u128,
 ) -> Result<(), Failed>
-    ensures puts { Puts (spec.heading name.now count) (O.written out.old) pending.old (O.written out.new) pending.new result }
-    ensures name { O.name out.new ≡ O.name out.old }
-    ensures cause { HasCause (O.faults out.old) (O.faults out.new) result }
+    ensures { PutsText (spec.heading name.now count) (on_way O.written O.name O.faults out.old pending.old) (on_way O.written O.name O.faults out.new pending.new) result }
 {
     let mut digits = Buffer::new();
     let count = digits.format(count).as_bytes();
@@ -60,9 +53,7 @@ pub(crate) fn put_text<O: Sink>(
     name: &[u8],
     text: &[u8],
 ) -> Result<(), Failed>
-    ensures puts { Puts (spec.stored_text name.now text.now) (O.written out.old) pending.old (O.written out.new) pending.new result }
-    ensures name { O.name out.new ≡ O.name out.old }
-    ensures cause { HasCause (O.faults out.old) (O.faults out.new) result }
+    ensures { PutsText (spec.stored_text name.now text.now) (on_way O.written O.name O.faults out.old pending.old) (on_way O.written O.name O.faults out.new pending.new) result }
 {
     let mut digits = Buffer::new();
     let size = digits.format(text.len()).as_bytes();
@@ -76,9 +67,7 @@ fn put_sized<'a, O: Sink>(
     size: &'a [u8],
     text: &'a [u8],
 ) -> Result<(), Failed>
-    ensures puts { Puts (spec.sized_text name.now size.now text.now) (O.written out.old) pending.old (O.written out.new) pending.new result }
-    ensures name { O.name out.new ≡ O.name out.old }
-    ensures cause { HasCause (O.faults out.old) (O.faults out.new) result }
+    ensures { PutsText (spec.sized_text name.now size.now text.now) (on_way O.written O.name O.faults out.old pending.old) (on_way O.written O.name O.faults out.new pending.new) result }
 {
     let end: &'a [u8] = line_end(text);
     let parts: [&'a [u8]; 7] = [b"[", name, b" ", size, b" bytes]\n", text, end];

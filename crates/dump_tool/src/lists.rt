@@ -2,8 +2,7 @@
 
 ghost use Rattle.std.specs.Prelude.{◌≡◌, ◌++◌, length};
 ghost use Rattle.std.specs.List.{flat_map, enumerate_from};
-ghost use Rattle.trace_base.specs.Causes.{HasCause};
-ghost use Rattle.trace_base.specs.Pending.{Puts};
+ghost use Rattle.trace_outside.specs.Pending.{PutsText, on_way};
 ghost use Rattle.dump_tool.specs.Texts.{stored_text};
 ghost use Rattle.dump_tool.specs.Lists as spec;
 
@@ -11,7 +10,8 @@ use crate::lines::{put_count, put_heading, put_text};
 use dat_header::{Body, Header, System};
 use dat_options::Opt;
 use itoa::Buffer;
-use trace_base::{ByteText, Failed, Part, Pending, Sink};
+use trace_base::{ByteText, Part};
+use trace_outside::{Failed, Pending, Sink};
 
 /// Puts the formats of ftrace's own events.
 pub(crate) fn put_ftrace<O: Sink>(
@@ -19,9 +19,7 @@ pub(crate) fn put_ftrace<O: Sink>(
     out: &mut O,
     formats: &[ByteText],
 ) -> Result<(), Failed>
-    ensures puts { Puts (spec.ftrace_text formats.now) (O.written out.old) pending.old (O.written out.new) pending.new result }
-    ensures name { O.name out.new ≡ O.name out.old }
-    ensures cause { HasCause (O.faults out.old) (O.faults out.new) result }
+    ensures { PutsText (spec.ftrace_text formats.now) (on_way O.written O.name O.faults out.old pending.old) (on_way O.written O.name O.faults out.new pending.new) result }
 {
     put_heading(pending, out, "ftrace formats", formats.len() as u128)?;
     put_formats(pending, out, b"format", formats)
@@ -33,9 +31,7 @@ pub(crate) fn put_systems<O: Sink>(
     out: &mut O,
     systems: &[System],
 ) -> Result<(), Failed>
-    ensures puts { Puts (spec.systems_text systems.now) (O.written out.old) pending.old (O.written out.new) pending.new result }
-    ensures name { O.name out.new ≡ O.name out.old }
-    ensures cause { HasCause (O.faults out.old) (O.faults out.new) result }
+    ensures { PutsText (spec.systems_text systems.now) (on_way O.written O.name O.faults out.old pending.old) (on_way O.written O.name O.faults out.new pending.new) result }
 {
     put_heading(pending, out, "systems", systems.len() as u128)?;
     put_system_lines(pending, out, systems)
@@ -47,9 +43,7 @@ pub(crate) fn put_events<O: Sink>(
     out: &mut O,
     systems: &[System],
 ) -> Result<(), Failed>
-    ensures puts { Puts (spec.events_text systems.now) (O.written out.old) pending.old (O.written out.new) pending.new result }
-    ensures name { O.name out.new ≡ O.name out.old }
-    ensures cause { HasCause (O.faults out.old) (O.faults out.new) result }
+    ensures { PutsText (spec.events_text systems.now) (on_way O.written O.name O.faults out.old pending.old) (on_way O.written O.name O.faults out.new pending.new) result }
 {
     put_heading(pending, out, "events", event_count(systems))?;
     put_system_formats(pending, out, systems)
@@ -61,9 +55,7 @@ pub(crate) fn put_options<O: Sink>(
     out: &mut O,
     options: &[Opt],
 ) -> Result<(), Failed>
-    ensures puts { Puts (spec.options_text options.now) (O.written out.old) pending.old (O.written out.new) pending.new result }
-    ensures name { O.name out.new ≡ O.name out.old }
-    ensures cause { HasCause (O.faults out.old) (O.faults out.new) result }
+    ensures { PutsText (spec.options_text options.now) (on_way O.written O.name O.faults out.old pending.old) (on_way O.written O.name O.faults out.new pending.new) result }
 {
     put_heading(pending, out, "options", options.len() as u128)?;
     put_option_lines(pending, out, options)
@@ -75,9 +67,7 @@ pub(crate) fn put_body<O: Sink>(
     out: &mut O,
     body: &Body,
 ) -> Result<(), Failed>
-    ensures puts { Puts (spec.body_text body.now) (O.written out.old) pending.old (O.written out.new) pending.new result }
-    ensures name { O.name out.new ≡ O.name out.old }
-    ensures cause { HasCause (O.faults out.old) (O.faults out.new) result }
+    ensures { PutsText (spec.body_text body.now) (on_way O.written O.name O.faults out.old pending.old) (on_way O.written O.name O.faults out.new pending.new) result }
 {
     match body {
         Body::Latency => pending.put(out, b"[latency]\n"),
@@ -111,9 +101,7 @@ fn put_formats<O: Sink>(
     name: &[u8],
     formats: &[ByteText],
 ) -> Result<(), Failed>
-    ensures puts { Puts (flat_map (stored_text name.now) formats.now) (O.written out.old) pending.old (O.written out.new) pending.new result }
-    ensures name { O.name out.new ≡ O.name out.old }
-    ensures cause { HasCause (O.faults out.old) (O.faults out.new) result }
+    ensures { PutsText (flat_map (stored_text name.now) formats.now) (on_way O.written O.name O.faults out.old pending.old) (on_way O.written O.name O.faults out.new pending.new) result }
 {
     for format in formats {
         put_text(pending, out, name, format.as_bytes())?;
@@ -126,9 +114,7 @@ fn put_system_lines<O: Sink>(
     out: &mut O,
     systems: &[System],
 ) -> Result<(), Failed>
-    ensures puts { Puts (flat_map spec.system_line systems.now) (O.written out.old) pending.old (O.written out.new) pending.new result }
-    ensures name { O.name out.new ≡ O.name out.old }
-    ensures cause { HasCause (O.faults out.old) (O.faults out.new) result }
+    ensures { PutsText (flat_map spec.system_line systems.now) (on_way O.written O.name O.faults out.old pending.old) (on_way O.written O.name O.faults out.new pending.new) result }
 {
     for system in systems {
         let events = system.formats.as_slice().len() as u128;
@@ -142,9 +128,7 @@ fn put_system_formats<O: Sink>(
     out: &mut O,
     systems: &[System],
 ) -> Result<(), Failed>
-    ensures puts { Puts (flat_map spec.system_formats systems.now) (O.written out.old) pending.old (O.written out.new) pending.new result }
-    ensures name { O.name out.new ≡ O.name out.old }
-    ensures cause { HasCause (O.faults out.old) (O.faults out.new) result }
+    ensures { PutsText (flat_map spec.system_formats systems.now) (on_way O.written O.name O.faults out.old pending.old) (on_way O.written O.name O.faults out.new pending.new) result }
 {
     for system in systems {
         let name = system.name.as_bytes();
@@ -158,9 +142,7 @@ fn put_option_lines<O: Sink>(
     out: &mut O,
     options: &[Opt],
 ) -> Result<(), Failed>
-    ensures puts { Puts (flat_map spec.option_line options.now) (O.written out.old) pending.old (O.written out.new) pending.new result }
-    ensures name { O.name out.new ≡ O.name out.old }
-    ensures cause { HasCause (O.faults out.old) (O.faults out.new) result }
+    ensures { PutsText (flat_map spec.option_line options.now) (on_way O.written O.name O.faults out.old pending.old) (on_way O.written O.name O.faults out.new pending.new) result }
 {
     for option in options {
         put_option(pending, out, option)?;
@@ -169,9 +151,7 @@ fn put_option_lines<O: Sink>(
 }
 
 fn put_option<O: Sink>(pending: &mut Pending, out: &mut O, option: &Opt) -> Result<(), Failed>
-    ensures puts { Puts (spec.option_line option.now) (O.written out.old) pending.old (O.written out.new) pending.new result }
-    ensures name { O.name out.new ≡ O.name out.old }
-    ensures cause { HasCause (O.faults out.old) (O.faults out.new) result }
+    ensures { PutsText (spec.option_line option.now) (on_way O.written O.name O.faults out.old pending.old) (on_way O.written O.name O.faults out.new pending.new) result }
 {
     let mut id_digits = Buffer::new();
     let mut size_digits = Buffer::new();
@@ -181,18 +161,14 @@ fn put_option<O: Sink>(pending: &mut Pending, out: &mut O, option: &Opt) -> Resu
 }
 
 fn put_parts<O: Sink>(pending: &mut Pending, out: &mut O, parts: &[Part]) -> Result<(), Failed>
-    ensures puts { Puts (spec.parts_text parts.now) (O.written out.old) pending.old (O.written out.new) pending.new result }
-    ensures name { O.name out.new ≡ O.name out.old }
-    ensures cause { HasCause (O.faults out.old) (O.faults out.new) result }
+    ensures { PutsText (spec.parts_text parts.now) (on_way O.written O.name O.faults out.old pending.old) (on_way O.written O.name O.faults out.new pending.new) result }
 {
     put_heading(pending, out, "flyrecord", parts.len() as u128)?;
     put_part_lines(pending, out, parts)
 }
 
 fn put_part_lines<O: Sink>(pending: &mut Pending, out: &mut O, parts: &[Part]) -> Result<(), Failed>
-    ensures puts { Puts (flat_map spec.part_line (enumerate_from 0 parts.now)) (O.written out.old) pending.old (O.written out.new) pending.new result }
-    ensures name { O.name out.new ≡ O.name out.old }
-    ensures cause { HasCause (O.faults out.old) (O.faults out.new) result }
+    ensures { PutsText (flat_map spec.part_line (enumerate_from 0 parts.now)) (on_way O.written O.name O.faults out.old pending.old) (on_way O.written O.name O.faults out.new pending.new) result }
 {
     for (cpu, part) in parts.iter().enumerate() {
         put_part(pending, out, cpu, *part)?;
@@ -206,9 +182,7 @@ fn put_part<O: Sink>(
     cpu: usize,
     part: Part,
 ) -> Result<(), Failed>
-    ensures puts { Puts (spec.part_line (cpu, part)) (O.written out.old) pending.old (O.written out.new) pending.new result }
-    ensures name { O.name out.new ≡ O.name out.old }
-    ensures cause { HasCause (O.faults out.old) (O.faults out.new) result }
+    ensures { PutsText (spec.part_line (cpu, part)) (on_way O.written O.name O.faults out.old pending.old) (on_way O.written O.name O.faults out.new pending.new) result }
 {
     let mut cpu_digits = Buffer::new();
     let mut offset_digits = Buffer::new();

@@ -1,7 +1,7 @@
 ghost use Rattle.std.specs.Prelude.{◌≡◌, [], OnOk, OnErr};
-ghost use Rattle.trace_base.specs.Causes.{HasCause};
-ghost use Rattle.trace_base.specs.Pending.{Puts};
-ghost use Rattle.trace_base.specs.Writing.{Gained, GainedPrefix};
+ghost use Rattle.trace_outside.specs.Causes.{HasCause};
+ghost use Rattle.trace_outside.specs.Pending.{PutsText, on_way};
+ghost use Rattle.trace_outside.specs.Writing.{Gained, GainedPrefix};
 ghost use Rattle.trace_args.specs.Command.{dump_view};
 ghost use Rattle.dump_tool.specs.Dump.{dump_text, section_text};
 
@@ -10,7 +10,7 @@ use crate::lists::{options_of, put_body, put_events, put_ftrace, put_options, pu
 use crate::summary::put_summary;
 use dat_header::Header;
 use trace_args::{DumpWords, Section};
-use trace_base::{Failed, Pending, Sink};
+use trace_outside::{Failed, Pending, Sink};
 
 /// Prints the sections of a header that the words choose, in the order of `Section::ALL` (trace-cmd-dump(1)).
 ///
@@ -40,9 +40,7 @@ fn put_chosen<O: Sink>(
     words: &DumpWords<'_>,
     header: &Header,
 ) -> Result<(), Failed>
-    ensures puts { Puts (dump_text (dump_view words.now) header.now) (O.written out.old) pending.old (O.written out.new) pending.new result }
-    ensures name { O.name out.new ≡ O.name out.old }
-    ensures cause { HasCause (O.faults out.old) (O.faults out.new) result }
+    ensures { PutsText (dump_text (dump_view words.now) header.now) (on_way O.written O.name O.faults out.old pending.old) (on_way O.written O.name O.faults out.new pending.new) result }
 {
     for section in &Section::ALL {
         if words.sections[section.place()] {
@@ -59,9 +57,7 @@ fn put_section<O: Sink>(
     name: &str,
     header: &Header,
 ) -> Result<(), Failed>
-    ensures puts { Puts (section_text name.now header.now section) (O.written out.old) pending.old (O.written out.new) pending.new result }
-    ensures name { O.name out.new ≡ O.name out.old }
-    ensures cause { HasCause (O.faults out.old) (O.faults out.new) result }
+    ensures { PutsText (section_text name.now header.now section) (on_way O.written O.name O.faults out.old pending.old) (on_way O.written O.name O.faults out.new pending.new) result }
 {
     match section {
         Section::Summary => put_summary(pending, out, name, header),

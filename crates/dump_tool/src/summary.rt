@@ -2,15 +2,15 @@
 
 ghost use Rattle.std.specs.Prelude.{◌≡◌, length};
 ghost use Rattle.std.specs.List.{flat_map};
-ghost use Rattle.trace_base.specs.Causes.{HasCause};
-ghost use Rattle.trace_base.specs.Pending.{Puts};
+ghost use Rattle.trace_outside.specs.Pending.{PutsText, on_way};
 ghost use Rattle.dump_tool.specs.RowText.{row_text};
 ghost use Rattle.dump_tool.specs.Summary.{summary_text, order_name, body_name};
 
 use crate::lines::{put_count, put_value};
 use crate::lists::{event_count, options_of};
 use dat_header::{Body, Header};
-use trace_base::{Failed, Order, Pending, Sink};
+use trace_base::Order;
+use trace_outside::{Failed, Pending, Sink};
 
 /// A line of the summary: a name and what it stands for.
 #[derive(Clone, Copy)]
@@ -26,9 +26,7 @@ pub(crate) fn put_summary<O: Sink>(
     name: &str,
     header: &Header,
 ) -> Result<(), Failed>
-    ensures puts { Puts (summary_text name.now header.now) (O.written out.old) pending.old (O.written out.new) pending.new result }
-    ensures name { O.name out.new ≡ O.name out.old }
-    ensures cause { HasCause (O.faults out.old) (O.faults out.new) result }
+    ensures { PutsText (summary_text name.now header.now) (on_way O.written O.name O.faults out.old pending.old) (on_way O.written O.name O.faults out.new pending.new) result }
 {
     put_rows(pending, out, &rows_of(name, header))
 }
@@ -75,9 +73,7 @@ fn body_name(body: &Body) -> &'static str
 }
 
 fn put_rows<O: Sink>(pending: &mut Pending, out: &mut O, rows: &[Row<'_>]) -> Result<(), Failed>
-    ensures puts { Puts (flat_map row_text rows.now) (O.written out.old) pending.old (O.written out.new) pending.new result }
-    ensures name { O.name out.new ≡ O.name out.old }
-    ensures cause { HasCause (O.faults out.old) (O.faults out.new) result }
+    ensures { PutsText (flat_map row_text rows.now) (on_way O.written O.name O.faults out.old pending.old) (on_way O.written O.name O.faults out.new pending.new) result }
 {
     for row in rows {
         put_row(pending, out, row)?;
@@ -86,9 +82,7 @@ fn put_rows<O: Sink>(pending: &mut Pending, out: &mut O, rows: &[Row<'_>]) -> Re
 }
 
 fn put_row<O: Sink>(pending: &mut Pending, out: &mut O, row: &Row<'_>) -> Result<(), Failed>
-    ensures puts { Puts (row_text row.now) (O.written out.old) pending.old (O.written out.new) pending.new result }
-    ensures name { O.name out.new ≡ O.name out.old }
-    ensures cause { HasCause (O.faults out.old) (O.faults out.new) result }
+    ensures { PutsText (row_text row.now) (on_way O.written O.name O.faults out.old pending.old) (on_way O.written O.name O.faults out.new pending.new) result }
 {
     match row {
         Row::Text(name, value) => put_value(pending, out, name.as_bytes(), value.as_bytes()),

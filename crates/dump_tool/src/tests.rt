@@ -6,7 +6,8 @@ use std::alloc::{AllocError, Global};
 use std::process::Abort;
 use std::test::Fail;
 use trace_args::{DumpWords, Section};
-use trace_base::{ByteText, Layout, ListOf, MemSink, Order, Part, Pending};
+use trace_base::{ByteText, Layout, ListOf, Order, Part};
+use trace_outside::{MemSink, Pending};
 
 /// Dumps of a little-endian file with one processor and nothing else.
 const PLAIN: &[(&[Section], &str)] = &[

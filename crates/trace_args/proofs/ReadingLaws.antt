@@ -8,15 +8,11 @@ use Rattle.trace_args.specs.declared.tool.Tool.{Tool}
 use Rattle.trace_args.specs.declared.tool.Tool.TheVariants as tool
 use Rattle.trace_args.specs.declared.command.Command.{Command}
 use Rattle.trace_args.specs.Command.{CommandData, command_view}
-use Rattle.trace_args.specs.declared.option.ValuedOption.{ValuedOption}
-use Rattle.trace_args.specs.declared.option.ValuedOption.TheVariants as valued
-use Rattle.trace_args.specs.CpuList.{cpu_set}
-use Rattle.trace_args.specs.Setting.{Text, Setting, Flag, Valued, Operand, Stray}
+use Rattle.trace_args.specs.Setting.{Setting}
 use Rattle.trace_args.specs.Settings.{settings, AnyWord}
-use Rattle.trace_args.specs.Faults.{fault, unless_some, worker_count, is_given, value_fault, fault_of}
-use Rattle.trace_args.specs.Reading.{command_of, tool_name, tool_of, Reads, HasFault, first_fault, judged, tool_reading, behind_tool, reading, CommandAnswer}
-use Rattle.trace_args.specs.Given.{Seen, seen_in, steps}
-use Rattle.trace_args.proofs.GivenLaws.{finish, steps_from_none}
+use Rattle.trace_args.specs.Faults.{fault}
+use Rattle.trace_args.specs.Asked.{command_of}
+use Rattle.trace_args.specs.Reading.{tool_name, tool_of, Reads, HasFault, first_fault, judged, tool_reading, behind_tool, reading, IsAnswer}
 use Rattle.trace_args.proofs.FaultLaws.{is_clean, first_fault-clean, is_first_fault, first_fault-wrong}
 use Rattle.trace_args.proofs.GrammarLaws.{says_settings, settings_says}
 
@@ -112,71 +108,40 @@ reading_has_fault _ _ (HasFault.in_setting command options ss f says_is first) =
     ∙ ap (tool_reading command) (settings_says command 2 options ss says_is)
     ∙ ap (judged (command_of command ss)) (first_fault-wrong ss f first)
 
--- ---- the settings one after another
+-- ---- the reading step by step
 
 pub reading_no_tool : (words : List (List ℕ)) (f : WordFault) → tool_of words ≡ Err f → reading words ≡ Err f
 unfolding reading
 reading_no_tool words f h = ap (behind_tool (drop 1 words)) h
 
-pub reading_steps : (words : List (List ℕ)) (command : Tool) (outcome : Result Seen WordFault) → tool_of words ≡ Ok command → steps (settings command AnyWord 2 (drop 1 words)) (seen_in []) ≡ outcome → reading words ≡ finish command outcome
+reading_judged : (words : List (List ℕ)) (command : Tool) (wrong : Option WordFault) → tool_of words ≡ Ok command → first_fault [] (settings command AnyWord 2 (drop 1 words)) ≡ wrong → reading words ≡ judged (command_of command (settings command AnyWord 2 (drop 1 words))) wrong
 unfolding reading
-reading_steps words command outcome h e =
+reading_judged words command wrong h e =
     ap (behind_tool (drop 1 words)) h
-    ∙ sym (steps_from_none command (settings command AnyWord 2 (drop 1 words)))
-    ∙ ap (finish command) e
+    ∙ ap (judged (command_of command (settings command AnyWord 2 (drop 1 words)))) e
 
--- ---- no fault is want of memory
+pub reading_fault : (words : List (List ℕ)) (command : Tool) (f : WordFault) → tool_of words ≡ Ok command → first_fault [] (settings command AnyWord 2 (drop 1 words)) ≡ Some f → reading words ≡ Err f
+reading_fault words command f h e = reading_judged words command (Some f) h e
 
-abbrev NotMemory : Option WordFault → Type 0
-NotMemory None = Unit {0}
-NotMemory (Some f) = f.kind ≢ kind.Memory
+pub reading_command : (words : List (List ℕ)) (command : Tool) (given : List Setting) → tool_of words ≡ Ok command → given ≡ settings command AnyWord 2 (drop 1 words) → first_fault [] (settings command AnyWord 2 (drop 1 words)) ≡ None → reading words ≡ Ok (command_of command given)
+reading_command words command given h same e =
+    reading_judged words command None h e ∙ ap Ok (ap (command_of command) (sym same))
 
-if_not_memory : (b : Bool) (x y : Option WordFault) → NotMemory x → NotMemory y → NotMemory (if b then x else y)
-if_not_memory true x y h g = h
-if_not_memory false x y h g = g
+-- a fault that is passed on
+pub fault_answer : (words : List (List ℕ)) (result : Result Command WordFault) (f : WordFault) (P : WordFault → Type 0) → ((e : WordFault) → P e → e ≡ f) → IsErrAnd result P → (f.kind ≢ kind.Memory → reading words ≡ Err f) → IsAnswer words result
+fault_answer words (Err e) f P same is h = λ other.
+    let e_is : e ≡ f = same e is in
+    h (subst (λ (g : WordFault). g.kind ≢ kind.Memory) e_is other) ∙ ap Err (sym e_is)
+fault_answer words (Ok x) f P same is h = absurd is
 
-unless_not_memory : {X : Type 0} (f : WordFault) (o : Option X) → f.kind ≢ kind.Memory → NotMemory (unless_some f o)
-unless_not_memory f None h = h
-unless_not_memory f (Some x) h = tt
-
-value_not_memory : (v : ValuedOption) (word : ℕ) (value : Option Text) → NotMemory (value_fault v word value)
-value_not_memory v word None = λ e. cc
-value_not_memory valued.Input word (Some t) = tt
-value_not_memory valued.Cpus word (Some t) = unless_not_memory (fault t.word kind.BadCpuList) (cpu_set t.bytes) (λ e. cc)
-value_not_memory valued.Workers word (Some t) = unless_not_memory (fault t.word kind.BadNumber) (worker_count t.bytes) (λ e. cc)
-
-setting_not_memory : (earlier : List Setting) (s : Setting) → NotMemory (fault_of earlier s)
-setting_not_memory earlier (Flag f) = tt
-setting_not_memory earlier (Valued v word value) =
-    if_not_memory (is_given v earlier) (Some (fault word kind.Repeated)) (value_fault v word value) (λ e. cc) (value_not_memory v word value)
-setting_not_memory earlier (Operand word) =
-    if_not_memory (is_given valued.Input earlier) (Some (fault word.word kind.Repeated)) None (λ e. cc) tt
-setting_not_memory earlier (Stray word) = λ e. cc
-
-pub fault_not_memory : (words : List (List ℕ)) (f : WordFault) → HasFault words f → f.kind ≢ kind.Memory
-fault_not_memory _ _ HasFault.no_word = λ e. cc
-fault_not_memory _ _ (HasFault.no_command word options h) = λ e. cc
-fault_not_memory _ _ (HasFault.in_setting command options ss f says_is first) =
-    subst NotMemory first.wrong (setting_not_memory first.earlier first.at)
-
--- ---- what an answer says
-
-pub answer_reads : (words : List (List ℕ)) (result : Result Command WordFault) → CommandAnswer (reading words) result → IfOk result (λ command. Reads words (command_view command))
+-- what an answer says
+pub answer_reads : (words : List (List ℕ)) (result : Result Command WordFault) → IsAnswer words result → IfOk result (λ command. Reads words (command_view command))
 answer_reads words (Ok command) h = reads_reading words (command_view command) h
 answer_reads words (Err f) h = tt
 
-pub answer_has_fault : (words : List (List ℕ)) (result : Result Command WordFault) → CommandAnswer (reading words) result → IfErr result (λ f. f.kind ≢ kind.Memory → HasFault words f)
+pub answer_has_fault : (words : List (List ℕ)) (result : Result Command WordFault) → IsAnswer words result → IfErr result (λ f. f.kind ≢ kind.Memory → HasFault words f)
 answer_has_fault words (Ok command) h = tt
-answer_has_fault words (Err f) h = λ _. has_fault_reading words f h
-
-pub answer_not_memory : (words : List (List ℕ)) (result : Result Command WordFault) → CommandAnswer (reading words) result → IfErr result (λ f. f.kind ≢ kind.Memory)
-answer_not_memory words (Ok command) h = tt
-answer_not_memory words (Err f) h = fault_not_memory words f (has_fault_reading words f h)
-
--- a fault that is passed on
-pub fault_answer : (outcome : Result CommandData WordFault) (result : Result Command WordFault) (f : WordFault) (P : WordFault → Type 0) → ((e : WordFault) → P e → e ≡ f) → IsErrAnd result P → outcome ≡ Err f → CommandAnswer outcome result
-fault_answer outcome (Err e) f P same is h = h ∙ ap Err (sym (same e is))
-fault_answer outcome (Ok x) f P same is h = absurd is
+answer_has_fault words (Err f) h = λ other. has_fault_reading words f (h other)
 
 -- ---- one reading, or one first fault
 

@@ -1,38 +1,18 @@
 -- What may be wrong with a setting, with those before it, and the first fault of a list of settings.
-use Rattle.std.specs.Prelude.{ℕ, Bool, false, ◌==◌, ◌≡◌, List, ◌∷◌, ◌++◌, Option, Some, None, if◌then◌else◌}
-use Rattle.std.specs.List.{list_any}
+use Rattle.std.specs.Prelude.{ℕ, ◌≡◌, List, ◌∷◌, ◌++◌, Option, Some, None, option_map, if◌then◌else◌}
+use Rattle.std.specs.Option.{option_or}
 use Rattle.trace_args.specs.declared.fault.WordFault.{WordFault}
 use Rattle.trace_args.specs.declared.fault.WordKind.{WordKind}
 use Rattle.trace_args.specs.declared.fault.WordKind.TheVariants as kind
 use Rattle.trace_args.specs.declared.option.ValuedOption.{ValuedOption}
 use Rattle.trace_args.specs.declared.option.ValuedOption.TheVariants as valued
-use Rattle.trace_args.specs.Number.{number_within}
+use Rattle.trace_args.specs.Number.{worker_count}
 use Rattle.trace_args.specs.CpuList.{cpu_set}
-use Rattle.trace_args.specs.Setting.{Text, Setting, Flag, Valued, Operand, Stray}
+use Rattle.trace_args.specs.Setting.{Text, Setting, Flag, Valued, Stray}
+use Rattle.trace_args.specs.Given.{is_given}
 
 abbrev pub fault : ℕ → WordKind → WordFault
 fault word kind = record { word = word; kind = kind }
-
--- a number for each option, which tells them apart
-abbrev pub valued_number : ValuedOption → ℕ
-valued_number valued.Input = 0
-valued_number valued.Cpus = 1
-valued_number valued.Workers = 2
-
--- whether the setting gives the option a value; a word that is no option gives the input
-abbrev pub gives : ValuedOption → Setting → Bool
-gives option (Flag flag) = false
-gives option (Valued given word value) = valued_number given == valued_number option
-gives option (Operand word) = valued_number valued.Input == valued_number option
-gives option (Stray word) = false
-
--- whether the option was given
-abbrev pub is_given : ValuedOption → List Setting → Bool
-is_given option settings = list_any (gives option) settings
-
--- the number of workers
-abbrev pub worker_count : List ℕ → Option ℕ
-worker_count text = number_within 1 64 text
 
 abbrev pub unless_some : {X : Type 0} → WordFault → Option X → Option WordFault
 unless_some fault None = Some fault
@@ -44,20 +24,24 @@ text_fault valued.Input value = None
 text_fault valued.Cpus value = unless_some (fault value.word kind.BadCpuList) (cpu_set value.bytes)
 text_fault valued.Workers value = unless_some (fault value.word kind.BadNumber) (worker_count value.bytes)
 
--- what is wrong with an option of the word of this number, which was not given before
+-- what is wrong with the value of an option in the word of this number: that there is none, or its text
 abbrev pub value_fault : ValuedOption → ℕ → Option Text → Option WordFault
 value_fault option word None = Some (fault word kind.MissingValue)
 value_fault option word (Some value) = text_fault option value
 
--- what is wrong with a setting behind these: that it is no option, else that it is given again, else its value
+-- why an option with a value is not taken behind these settings, whatever its value
+abbrev pub refusal : List Setting → ValuedOption → Option WordKind
+refusal earlier option = if is_given option earlier then Some kind.Repeated else None
+
+-- what is wrong with an option with a value behind these settings: that it is not taken, else its value
+abbrev pub valued_fault : List Setting → ValuedOption → ℕ → Option Text → Option WordFault
+valued_fault earlier option word value =
+    option_or (option_map (fault word) (refusal earlier option)) (value_fault option word value)
+
+-- what is wrong with a setting behind these
 abbrev pub fault_of : List Setting → Setting → Option WordFault
-fault_of earlier (Flag flag) = None
-fault_of earlier (Valued option word value) =
-    if is_given option earlier
-    then Some (fault word kind.Repeated)
-    else value_fault option word value
-fault_of earlier (Operand word) =
-    if is_given valued.Input earlier then Some (fault word.word kind.Repeated) else None
+fault_of earlier (Flag flag word) = None
+fault_of earlier (Valued option word value) = valued_fault earlier option word value
 fault_of earlier (Stray word) = Some (fault word kind.Unknown)
 
 -- nothing is wrong with any of the settings

@@ -5,11 +5,12 @@ pub mod Cut
 pub mod Number
 pub mod CpuList
 pub mod Options
-pub mod Views
 pub mod Setting
+pub mod Views
+pub mod Given
 pub mod Grammar
 pub mod Settings
 pub mod SettingsView
 pub mod Faults
+pub mod Asked
 pub mod Reading
-pub mod Given

@@ -21,6 +21,10 @@ abbrev pub number_within : ℕ → ℕ → List ℕ → Option ℕ
 number_within least most text =
     option_and_then (λ n. if nat_le least n && nat_le n most then Some n else None) (number_of text)
 
+-- the number of workers
+abbrev pub worker_count : List ℕ → Option ℕ
+worker_count text = number_within 1 64 text
+
 -- a number with one digit more, while it is at most the most
 abbrev pub with_digit : ℕ → ℕ → ℕ → Option ℕ
 with_digit value digit most =

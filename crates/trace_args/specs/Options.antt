@@ -51,3 +51,8 @@ options_of tool.Dump =
 abbrev pub option_named : Tool → List ℕ → Option KnownOption
 option_named command written =
     option_map (λ row. row.option) (find (λ row. bytes_eq written row.written) (options_of command))
+
+-- the option to which a word that is no option gives a value
+abbrev pub operand_option : Tool → ValuedOption
+operand_option tool.Report = Input
+operand_option tool.Dump = Input

@@ -7,7 +7,7 @@ use Rattle.trace_args.specs.declared.option.ValuedOption.{ValuedOption}
 use Rattle.trace_args.specs.declared.option.KnownOption.{KnownOption}
 use Rattle.trace_args.specs.declared.option.KnownOption.TheVariants as option
 use Rattle.trace_args.specs.Options.{option_named, short, long}
-use Rattle.trace_args.specs.Setting.{Setting, Flag, Valued, Operand, Stray, text}
+use Rattle.trace_args.specs.Setting.{Setting, Flag, Valued, Stray, text, operand}
 use Rattle.trace_args.specs.Grammar.{is_equals}
 
 -- how the reading goes on behind a word
@@ -40,7 +40,7 @@ value_in_row k valued (b ∷ bytes) = says (Valued valued k (Some (text k (b ∷
 abbrev pub letter_said : ℕ → List ℕ → Said → Option KnownOption → Said
 letter_said k letters later None = stray k
 letter_said k letters later (Some (option.Valued valued)) = value_in_row k valued letters
-letter_said k letters later (Some (option.Flag flag)) = says (Flag flag ∷ later.settings) later.mode
+letter_said k letters later (Some (option.Flag flag)) = says (Flag flag k ∷ later.settings) later.mode
 
 -- a row of letters in the word of number k
 abbrev pub row_said : Tool → ℕ → List ℕ → Said
@@ -52,7 +52,7 @@ row_said command k (letter ∷ letters) =
 abbrev pub named_said : ℕ → Option KnownOption → Said
 named_said k None = stray k
 named_said k (Some (option.Valued valued)) = says [] (Wanting valued k)
-named_said k (Some (option.Flag flag)) = says (Flag flag ∷ []) AnyWord
+named_said k (Some (option.Flag flag)) = says (Flag flag k ∷ []) AnyWord
 
 -- a long option with a value in its word
 abbrev pub assigned_said : ℕ → List ℕ → Option KnownOption → Said
@@ -87,12 +87,12 @@ dashed_said command k (c ∷ cs) =
 -- a word that may be an option
 abbrev pub word_said : Tool → ℕ → List ℕ → Said
 word_said command k word =
-    option_map_or (dashed_said command k) (behind_dash word) (says (Operand (text k word) ∷ []) AnyWord)
+    option_map_or (dashed_said command k) (behind_dash word) (says (operand command k word ∷ []) AnyWord)
 
 -- the word of number k
 abbrev pub said : Tool → Mode → ℕ → List ℕ → Said
 said command AnyWord k word = word_said command k word
-said command OnlyOperands k word = says (Operand (text k word) ∷ []) OnlyOperands
+said command OnlyOperands k word = says (operand command k word ∷ []) OnlyOperands
 said command (Wanting option at) k word = says (Valued option at (Some (text k word)) ∷ []) AnyWord
 said command Over k word = says [] Over
 

@@ -1,4 +1,17 @@
+ghost use Rattle.std.specs.Prelude.{◌≡◌, option_map};
+ghost use Rattle.std.specs.List.{list_any};
+ghost use Rattle.trace_args.specs.Asked.{command_of, cpus_of, dump_of, input_of, is_printed, names_any, names_section, report_of, workers_of};
+ghost use Rattle.trace_args.specs.Command.{command_view, dump_view, report_view};
+ghost use Rattle.trace_args.specs.Sections.{sections};
+ghost use Rattle.trace_args.specs.Views.{given_view};
+
+use crate::cpu_list::cpu_set;
 use crate::cpu_set::CpuSet;
+use crate::given::Given;
+use crate::number::worker_count;
+use crate::option::{FlagOption, ValuedOption};
+use crate::section::Section;
+use crate::tool::Tool;
 
 /// What a command line asks for.
 #[derive(Drop)]
@@ -35,4 +48,109 @@ pub struct DumpWords<'a> {
     pub input: &'a str,
     /// For each section whether it is printed, in the order of `Section::ALL`.
     pub sections: [bool; 12],
+}
+
+impl<'a> Command<'a> {
+    // The command that the settings ask for.
+    pub(crate) fn asked(tool: Tool, given: &Given<'a>) -> Command<'a>
+        ensures { command_view result ≡ command_of tool (given_view given.now) }
+    {
+        match tool {
+            Tool::Report => Command::Report(ReportWords::asked(given)),
+            Tool::Dump => Command::Dump(DumpWords::asked(given)),
+        }
+    }
+}
+
+impl<'a> ReportWords<'a> {
+    fn asked(given: &Given<'a>) -> ReportWords<'a>
+        ensures { report_view result ≡ report_of (given_view given.now) }
+    {
+        ReportWords {
+            input: input(given),
+            full: given.is_set(FlagOption::FullTime),
+            latency: given.is_set(FlagOption::Latency),
+            no_hard: given.is_set(FlagOption::NoHard),
+            no_soft: given.is_set(FlagOption::NoSoft),
+            cpus: cpus(given),
+            workers: workers(given),
+        }
+    }
+}
+
+impl<'a> DumpWords<'a> {
+    fn asked(given: &Given<'a>) -> DumpWords<'a>
+        ensures { dump_view result ≡ dump_of (given_view given.now) }
+    {
+        DumpWords {
+            input: input(given),
+            sections: [
+                prints(given, Section::Summary),
+                prints(given, Section::HeadPage),
+                prints(given, Section::HeadEvent),
+                prints(given, Section::FtraceEvents),
+                prints(given, Section::Systems),
+                prints(given, Section::Events),
+                prints(given, Section::Kallsyms),
+                prints(given, Section::Printk),
+                prints(given, Section::CmdLines),
+                prints(given, Section::Options),
+                prints(given, Section::Flyrecord),
+                prints(given, Section::Validate),
+            ],
+        }
+    }
+}
+
+// The name of the file.
+fn input<'a>(given: &Given<'a>) -> &'a str
+    ensures { result.now ≡ input_of (given_view given.now) }
+{
+    match given.value(ValuedOption::Input) {
+        Some(value) => value.text,
+        None => "trace.dat",
+    }
+}
+
+// The processors that are selected, where not all are.
+fn cpus(given: &Given<'_>) -> Option<CpuSet>
+    ensures { result ≡ cpus_of (given_view given.now) }
+{
+    let value = given.value(ValuedOption::Cpus)?;
+    cpu_set(value.text.as_bytes())
+}
+
+// How many threads work.
+fn workers(given: &Given<'_>) -> u32
+    ensures { result ≡ workers_of (given_view given.now) }
+{
+    match given.value(ValuedOption::Workers) {
+        Some(value) => worker_count(value.text.as_bytes()).unwrap_or(1),
+        None => 1,
+    }
+}
+
+// Whether the section is printed: it is named, is one of all, or is the one that is printed where none is named.
+fn prints(given: &Given<'_>, section: Section) -> bool
+    ensures { result ≡ is_printed (given_view given.now) section }
+{
+    given.is_set(FlagOption::Section(section))
+        || (given.is_set(FlagOption::All) && section != Section::Validate)
+        || (!names_any(given) && section == Section::Summary)
+}
+
+// Whether an option names a section, or all.
+fn names_any(given: &Given<'_>) -> bool
+    ensures { result ≡ names_any (given_view given.now) }
+{
+    given.is_set(FlagOption::All) || names_section(given)
+}
+
+// Whether an option names a section.
+fn names_section(given: &Given<'_>) -> bool
+    ensures { result ≡ list_any (names_section (given_view given.now)) sections }
+{
+    Section::ALL
+        .iter()
+        .any(|section| given.is_set(FlagOption::Section(*section)))
 }

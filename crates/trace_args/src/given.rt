@@ -1,200 +1,158 @@
-// What the settings of a command line say so far.
+// The settings of a command line so far, none of which has a fault.
 
-ghost use Rattle.std.specs.Prelude.{◌≡◌, [], option_map};
-ghost use Rattle.std.specs.List.{list_any};
-ghost use Rattle.trace_args.specs.Command.{dump_view, report_view};
-ghost use Rattle.trace_args.specs.Faults.{worker_count};
-ghost use Rattle.trace_args.specs.Given.{Answers, dump_seen, given_view, has, is_printed_seen, names_any_seen, report_seen, seen_in, step, with_flag, with_text, with_valued};
-ghost use Rattle.trace_args.specs.Views.{setting_view, text_view};
+ghost use Rattle.std.specs.Prelude.{◌≡◌, ◌≢◌, ◌++◌, ◌∷◌, [], IfErr, OnOk, None, Some, option_map};
+ghost use Rattle.std.specs.List.{find, list_any};
+ghost use Rattle.trace_args.specs.Faults.{fault_of, refusal, text_fault, valued_fault, value_fault};
+ghost use Rattle.trace_args.specs.Given.{gives, is_given, is_set, sets, value_of};
+ghost use Rattle.trace_args.specs.Views.{given_view, setting_view, text_view};
 
-use crate::command::{DumpWords, ReportWords};
 use crate::cpu_list::cpu_set;
-use crate::cpu_set::CpuSet;
 use crate::fault::{WordFault, WordKind};
-use crate::number::number_within;
+use crate::number::worker_count;
 use crate::option::{FlagOption, ValuedOption};
-use crate::section::Section;
 use crate::setting::{Setting, Value};
+use std::alloc::Global;
 
-/// The options and operands that were given, of whatever command.
+/// The settings that were given, in their order.
 #[derive(Drop)]
 pub struct Given<'a> {
-    input: Option<&'a str>,
-    cpus: Option<CpuSet>,
-    workers: Option<u32>,
-    full: bool,
-    latency: bool,
-    no_hard: bool,
-    no_soft: bool,
-    all: bool,
-    // For each section whether its option was given, in the order of a dump.
-    named: [bool; 12],
+    settings: Vec<Setting<'a>>,
 }
 
 impl<'a> Given<'a> {
     /// Nothing was given.
-    pub fn new() -> Given<'a>
-        ensures { given_view result ≡ seen_in [] }
+    pub fn new(alloc: Global) -> Given<'a>
+        ensures { given_view result ≡ [] }
     {
         Given {
-            input: None,
-            cpus: None,
-            workers: None,
-            full: false,
-            latency: false,
-            no_hard: false,
-            no_soft: false,
-            all: false,
-            named: [false; 12],
+            settings: Vec::new(alloc),
         }
     }
 
     /// Takes one more setting, or answers what is wrong with it.
     pub fn take(&mut self, setting: Setting<'a>) -> Result<(), WordFault>
-        ensures { Answers (step (given_view self.old) (setting_view setting.entry)) result self.new }
+        ensures clean { OnOk result (fault_of (given_view self.old) (setting_view setting.entry) ≡ None) }
+        ensures taken { OnOk result (given_view self.new ≡ given_view self.old ++ (setting_view setting.entry ∷ [])) }
+        ensures fault { IfErr result (λ fault. fault.kind ≢ WordKind.Memory
+            → fault_of (given_view self.old) (setting_view setting.entry) ≡ Some fault) }
+    {
+        if let Some(fault) = self.fault_of(setting) {
+            return Err(fault);
+        }
+        match self.settings.push(setting) {
+            Ok(()) => Ok(()),
+            Err(_) => Err(WordKind::Memory.at(1)),
+        }
+    }
+
+    // What is wrong with one more setting.
+    fn fault_of(&self, setting: Setting<'a>) -> Option<WordFault>
+        ensures { result ≡ fault_of (given_view self.now) (setting_view setting.entry) }
     {
         match setting {
-            Setting::Flag(flag) => {
-                self.take_flag(flag);
-                Ok(())
-            }
-            Setting::Valued(option, word, value) => self.take_valued(option, word, value),
-            Setting::Operand(value) => self.take_valued(
-                ValuedOption::Input,
-                value.word,
-                Some(value),
-            ),
-            Setting::Stray(word) => Err(WordKind::Unknown.at(word)),
+            Setting::Flag(_, _) => None,
+            Setting::Valued(option, word, value) => self.valued_fault(option, word, value),
+            Setting::Stray(word) => Some(WordKind::Unknown.at(word)),
         }
     }
 
-    fn take_flag(&mut self, flag: FlagOption)
-        ensures { given_view self.new ≡ with_flag (given_view self.old) flag }
-    {
-        match flag {
-            FlagOption::FullTime => self.full = true,
-            FlagOption::Latency => self.latency = true,
-            FlagOption::NoHard => self.no_hard = true,
-            FlagOption::NoSoft => self.no_soft = true,
-            FlagOption::NoPlugins => {}
-            FlagOption::Section(section) => self.named[section.place()] = true,
-            FlagOption::All => self.all = true,
-        }
-    }
-
-    // Whether the option has its value.
-    fn has(&self, option: ValuedOption) -> bool
-        ensures { result ≡ has (given_view self.now) option }
-    {
-        match option {
-            ValuedOption::Input => self.input.is_some(),
-            ValuedOption::Cpus => self.cpus.is_some(),
-            ValuedOption::Workers => self.workers.is_some(),
-        }
-    }
-
-    fn take_valued(
-        &mut self,
+    // What is wrong with one more option with a value.
+    fn valued_fault(
+        &self,
         option: ValuedOption,
         word: u64,
         value: Option<Value<'a>>,
-    ) -> Result<(), WordFault>
-        ensures { Answers (with_valued (given_view self.old) option word (option_map text_view value.entry))
-            result self.new }
+    ) -> Option<WordFault>
+        ensures { result ≡ valued_fault (given_view self.now) option word (option_map text_view value.entry) }
+    {
+        match self.refusal(option) {
+            Some(kind) => Some(kind.at(word)),
+            None => value_fault(option, word, value),
+        }
+    }
+
+    // Why the option is not taken, whatever its value.
+    fn refusal(&self, option: ValuedOption) -> Option<WordKind>
+        ensures { result ≡ refusal (given_view self.now) option }
     {
         if self.has(option) {
-            return Err(WordKind::Repeated.at(word));
-        }
-        match value {
-            None => Err(WordKind::MissingValue.at(word)),
-            Some(value) => self.take_text(option, value),
+            Some(WordKind::Repeated)
+        } else {
+            None
         }
     }
 
-    fn take_text(&mut self, option: ValuedOption, value: Value<'a>) -> Result<(), WordFault>
-        ensures { Answers (with_text (given_view self.old) option (text_view value.entry)) result self.new }
+    // Whether the option was given.
+    fn has(&self, option: ValuedOption) -> bool
+        ensures { result ≡ is_given option (given_view self.now) }
     {
-        let bytes = value.text.as_bytes();
-        let word = value.word;
-        match option {
-            ValuedOption::Input => self.input = Some(value.text),
-            ValuedOption::Cpus => {
-                let cpus = cpu_set(bytes).ok_or(WordKind::BadCpuList.at(word))?;
-                self.cpus = Some(cpus);
-            }
-            ValuedOption::Workers => {
-                let workers = worker_count(bytes).ok_or(WordKind::BadNumber.at(word))?;
-                self.workers = Some(workers);
-            }
-        }
-        Ok(())
+        self.giving(option).is_some()
     }
 
-    /// The words of `report`.
-    pub fn report(self) -> ReportWords<'a>
-        ensures { report_view result ≡ report_seen (given_view self.entry) }
+    /// The value of the option.
+    pub fn value(&self, option: ValuedOption) -> Option<Value<'a>>
+        ensures { option_map text_view result ≡ value_of option (given_view self.now) }
     {
-        ReportWords {
-            input: self.input.unwrap_or("trace.dat"),
-            full: self.full,
-            latency: self.latency,
-            no_hard: self.no_hard,
-            no_soft: self.no_soft,
-            cpus: self.cpus,
-            workers: self.workers.unwrap_or(1),
-        }
+        self.giving(option)?.value()
     }
 
-    /// The words of `dump`.
-    pub fn dump(self) -> DumpWords<'a>
-        ensures { dump_view result ≡ dump_seen (given_view self.entry) }
+    // The first setting that gives the option a value.
+    #[tactic(auto, using(crate::proofs::GivenLaws::find_viewed))]
+    fn giving(&self, option: ValuedOption) -> Option<Setting<'a>>
+        ensures { option_map setting_view result ≡ find (gives option) (given_view self.now) }
     {
-        DumpWords {
-            input: self.input.unwrap_or("trace.dat"),
-            sections: [
-                self.prints(Section::Summary),
-                self.prints(Section::HeadPage),
-                self.prints(Section::HeadEvent),
-                self.prints(Section::FtraceEvents),
-                self.prints(Section::Systems),
-                self.prints(Section::Events),
-                self.prints(Section::Kallsyms),
-                self.prints(Section::Printk),
-                self.prints(Section::CmdLines),
-                self.prints(Section::Options),
-                self.prints(Section::Flyrecord),
-                self.prints(Section::Validate),
-            ],
-        }
+        first_giving(&self.settings, option)
     }
 
-    // Whether the section is printed: it is named, is one of all, or is the one that is printed where none is named.
-    fn prints(&self, section: Section) -> bool
-        ensures { result ≡ is_printed_seen (given_view self.now) section }
+    /// Whether the flag was given.
+    #[tactic(auto, using(crate::proofs::GivenLaws::any_viewed))]
+    pub fn is_set(&self, option: FlagOption) -> bool
+        ensures { result ≡ is_set option (given_view self.now) }
     {
-        self.named[section.place()]
-            || (self.all && section != Section::Validate)
-            || (!self.names_any() && section == Section::Summary)
-    }
-
-    // Whether an option names a section, or all.
-    fn names_any(&self) -> bool
-        ensures { result ≡ names_any_seen (given_view self.now) }
-    {
-        self.all || any(&self.named)
+        any_sets(&self.settings, option)
     }
 }
 
-// How many workers the text asks for.
-fn worker_count(text: &[u8]) -> Option<u32>
-    ensures { result ≡ worker_count text.now }
+fn first_giving<'a>(settings: &[Setting<'a>], option: ValuedOption) -> Option<Setting<'a>>
+    ensures { result ≡ find (λ setting. gives option (setting_view setting)) settings.now }
 {
-    number_within(text, 1, 64)
+    settings
+        .iter()
+        .copied()
+        .find(|setting| setting.gives(option))
 }
 
-// Whether one of them is set.
-fn any(named: &[bool]) -> bool
-    ensures { result ≡ list_any (λ named. named) named.now }
+fn any_sets(settings: &[Setting<'_>], option: FlagOption) -> bool
+    ensures { result ≡ list_any (λ setting. sets option (setting_view setting)) settings.now }
 {
-    named.iter().any(|named| *named)
+    settings.iter().any(|setting| setting.sets(option))
+}
+
+// What is wrong with the value of an option in the word of this number.
+fn value_fault(option: ValuedOption, word: u64, value: Option<Value<'_>>) -> Option<WordFault>
+    ensures { result ≡ value_fault option word (option_map text_view value.entry) }
+{
+    match value {
+        None => Some(WordKind::MissingValue.at(word)),
+        Some(value) => text_fault(option, value),
+    }
+}
+
+// What is wrong with the text of a value.
+fn text_fault(option: ValuedOption, value: Value<'_>) -> Option<WordFault>
+    ensures { result ≡ text_fault option (text_view value.entry) }
+{
+    let bytes = value.text.as_bytes();
+    let word = value.word;
+    match option {
+        ValuedOption::Input => None,
+        ValuedOption::Cpus => match cpu_set(bytes) {
+            Some(_) => None,
+            None => Some(WordKind::BadCpuList.at(word)),
+        },
+        ValuedOption::Workers => match worker_count(bytes) {
+            Some(_) => None,
+            None => Some(WordKind::BadNumber.at(word)),
+        },
+    }
 }

@@ -1,14 +1,19 @@
 // What the definitions say of one another, each as the contract of a function that does nothing.
 
-ghost use Rattle.std.specs.Prelude.{◌≡◌, ◌&&◌, ℕ, List, false, nat_lt};
+ghost use Rattle.std.specs.Prelude.{◌≡◌, ◌&&◌, ◌↔◌, ℕ, Err, List, Ok, false, nat_lt};
 ghost use Rattle.std.specs.List.{list_any, slice_index_or};
 ghost use Rattle.trace_args.specs.Command.{CommandData};
 ghost use Rattle.trace_args.specs.CpuList.{Range, is_in, members_below};
-ghost use Rattle.trace_args.specs.Reading.{HasFault, Reads};
+ghost use Rattle.trace_args.specs.Reading.{HasFault, Reads, reading};
 ghost use Rattle.trace_args.specs.declared.fault.WordFault.{WordFault};
 
-/// Words have at most one reading and at most one first fault, and never both.
+/// The reading that is computed is the one of the grammar, so that words have one reading or one first fault, and never
+/// both.
 pub fn one_reading()
+    ensures command { (words : List (List ℕ)) (a : CommandData)
+        → (reading words ≡ Ok a) ↔ Reads words a }
+    ensures fault { (words : List (List ℕ)) (f : WordFault)
+        → (reading words ≡ Err f) ↔ HasFault words f }
     ensures one_command { (words : List (List ℕ)) (a b : CommandData)
         → Reads words a → Reads words b → a ≡ b }
     ensures one_fault { (words : List (List ℕ)) (f g : WordFault)

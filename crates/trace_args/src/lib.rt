@@ -2,7 +2,8 @@
 //!
 //! Words say settings: flags, options with their values, and operands (`specs/Grammar.antt`). Each setting may have a fault
 //! of its own behind those before it (`specs/Faults.antt`), and settings without one ask for a command
-//! (`specs/Reading.antt`). The code goes over the words once: `Settings` yields what they say, and `Given` keeps it.
+//! (`specs/Reading.antt`). The code goes over the words once: `Settings` yields what they say, `Given` keeps it, and a
+//! command is made of what was kept (`specs/Asked.antt`).
 #![tactic(auto)]
 
 mod command;

@@ -1,7 +1,7 @@
 // Decimal numbers in a text.
 
 ghost use Rattle.std.specs.Prelude.{◌≡◌};
-ghost use Rattle.trace_args.specs.Number.{number_within, with_digit};
+ghost use Rattle.trace_args.specs.Number.{number_within, with_digit, worker_count};
 
 /// The number that the text spells, where it spells one from `least` to `most`.
 pub fn number_within(text: &[u8], least: u32, most: u32) -> Option<u32>
@@ -19,6 +19,13 @@ pub fn number_within(text: &[u8], least: u32, most: u32) -> Option<u32>
     } else {
         None
     }
+}
+
+/// How many workers the text asks for.
+pub fn worker_count(text: &[u8]) -> Option<u32>
+    ensures { result ≡ worker_count text.now }
+{
+    number_within(text, 1, 64)
 }
 
 // The number with one more digit, while it is at most `most`.

@@ -1,11 +1,11 @@
 ghost use Rattle.std.specs.Prelude.{◌≡◌, ◌<◌, OnSome};
-ghost use Rattle.trace_args.specs.Options.{long, option_named, short};
+ghost use Rattle.trace_args.specs.Options.{long, operand_option, option_named, short};
 
 use crate::section::Section;
 use crate::tool::Tool;
 
 /// An option without a value.
-#[derive(Clone, Copy)]
+#[derive(Clone, Copy, PartialEq, Eq)]
 pub enum FlagOption {
     /// `-t`: times to the nanosecond.
     FullTime,
@@ -24,7 +24,7 @@ pub enum FlagOption {
 }
 
 /// An option with a value.
-#[derive(Clone, Copy)]
+#[derive(Clone, Copy, PartialEq, Eq)]
 pub enum ValuedOption {
     /// `-i`: the name of the file.
     Input,
@@ -65,6 +65,15 @@ impl Tool {
         match self {
             Tool::Report => report_option(name),
             Tool::Dump => dump_option(name),
+        }
+    }
+
+    /// The option to which a word that is no option gives a value.
+    pub fn operand_option(self) -> ValuedOption
+        ensures { result ≡ operand_option self }
+    {
+        match self {
+            Tool::Report | Tool::Dump => ValuedOption::Input,
         }
     }
 }

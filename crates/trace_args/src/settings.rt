@@ -4,6 +4,7 @@ ghost use Rattle.std.specs.Prelude.{◌≡◌, ◌<◌, ◌∷◌, [], IfNone, I
 ghost use Rattle.std.specs.Iterator.{YieldsFirstBy, item_count};
 ghost use Rattle.trace_args.specs.Cut.{cut};
 ghost use Rattle.trace_args.specs.Grammar.{is_equals};
+ghost use Rattle.trace_args.specs.Setting.{operand};
 ghost use Rattle.trace_args.specs.Settings.{AnyWord, OnlyOperands, Wanting, assigned_said, behind_dash, dashed_said, letter_said, long_said, named_said, row_said, says, settings, stray};
 ghost use Rattle.trace_args.specs.SettingsView.{Gives, GivesOne, IsNextWord, settings_left, stepped};
 ghost use Rattle.trace_args.specs.Views.{parts_view, setting_view};
@@ -106,7 +107,7 @@ impl<'a> Settings<'a> {
         match option {
             KnownOption::Flag(flag) => {
                 self.place = Place::Row(rest);
-                Setting::Flag(flag)
+                Setting::Flag(flag, self.next as u64)
             }
             KnownOption::Valued(option) if rest.is_empty() => self.wanting(option),
             KnownOption::Valued(option) => self.assigned(option, rest),
@@ -146,7 +147,7 @@ impl<'a> Settings<'a> {
             result self.new }
     {
         self.place = Place::AnyWord;
-        Setting::Flag(flag)
+        Setting::Flag(flag, self.next as u64)
     }
 
     // A word that is taken as it is.
@@ -155,7 +156,14 @@ impl<'a> Settings<'a> {
     {
         self.place = Place::Operands;
         let word = self.next_word()?;
-        Some(Setting::Operand(word))
+        Some(self.operand_of(word))
+    }
+
+    // What a word that is no option says.
+    fn operand_of(&self, word: Value<'a>) -> Setting<'a>
+        ensures { setting_view result ≡ operand self.now.tool word.entry.word word.entry.text.now }
+    {
+        Setting::Valued(self.tool.operand_option(), word.word, Some(word))
     }
 
     // A word of which this stands behind its first dash.
@@ -179,7 +187,7 @@ impl<'a> Settings<'a> {
         self.place = Place::AnyWord;
         let word = self.next_word()?;
         match behind_dash(word.text) {
-            None => Some(Setting::Operand(word)),
+            None => Some(self.operand_of(word)),
             Some(rest) => self.dashed(rest),
         }
     }

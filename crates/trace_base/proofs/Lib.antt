@@ -1,6 +1,3 @@
-pub mod Gains
-pub mod Fills
-pub mod PendingLemmas
 pub mod FieldNumbers
 pub mod FieldSteps
 pub mod FieldRuns
@@ -8,3 +5,8 @@ pub mod FieldNames
 pub mod FieldEntries
 pub mod FieldDeclarations
 pub mod FieldLines
+pub mod FieldBytes
+pub mod DigitLemmas
+pub mod TailFills
+pub mod TailJoins
+pub mod TailNuls

@@ -49,7 +49,7 @@ pub fn one_field()
 fn line_of(line: &[u8]) -> Option<FieldLine<'_>>
     ensures { option_map field_view result ≡ field_line line.now }
 {
-    let rest = after(b"field:", without_blanks(line))?;
+    let rest = after_word(b"field:", without_blanks(line))?;
     let (text, rest) = cut(rest)?;
     let declared = declaration(text)?;
     let (offset, rest) = entry(b"offset:", rest)?;
@@ -108,7 +108,7 @@ fn array(text: &[u8]) -> Option<Declared<'_>>
         name,
         kind_text: trim(before),
         array: true,
-        count: number(&text[at + 1..]).unwrap_or(0),
+        count: decimal(&text[at + 1..]).unwrap_or(0),
     })
 }
 
@@ -141,14 +141,15 @@ fn named(text: &[u8]) -> Option<(&[u8], &[u8])>
 {
     let run = words_at_end(text);
     let (before, name) = text.split_at(text.len() - run);
-    if is_name(name) {
+    if is_identifier(name) {
         Some((before, name))
     } else {
         None
     }
 }
 
-fn is_name(text: &[u8]) -> bool
+/// Whether the text is letters, digits and `_`, at least one of them, and does not begin with a digit.
+pub fn is_identifier(text: &[u8]) -> bool
     ensures { result ≡ is_identifier text.now }
 {
     !text.is_empty() && all_in_words(text) && !text[0].is_ascii_digit()
@@ -164,9 +165,9 @@ fn all_in_words(text: &[u8]) -> bool
 fn entry<'a>(word: &[u8], text: &'a [u8]) -> Option<(u32, &'a [u8])>
     ensures { option_map (λ entry. (entry.0, entry.1.now)) result ≡ entry_at word.now text.now }
 {
-    let rest = after(word, without_blanks(text))?;
+    let rest = after_word(word, without_blanks(text))?;
     let (digits, rest) = cut(rest)?;
-    let number = number(digits)?;
+    let number = decimal(digits)?;
     Some((number, rest))
 }
 
@@ -185,8 +186,8 @@ fn sign(text: &[u8]) -> Option<bool>
     }
 }
 
-// The number that decimal digits write, where it is one of 32 bits.
-fn number(text: &[u8]) -> Option<u32>
+/// The number that decimal digits write, where it is one of 32 bits; there is at least one digit and nothing else.
+pub fn decimal(text: &[u8]) -> Option<u32>
     ensures { result ≡ decimal text.now }
 {
     if text.is_empty() {
@@ -200,8 +201,9 @@ fn number(text: &[u8]) -> Option<u32>
     Some(number)
 }
 
+/// What follows the word that the text begins with.
 #[tactic(auto, unfolding(crate::specs::FieldReading::after_word))]
-fn after<'a>(word: &[u8], text: &'a [u8]) -> Option<&'a [u8]>
+pub fn after_word<'a>(word: &[u8], text: &'a [u8]) -> Option<&'a [u8]>
     ensures { option_map (λ rest. rest.now) result ≡ after_word word.now text.now }
 {
     text.strip_prefix(word)

@@ -1,9 +1,6 @@
 use crate::{
-    ByteText, Failed, File, Folder, ListOf, MemFile, MemFolder, MemSink, Order, Pending,
-    RealFolder, Sink, Words, put_u16, put_u32, put_u64, read_all, read_u16, read_u32, read_u64,
-    write_all, write_parts,
+    ByteText, ListOf, Order, Words, put_u16, put_u32, put_u64, read_u16, read_u32, read_u64,
 };
-use std::process::Abort;
 use std::test::Fail;
 
 #[test]
@@ -36,80 +33,5 @@ fn texts_and_lists(rt: HostRuntime) -> Result<(), Fail> {
     words.push("")?;
     assert_eq!(rt; words.len(), 2);
     assert_eq!(rt; words.word(0), "report");
-    Ok(())
-}
-
-// Writes a file of a folder and reads it back, by the traits alone.
-fn comes_back<F: Folder>(rt: &impl Abort, folder: &mut F) -> Result<(), Failed> {
-    let mut out = folder.create_file("made")?;
-    let written = write_parts(&mut out, &[b"one ", b"", b"two"]);
-    folder.finish_file(out)?;
-    written?;
-    let mut file = folder.open_file("made")?;
-    let mut into = [0; 5];
-    let size = file.len();
-    let read = if size == 7 {
-        read_all(&mut file, 2, &mut into)
-    } else {
-        Err(Failed)
-    };
-    folder.close_file(file);
-    read?;
-    assert_eq!(rt; into.as_slice(), b"e two".as_slice());
-    let given_up = folder.create_file("never")?;
-    folder.drop_file(given_up);
-    let missing = folder.open_file("never");
-    let is_missing = missing.is_err();
-    if let Ok(file) = missing {
-        folder.close_file(file);
-    }
-    assert!(rt; is_missing);
-    Ok(())
-}
-
-#[test]
-fn in_memory(rt: HostRuntime) -> Result<(), Fail> {
-    let alloc = rt.alloc();
-    let mut folder = MemFolder::new(alloc);
-    folder.put("made", b"older")?;
-    comes_back(&rt, &mut folder)?;
-    assert_eq!(rt; folder.get("made"), Some(b"one two".as_slice()));
-    assert_eq!(rt; folder.get("never"), None);
-    assert_eq!(rt; folder.wants(), 0);
-    let mut file = MemFile::new(ByteText::copy(alloc, b"abc")?);
-    let mut into = [0; 8];
-    assert_eq!(rt; file.read_at(1, &mut into)?, 2);
-    assert_eq!(rt; into, *b"bc\0\0\0\0\0\0");
-    Ok(())
-}
-
-#[test]
-fn over_the_system(rt: HostRuntime) -> Result<(), Fail> {
-    let alloc = rt.alloc();
-    let mut folder = RealFolder::new(rt.clone()?, alloc);
-    comes_back(&rt, &mut folder)?;
-    let part = folder.open_file("never.part");
-    let is_gone = part.is_err();
-    if let Ok(file) = part {
-        folder.close_file(file);
-    }
-    assert!(rt; is_gone);
-    Ok(())
-}
-
-#[test]
-fn large_pieces(rt: HostRuntime) -> Result<(), Fail> {
-    let alloc = rt.alloc();
-    let mut out = MemSink::new(alloc);
-    let mut pending = Pending::new(alloc)?;
-    let large = vec![in alloc; b'x'; Pending::ROOM]?;
-    write_all(&mut out, b"<")?;
-    pending.put(&mut out, b"a")?;
-    assert_eq!(rt; out.bytes(), b"<".as_slice());
-    pending.put_parts(&mut out, &[&large, b"b"])?;
-    pending.flush(&mut out)?;
-    assert_eq!(rt; out.bytes().len(), Pending::ROOM + 3);
-    assert_eq!(rt; out.bytes().last().copied(), Some(b'b'));
-    assert_eq!(rt; out.wants(), 0);
     Ok(())
 }

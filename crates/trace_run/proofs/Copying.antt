@@ -3,9 +3,9 @@ use Rattle.std.proofs.Common.{◌≡◌, ℕ, ◌+◌, ◌-◌, ◌≤◌, arith
 use Rattle.std.proofs.lemmas.List.{take_all, drop-drop, length-drop, append-nil}
 use Rattle.std.proofs.Math.Seq.{take-add}
 use Rattle.std.specs.Io.KnownBytes.{append_known}
-use Rattle.trace_base.specs.Reading.{GivesBytesAt}
-use Rattle.trace_base.specs.Writing.{Gained, GainedPrefix}
-use Rattle.trace_base.proofs.Gains.{gained_nothing, gained_both, prefix_behind, prefix_nothing}
+use Rattle.trace_outside.specs.Reading.{GivesBytesAt}
+use Rattle.trace_outside.specs.Writing.{Gained, GainedPrefix}
+use Rattle.trace_outside.proofs.Gains.{gained_nothing, gained_both, prefix_behind}
 use Rattle.trace_run.specs.Rest.{Copies, Copied}
 
 pub copied_nothing : (told : Option (List ℕ)) (at : ℕ) (old : Option (List ℕ)) → Copied told at 0 old old

@@ -1,24 +1,26 @@
 -- From what the parts of a run did to one of its four endings.
-use Rattle.std.proofs.Common.{◌≡◌, inl, inr, ℕ, ◌≤◌, List, [], ◌∷◌, map, take, drop, Option, None, Some, IfSome, IsSome, refl, sym, ap, ◌∙◌, subst, slice_get, Result, Ok, Err}
+use Rattle.std.proofs.Common.{◌≡◌, ◌≢◌, inl, inr, arith, length, ℕ, ◌≤◌, List, [], ◌∷◌, map, take, drop, Option, None, Some, IfSome, IsSome, refl, sym, ap, ◌∙◌, subst, slice_get, Result, Ok, Err}
 use Rattle.std.specs.FinMap.{get}
 use Rattle.std.specs.Option.{IsSomeAnd}
-use Rattle.trace_base.specs.Causes.{Rose}
-use Rattle.trace_base.specs.declared.counts.Counts.{Counts}
-use Rattle.trace_base.specs.Names.{NamedFiles}
-use Rattle.trace_base.proofs.Gains.{gained_nothing}
-use Rattle.trace_base.specs.Folders.{IsFileOf}
+use Rattle.trace_outside.specs.Causes.{Rose, raised}
+use Rattle.trace_outside.specs.declared.counts.Counts.{Counts}
+use Rattle.trace_outside.specs.Names.{NamedFiles}
+use Rattle.trace_outside.proofs.Gains.{gained_nothing}
+use Rattle.trace_outside.specs.Folders.{IsFileOf, misses_after}
+use Rattle.std.specs.Prelude.{is_none, if◌then◌else◌}
 use Rattle.dat_options.specs.declared.fault.OpenFault.{OpenFault}
 use Rattle.dat_header.specs.declared.header.Header.{Header}
 use Rattle.dat_header.specs.declared.header.Body.{Body}
 use Rattle.dat_header.specs.declared.header.Body.TheVariants.{Latency, Fly}
-use Rattle.dat_header.specs.Header.{header_of}
+use Rattle.dat_header.specs.Header.{header_of, ReadsHeader}
 use Rattle.trace_run.specs.declared.status.Status.{Status}
 use Rattle.trace_run.specs.declared.status.Status.TheVariants.{Done, Usage, Refused, Malformed, ReadFault, WriteFault, NoMemory}
 use Rattle.trace_args.specs.declared.fault.WordFault.{WordFault}
 use Rattle.trace_args.specs.Command.{CommandData, Report, Dump, ReportData, DumpData}
-use Rattle.trace_run.specs.Meaning.{Meaning, NewFile, Target, on_out, on_folder, report_of, report_body, dump_of, command_means, command_meaning, meaning_of, input_of}
-use Rattle.trace_run.specs.Reported.{Writes}
-use Rattle.trace_run.specs.Causes.{IsComplete, MissesNothingElse, HasRisen, target_of, target_read}
+use Rattle.trace_run.specs.Meaning.{Meaning, NewFile, Target, on_out, on_folder, body_report, header_means, file_means, input_means, command_means, command_meaning, meaning_of, input_of, target_of}
+use Rattle.trace_run.specs.Work.{Writes, WritesFor, IsOfFile}
+use Rattle.trace_run.specs.Causes.{AnswersUsage, IsComplete, HasRisen, target_read}
+use Rattle.trace_run.specs.Counts.{MissesNothingElse, ReadsFor, CommandReads}
 use Rattle.trace_run.specs.Ending.{Outside, Ends, FilesStored, FirstFilesStored, SameButNext, write_faults}
 
 same_next : (next : Option NewFile) (files : NamedFiles) → SameButNext next files files
@@ -36,74 +38,69 @@ stored_first_none news (Some files) now same =
     subst (λ (after : Option NamedFiles). FirstFilesStored news (Some files) after) (sym same) (0, files, refl, same_next (slice_get news 0) files)
 
 -- a command that stores no file and writes to the output
-pub ends_plain : (m : Meaning) (status : Status) (before now : Outside) → m.files ≡ [] → m.target ≡ on_out
+ends_plain : (m : Meaning) (status : Status) (before now : Outside) → m.files ≡ [] → m.target ≡ on_out
     → Writes m status before.out.written now.out.written
     → (status ≡ ReadFault → Rose before.counts.reading now.counts.reading)
     → (status ≡ WriteFault → Rose before.out.faults now.out.faults)
     → now.files ≡ before.files → now.counts.created ≡ before.counts.created → Ends m status before now
 ends_plain m NoMemory before now none target writes read write files created = record { output = writes; files = files; created = created }
-ends_plain m ReadFault before now none target writes read write files created =
-    record { rose = read refl; output = writes; files = (0, stored_none before.files now.files files) }
+ends_plain m ReadFault before now none target writes read write files created = record {
+  rose = read refl;
+  output = writes;
+  files = (0, stored_none before.files now.files files);
+  created = let few : length m.files ≡ 0 = ap length none in omega arith;
+}
 ends_plain m WriteFault before now none target writes read write files created = record {
   rose = subst (λ (t : Target). Rose (write_faults t before) (write_faults t now)) (sym target) (write refl);
   output = writes;
   files = stored_first_none m.files before.files now.files files;
+  created = let few : length m.files ≡ 0 = ap length none in omega arith;
 }
 ends_plain m status before now none target writes read write files created = record {
   answer = writes.0;
   output = writes.1;
   files = subst (λ (news : List NewFile). FilesStored news before.files now.files) (sym none) (stored_none before.files now.files files);
+  created = let few : length m.files ≡ 0 = ap length none in omega arith;
 }
 
-body_files : (words : ReportData) (header : Header) (bytes : List ℕ) (body : Body) → (report_body words header bytes body).files ≡ []
-body_files words header bytes Latency = refl
-body_files words header bytes (Fly parts) = refl
+-- every command so far stores no file and writes to the output
+body_files : (words : ReportData) (header : Header) (body : Body) (bytes : List ℕ) → (body_report words header body bytes).files ≡ []
+body_files words header Latency bytes = refl
+body_files words header (Fly parts) bytes = refl
 
-body_target : (words : ReportData) (header : Header) (bytes : List ℕ) (body : Body) → (report_body words header bytes body).target ≡ on_out
-body_target words header bytes Latency = refl
-body_target words header bytes (Fly parts) = refl
+body_target : (words : ReportData) (header : Header) (body : Body) (bytes : List ℕ) → (body_report words header body bytes).target ≡ on_out
+body_target words header Latency bytes = refl
+body_target words header (Fly parts) bytes = refl
 
-report_files : (words : ReportData) (header : Result Header OpenFault) (bytes : List ℕ) → (report_of words header bytes).files ≡ []
-report_files words (Ok header) bytes = body_files words header bytes header.body
-report_files words (Err fault) bytes = refl
+on_output : (command : CommandData) → target_of command ≡ on_out
+on_output (Report words) = refl
+on_output (Dump words) = refl
 
-report_target : (words : ReportData) (header : Result Header OpenFault) (bytes : List ℕ) → (report_of words header bytes).target ≡ on_out
-report_target words (Ok header) bytes = body_target words header bytes header.body
-report_target words (Err fault) bytes = refl
+file_files : (command : CommandData) (header : Result Header OpenFault) (bytes : List ℕ) → (file_means command header bytes).files ≡ []
+file_files (Report words) (Ok header) bytes = body_files words header header.body bytes
+file_files (Dump words) (Ok header) bytes = refl
+file_files command (Err fault) bytes = refl
 
-dump_files : (words : DumpData) (header : Result Header OpenFault) → (dump_of words header).files ≡ []
-dump_files words (Ok header) = refl
-dump_files words (Err fault) = refl
-
-dump_target : (words : DumpData) (header : Result Header OpenFault) → (dump_of words header).target ≡ on_out
-dump_target words (Ok header) = refl
-dump_target words (Err fault) = refl
-
-command_files : (command : CommandData) (found : Option (List ℕ)) → (command_means command found).files ≡ []
-command_files command None = refl
-command_files (Report words) (Some bytes) = report_files words (header_of bytes) bytes
-command_files (Dump words) (Some bytes) = dump_files words (header_of bytes)
-
-command_target : (command : CommandData) (found : Option (List ℕ)) → (command_means command found).target ≡ on_out
-command_target command None = refl
-command_target (Report words) (Some bytes) = report_target words (header_of bytes) bytes
-command_target (Dump words) (Some bytes) = dump_target words (header_of bytes)
+file_target : (command : CommandData) (header : Result Header OpenFault) (bytes : List ℕ) → (file_means command header bytes).target ≡ on_out
+file_target (Report words) (Ok header) bytes = body_target words header header.body bytes
+file_target (Dump words) (Ok header) bytes = refl
+file_target command (Err fault) bytes = on_output command
 
 command_found : (command : CommandData) (found bytes : Option (List ℕ)) (status : Status) (before now : Outside) → IsSome found → bytes ≡ found
-    → IfSome bytes (λ file. Writes (command_means command (Some file)) status before.out.written now.out.written)
+    → WritesFor (input_means command) bytes status before.out.written now.out.written
     → (status ≡ ReadFault → Rose before.counts.reading now.counts.reading)
     → (status ≡ WriteFault → Rose before.out.faults now.out.faults)
     → now.files ≡ before.files → now.counts.created ≡ before.counts.created → Ends (command_means command found) status before now
 command_found command None bytes status before now there is writes read write files created = absurd (let bad : ⊥ = cc in bad)
 command_found command (Some found) bytes status before now there is writes read write files created =
-    ends_plain (command_means command (Some found)) status before now (command_files command (Some found)) (command_target command (Some found))
-    (subst (λ (told : Option (List ℕ)). IfSome told (λ file. Writes (command_means command (Some file)) status before.out.written now.out.written)) is writes)
+    ends_plain (input_means command found) status before now (file_files command (header_of found) found) (file_target command (header_of found) found)
+    (subst (λ (told : Option (List ℕ)). WritesFor (input_means command) told status before.out.written now.out.written) is writes)
     read write files created
 
 -- what a command did with an opened file is what it means of the file's name
 pub command_ends : (command : CommandData) (told : Option NamedFiles) (bytes : Option (List ℕ)) (status : Status) (before now : Outside) → before.files ≡ told
     → IsFileOf told (input_of command) bytes
-    → IfSome bytes (λ file. Writes (command_means command (Some file)) status before.out.written now.out.written)
+    → WritesFor (input_means command) bytes status before.out.written now.out.written
     → (status ≡ ReadFault → Rose before.counts.reading now.counts.reading)
     → (status ≡ WriteFault → Rose before.out.faults now.out.faults)
     → now.files ≡ before.files → now.counts.created ≡ before.counts.created
@@ -133,6 +130,7 @@ unread_ends fault read (Some known) before is files = subst (λ (reading : Resul
   answer = refl;
   output = gained_nothing before.out.written;
   files = stored_none before.files before.files refl;
+  created = omega arith;
 }
 
 pub unread_complete : (fault : WordFault) (read : Result CommandData WordFault) (told : Option NamedFiles) (before : Outside) → read ≡ Err fault
@@ -162,3 +160,88 @@ pub read_causes : (command : CommandData) (read : Result CommandData WordFault) 
     → HasRisen (target_of command) status before now → HasRisen (target_read read) status before now
 read_causes command read status before now is causes =
     subst (λ (reading : Result CommandData WordFault). HasRisen (target_read reading) status before now) (sym is) causes
+
+pub read_reads : (command : CommandData) (read : Result CommandData WordFault) (status : Status) (before now : Outside) → read ≡ Ok command
+    → CommandReads command status before now → ReadsFor read status before now
+read_reads command read status before now is reads =
+    subst (λ (reading : Result CommandData WordFault). ReadsFor reading status before now) (sym is) reads
+
+not_usage : (status : Status) → IsOfFile status → status ≢ Usage
+not_usage Usage own = λ is. own
+not_usage Done own = λ is. cc
+not_usage (Refused fault) own = λ is. cc
+not_usage (Malformed cpu page) own = λ is. cc
+not_usage ReadFault own = λ is. cc
+not_usage WriteFault own = λ is. cc
+not_usage NoMemory own = λ is. cc
+
+pub read_usage : (command : CommandData) (read : Result CommandData WordFault) (status : Status) (before now : Outside) → read ≡ Ok command
+    → IsOfFile status → AnswersUsage read status before now
+read_usage command read status before now is own =
+    subst (λ (reading : Result CommandData WordFault). AnswersUsage reading status before now) (sym is) (not_usage status own)
+
+pub unread_usage : (fault : WordFault) (read : Result CommandData WordFault) (before : Outside) → read ≡ Err fault → AnswersUsage read Usage before before
+unread_usage fault read before is =
+    subst (λ (reading : Result CommandData WordFault). AnswersUsage reading Usage before before) (sym is) (inl refl, refl)
+
+pub unread_reads : (fault : WordFault) (read : Result CommandData WordFault) (before : Outside) → read ≡ Err fault → ReadsFor read Usage before before
+unread_reads fault read before is = subst (λ (reading : Result CommandData WordFault). ReadsFor reading Usage before before) (sym is) refl
+
+-- there was no memory to read the words, and nothing was touched
+pub unknown_usage : (read : Result CommandData WordFault) (before : Outside) → AnswersUsage read NoMemory before before
+unknown_usage (Ok command) before = λ is. cc
+unknown_usage (Err fault) before = (inr refl, refl)
+
+pub unknown_reads : (read : Result CommandData WordFault) (before : Outside) → ReadsFor read NoMemory before before
+unknown_reads (Ok command) before = none before.files
+  where
+    none : (told : Option NamedFiles) → IfSome told (λ files. Unit {0})
+    none None = tt
+    none (Some files) = tt
+unknown_reads (Err fault) before = refl
+
+-- a command on a file with a header means what it does behind that header
+pub behind_header_writes : (command : CommandData) (header : Header) (told same : Option (List ℕ)) (status : Status) (old now : Option (List ℕ)) → same ≡ told
+    → ReadsHeader told (Ok header) → WritesFor (header_means command header) same status old now → WritesFor (input_means command) told status old now
+behind_header_writes command header None same status old now is found writes = tt
+behind_header_writes command header (Some bytes) same status old now is found writes =
+    subst (λ (read : Result Header OpenFault). Writes (file_means command read bytes) status old now) (sym found)
+    (subst (λ (told : Option (List ℕ)). WritesFor (header_means command header) told status old now) is writes)
+
+-- a fault of a command shows in the counts
+pub command_risen : (command : CommandData) (status : Status) (before now : Outside) → (status ≡ ReadFault → Rose before.counts.reading now.counts.reading)
+    → (status ≡ WriteFault → Rose before.out.faults now.out.faults) → IsOfFile status → HasRisen (target_of command) status before now
+command_risen command Done before now read write own = tt
+command_risen command Usage before now read write own = tt
+command_risen command (Refused fault) before now read write own = own
+command_risen command (Malformed cpu page) before now read write own = tt
+command_risen command ReadFault before now read write own = read refl
+command_risen command WriteFault before now read write own =
+    subst (λ (target : Target). Rose (write_faults target before) (write_faults target now)) (sym (on_output command)) (write refl)
+command_risen command NoMemory before now read write own = tt
+
+-- the input could not be opened
+pub unopened_ends : (command : CommandData) (told : Option NamedFiles) (before now : Outside) → before.files ≡ told → Rose before.counts.reading now.counts.reading
+    → now.out.written ≡ before.out.written → now.files ≡ before.files → now.counts.created ≡ before.counts.created
+    → IfSome told (λ files. Ends (command_meaning command files) ReadFault before now)
+unopened_ends command None before now is rose output files created = tt
+unopened_ends command (Some known) before now is rose output files created = record {
+  rose = rose;
+  output = (0, output ∙ gained_nothing before.out.written);
+  files = (0, stored_none before.files now.files files);
+  created = omega arith;
+}
+
+misses_unless_found : (command : CommandData) (found : Option (List ℕ)) (before now : Counts) → now.misses ≡ (if is_none found then raised before.misses 1 else before.misses)
+    → MissesNothingElse (command_means command found) before now
+misses_unless_found command None before now is = λ other. absurd (other refl)
+misses_unless_found command (Some bytes) before now is = λ other. is
+
+-- the input's name was asked for, and no other
+pub command_misses : (command : CommandData) (told : Option NamedFiles) (name : List ℕ) (before mid now : Counts) → name ≡ input_of command
+    → IfSome told (λ files. mid.misses ≡ misses_after files name before.misses) → now.misses ≡ mid.misses
+    → IfSome told (λ files. MissesNothingElse (command_meaning command files) before now)
+command_misses command None name before mid now is asked same = tt
+command_misses command (Some files) name before mid now is asked same =
+    misses_unless_found command (get files (input_of command)) before now
+    (same ∙ subst (λ (n : List ℕ). mid.misses ≡ misses_after files n before.misses) is asked)

@@ -5,11 +5,12 @@ use Rattle.std.proofs.lemmas.List.Concat.{flat_map-cons}
 use Rattle.std.specs.List.{flat_map}
 use Rattle.std.specs.Io.KnownBytes.{append_known}
 use Rattle.trace_base.specs.declared.order.Order.{Order}
-use Rattle.trace_base.specs.Writing.{Gained, GainedPrefix}
-use Rattle.trace_base.proofs.Gains.{gained_both, prefix_behind, gained_nothing}
-use Rattle.trace_base.proofs.PendingLemmas.{prefix_longer}
+use Rattle.trace_outside.specs.Writing.{Gained, GainedPrefix}
+use Rattle.trace_outside.proofs.Gains.{gained_both, prefix_behind, gained_nothing}
+use Rattle.trace_outside.proofs.PendingLemmas.{prefix_longer}
 use Rattle.trace_run.specs.Line.{cpus_line}
-use Rattle.trace_run.specs.Printed.{report_pieces, latency_meaning, PrintsLatency}
+use Rattle.trace_run.specs.Meaning.{report_pieces, latency_report}
+use Rattle.trace_run.specs.Work.{WritesFor}
 use Rattle.trace_run.specs.declared.show.Show.{Show}
 use Rattle.trace_run.specs.Text.{text}
 use Rattle.trace_run.specs.declared.status.Status.TheVariants.{Done, ReadFault, WriteFault}
@@ -25,7 +26,7 @@ all_alone : (bytes : List ℕ) → text (map (λ byte. byte ∷ []) bytes) ≡ b
 all_alone [] = refl
 all_alone (byte ∷ bytes) = flat_map-cons (λ piece. piece) (byte ∷ []) (map (λ b. b ∷ []) bytes) ∙ ap (λ rest. byte ∷ rest) (all_alone bytes)
 
-whole_text : (cpus end : ℕ) (bytes : List ℕ) → text ((latency_meaning cpus end bytes).pieces) ≡ cpus_line cpus ++ drop end bytes
+whole_text : (cpus end : ℕ) (bytes : List ℕ) → text ((latency_report cpus end bytes).pieces) ≡ cpus_line cpus ++ drop end bytes
 whole_text cpus end bytes =
     flat_map-cons (λ piece. piece) (cpus_line cpus) (map (λ byte. byte ∷ []) (drop end bytes)) ∙ ap (λ rest. cpus_line cpus ++ rest) (all_alone (drop end bytes))
 
@@ -37,7 +38,7 @@ first_line cpus show order = flat_map-cons (λ piece. piece) (cpus_line cpus) []
 
 pub latency_done : (told : Option (List ℕ)) (size cpus end : ℕ) (show : Show) (order : Order) (old mid now : Option (List ℕ)) → IfSome told (λ file. length file ≡ size)
     → Gained old mid (text (report_pieces cpus show order [])) → IfSome told (λ bytes. Gained mid now (take (size - end) (drop end bytes)))
-    → PrintsLatency cpus end told Done old now
+    → WritesFor (latency_report cpus end) told Done old now
 latency_done None size cpus end show order old mid now is first copied = tt
 latency_done (Some bytes) size cpus end show order old mid now is first copied = (
   refl,
@@ -48,7 +49,7 @@ latency_done (Some bytes) size cpus end show order old mid now is first copied =
 
 pub latency_unread : (told : Option (List ℕ)) (size cpus end : ℕ) (show : Show) (order : Order) (old mid now : Option (List ℕ)) → IfSome told (λ file. length file ≡ size)
     → Gained old mid (text (report_pieces cpus show order [])) → IfSome told (λ bytes. GainedPrefix mid now (take (size - end) (drop end bytes)))
-    → PrintsLatency cpus end told ReadFault old now
+    → WritesFor (latency_report cpus end) told ReadFault old now
 latency_unread None size cpus end show order old mid now is first copied = tt
 latency_unread (Some bytes) size cpus end show order old mid now is first copied = (
   suc copied.0,
@@ -60,16 +61,16 @@ latency_unread (Some bytes) size cpus end show order old mid now is first copied
 
 pub latency_unwritten : (told : Option (List ℕ)) (size cpus end : ℕ) (show : Show) (order : Order) (old mid now : Option (List ℕ)) → IfSome told (λ file. length file ≡ size)
     → Gained old mid (text (report_pieces cpus show order [])) → IfSome told (λ bytes. GainedPrefix mid now (take (size - end) (drop end bytes)))
-    → PrintsLatency cpus end told WriteFault old now
+    → WritesFor (latency_report cpus end) told WriteFault old now
 latency_unwritten None size cpus end show order old mid now is first copied = tt
 latency_unwritten (Some bytes) size cpus end show order old mid now is first copied =
-    prefix_behind old mid now (cpus_line cpus) (drop end bytes) [] (text ((latency_meaning cpus end bytes).pieces))
+    prefix_behind old mid now (cpus_line cpus) (drop end bytes) [] (text ((latency_report cpus end bytes).pieces))
     (whole_text cpus end bytes ∙ ap (λ rest. cpus_line cpus ++ rest) (sym (append-nil (drop end bytes))))
     (first ∙ ap (append_known old) (first_line cpus show order))
     (subst (λ (rest : List ℕ). GainedPrefix mid now rest) (rest_is size end bytes is) copied)
 
 pub latency_unbegun : (told : Option (List ℕ)) (cpus end : ℕ) (show : Show) (order : Order) (old now : Option (List ℕ))
-    → GainedPrefix old now (text (report_pieces cpus show order [])) → PrintsLatency cpus end told WriteFault old now
+    → GainedPrefix old now (text (report_pieces cpus show order [])) → WritesFor (latency_report cpus end) told WriteFault old now
 latency_unbegun None cpus end show order old now first = tt
 latency_unbegun (Some bytes) cpus end show order old now first =
     subst (λ (whole : List ℕ). GainedPrefix old now whole) (sym (whole_text cpus end bytes))

@@ -7,6 +7,7 @@ pub mod Latency
 pub mod PartsPrinted
 pub mod Selection
 pub mod Endings
+pub mod Reading
 pub mod LoadingLists
 pub mod LoadingPages
 pub mod Loading

@@ -8,7 +8,7 @@ use Rattle.std.proofs.lemmas.List.{drop-drop, drop-take, take-take, take_all, ma
 use Rattle.trace_base.specs.declared.layout.Layout.{Layout}
 use Rattle.trace_base.specs.declared.part.Part.{Part}
 use Rattle.trace_base.specs.Layout.{IsLayout}
-use Rattle.trace_base.specs.Reading.{GivesBytesAt}
+use Rattle.trace_outside.specs.Reading.{GivesBytesAt}
 use Rattle.subpage.specs.ItemData.{ItemData}
 use Rattle.subpage.specs.Page.{items}
 use Rattle.subpage.specs.Processor.{is_there, page_bytes, items_at, page_count, pages_from, joined, list_of, bad_of}

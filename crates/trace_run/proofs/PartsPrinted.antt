@@ -3,14 +3,13 @@ use Rattle.std.proofs.Common.{◌≡◌, ℕ, List, Option, None, Some, refl, sy
 use Rattle.trace_base.specs.declared.layout.Layout.{Layout}
 use Rattle.trace_base.specs.declared.part.Part.{Part}
 use Rattle.trace_base.specs.Layout.{IsLayout}
-use Rattle.trace_base.specs.Writing.{Gained, GainedPrefix}
+use Rattle.trace_outside.specs.Writing.{Gained, GainedPrefix}
 use Rattle.subpage.specs.Arrangement.{Keyed}
 use Rattle.subpage.specs.Cut.{Cut, cut_of, reached_of}
 use Rattle.trace_run.specs.Loaded.{LoadedData, AreLoaded, cut_in, reached_in}
 use Rattle.trace_args.specs.Command.{ReportData}
-use Rattle.trace_run.specs.Meaning.{Meaning, ended, selected, show_of}
-use Rattle.trace_run.specs.Printed.{report_pieces, parts_meaning, PrintsParts}
-use Rattle.trace_run.specs.Reported.{Writes}
+use Rattle.trace_run.specs.Meaning.{Meaning, ended, selected, show_of, report_pieces, parts_report}
+use Rattle.trace_run.specs.Work.{Writes, WritesFor}
 use Rattle.trace_run.specs.declared.show.Show.{Show}
 use Rattle.trace_run.specs.Text.{text}
 use Rattle.trace_run.specs.declared.status.Status.{Status}
@@ -30,10 +29,10 @@ items_are words layout bytes parts chosen loaded items allowed all are reached =
 pub parts_printed : (words : ReportData) (cpus : ℕ) (layout : Layout) (parts : List Part) (told : Option (List ℕ)) (chosen : List (ℕ × Part)) (loaded : List LoadedData) (items : List Keyed)
     (cut : Option Cut) (status : Status) (old now : Option (List ℕ)) (show : Show) → show ≡ show_of words → IsLayout layout → chosen ≡ selected words.cpus parts → AreLoaded layout told chosen loaded
     → items ≡ reached_in layout loaded → cut ≡ cut_in layout loaded → status ≡ ended cut → Gained old now (text (report_pieces cpus show layout.order items))
-    → PrintsParts words cpus layout parts told status old now
+    → WritesFor (parts_report words cpus layout parts) told status old now
 parts_printed words cpus layout parts None chosen loaded items cut status old now show shown allowed all are reached cuts is gained = tt
 parts_printed words cpus layout parts (Some bytes) chosen loaded items cut status old now show shown allowed all are reached cuts is gained =
-    writes_ended (parts_meaning words cpus layout parts bytes) cut status old now is
+    writes_ended (parts_report words cpus layout parts bytes) cut status old now is
     (is ∙ ap ended (cuts ∙ cut_is layout bytes chosen loaded allowed are ∙ ap (cut_of layout bytes) all))
     (subst (λ (known : List Keyed). Gained old now (text (report_pieces cpus (show_of words) layout.order known)))
     (items_are words layout bytes parts chosen loaded items allowed all are reached)
@@ -42,7 +41,7 @@ parts_printed words cpus layout parts (Some bytes) chosen loaded items cut statu
 pub parts_stopped : (words : ReportData) (cpus : ℕ) (layout : Layout) (parts : List Part) (told : Option (List ℕ)) (chosen : List (ℕ × Part)) (loaded : List LoadedData) (items : List Keyed)
     (old now : Option (List ℕ)) (show : Show) → show ≡ show_of words → IsLayout layout → chosen ≡ selected words.cpus parts → AreLoaded layout told chosen loaded
     → items ≡ reached_in layout loaded → GainedPrefix old now (text (report_pieces cpus show layout.order items))
-    → PrintsParts words cpus layout parts told WriteFault old now
+    → WritesFor (parts_report words cpus layout parts) told WriteFault old now
 parts_stopped words cpus layout parts None chosen loaded items old now show shown allowed all are reached stopped = tt
 parts_stopped words cpus layout parts (Some bytes) chosen loaded items old now show shown allowed all are reached stopped =
     subst (λ (known : List Keyed). GainedPrefix old now (text (report_pieces cpus (show_of words) layout.order known)))

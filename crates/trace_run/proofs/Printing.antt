@@ -4,15 +4,15 @@ use Rattle.std.proofs.lemmas.List.{append-nil, take_all}
 use Rattle.std.proofs.lemmas.List.Concat.{flat_map-cons}
 use Rattle.std.specs.Prelude.{filter}
 use Rattle.std.specs.List.{flat_map, enumerate_from}
-use Rattle.trace_base.specs.Writing.{Gained, GainedPrefix}
-use Rattle.trace_base.specs.Pending.{Holds, Puts, Flushes}
+use Rattle.trace_outside.specs.Writing.{Gained, GainedPrefix}
+use Rattle.trace_outside.specs.Pending.{Holds, Puts, Flushes}
 use Rattle.trace_base.specs.declared.order.Order.{Order}
-use Rattle.trace_base.proofs.Gains.{flat_map-parted}
-use Rattle.trace_base.proofs.PendingLemmas.{holds_nothing, prefix_longer, flushed, flush_stopped}
+use Rattle.trace_outside.proofs.Gains.{flat_map-parted}
+use Rattle.trace_outside.proofs.PendingLemmas.{holds_nothing, prefix_longer, flushed, flush_stopped}
 use Rattle.trace_run.specs.declared.whole.entry.Entry.{Entry}
 use Rattle.trace_run.specs.LoadedView.{entry_view}
 use Rattle.trace_run.specs.Line.{line, cpus_line}
-use Rattle.trace_run.specs.Printed.{report_pieces}
+use Rattle.trace_run.specs.Meaning.{report_pieces}
 use Rattle.trace_run.specs.declared.show.Show.{Show}
 use Rattle.trace_run.specs.Text.{text}
 

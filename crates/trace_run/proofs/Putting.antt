@@ -1,8 +1,8 @@
 -- Pieces that are put one behind another.
 use Rattle.std.proofs.Common.{◌≡◌, ℕ, List, ◌++◌, append_assoc, Option, Result, Ok, Err, IsErr, subst}
-use Rattle.trace_base.specs.Writing.{GainedPrefix}
-use Rattle.trace_base.specs.Pending.{Holds, Puts}
-use Rattle.trace_base.proofs.PendingLemmas.{prefix_longer}
+use Rattle.trace_outside.specs.Writing.{GainedPrefix}
+use Rattle.trace_outside.specs.Pending.{Holds, Puts}
+use Rattle.trace_outside.proofs.PendingLemmas.{prefix_longer}
 
 -- a piece was put whole
 abbrev pub PutsWhole : List ℕ → Option (List ℕ) → List ℕ → Option (List ℕ) → List ℕ → Type 0

@@ -1,19 +1,15 @@
--- When each answer may come, and what a run leaves of the folder's counts.
-use Rattle.std.specs.Prelude.{Option, None, Some, Result, Ok, Err, ◌≡◌, ◌≢◌, ◌⊎◌, ◌+◌, ◌-◌, ◌^◌, ◌<◌, ℕ, List, IfSome}
-use Rattle.trace_base.specs.declared.counts.Counts.{Counts}
-use Rattle.trace_base.specs.Causes.{Rose}
+-- When each answer may come.
+use Rattle.std.specs.Prelude.{Option, None, Some, Result, Ok, Err, ◌≡◌, ◌≢◌, ◌⊎◌, ℕ, List, IfSome}
+use Rattle.trace_outside.specs.Causes.{Rose}
 use Rattle.dat_header.specs.Header.{IsRefusal}
 use Rattle.trace_run.specs.declared.status.Status.{Status}
-use Rattle.trace_run.specs.declared.status.Status.TheVariants.{Done, Refused, ReadFault, WriteFault, NoMemory}
+use Rattle.trace_run.specs.declared.status.Status.TheVariants.{Done, Usage, Refused, ReadFault, WriteFault, NoMemory}
 use Rattle.trace_args.specs.declared.fault.WordFault.{WordFault}
-use Rattle.trace_args.specs.Command.{CommandData, Report, Dump}
-use Rattle.trace_run.specs.Ending.{Outside, write_faults}
-use Rattle.trace_run.specs.Meaning.{Meaning, Target, on_out, on_folder, meaning, command_meaning}
-
--- what a command writes to
-abbrev pub target_of : CommandData → Target
-target_of (Report words) = on_out
-target_of (Dump words) = on_out
+use Rattle.trace_args.specs.Command.{CommandData}
+use Rattle.trace_run.specs.Ending.{Outside, RunsCommand, write_faults}
+use Rattle.trace_run.specs.Meaning.{Meaning, Target, on_out, target_of, meaning}
+use Rattle.trace_run.specs.Work.{IsOfFile}
+use Rattle.trace_run.specs.Counts.{ClosesAll, CommandMisses, CommandReads, OpensAtMostOne}
 
 abbrev pub target_read : Result CommandData WordFault → Target
 target_read (Ok command) = target_of command
@@ -26,25 +22,6 @@ HasRisen target WriteFault before now = Rose (write_faults target before) (write
 HasRisen target (Refused fault) before now = IsRefusal fault
 HasRisen target status before now = Unit {0}
 
--- a refusal is one of the file's bytes
-abbrev pub OnRefused : Status → Type 0
-OnRefused (Refused fault) = IsRefusal fault
-OnRefused status = Unit {0}
-
--- files were opened as often as closed, as far as the counts go
-abbrev pub ClosesAll : Counts → Counts → Type 0
-ClosesAll before now = now.opened < 2 ^ 64 - 1 → now.closed < 2 ^ 64 - 1 → now.opened + before.closed ≡ now.closed + before.opened
-
--- a name that is missing is asked for only where the meaning is a fault of reading
-abbrev pub MissesNothingElse : Meaning → Counts → Counts → Type 0
-MissesNothingElse m before now = m.status ≢ ReadFault → now.misses ≡ before.misses
-
-abbrev pub RunMisses : List (List ℕ) → Outside → Outside → Type 0
-RunMisses words before now = IfSome before.files (λ files. MissesNothingElse (meaning words files) before.counts now.counts)
-
-abbrev pub CommandMisses : CommandData → Outside → Outside → Type 0
-CommandMisses command before now = IfSome before.files (λ files. MissesNothingElse (command_meaning command files) before.counts now.counts)
-
 -- where no count rose, what means Done is Done or finds no memory
 abbrev pub IsComplete : Meaning → Status → Outside → Outside → Type 0
 IsComplete m status before now = m.status ≡ Done → ¬ (Rose before.counts.reading now.counts.reading)
@@ -52,3 +29,18 @@ IsComplete m status before now = m.status ≡ Done → ¬ (Rose before.counts.re
 
 abbrev pub RunIsComplete : List (List ℕ) → Status → Outside → Outside → Type 0
 RunIsComplete words status before now = IfSome before.files (λ files. IsComplete (meaning words files) status before now)
+
+-- Usage is answered just where the words have no reading, unless there is no memory to read them; nothing is touched then
+abbrev pub AnswersUsage : Result CommandData WordFault → Status → Outside → Outside → Type 0
+AnswersUsage (Ok command) status before now = status ≢ Usage
+AnswersUsage (Err fault) status before now = ((status ≡ Usage) ⊎ (status ≡ NoMemory)) × (now ≡ before)
+
+-- all that is said of one command over a folder and an output
+pub record RanCommand (command : CommandData) (status : Status) (before now : Outside) : Type 0 where
+  pub ends : RunsCommand command status before now
+  pub causes : HasRisen (target_of command) status before now
+  pub of_file : IsOfFile status
+  pub misses : CommandMisses command before now
+  pub closes : ClosesAll before.counts now.counts
+  pub opens : OpensAtMostOne before.counts now.counts
+  pub reads : CommandReads command status before now

@@ -1,11 +1,11 @@
 -- The four ways in which a run may end, beside its meaning: it did what it means, it found no memory, a read failed, a write
 -- failed. Every command has these four.
-use Rattle.std.specs.Prelude.{Option, Some, ◌≡◌, ℕ, List, [], ◌∷◌, take, slice_get, IfSome, IsSomeAnd, MatchOption}
+use Rattle.std.specs.Prelude.{Option, Some, ◌≡◌, ℕ, List, [], ◌∷◌, ◌≤◌, length, take, slice_get, IfSome, IsSomeAnd, MatchOption}
 use Rattle.std.specs.FinMap.{insert}
-use Rattle.trace_base.specs.declared.counts.Counts.{Counts}
-use Rattle.trace_base.specs.Names.{NamedFiles, SameBut}
-use Rattle.trace_base.specs.Causes.{Rose}
-use Rattle.trace_base.specs.Writing.{Gained, GainedPrefix}
+use Rattle.trace_outside.specs.declared.counts.Counts.{Counts}
+use Rattle.trace_outside.specs.Names.{NamedFiles, SameBut}
+use Rattle.trace_outside.specs.Causes.{Rose, raised}
+use Rattle.trace_outside.specs.Writing.{Gained, GainedPrefix}
 use Rattle.trace_run.specs.declared.status.Status.{Status}
 use Rattle.trace_run.specs.declared.status.Status.TheVariants.{ReadFault, WriteFault, NoMemory}
 use Rattle.trace_run.specs.Text.{text}
@@ -46,11 +46,12 @@ abbrev pub FirstFilesStored : List NewFile → Option NamedFiles → Option Name
 FirstFilesStored news before now = IfSome before (λ files. IsSomeAnd now (λ after.
     (count : ℕ) × (middle : NamedFiles) × Stored (take count news) files middle × SameButNext (slice_get news count) middle after))
 
--- it did all that it means
+-- it did all that it means, and made no file beside
 pub record Finished (m : Meaning) (status : Status) (before now : Outside) : Type 0 where
   pub answer : status ≡ m.status
   pub output : Gained before.out.written now.out.written (text m.pieces)
   pub files : FilesStored m.files before.files now.files
+  pub created : now.counts.created ≡ raised before.counts.created (length m.files)
 
 -- it found no memory, and did nothing
 pub record Untouched (before now : Outside) : Type 0 where
@@ -63,6 +64,7 @@ pub record StoppedReading (m : Meaning) (before now : Outside) : Type 0 where
   pub rose : Rose before.counts.reading now.counts.reading
   pub output : (count : ℕ) × Gained before.out.written now.out.written (text (take count m.pieces))
   pub files : (count : ℕ) × FilesStored (take count m.files) before.files now.files
+  pub created : now.counts.created ≤ raised before.counts.created (length m.files)
 
 -- the count of faults of what a command writes to
 abbrev pub write_faults : Target → Outside → ℕ
@@ -74,6 +76,7 @@ pub record StoppedWriting (m : Meaning) (before now : Outside) : Type 0 where
   pub rose : Rose (write_faults m.target before) (write_faults m.target now)
   pub output : GainedPrefix before.out.written now.out.written (text m.pieces)
   pub files : FirstFilesStored m.files before.files now.files
+  pub created : now.counts.created ≤ raised before.counts.created (length m.files)
 
 -- the four cases, by the answer
 abbrev pub Ends : Meaning → Status → Outside → Outside → Type 0

@@ -2,11 +2,12 @@ pub mod Text
 pub mod Line
 pub mod Meaning
 pub mod Ending
+pub mod Work
+pub mod Counts
 pub mod Causes
 pub mod Messages
-pub mod Reported
+pub mod StatusNumber
 pub mod Rest
-pub mod Printed
 pub mod Loaded
 pub mod LoadedKeys
 pub mod LoadedView

@@ -2,13 +2,16 @@
 use Rattle.std.specs.Prelude.{Option, Result, Ok, Err, None, Some, ℕ, Bool, true, false, List, [], ◌∷◌, map, filter, drop}
 use Rattle.std.specs.List.{enumerate_from, slice_index_or}
 use Rattle.std.specs.FinMap.{get}
-use Rattle.trace_base.specs.Names.{NamedFiles}
+use Rattle.trace_outside.specs.Names.{NamedFiles}
+use Rattle.trace_base.specs.declared.layout.Layout.{Layout}
+use Rattle.trace_base.specs.declared.order.Order.{Order}
 use Rattle.trace_base.specs.declared.part.Part.{Part}
 use Rattle.dat_options.specs.declared.fault.OpenFault.{OpenFault}
 use Rattle.dat_header.specs.declared.header.Header.{Header}
 use Rattle.dat_header.specs.declared.header.Body.{Body}
 use Rattle.dat_header.specs.declared.header.Body.TheVariants.{Latency, Fly}
 use Rattle.dat_header.specs.Header.{header_of}
+use Rattle.subpage.specs.Arrangement.{Keyed}
 use Rattle.subpage.specs.Cut.{Cut, cut_of, reached_of}
 use Rattle.trace_run.specs.declared.status.Status.{Status}
 use Rattle.trace_run.specs.declared.status.Status.TheVariants.{Done, Usage, Refused, Malformed, ReadFault}
@@ -61,28 +64,50 @@ selected cpus parts = filter (λ part. is_chosen cpus part.0) (enumerate_from 0 
 abbrev pub show_of : ReportData → Show
 show_of words = record { full = words.full; latency = words.latency; no_hard = words.no_hard; no_soft = words.no_soft }
 
--- a line for each reached item; of a latency file the rest of its bytes
-abbrev pub report_body : ReportData → Header → List ℕ → Body → Meaning
-report_body words header bytes Latency = prints (cpus_line header.cpus ∷ map (λ byte. byte ∷ []) (drop header.end bytes)) Done
-report_body words header bytes (Fly parts) =
-    prints (cpus_line header.cpus ∷ map (line (show_of words) header.layout.order) (reached_of header.layout bytes (selected words.cpus parts)))
-    (ended (cut_of header.layout bytes (selected words.cpus parts)))
+-- the pieces of a report of these items: a line for each behind the first line
+abbrev pub report_pieces : ℕ → Show → Order → List Keyed → List (List ℕ)
+report_pieces cpus show order items = cpus_line cpus ∷ map (line show order) items
 
--- the report of a file's bytes, with the header that they begin with or why they have none
-abbrev pub report_of : ReportData → Result Header OpenFault → List ℕ → Meaning
-report_of words (Ok header) bytes = report_body words header bytes header.body
-report_of words (Err fault) bytes = only on_out (Refused fault)
+-- the report of processors' parts: the lines of the reached items, in the order in which these happened
+abbrev pub parts_report : ReportData → ℕ → Layout → List Part → List ℕ → Meaning
+parts_report words cpus layout parts bytes =
+    prints (report_pieces cpus (show_of words) layout.order (reached_of layout bytes (selected words.cpus parts))) (ended (cut_of layout bytes (selected words.cpus parts)))
+
+-- the report of a latency file: the rest of its bytes
+abbrev pub latency_report : ℕ → ℕ → List ℕ → Meaning
+latency_report cpus end bytes = prints (cpus_line cpus ∷ map (λ byte. byte ∷ []) (drop end bytes)) Done
+
+abbrev pub body_report : ReportData → Header → Body → List ℕ → Meaning
+body_report words header Latency bytes = latency_report header.cpus header.end bytes
+body_report words header (Fly parts) bytes = parts_report words header.cpus header.layout parts bytes
 
 -- the header's sections
-abbrev pub dump_of : DumpData → Result Header OpenFault → Meaning
-dump_of words (Ok header) = prints (dump_text words header ∷ []) Done
-dump_of words (Err fault) = only on_out (Refused fault)
+abbrev pub dump_of : DumpData → Header → Meaning
+dump_of words header = prints (dump_text words header ∷ []) Done
+
+-- what a command writes to
+abbrev pub target_of : CommandData → Target
+target_of (Report words) = on_out
+target_of (Dump words) = on_out
+
+-- a command, of a file's bytes with the header that they begin with
+abbrev pub header_means : CommandData → Header → List ℕ → Meaning
+header_means (Report words) header bytes = body_report words header header.body bytes
+header_means (Dump words) header bytes = dump_of words header
+
+-- the same, or why they begin with none
+abbrev pub file_means : CommandData → Result Header OpenFault → List ℕ → Meaning
+file_means command (Ok header) bytes = header_means command header bytes
+file_means command (Err fault) bytes = only (target_of command) (Refused fault)
+
+-- a command, of its input's bytes
+abbrev pub input_means : CommandData → List ℕ → Meaning
+input_means command bytes = file_means command (header_of bytes) bytes
 
 -- a command, of what the folder has under the input's name
 abbrev pub command_means : CommandData → Option (List ℕ) → Meaning
-command_means command None = only on_out ReadFault
-command_means (Report words) (Some bytes) = report_of words (header_of bytes) bytes
-command_means (Dump words) (Some bytes) = dump_of words (header_of bytes)
+command_means command None = only (target_of command) ReadFault
+command_means command (Some bytes) = input_means command bytes
 
 -- the name of the input
 abbrev pub input_of : CommandData → List ℕ

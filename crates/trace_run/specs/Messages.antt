@@ -3,8 +3,8 @@ use Rattle.std.specs.Prelude.{Option, Result, Ok, Err, ◌≡◌, ℕ, List, [],
 use Rattle.std.specs.Fmt.{decimal}
 use Rattle.dat_options.specs.declared.fault.OpenFault.{OpenFault}
 use Rattle.dat_options.specs.declared.fault.OpenFault.TheVariants.{NotTrace, Compressed, OtherVersion, BadEndian, BadLong, BadPageSize, BadHeaderPage, BadSection, Truncated, TooManyCpus, Read, Memory}
-use Rattle.trace_base.specs.Causes.{Rose}
-use Rattle.trace_base.specs.Writing.{Gained, GainedPrefix}
+use Rattle.trace_outside.specs.Causes.{Rose}
+use Rattle.trace_outside.specs.Writing.{Gained, GainedPrefix}
 use Rattle.trace_run.specs.declared.status.Status.{Status}
 use Rattle.trace_run.specs.declared.status.Status.TheVariants.{Done, Usage, Refused, Malformed, ReadFault, WriteFault, NoMemory}
 use Rattle.trace_run.specs.Text.{text}

@@ -1,6 +1,6 @@
 -- A range of a file that is copied to a sink.
 use Rattle.std.specs.Prelude.{Option, Result, ℕ, List, take, drop, IfSome, MatchResult}
-use Rattle.trace_base.specs.Writing.{Gained, GainedPrefix}
+use Rattle.trace_outside.specs.Writing.{Gained, GainedPrefix}
 
 -- the sink gained so many bytes of the file from that place on; after a fault a prefix of them
 abbrev pub Copies : {T E : Type 0} → Option (List ℕ) → ℕ → ℕ → Option (List ℕ) → Option (List ℕ) → Result T E → Type 0

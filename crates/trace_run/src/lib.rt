@@ -1,6 +1,7 @@
 //! The program's top call: words and files in, lines, a message and a status out.
 #![tactic(auto)]
 
+mod command;
 mod dump;
 mod laws;
 mod line;

@@ -3,8 +3,8 @@
 ghost use Rattle.std.specs.Prelude.{◌≡◌, ◌-◌, ◌≤◌, ◌<◌, [], ◌∷◌, codes, replicate, length, FitsSigned};
 ghost use Rattle.std.specs.Fmt.{decimal};
 ghost use Rattle.std.specs.Int.{w32};
-ghost use Rattle.trace_base.specs.Causes.{HasCause};
-ghost use Rattle.trace_base.specs.Pending.{Puts};
+ghost use Rattle.trace_outside.specs.Causes.{HasCause};
+ghost use Rattle.trace_outside.specs.Pending.{Puts};
 ghost use Rattle.trace_run.specs.LoadedView.{entry_view};
 ghost use Rattle.trace_run.specs.Line as spec;
 ghost use Rattle.trace_run.specs.Text as column;
@@ -14,7 +14,8 @@ use crate::show::Show;
 use crate::whole::Entry;
 use itoa::Buffer;
 use subpage::Item;
-use trace_base::{Failed, Order, Pending, Sink, read_u16, read_u32};
+use trace_base::{Order, read_u16, read_u32};
+use trace_outside::{Failed, Pending, Sink};
 
 /// Puts the line of an item in its place; of an event that is not shown nothing.
 pub(crate) fn put_line<O: Sink>(

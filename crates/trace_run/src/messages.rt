@@ -9,7 +9,7 @@ use arrayvec::ArrayString;
 use dat_header::OpenFault;
 use itoa::Buffer;
 use trace_args::WordFault;
-use trace_base::{Sink, write_parts};
+use trace_outside::{Sink, write_parts};
 
 /// Says the line of the answer, of an input of this name. Nothing is said of `Done`.
 pub(crate) fn say<E: Sink>(input: &str, status: Status, err: &mut E)

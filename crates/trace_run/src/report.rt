@@ -1,17 +1,14 @@
-ghost use Rattle.std.specs.Prelude.{◌≡◌, ◌≤◌, ◌++◌, [], ◌∷◌, filter, map, length, option_map, IfOk, OnOk, OnErr};
-ghost use Rattle.trace_base.specs.Causes.{HasCause, Rose};
+ghost use Rattle.std.specs.Prelude.{◌≡◌, ◌≤◌, ◌-◌, ◌++◌, [], ◌∷◌, filter, map, length, sum_by, option_map, IfOk, OnOk, OnErr};
+ghost use Rattle.trace_outside.specs.Causes.{HasCause, raised};
 ghost use Rattle.trace_base.specs.Layout.{IsLayout};
-ghost use Rattle.trace_base.specs.Writing.{Gained, GainedPrefix};
+ghost use Rattle.trace_outside.specs.Writing.{Gained, GainedPrefix};
 ghost use Rattle.dat_header.specs.Allowed.{IsBody};
 ghost use Rattle.trace_args.specs.Command as Command;
 ghost use Rattle.trace_args.specs.Command.{report_view};
-ghost use Rattle.trace_run.specs.Causes.{ClosesAll, CommandMisses, HasRisen, OnRefused};
+ghost use Rattle.trace_run.specs.Counts.{share};
 ghost use Rattle.trace_run.specs.Meaning as spec;
-ghost use Rattle.trace_run.specs.Meaning.{ended, on_out, selected, show_of};
-ghost use Rattle.trace_run.specs.Ending.{RunsCommand, beside, sink_seen};
-ghost use Rattle.trace_run.specs.Reported.{Reports, Prints};
-ghost use Rattle.trace_run.specs.Printed.{PrintsParts, PrintsLatency, report_pieces};
-ghost use Rattle.trace_run.specs.Line.{line};
+ghost use Rattle.trace_run.specs.Meaning.{body_report, ended, latency_report, parts_report, report_pieces, selected, show_of};
+ghost use Rattle.trace_run.specs.Work.{IsCaused, WritesFor};
 ghost use Rattle.trace_run.specs.LoadedView.{cut_view, entry_view};
 ghost use Rattle.trace_run.specs.Text.{text};
 
@@ -20,62 +17,14 @@ use crate::rest::{CopyFault, copy_rest};
 use crate::show::Show;
 use crate::status::Status;
 use crate::whole::{Cut, Entry, LoadFault, load, reach};
-use dat_header::{Body, Header, OpenFault, read_header};
+use dat_header::{Body, Header};
 use std::alloc::{AllocError, Global};
 use trace_args::{CpuSet, ReportWords};
-use trace_base::{Failed, File, Folder, Layout, Order, Part, Pending, Sink};
+use trace_base::{Layout, Order, Part};
+use trace_outside::{Failed, File, Pending, Sink};
 
-/// Prints the report of an input.
-pub(crate) fn report<F: Folder, O: Sink>(
-    alloc: Global,
-    words: &ReportWords<'_>,
-    folder: &mut F,
-    out: &mut O,
-) -> Status
-    ensures ends { RunsCommand (Command.Report (report_view words.now)) result
-        (beside F.files F.counts folder.old (sink_seen O.written O.faults out.old))
-        (beside F.files F.counts folder.new (sink_seen O.written O.faults out.new)) }
-    ensures causes { HasRisen on_out result
-        (beside F.files F.counts folder.old (sink_seen O.written O.faults out.old))
-        (beside F.files F.counts folder.new (sink_seen O.written O.faults out.new)) }
-    ensures misses { CommandMisses (Command.Report (report_view words.now))
-        (beside F.files F.counts folder.old (sink_seen O.written O.faults out.old))
-        (beside F.files F.counts folder.new (sink_seen O.written O.faults out.new)) }
-    ensures closes { ClosesAll (F.counts folder.old) (F.counts folder.new) }
-{
-    match folder.open_file(words.input) {
-        Err(Failed) => Status::ReadFault,
-        Ok(mut file) => {
-            let status = report_file(alloc, words, &mut file, out);
-            folder.close_file(file);
-            status
-        }
-    }
-}
-
-// Reports a file that was just opened.
-fn report_file<I: File, O: Sink>(
-    alloc: Global,
-    words: &ReportWords<'_>,
-    file: &mut I,
-    out: &mut O,
-) -> Status
-    ensures reports { Reports (report_view words.now) (I.bytes file.old) result (O.written out.old) (O.written out.new) }
-    ensures read_fault { result ≡ Status.ReadFault → Rose (I.faults file.old) (I.faults file.new) }
-    ensures write_fault { result ≡ Status.WriteFault → Rose (O.faults out.old) (O.faults out.new) }
-    ensures refused { OnRefused result }
-    ensures later { I.faults file.old ≤ I.faults file.new }
-{
-    match read_header(alloc, file) {
-        Ok(header) => print_report(alloc, words, &header, file, out),
-        Err(OpenFault::Read) => Status::ReadFault,
-        Err(OpenFault::Memory) => Status::NoMemory,
-        Err(fault) => Status::Refused(fault),
-    }
-}
-
-// Prints what follows a header.
-fn print_report<I: File, O: Sink>(
+/// Prints the report of a file with this header.
+pub(crate) fn print_report<I: File, O: Sink>(
     alloc: Global,
     words: &ReportWords<'_>,
     header: &Header,
@@ -86,11 +35,9 @@ fn print_report<I: File, O: Sink>(
     requires inside { header.now.end ≤ I.size file.old }
     requires parts { IsBody header.now.cpus header.now.body }
     requires few { header.now.cpus ≤ 1024 }
-    ensures prints { Prints (report_view words.now) header.now (I.bytes file.old) result (O.written out.old) (O.written out.new) }
-    ensures read_fault { result ≡ Status.ReadFault → Rose (I.faults file.old) (I.faults file.new) }
-    ensures write_fault { result ≡ Status.WriteFault → Rose (O.faults out.old) (O.faults out.new) }
-    ensures refused { OnRefused result }
-    ensures later { I.faults file.old ≤ I.faults file.new }
+    ensures writes { WritesFor (body_report (report_view words.now) header.now header.now.body) (I.bytes file.old) result (O.written out.old) (O.written out.new) }
+    ensures causes { IsCaused result (I.faults file.old) (I.faults file.new) (O.faults out.old) (O.faults out.new) }
+    ensures reads { I.reads file.new ≤ raised (I.reads file.old) (share (Command.Report (report_view words.now)) header.now (I.size file.old)) }
 {
     match &header.body {
         Body::Latency => print_latency(alloc, header.cpus, header.end, file, out),
@@ -117,11 +64,9 @@ fn print_latency<I: File, O: Sink>(
     out: &mut O,
 ) -> Status
     requires { end ≤ I.size file.old }
-    ensures prints { PrintsLatency cpus end (I.bytes file.old) result (O.written out.old) (O.written out.new) }
-    ensures read_fault { result ≡ Status.ReadFault → Rose (I.faults file.old) (I.faults file.new) }
-    ensures write_fault { result ≡ Status.WriteFault → Rose (O.faults out.old) (O.faults out.new) }
-    ensures refused { OnRefused result }
-    ensures later { I.faults file.old ≤ I.faults file.new }
+    ensures writes { WritesFor (latency_report cpus end) (I.bytes file.old) result (O.written out.old) (O.written out.new) }
+    ensures causes { IsCaused result (I.faults file.old) (I.faults file.new) (O.faults out.old) (O.faults out.new) }
+    ensures reads { I.reads file.new ≤ raised (I.reads file.old) (I.size file.old - end) }
 {
     let (Ok(mut buffer), Ok(mut pending)) = (copy_buffer(alloc), Pending::new(alloc)) else {
         return Status::NoMemory;
@@ -155,11 +100,9 @@ fn print_parts<I: File, O: Sink>(
 ) -> Status
     requires allowed { IsLayout layout.now }
     requires few { length parts.now ≤ 1024 }
-    ensures prints { PrintsParts (report_view words.now) cpus layout.now parts.now (I.bytes file.old) result (O.written out.old) (O.written out.new) }
-    ensures read_fault { result ≡ Status.ReadFault → Rose (I.faults file.old) (I.faults file.new) }
-    ensures write_fault { result ≡ Status.WriteFault → Rose (O.faults out.old) (O.faults out.new) }
-    ensures refused { OnRefused result }
-    ensures later { I.faults file.old ≤ I.faults file.new }
+    ensures writes { WritesFor (parts_report (report_view words.now) cpus layout.now parts.now) (I.bytes file.old) result (O.written out.old) (O.written out.new) }
+    ensures causes { IsCaused result (I.faults file.old) (I.faults file.new) (O.faults out.old) (O.faults out.new) }
+    ensures reads { I.reads file.new ≤ raised (I.reads file.old) (sum_by (λ part. part.1.size) (selected words.now.cpus parts.now)) }
 {
     let Ok(selected) = select(alloc, &words.cpus, parts) else {
         return Status::NoMemory;

@@ -1,10 +1,10 @@
 // The rest of a latency file, which a report copies as it stands.
 
 ghost use Rattle.std.specs.Prelude.{◌≡◌, ◌≤◌, ◌<◌, ◌+◌, ◌-◌, length, IsErrOf};
-ghost use Rattle.trace_base.specs.Causes.{Rose, raised};
+ghost use Rattle.trace_outside.specs.Causes.{Rose, raised};
 ghost use Rattle.trace_run.specs.Rest.{Copies};
 
-use trace_base::{Failed, File, Sink, read_all, write_all};
+use trace_outside::{Failed, File, Sink, read_all, write_all};
 
 /// Why a copy stopped.
 #[derive(Clone, Copy, Debug, PartialEq, Eq)]

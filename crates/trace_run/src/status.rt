@@ -1,3 +1,6 @@
+ghost use Rattle.std.specs.Prelude.{◌≡◌};
+ghost use Rattle.trace_run.specs.StatusNumber.{status_number};
+
 use dat_header::OpenFault;
 
 /// How a run ended.
@@ -17,4 +20,21 @@ pub enum Status {
     WriteFault,
     /// There was no memory. Nothing was written.
     NoMemory,
+}
+
+impl Status {
+    /// The number with which the program ends.
+    pub fn number(self) -> u8
+        ensures { result ≡ status_number self }
+    {
+        match self {
+            Status::Done => 0,
+            Status::Usage => 1,
+            Status::Refused(_) => 2,
+            Status::Malformed { .. } => 3,
+            Status::ReadFault => 4,
+            Status::WriteFault => 5,
+            Status::NoMemory => 6,
+        }
+    }
 }

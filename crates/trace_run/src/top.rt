@@ -1,19 +1,18 @@
 ghost use Rattle.std.specs.Prelude.{◌≡◌};
-ghost use Rattle.trace_run.specs.Ending.{Runs, RunsCommand, beside, sink_seen};
-ghost use Rattle.trace_run.specs.Causes.{ClosesAll, CommandMisses, HasRisen, RunIsComplete, RunMisses, target_of, target_read};
-ghost use Rattle.trace_args.specs.Command.{command_view};
+ghost use Rattle.trace_run.specs.Ending.{Runs, beside, sink_seen};
+ghost use Rattle.trace_run.specs.Causes.{AnswersUsage, HasRisen, RunIsComplete, target_read};
+ghost use Rattle.trace_run.specs.Counts.{ClosesAll, OpensAtMostOne, RunMisses, RunReads};
 ghost use Rattle.trace_args.specs.Reading.{reading};
 ghost use Rattle.trace_run.specs.Messages.{line_of, Says};
-ghost use Rattle.trace_run.specs.Meaning as spec;
 
-use crate::dump::dump;
+use crate::command::{input_of, run_command};
 use crate::messages::{say, say_usage};
-use crate::report::report;
 use crate::status::Status;
 use std::alloc::Global;
 use std::thread::Threads;
-use trace_args::{Command, WordFault, WordKind, read_words};
-use trace_base::{Folder, Gate, Sink, Words};
+use trace_args::{WordKind, read_words};
+use trace_base::Words;
+use trace_outside::{Folder, Gate, Sink};
 
 /// Does what the words of the command line ask for, on the files of the folder.
 ///
@@ -40,7 +39,14 @@ pub fn run<R: Threads + Sync, F: Folder, O: Sink, E: Sink, G: Gate>(
     ensures misses { RunMisses words.now
         (beside F.files F.counts folder.old (sink_seen O.written O.faults out.old))
         (beside F.files F.counts folder.new (sink_seen O.written O.faults out.new)) }
+    ensures usage { AnswersUsage (reading words.now) result
+        (beside F.files F.counts folder.old (sink_seen O.written O.faults out.old))
+        (beside F.files F.counts folder.new (sink_seen O.written O.faults out.new)) }
     ensures closes { ClosesAll (F.counts folder.old) (F.counts folder.new) }
+    ensures opens { OpensAtMostOne (F.counts folder.old) (F.counts folder.new) }
+    ensures reads { RunReads words.now result
+        (beside F.files F.counts folder.old (sink_seen O.written O.faults out.old))
+        (beside F.files F.counts folder.new (sink_seen O.written O.faults out.new)) }
     ensures says { Says (line_of words.now result) (E.written err.old) (E.written err.new) (E.faults err.old) (E.faults err.new) }
 {
     match read_words(alloc, words) {
@@ -49,12 +55,7 @@ pub fn run<R: Threads + Sync, F: Folder, O: Sink, E: Sink, G: Gate>(
             say(input_of(&command), status, err);
             status
         }
-        Err(
-            WordFault {
-                kind: WordKind::Memory,
-                ..
-            },
-        ) => {
+        Err(fault) if fault.kind == WordKind::Memory => {
             say("", Status::NoMemory, err);
             Status::NoMemory
         }
@@ -62,39 +63,5 @@ pub fn run<R: Threads + Sync, F: Folder, O: Sink, E: Sink, G: Gate>(
             say_usage(fault, err);
             Status::Usage
         }
-    }
-}
-
-// The name of a command's input.
-fn input_of<'a>(command: &Command<'a>) -> &'a str
-    ensures { result.now ≡ spec.input_of (command_view command.now) }
-{
-    match command {
-        Command::Report(words) => words.input,
-        Command::Dump(words) => words.input,
-    }
-}
-
-// Runs one command: each is a function of its own with the four cases as its contract.
-fn run_command<F: Folder, O: Sink>(
-    alloc: Global,
-    command: &Command<'_>,
-    folder: &mut F,
-    out: &mut O,
-) -> Status
-    ensures ends { RunsCommand (command_view command.now) result
-        (beside F.files F.counts folder.old (sink_seen O.written O.faults out.old))
-        (beside F.files F.counts folder.new (sink_seen O.written O.faults out.new)) }
-    ensures causes { HasRisen (target_of (command_view command.now)) result
-        (beside F.files F.counts folder.old (sink_seen O.written O.faults out.old))
-        (beside F.files F.counts folder.new (sink_seen O.written O.faults out.new)) }
-    ensures misses { CommandMisses (command_view command.now)
-        (beside F.files F.counts folder.old (sink_seen O.written O.faults out.old))
-        (beside F.files F.counts folder.new (sink_seen O.written O.faults out.new)) }
-    ensures closes { ClosesAll (F.counts folder.old) (F.counts folder.new) }
-{
-    match command {
-        Command::Report(words) => report(alloc, words, folder, out),
-        Command::Dump(words) => dump(alloc, words, folder, out),
     }
 }

@@ -1,5 +1,5 @@
 ghost use Rattle.std.specs.Prelude.{◌≡◌, ◌≤◌, length, map, sum_by, IfOk, IsErrOf};
-ghost use Rattle.trace_base.specs.Causes.{Rose, raised};
+ghost use Rattle.trace_outside.specs.Causes.{Rose, raised};
 ghost use Rattle.trace_base.specs.Layout.{IsLayout};
 ghost use Rattle.subpage.specs.Processor.{items_at, page_count};
 ghost use Rattle.trace_run.specs.Loaded.{AreBytesThere, AreLoaded, part_alone};
@@ -7,7 +7,8 @@ ghost use Rattle.trace_run.specs.LoadedView.{loaded_view};
 
 use std::alloc::Global;
 use subpage::{Page, check_page};
-use trace_base::{Failed, File, Layout, Part, read_all};
+use trace_base::{Layout, Part};
+use trace_outside::{Failed, File, read_all};
 
 /// The data of one processor, as far as the file has them.
 #[derive(Debug, Drop)]

@@ -1,7 +1,7 @@
 use Rattle.std.proofs.Common.{◌-◌, suc, refl, arith, rules}
 use Rattle.std.proofs.lemmas.Result.{err_from_is_err_and}
 use Rattle.dat_header.specs.Allowed.{IsSystem}
-use Rattle.dat_header.specs.Small.{system_at}
+use Rattle.dat_header.specs.ItemsAt.{system_at}
 use Rattle.dat_header.proofs.Rows.{row_begins, row_more, row_failed, row_ends, goes_on_memory, all_more}
 use Rattle.dat_header.proofs.carried.read_each_system.Goals as goal
 

@@ -1,5 +1,5 @@
 use Rattle.std.proofs.lemmas.Result.{err_from_is_err_and}
-use Rattle.dat_header.specs.Small.{formats_at}
+use Rattle.dat_header.specs.ItemsAt.{formats_at}
 use Rattle.dat_header.proofs.Steps.{steps_then, steps_failed}
 use Rattle.dat_header.proofs.carried.read_formats.Goals as goal
 

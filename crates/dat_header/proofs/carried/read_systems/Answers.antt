@@ -1,5 +1,5 @@
 use Rattle.std.proofs.lemmas.Result.{err_from_is_err_and}
-use Rattle.dat_header.specs.Small.{systems_at}
+use Rattle.dat_header.specs.ItemsAt.{systems_at}
 use Rattle.dat_header.proofs.Steps.{steps_then, steps_failed}
 use Rattle.dat_header.proofs.carried.read_systems.Goals as goal
 

@@ -1,6 +1,6 @@
 use Rattle.std.proofs.Common.{◌-◌, ◌<◌, ◌^◌, length, suc, refl, arith, rules}
 use Rattle.std.proofs.lemmas.Result.{err_from_is_err_and}
-use Rattle.dat_header.specs.Small.{text_at}
+use Rattle.dat_header.specs.ItemsAt.{text_at}
 use Rattle.dat_header.proofs.Rows.{row_begins, row_more, row_failed, row_ends, goes_on_memory, all_more}
 use Rattle.dat_header.proofs.carried.read_texts.Goals as goal
 

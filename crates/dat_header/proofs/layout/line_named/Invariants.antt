@@ -2,7 +2,7 @@ use Rattle.std.proofs.Common.{◌≡◌}
 use Rattle.std.specs.List.{filter_map}
 use Rattle.trace_base.specs.FieldReading.{field_line}
 use Rattle.dat_header.specs.PageText.{field_lines, line_named}
-use Rattle.dat_header.specs.Lines.{lines_left}
+use Rattle.text_lines.specs.Lines.{lines_left}
 use Rattle.dat_header.proofs.Layouts.{lines_long}
 use Rattle.dat_header.proofs.layout.line_named.Given as goal
 

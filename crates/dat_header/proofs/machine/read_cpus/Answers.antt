@@ -1,7 +1,7 @@
 use Rattle.std.proofs.Common.{rules}
 use Rattle.std.proofs.lemmas.Result.{err_from_is_err_and}
 use Rattle.dat_options.specs.declared.fault.OpenFault.TheVariants.{TooManyCpus}
-use Rattle.dat_header.specs.Small.{cpus_of}
+use Rattle.dat_header.specs.ItemsAt.{cpus_of}
 use Rattle.dat_header.proofs.Values.{value_found, value_wrong, value_failed}
 use Rattle.dat_header.proofs.machine.read_cpus.Goals as goal
 

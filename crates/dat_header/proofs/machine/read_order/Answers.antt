@@ -2,7 +2,7 @@ use Rattle.std.proofs.Common.{rules, ap}
 use Rattle.std.proofs.lemmas.Result.{err_from_is_err_and}
 use Rattle.trace_base.specs.declared.order.Order.TheVariants.{Little}
 use Rattle.dat_options.specs.declared.fault.OpenFault.TheVariants.{BadEndian}
-use Rattle.dat_header.specs.Small.{order_of}
+use Rattle.dat_header.specs.ItemsAt.{order_of}
 use Rattle.dat_header.proofs.Values.{value_found, value_wrong, value_failed}
 use Rattle.dat_header.proofs.machine.read_order.Goals as goal
 

@@ -1,7 +1,7 @@
 use Rattle.std.proofs.Common.{rules}
 use Rattle.std.proofs.lemmas.Result.{err_from_is_err_and}
 use Rattle.dat_options.specs.declared.fault.OpenFault.TheVariants.{BadPageSize}
-use Rattle.dat_header.specs.Small.{page_of}
+use Rattle.dat_header.specs.ItemsAt.{page_of}
 use Rattle.dat_header.proofs.Values.{value_found, value_wrong, value_failed, page_known, page_allowed, page_unlisted}
 use Rattle.dat_header.proofs.machine.read_page.Goals as goal
 

@@ -1,6 +1,6 @@
 use Rattle.std.proofs.Common.{take, Ok}
 use Rattle.std.specs.List.{flat_map}
-use Rattle.trace_base.specs.declared.outside.Failed.{Failed}
+use Rattle.trace_outside.specs.declared.outside.Failed.{Failed}
 use Rattle.dat_header.specs.Items.{system_text}
 use Rattle.dat_header.specs.Written.{Writes, sink}
 use Rattle.dat_header.proofs.put.write_each_system.Given as goal

@@ -1,4 +1,4 @@
-use Rattle.std.proofs.Common.{◌≤◌}
+use Rattle.std.proofs.Common.{◌≤◌, arith}
 use Rattle.std.proofs.lemmas.Result.{IfOk-weaker}
 use Rattle.dat_header.specs.Allowed.{IsHeader, IsBody}
 use Rattle.trace_base.specs.Layout.{IsLayout}
@@ -13,6 +13,9 @@ returns-clause-read g c = c.read_pieces.ensures.steps.cause
 
 pub returns-clause-reads : goal.returns-clause-reads
 returns-clause-reads g c = reads_whole _ _ _ c.read_pieces.ensures.steps.reads
+
+pub returns-clause-most : goal.returns-clause-most
+returns-clause-most g c = omega (arith, c.read_pieces.ensures.steps.most)
 
 pub returns-clause-layout : goal.returns-clause-layout
 returns-clause-layout g c = IfOk-weaker c.read_pieces.result IsHeader (λ header. IsLayout header.layout) header_layout c.read_pieces.ensures.allowed

@@ -1,6 +1,6 @@
 use Rattle.std.proofs.Common.{rules, ◌∙◌, ap, take}
 use Rattle.dat_options.specs.declared.fault.OpenFault.{OpenFault}
-use Rattle.dat_header.specs.Small.{word_in}
+use Rattle.dat_header.specs.ItemsAt.{word_in}
 use Rattle.dat_header.specs.Items.{version_word}
 use Rattle.dat_header.proofs.Words.{version_steps}
 use Rattle.dat_header.proofs.read.read_version.Goals as goal

@@ -9,7 +9,7 @@ unfolding behind_options_at
 returns-in_err-options-clause-steps g c =
     let p = err_from_is_err_and c.from_residual.result c.from_residual.ensures.1 in
     let found = c.in_err-options.ensures in
-    rw (p.1, p.2) (steps_failed _ _ _ _ _ _ _ _ (steps_fault _ _ _ _ _ _ found.exact found.bytes found.size found.later found.cause))
+    rw (p.1, p.2) (steps_failed _ _ _ _ _ _ _ _ (steps_fault _ _ _ _ _ _ found.exact found.bytes found.size found.later found.cause found.most))
 
 pub returns-in_err-last-clause-steps : goal.returns-in_err-last-clause-steps
 unfolding behind_options_at

@@ -1,6 +1,6 @@
 use Rattle.std.proofs.Common.{◌≡◌, ◌+◌, ◌-◌, ◌≤◌, max, length}
 use Rattle.std.specs.List.{All, flat_map}
-use Rattle.trace_base.specs.Causes.{raised}
+use Rattle.trace_outside.specs.Causes.{raised}
 use Rattle.dat_options.specs.Options.{IsOption, option_text}
 use Rattle.dat_options.proofs.FirstLaws.{HoldsAt}
 use Rattle.dat_options.proofs.options.read_options.Given as goal

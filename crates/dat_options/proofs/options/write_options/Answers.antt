@@ -3,8 +3,8 @@ use Rattle.std.proofs.lemmas.List.{take_all}
 use Rattle.std.proofs.lemmas.Result.{on_err_weaker}
 use Rattle.std.specs.List.{flat_map}
 use Rattle.trace_base.specs.Number.{bytes_of}
-use Rattle.trace_base.specs.Writing.{Gained, GainedPrefix}
-use Rattle.trace_base.proofs.Gains.{prefix_of_parts, prefix_behind, on_err}
+use Rattle.trace_outside.specs.Writing.{Gained, GainedPrefix}
+use Rattle.trace_outside.proofs.Gains.{prefix_of_parts, prefix_behind, on_err}
 use Rattle.dat_options.specs.declared.option.Opt.{Opt}
 use Rattle.dat_options.specs.Options.{option_text, options_text}
 use Rattle.dat_options.proofs.Writes.{prefix_in_front, end_bytes}

@@ -1,6 +1,6 @@
 use Rattle.std.proofs.Common.{take, ◌≡◌, ◌≤◌}
 use Rattle.std.specs.List.{flat_map}
-use Rattle.trace_base.specs.Writing.{Gained}
+use Rattle.trace_outside.specs.Writing.{Gained}
 use Rattle.dat_options.specs.Options.{option_text}
 use Rattle.dat_options.proofs.options.write_options.Given as goal
 

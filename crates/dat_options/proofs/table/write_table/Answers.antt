@@ -4,8 +4,8 @@ use Rattle.std.proofs.lemmas.List.{take-append-drop}
 use Rattle.trace_base.specs.declared.part.Part.{Part}
 use Rattle.std.specs.Io.KnownBytes.{append_known}
 use Rattle.trace_base.specs.declared.order.Order.{Order}
-use Rattle.trace_base.specs.Writing.{Gained}
-use Rattle.trace_base.proofs.Gains.{gained_both, prefix_behind, on_err}
+use Rattle.trace_outside.specs.Writing.{Gained}
+use Rattle.trace_outside.proofs.Gains.{gained_both, prefix_behind, on_err}
 use Rattle.dat_options.specs.Table.{part_text, table_text}
 use Rattle.dat_options.proofs.table.write_table.Goals as goal
 

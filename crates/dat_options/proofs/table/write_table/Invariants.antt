@@ -1,6 +1,6 @@
 use Rattle.std.proofs.Common.{List, length, ◌++◌, ◌≡◌, ◌≤◌}
 use Rattle.trace_base.specs.declared.part.Part.{Part}
-use Rattle.trace_base.specs.Writing.{Gained}
+use Rattle.trace_outside.specs.Writing.{Gained}
 use Rattle.dat_options.specs.Table.{table_text}
 use Rattle.dat_options.proofs.table.write_table.Given as goal
 

@@ -1,3 +1,4 @@
+use Rattle.std.proofs.Common.{rules}
 use Rattle.std.specs.Prelude.{codes, length}
 use Rattle.std.specs.List.{flat_map}
 use Rattle.dump_tool.specs.Texts.{heading}
@@ -5,12 +6,20 @@ use Rattle.dump_tool.specs.Lists.{system_line}
 use Rattle.dump_tool.proofs.Putting.{put_both, stopped_first}
 use Rattle.dump_tool.proofs.lists.put_systems.Goals as goal
 
-pub returns-in_err-put_heading-clause-puts : goal.returns-in_err-put_heading-clause-puts
-returns-in_err-put_heading-clause-puts g c =
-    stopped_first (heading (codes "systems") (length c.args.systems.now)) (flat_map system_line c.args.systems.now) _ _ _ _
-    c.from_residual.result c.from_residual.ensures.0 c.in_err-put_heading.ensures.puts
+pub returns-in_err-put_heading : goal.returns-in_err-put_heading
+returns-in_err-put_heading g c = record {
+  puts =
+      stopped_first (heading (codes "systems") (length c.args.systems.now)) (flat_map system_line c.args.systems.now) _ _ _ _
+      c.from_residual.result c.from_residual.ensures.0 c.in_err-put_heading.ensures.puts;
+  name = search rules;
+  cause = search rules;
+}
 
-pub returns-clause-puts : goal.returns-clause-puts
-returns-clause-puts g c =
-    put_both (heading (codes "systems") (length c.args.systems.now)) (flat_map system_line c.args.systems.now) _ _ _ _ _ _
-    c.put_system_lines.result c.in_ok-put_heading.ensures.puts c.put_system_lines.ensures.puts
+pub returns : goal.returns
+returns g c = record {
+  puts =
+      put_both (heading (codes "systems") (length c.args.systems.now)) (flat_map system_line c.args.systems.now) _ _ _ _ _ _
+      c.put_system_lines.result c.in_ok-put_heading.ensures.puts c.put_system_lines.ensures.puts;
+  name = search rules;
+  cause = search rules;
+}

@@ -1,5 +1,5 @@
-use Rattle.std.proofs.Common.{◌≡◌, ◌<◌, ◌≤◌, List, ℕ, length, arith, true, false, get_or, sym, subst}
-use Rattle.trace_base.specs.Pending.{Puts}
+use Rattle.std.proofs.Common.{rules, ◌≡◌, ◌<◌, ◌≤◌, List, ℕ, length, arith, true, false, get_or, sym, subst}
+use Rattle.trace_outside.specs.Pending.{Puts}
 use Rattle.trace_args.specs.Command.{dump_view}
 use Rattle.trace_args.specs.Sections.{sections}
 use Rattle.trace_args.specs.declared.section.Section.TheVariants.{Summary}
@@ -9,15 +9,19 @@ use Rattle.dump_tool.proofs.Chosen.{text_if, text_of_chosen, chosen_is, left_out
 use Rattle.dump_tool.proofs.sections.put_chosen.Goals as goal
 use Rattle.dump_tool.proofs.sections.put_chosen.Goals.{then-words-place+in_ok-put_section, else-words-place}
 
-pub returns-in_err-put_section-clause-puts : goal.returns-in_err-put_section-clause-puts
-returns-in_err-put_section-clause-puts g c =
-    let inside : c.loop-section.section-index < length sections = omega arith in
-    let chosen : is_chosen (dump_view c.args.words.now) (get_or sections c.loop-section.section-index Summary) ≡ true = cc in
-    subst (λ (text : List ℕ). Puts text (g.O.Sink.written c.args.out.now) c.args.pending.now (g.O.Sink.written c.put_section.new.out) c.put_section.new.pending c.from_residual.result)
-    (text_of_chosen (dump_view c.args.words.now) c.args.header.now)
-    (stopped_at (text_if (dump_view c.args.words.now) c.args.header.now) sections c.loop-section.section-index Summary _ _ _ _ _ _ _
-    c.from_residual.result inside c.from_residual.ensures.0 c.loop-section.invariant.held c.in_err-put_section.ensures.puts
-    (sym (chosen_is (dump_view c.args.words.now) c.args.header.now _ chosen)))
+pub returns-in_err-put_section : goal.returns-in_err-put_section
+returns-in_err-put_section g c = record {
+  puts =
+      let inside : c.loop-section.section-index < length sections = omega arith in
+      let chosen : is_chosen (dump_view c.args.words.now) (get_or sections c.loop-section.section-index Summary) ≡ true = cc in
+      subst (λ (text : List ℕ). Puts text (g.O.Sink.written c.args.out.now) c.args.pending.now (g.O.Sink.written c.put_section.new.out) c.put_section.new.pending c.from_residual.result)
+      (text_of_chosen (dump_view c.args.words.now) c.args.header.now)
+      (stopped_at (text_if (dump_view c.args.words.now) c.args.header.now) sections c.loop-section.section-index Summary _ _ _ _ _ _ _
+      c.from_residual.result inside c.from_residual.ensures.0 c.loop-section.invariant.held c.in_err-put_section.ensures.puts
+      (sym (chosen_is (dump_view c.args.words.now) c.args.header.now _ chosen)));
+  name = search rules;
+  cause = search rules;
+}
 
 pub loop-section-preserved : goal.loop-section-preserved
 loop-section-preserved g c =
@@ -43,9 +47,13 @@ loop-section-preserved g c =
           }
     ]
 
-pub returns-clause-puts : goal.returns-clause-puts
-returns-clause-puts g c =
-    let all : length sections ≤ c.loop-section.section-index = omega arith in
-    subst (λ (text : List ℕ). Put text (g.O.Sink.written c.args.out.now) c.args.pending.now (g.O.Sink.written c.loop-section.out) c.loop-section.pending)
-    (text_of_chosen (dump_view c.args.words.now) c.args.header.now)
-    (put_all (text_if (dump_view c.args.words.now) c.args.header.now) sections c.loop-section.section-index _ _ _ _ all c.loop-section.invariant.held)
+pub returns : goal.returns
+returns g c = record {
+  puts =
+      let all : length sections ≤ c.loop-section.section-index = omega arith in
+      subst (λ (text : List ℕ). Put text (g.O.Sink.written c.args.out.now) c.args.pending.now (g.O.Sink.written c.loop-section.out) c.loop-section.pending)
+      (text_of_chosen (dump_view c.args.words.now) c.args.header.now)
+      (put_all (text_if (dump_view c.args.words.now) c.args.header.now) sections c.loop-section.section-index _ _ _ _ all c.loop-section.invariant.held);
+  name = search rules;
+  cause = search rules;
+}

@@ -1,10 +1,40 @@
+use Rattle.std.proofs.Common.{rules}
 use Rattle.dump_tool.proofs.sections.put_section.Goals as goal
 
-pub returns-in-HeadPage-clause-puts : goal.returns-in-HeadPage-clause-puts
-returns-in-HeadPage-clause-puts g c = rw (c.in-HeadPage.is, ← c.as_bytes.ensures) c.put_text.ensures.puts
+pub returns-in-HeadPage : goal.returns-in-HeadPage
+returns-in-HeadPage g c = record {
+  puts =
+      rw (c.in-HeadPage.is, ← c.as_bytes.ensures) c.put_text.ensures.puts;
+  name = search rules;
+  cause = search rules;
+}
 
-pub returns-in-Events-clause-puts : goal.returns-in-Events-clause-puts
-returns-in-Events-clause-puts g c = rw (c.in-Events.is, ← c.as_slice-in-Events.ensures) c.put_events.ensures.puts
+pub returns-in-Events : goal.returns-in-Events
+returns-in-Events g c = record {
+  puts =
+      rw (c.in-Events.is, ← c.as_slice-in-Events.ensures) c.put_events.ensures.puts;
+  name = search rules;
+  cause = search rules;
+}
 
-pub returns-in-CmdLines-clause-puts : goal.returns-in-CmdLines-clause-puts
-returns-in-CmdLines-clause-puts g c = rw (c.in-CmdLines.is, ← c.as_bytes-in-CmdLines.ensures) c.put_text-in-CmdLines.ensures.puts
+pub returns-in-CmdLines : goal.returns-in-CmdLines
+returns-in-CmdLines g c = record {
+  puts =
+      rw (c.in-CmdLines.is, ← c.as_bytes-in-CmdLines.ensures) c.put_text-in-CmdLines.ensures.puts;
+  name = search rules;
+  cause = search rules;
+}
+
+pub returns-in-FtraceEvents : goal.returns-in-FtraceEvents
+returns-in-FtraceEvents g c = record {
+  puts = rw (c.in-FtraceEvents.is, ← c.as_slice.ensures) c.put_ftrace.ensures.puts;
+  name = search rules;
+  cause = search rules;
+}
+
+pub returns-in-Printk : goal.returns-in-Printk
+returns-in-Printk g c = record {
+  puts = rw (c.in-Printk.is, ← c.as_bytes-in-Printk.ensures) c.put_text-in-Printk.ensures.puts;
+  name = search rules;
+  cause = search rules;
+}

@@ -1,5 +1,5 @@
 use Rattle.std.proofs.Common.{◌<◌, length, arith}
-use Rattle.trace_base.proofs.Gains.{on_err}
+use Rattle.trace_outside.proofs.Gains.{on_err}
 use Rattle.trace_run.proofs.Printing.{first_stopped, first_held, line_stopped, lines_flushed}
 use Rattle.trace_run.proofs.report.print_lines.Goals as goal
 

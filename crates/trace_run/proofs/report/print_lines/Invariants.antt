@@ -1,6 +1,6 @@
 use Rattle.std.proofs.Common.{◌≡◌, ◌≤◌, ◌++◌, take}
 use Rattle.std.specs.List.{flat_map}
-use Rattle.trace_base.specs.Pending.{Holds}
+use Rattle.trace_outside.specs.Pending.{Holds}
 use Rattle.trace_run.specs.LoadedView.{entry_view}
 use Rattle.trace_run.specs.Line.{line, cpus_line}
 use Rattle.trace_run.proofs.report.print_lines.Given as goal

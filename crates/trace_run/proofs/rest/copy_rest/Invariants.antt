@@ -1,5 +1,5 @@
 use Rattle.std.proofs.Common.{◌≡◌, ◌≤◌, ◌<◌, ◌-◌, length}
-use Rattle.trace_base.specs.Causes.{raised}
+use Rattle.trace_outside.specs.Causes.{raised}
 use Rattle.trace_run.specs.Rest.{Copied}
 use Rattle.trace_run.proofs.rest.copy_rest.Given as goal
 

@@ -1,26 +1,49 @@
-use Rattle.std.proofs.Common.{refl, rules}
-use Rattle.trace_run.proofs.Endings.{unread_ends, unread_complete, read_ends, read_complete, read_misses, read_causes}
-use Rattle.trace_run.proofs.Said.{usage_said, command_said}
+use denote.Enum.Bare.{same_false}
+use Rattle.std.proofs.Common.{refl, rules, arith, sym, ◌∙◌}
+use Rattle.trace_args.specs.declared.fault.WordKind.TheVariants.{Memory}
+use Rattle.trace_args.specs.contracts.fault.WordKind.{the_type}
+use Rattle.trace_args.specs.Reading.{reading}
+use Rattle.trace_run.proofs.Endings.{unread_ends, unread_complete, unread_usage, unread_reads, unknown_usage, unknown_reads, read_ends, read_complete, read_misses, read_causes, read_usage, read_reads}
+use Rattle.trace_run.proofs.Said.{usage_said, command_said, wanting}
 use Rattle.trace_run.proofs.top.run.Goals as goal
 
 pub returns-in-Ok : goal.returns-in-Ok
-returns-in-Ok g c = record {
-  ends = read_ends _ _ _ c.run_command-status.result _ _ c.in-Ok.ensures.exact c.run_command-status.ensures.ends;
-  causes = read_causes _ _ c.run_command-status.result _ _ c.in-Ok.ensures.exact c.run_command-status.ensures.causes;
-  complete = read_complete _ _ _ c.run_command-status.result _ _ c.in-Ok.ensures.exact c.run_command-status.ensures.ends;
-  misses = read_misses _ _ _ (g.F.Folder.counts c.args.folder.now) (g.F.Folder.counts c.run_command-status.new.folder) c.in-Ok.ensures.exact c.run_command-status.ensures.misses;
-  closes = c.run_command-status.ensures.closes;
-  says = command_said _ _ _ c.run_command-status.result _ _ _ _ c.in-Ok.ensures.exact c.input_of.ensures c.say.ensures;
-}
+returns-in-Ok g c =
+    let ran = c.run_command-status.ensures in
+    record {
+      ends = read_ends _ _ _ c.run_command-status.result _ _ c.in-Ok.ensures.exact ran.ends;
+      causes = read_causes _ _ c.run_command-status.result _ _ c.in-Ok.ensures.exact ran.causes;
+      complete = read_complete _ _ _ c.run_command-status.result _ _ c.in-Ok.ensures.exact ran.ends;
+      misses = read_misses _ _ _ (g.F.Folder.counts c.args.folder.now) (g.F.Folder.counts c.run_command-status.new.folder) c.in-Ok.ensures.exact ran.misses;
+      usage = read_usage _ _ c.run_command-status.result _ _ c.in-Ok.ensures.exact ran.of_file;
+      closes = ran.closes;
+      opens = ran.opens;
+      reads = read_reads _ _ c.run_command-status.result _ _ c.in-Ok.ensures.exact ran.reads;
+      says = command_said _ _ _ c.run_command-status.result _ _ _ _ c.in-Ok.ensures.exact c.input_of.ensures c.say.ensures;
+    }
 
-pub returns-in-Err : goal.returns-in-Err
-returns-in-Err g c =
-    let read = c.in-Err.ensures.exact c.in-Err.ensures.takes_no_memory in
+pub returns-in-Err-clause-says : goal.returns-in-Err-clause-says
+returns-in-Err-clause-says g c =
+    rw (wanting (reading c.args.words.now)) c.say-in-Err.ensures
+
+pub returns-in-Err-clause-usage : goal.returns-in-Err-clause-usage
+returns-in-Err-clause-usage g c = unknown_usage (reading c.args.words.now) _
+
+pub returns-in-Err-clause-reads : goal.returns-in-Err-clause-reads
+returns-in-Err-clause-reads g c = unknown_reads (reading c.args.words.now) _
+
+pub returns-in-Err-2 : goal.returns-in-Err-2
+returns-in-Err-2 g c =
+    let other = same_false the_type c.in-Err.fault.kind Memory (sym c.eq.ensures ∙ c.if-eq.false) in
+    let read = c.in-Err.ensures.exact other in
     record {
       ends = unread_ends c.in-Err.fault _ _ _ read refl;
       causes = tt;
       complete = unread_complete c.in-Err.fault _ _ _ read;
       misses = search rules;
+      usage = unread_usage c.in-Err.fault _ _ read;
       closes = search rules;
+      opens = omega arith;
+      reads = unread_reads c.in-Err.fault _ _ read;
       says = usage_said c.in-Err.fault _ _ _ _ _ read c.say_usage.ensures;
     }

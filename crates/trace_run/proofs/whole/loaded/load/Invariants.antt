@@ -1,5 +1,5 @@
 use Rattle.std.proofs.Common.{◌≡◌, ◌≤◌, length, map, sum_by, take}
-use Rattle.trace_base.specs.Causes.{raised}
+use Rattle.trace_outside.specs.Causes.{raised}
 use Rattle.trace_run.specs.Loaded.{AreLoaded}
 use Rattle.trace_run.specs.LoadedView.{loaded_view}
 use Rattle.trace_run.proofs.whole.loaded.load.Given as goal

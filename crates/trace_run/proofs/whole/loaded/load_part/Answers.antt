@@ -1,6 +1,6 @@
 use Rattle.std.proofs.Common.{rules, arith, ◌≡◌, ℕ, ◌-◌, ◌%◌, List, length, sym, ap, subst, ◌∙◌}
 use Rattle.std.proofs.lemmas.List.{take_at}
-use Rattle.trace_base.specs.Reading.{GivesBytesAt}
+use Rattle.trace_outside.specs.Reading.{GivesBytesAt}
 use Rattle.trace_run.specs.Loaded.{AreBytesThere}
 use Rattle.trace_run.proofs.Loading.{part_loaded, nothing_read}
 use Rattle.trace_run.proofs.whole.loaded.load_part.Goals as goal

@@ -1,0 +1,16 @@
+use Rattle.std.proofs.Common.{rules}
+use Rattle.std.proofs.lemmas.Result.{err_from_is_err_and}
+use Rattle.trace_base.specs.declared.order.Order.TheVariants.{Little}
+use Rattle.dat_header.proofs.ReadPieces.{number_found, number_failed}
+use Rattle.dat_header.proofs.items.read_byte.Goals as goal
+
+pub returns-in_err-read_piece-clause-steps : goal.returns-in_err-read_piece-clause-steps
+returns-in_err-read_piece-clause-steps g c =
+    let p = err_from_is_err_and c.from_residual.result c.from_residual.ensures.1 in
+    let e = c.in_err-read_piece.ensures in
+    rw (p.1, p.2) (number_failed _ 1 Little c.args.at _ _ _ _ (search rules) e.filled c.requires.inside (g.met.F.File.size_is c.args.file.now) e.bytes e.size e.later e.cause e.most)
+
+pub returns-clause-steps : goal.returns-clause-steps
+returns-clause-steps g c =
+    let e = c.in_ok-read_piece.ensures in
+    number_found 1 Little c.args.at _ _ _ _ (search rules) (search rules) e.filled (g.met.F.File.size_is c.args.file.now) e.bytes e.size e.later e.reads

@@ -1,0 +1,11 @@
+pub mod Record
+pub mod PageBytes
+pub mod Adding
+pub mod Fill
+pub mod Pack
+pub mod Placed
+pub mod Held
+pub mod SoFar
+pub mod Packing
+pub mod PackerView
+pub mod Again

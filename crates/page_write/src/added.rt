@@ -1,0 +1,8 @@
+/// What adding an item to a sub-buffer answers.
+#[derive(Clone, Copy, Debug, PartialEq, Eq)]
+pub enum Added {
+    /// The sub-buffer has the item.
+    Added,
+    /// The item opens a further sub-buffer; nothing has changed.
+    Full,
+}

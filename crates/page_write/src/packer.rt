@@ -1,0 +1,121 @@
+ghost use Rattle.std.specs.Prelude.{◌≡◌, ◌≢◌, ◌↔◌, IsTrue, List, [], Some, length};
+ghost use Rattle.trace_base.specs.Layout.{IsLayout};
+ghost use Rattle.subpage.specs.ItemData.{ItemData};
+ghost use Rattle.subpage.specs.ItemView.{item_view};
+ghost use Rattle.subpage.specs.Page.{items};
+ghost use Rattle.page_write.specs.Adding.{Adds};
+ghost use Rattle.page_write.specs.Held.{LostFits, HoldsAll};
+ghost use Rattle.page_write.specs.PageBytes.{page_of, IsPackable};
+
+use crate::added::Added;
+use crate::adding::add_to;
+use crate::closing::finish;
+use crate::open_page::OpenPage;
+use std::marker::Model;
+use subpage::Item;
+use trace_base::Layout;
+
+/// Packs items into one sub-buffer, whose bytes stand in a buffer that is lent. No call takes memory.
+///
+/// A contract sees it as the layout and the items that its open sub-buffer holds.
+#[derive(Drop)]
+pub struct Packer<'a> {
+    layout: Layout,
+    page: Option<OpenPage>,
+    into: &'a mut [u8],
+}
+
+impl<'a> Model for Packer<'a> {
+    ghost use Rattle.page_write.specs.Packing.{Packing};
+
+    ghost Value = { Packing };
+
+    ghost use Rattle.page_write.specs.PackerView.{packing, IsPacker};
+
+    ghost view = { packing };
+
+    ghost invariant = { IsPacker };
+}
+
+impl<'a> Packer<'a> {
+    ghost use Rattle.std.specs.Borrow.{sem};
+    ghost use Rattle.page_write.specs.Again.{IsAgain};
+
+    /// A packer into these bytes, with no sub-buffer open.
+    pub fn new(layout: &Layout, into: &'a mut [u8]) -> Packer<'a>
+        requires allowed { IsLayout layout.now }
+        requires whole { length into.old ≡ layout.now.page }
+        ensures layout { result.layout ≡ layout.now }
+        ensures empty { result.held ≡ [] }
+    {
+        Packer {
+            layout: *layout,
+            page: None,
+            into,
+        }
+    }
+
+    /// Whether no sub-buffer is open.
+    pub fn is_empty(&self) -> bool
+        ensures { IsTrue result ↔ (self.now.held ≡ []) }
+    {
+        self.page.is_none()
+    }
+
+    /// Adds the item to the open sub-buffer, or opens the first one. `Full` exactly where one is open and the item opens a
+    /// further one; the packer is unchanged then.
+    pub fn add(&mut self, item: &Item<'_>) -> Added
+        requires packable { IsPackable self.old.layout (item_view item.now) }
+        ensures layout { self.new.layout ≡ self.old.layout }
+        ensures adds { Adds self.old.layout self.old.held (item_view item.now) (λ held. self.new.held ≡ held) result }
+    {
+        match add_to(&self.layout, self.page, item, self.into) {
+            Some(page) => {
+                self.page = Some(page);
+                Added::Added
+            }
+            None => Added::Full,
+        }
+    }
+
+    /// The whole sub-buffer of the items that were added since `new` or the last `restart`. Reading it gives just these.
+    pub fn close(&mut self) -> &[u8]
+        requires some { self.old.held ≢ [] }
+        ensures* again { sem 𝓛 (IsAgain self.entry) }
+        ensures page { result.now ≡ page_of self.old.layout self.old.held }
+        ensures whole { length result.now ≡ self.old.layout.page }
+        ensures reads_back { items self.old.layout result.now ≡ Some self.old.held }
+    {
+        self.seal();
+        self.bytes()
+    }
+
+    // Puts everything that is not a record.
+    fn seal(&mut self)
+        requires { self.old.held ≢ [] }
+        ensures layout { self.new.layout ≡ self.old.layout }
+        ensures held { self.new.held ≡ self.old.held }
+        ensures bytes { self.new.bytes ≡ page_of self.old.layout self.old.held }
+        ensures whole { length self.new.bytes ≡ self.old.layout.page }
+        ensures reads_back { items self.old.layout self.new.bytes ≡ Some self.old.held }
+    {
+        if let Some(page) = self.page {
+            finish(&self.layout, page, self.into);
+        }
+    }
+
+    // What stands in the buffer.
+    fn bytes(&self) -> &[u8]
+        ensures { result.now ≡ self.now.bytes }
+    {
+        self.into
+    }
+
+    /// No sub-buffer is open any more, as after `new`.
+    pub fn restart(&mut self)
+        ensures layout { self.new.layout ≡ self.old.layout }
+        ensures empty { self.new.held ≡ [] }
+    {
+        self.page = None;
+    }
+}

@@ -1,0 +1,44 @@
+use crate::byte_text::ByteText;
+
+/// What a field of a record is.
+#[derive(Clone, Copy, Debug, PartialEq, Eq)]
+pub enum FieldKind {
+    /// A number of 1, 2, 4 or 8 bytes.
+    Number,
+    /// Characters, up to the first NUL or the field's end.
+    Text,
+    /// Bytes without a further meaning.
+    Bytes,
+    /// An address of 4 or 8 bytes.
+    Pointer,
+}
+
+/// Where the bytes of a field stand in its record (the kernel's `__data_loc` and `__rel_loc`).
+#[derive(Clone, Copy, Debug, PartialEq, Eq)]
+pub enum FieldPlace {
+    /// At the field's own offset.
+    Fixed,
+    /// Where a word at the field's offset says, counted from the record's first byte.
+    DataLoc,
+    /// Where a word at the field's offset says, counted from the end of the field.
+    RelLoc,
+}
+
+/// A field of an event's record (Documentation/trace/events.rst, 'Event formats'). Places and sizes are in bytes.
+#[derive(Drop)]
+pub struct Field {
+    /// Its name, an identifier.
+    pub name: ByteText,
+    /// Where it stands in the record.
+    pub offset: u32,
+    /// How long it is there; 0 for one that reaches to the record's end.
+    pub size: u32,
+    /// Whether its numbers have a sign.
+    pub signed: bool,
+    /// What it is.
+    pub kind: FieldKind,
+    /// Where its bytes stand.
+    pub place: FieldPlace,
+    /// How long one of its elements is.
+    pub element: u32,
+}

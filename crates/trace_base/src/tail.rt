@@ -1,0 +1,164 @@
+ghost use Rattle.std.specs.Prelude.{◌≡◌, ℕ, List, ◌<◌, ◌^◌, ◌≤◌, ◌++◌, length, take, drop};
+ghost use Rattle.std.specs.List.{last_or, prefix_len};
+ghost use Rattle.trace_base.specs.Kept.{Kept, nothing, is_letter, nul_after, text_end, put, put_held, cut, watched, of_text};
+ghost use Rattle.trace_base.specs.TailView.{kept, held, lent};
+
+/// Text that goes into a slice: the first bytes of it are kept, as many as the slice holds, and its true length is told.
+///
+/// When a tail is given up, the slice that it was made with begins with its kept bytes. No call fails or takes memory.
+#[derive(Drop)]
+pub struct Tail<'a> {
+    into: &'a mut [u8],
+    total: u64,
+    last: Option<u8>,
+    watches: bool,
+    nul: Option<u64>,
+}
+
+impl<'a> Tail<'a> {
+    /// Nothing was put yet.
+    pub fn new(into: &'a mut [u8]) -> Tail<'a>
+        ensures same_slice { lent result ≡ into.entry.ghost_name }
+        ensures value { kept result ≡ nothing (length into.old) }
+    {
+        Tail {
+            into,
+            total: 0,
+            last: None,
+            watches: false,
+            nul: None,
+        }
+    }
+
+    /// Puts a piece behind what was put.
+    #[inline(always)]
+    pub fn put(&mut self, piece: &[u8])
+        ensures same_slice { lent self.new ≡ lent self.old }
+        ensures value { kept self.new ≡ put (kept self.old) piece.now }
+        ensures held { held self.new ≡ put_held (held self.old) piece.now }
+    {
+        let at = self.total.min(self.into.len() as u64) as usize;
+        fill(&mut self.into[at..], piece);
+        self.nul = first_nul(self.watches, self.nul, self.total, piece);
+        self.total = self.total.saturating_add(piece.len() as u64);
+        self.last = last_byte(self.last, piece);
+    }
+
+    /// The true length of what was put. It stays at the greatest number of 64 bits.
+    pub fn total(&self) -> u64
+        ensures value { result ≡ (kept self.now).total }
+        ensures room { (kept self.now).room < 2 ^ 63 }
+    {
+        self.total
+    }
+
+    /// The first bytes of what was put, as many as there is room for.
+    pub fn kept(&self) -> &[u8]
+        ensures { result.now ≡ (kept self.now).bytes }
+    {
+        let count = self.total.min(self.into.len() as u64) as usize;
+        &self.into[..count]
+    }
+
+    /// The last byte that was put since the last cut, whether it was kept or not.
+    pub fn last(&self) -> Option<u8>
+        ensures { result ≡ (kept self.now).last }
+    {
+        self.last
+    }
+
+    /// Only the first `to` bytes of what was put count from now on.
+    pub fn cut(&mut self, to: u64)
+        requires { to ≤ (kept self.old).total }
+        ensures same_slice { lent self.new ≡ lent self.old }
+        ensures value { kept self.new ≡ cut (kept self.old) to }
+    {
+        self.total = to;
+        self.last = None;
+        self.watches = false;
+        self.nul = None;
+    }
+
+    /// From now on what is put is watched for its first NUL, up to the next cut.
+    pub fn watch(&mut self)
+        ensures same_slice { lent self.new ≡ lent self.old }
+        ensures value { kept self.new ≡ watched (kept self.old) }
+    {
+        self.watches = true;
+        self.nul = None;
+    }
+
+    /// Where a watched text ends: at its first NUL, or else where all ends.
+    pub fn text_end(&self) -> u64
+        ensures { result ≡ text_end (kept self.now) }
+    {
+        match self.nul {
+            Some(place) => place,
+            None => self.total(),
+        }
+    }
+}
+
+// The first of the piece, as many as there is room for.
+#[inline(always)]
+fn fill(into: &mut [u8], piece: &[u8])
+    ensures { into.new ≡ take (length into.old) (piece.now ++ drop (length piece.now) into.old) }
+{
+    let count = into.len().min(piece.len());
+    into[..count].copy_from_slice(&piece[..count]);
+}
+
+// The last byte of the piece, or else the one before.
+#[inline(always)]
+#[tactic(auto, using(crate::proofs::TailFills::last_some, crate::proofs::TailFills::last_none))]
+fn last_byte(before: Option<u8>, piece: &[u8]) -> Option<u8>
+    ensures { result ≡ last_or before piece.now }
+{
+    match piece.last() {
+        Some(last) => Some(*last),
+        None => before,
+    }
+}
+
+fn is_letter(byte: u8) -> bool
+    ensures { result ≡ is_letter byte }
+{
+    byte != 0
+}
+
+/// How many bytes stand before the first NUL.
+#[tactic(auto, using(crate::proofs::TailNuls::prefix_within))]
+pub fn text_len(bytes: &[u8]) -> usize
+    ensures value { result ≡ prefix_len is_letter bytes.now }
+    ensures within { result ≤ length bytes.now }
+{
+    bytes.iter().take_while(|byte| is_letter(**byte)).count()
+}
+
+// The place of the first NUL, with a piece that is put behind so many bytes.
+#[inline(always)]
+fn first_nul(watches: bool, before: Option<u64>, total: u64, piece: &[u8]) -> Option<u64>
+    ensures { result ≡ nul_after watches before total piece.now }
+{
+    if !watches || before.is_some() {
+        return before;
+    }
+    let len = text_len(piece);
+    if len < piece.len() {
+        Some(total.saturating_add(len as u64))
+    } else {
+        None
+    }
+}
+
+/// Two pieces that are put are the two joined.
+#[tactic(auto, using(crate::proofs::TailJoins::put_put))]
+pub fn puts_join()
+    ensures { (kept : Kept) (one two : List ℕ) → put (put kept one) two ≡ put kept (one ++ two) }
+{}
+
+/// What is kept and told of a text.
+#[tactic(auto, unfolding(crate::specs::Kept::put))]
+pub fn kept_of_text()
+    ensures { (room : ℕ) (text : List ℕ) → put (nothing room) text ≡ of_text room text }
+{}

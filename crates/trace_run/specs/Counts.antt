@@ -1,0 +1,65 @@
+-- What a run leaves of the folder's counts: files opened and closed, names that are missing, bytes read.
+use Rattle.std.specs.Prelude.{Option, Result, Ok, Err, ◌≡◌, ◌≢◌, ◌+◌, ◌-◌, ◌^◌, ◌<◌, ◌≤◌, ℕ, Bool, List, length, sum_by, IfSome, IfOk}
+use Rattle.std.specs.FinMap.{get}
+use Rattle.trace_outside.specs.declared.counts.Counts.{Counts}
+use Rattle.trace_outside.specs.Causes.{raised}
+use Rattle.dat_header.specs.declared.header.Header.{Header}
+use Rattle.dat_header.specs.declared.header.Body.{Body}
+use Rattle.dat_header.specs.declared.header.Body.TheVariants.{Latency, Fly}
+use Rattle.dat_header.specs.Header.{header_of}
+use Rattle.trace_run.specs.declared.status.Status.{Status}
+use Rattle.trace_run.specs.declared.status.Status.TheVariants.{Done, Malformed, ReadFault, WriteFault}
+use Rattle.trace_args.specs.declared.fault.WordFault.{WordFault}
+use Rattle.trace_args.specs.Command.{CommandData, Report, Dump}
+use Rattle.trace_args.specs.Reading.{reading}
+use Rattle.trace_run.specs.Ending.{Outside}
+use Rattle.trace_run.specs.Meaning.{Meaning, selected, input_of, meaning, command_meaning}
+
+-- files were opened as often as closed, as far as the counts go
+abbrev pub ClosesAll : Counts → Counts → Type 0
+ClosesAll before now = now.opened < 2 ^ 64 - 1 → now.closed < 2 ^ 64 - 1 → now.opened + before.closed ≡ now.closed + before.opened
+
+abbrev pub OpensAtMostOne : Counts → Counts → Type 0
+OpensAtMostOne before now = now.opened ≤ raised before.opened 1
+
+-- a name that is missing is asked for only where the meaning is a fault of reading
+abbrev pub MissesNothingElse : Meaning → Counts → Counts → Type 0
+MissesNothingElse m before now = m.status ≢ ReadFault → now.misses ≡ before.misses
+
+abbrev pub RunMisses : List (List ℕ) → Outside → Outside → Type 0
+RunMisses words before now = IfSome before.files (λ files. MissesNothingElse (meaning words files) before.counts now.counts)
+
+abbrev pub CommandMisses : CommandData → Outside → Outside → Type 0
+CommandMisses command before now = IfSome before.files (λ files. MissesNothingElse (command_meaning command files) before.counts now.counts)
+
+-- how many bytes behind the header a report needs: the parts of the chosen processors, or the rest of a latency file
+abbrev pub body_share : Option (List Bool) → ℕ → ℕ → Body → ℕ
+body_share cpus end size Latency = size - end
+body_share cpus end size (Fly parts) = sum_by (λ part. part.1.size) (selected cpus parts)
+
+-- how many bytes behind the header a command needs, of a file of this size
+abbrev pub share : CommandData → Header → ℕ → ℕ
+share (Report words) header size = body_share words.cpus header.end size header.body
+share (Dump words) header size = 0
+
+-- no more bytes were read than the header and the command's share have
+abbrev pub ReadsAtMost : CommandData → Option (List ℕ) → ℕ → ℕ → Type 0
+ReadsAtMost command told before now = IfSome told (λ bytes. IfOk (header_of bytes) (λ header. now ≤ raised before (header.end + share command header (length bytes))))
+
+-- the same for the answers behind a header
+abbrev pub ReadsInput : CommandData → Option (List ℕ) → Status → ℕ → ℕ → Type 0
+ReadsInput command told Done before now = ReadsAtMost command told before now
+ReadsInput command told (Malformed cpu page) before now = ReadsAtMost command told before now
+ReadsInput command told WriteFault before now = ReadsAtMost command told before now
+ReadsInput command told status before now = Unit {0}
+
+abbrev pub CommandReads : CommandData → Status → Outside → Outside → Type 0
+CommandReads command status before now = IfSome before.files (λ files. ReadsInput command (get files (input_of command)) status before.counts.bytes now.counts.bytes)
+
+-- words without a reading read nothing
+abbrev pub ReadsFor : Result CommandData WordFault → Status → Outside → Outside → Type 0
+ReadsFor (Ok command) status before now = CommandReads command status before now
+ReadsFor (Err fault) status before now = now.counts.bytes ≡ before.counts.bytes
+
+abbrev pub RunReads : List (List ℕ) → Status → Outside → Outside → Type 0
+RunReads words status before now = ReadsFor (reading words) status before now

@@ -1,0 +1,33 @@
+-- What the part of a run does that has an open file.
+use Rattle.std.specs.Prelude.{Option, ◌≡◌, ◌≤◌, ℕ, List, take, IfSome}
+use Rattle.trace_outside.specs.Causes.{Rose}
+use Rattle.trace_outside.specs.Writing.{Gained, GainedPrefix}
+use Rattle.dat_header.specs.Header.{IsRefusal}
+use Rattle.trace_run.specs.declared.status.Status.{Status}
+use Rattle.trace_run.specs.declared.status.Status.TheVariants.{Usage, Refused, ReadFault, WriteFault, NoMemory}
+use Rattle.trace_run.specs.Meaning.{Meaning}
+use Rattle.trace_run.specs.Text.{text}
+
+-- what stands on the output after this answer
+abbrev pub Writes : Meaning → Status → Option (List ℕ) → Option (List ℕ) → Type 0
+Writes m NoMemory before now = now ≡ before
+Writes m ReadFault before now = (count : ℕ) × Gained before now (text (take count m.pieces))
+Writes m WriteFault before now = GainedPrefix before now (text m.pieces)
+Writes m status before now = (status ≡ m.status) × Gained before now (text m.pieces)
+
+-- the same, where the meaning is one of a file's bytes, and the file tells them
+abbrev pub WritesFor : (List ℕ → Meaning) → Option (List ℕ) → Status → Option (List ℕ) → Option (List ℕ) → Type 0
+WritesFor meaning told status before now = IfSome told (λ bytes. Writes (meaning bytes) status before now)
+
+-- an answer of a command is never one of its words, and a refusal is one of the file's bytes
+abbrev pub IsOfFile : Status → Type 0
+IsOfFile Usage = ⊥
+IsOfFile (Refused fault) = IsRefusal fault
+IsOfFile status = Unit {0}
+
+-- a fault is answered only where the count of such faults rose, of the file or of the output
+pub record IsCaused (status : Status) (file_before file_now out_before out_now : ℕ) : Type 0 where
+  pub read_fault : status ≡ ReadFault → Rose file_before file_now
+  pub write_fault : status ≡ WriteFault → Rose out_before out_now
+  pub of_file : IsOfFile status
+  pub later : file_before ≤ file_now

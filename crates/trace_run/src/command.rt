@@ -1,0 +1,94 @@
+// One command: its input is opened, its header read, the work done, and the input closed. This stands here once for all
+// commands.
+
+ghost use Rattle.std.specs.Prelude.{◌≡◌, ◌≤◌};
+ghost use Rattle.trace_base.specs.Layout.{IsLayout};
+ghost use Rattle.trace_outside.specs.Causes.{raised};
+ghost use Rattle.dat_header.specs.Allowed.{IsBody};
+ghost use Rattle.trace_args.specs.Command.{command_view};
+ghost use Rattle.trace_run.specs.Causes.{RanCommand};
+ghost use Rattle.trace_run.specs.Counts.{ReadsInput, share};
+ghost use Rattle.trace_run.specs.Ending.{beside, sink_seen};
+ghost use Rattle.trace_run.specs.Meaning as spec;
+ghost use Rattle.trace_run.specs.Meaning.{header_means, input_means};
+ghost use Rattle.trace_run.specs.Work.{IsCaused, WritesFor};
+
+use crate::dump::print_dump;
+use crate::report::print_report;
+use crate::status::Status;
+use dat_header::{Header, OpenFault, read_header};
+use std::alloc::Global;
+use trace_args::Command;
+use trace_outside::{Failed, File, Folder, Sink};
+
+/// The name of a command's input.
+pub(crate) fn input_of<'a>(command: &Command<'a>) -> &'a str
+    ensures { result.now ≡ spec.input_of (command_view command.now) }
+{
+    match command {
+        Command::Report(words) => words.input,
+        Command::Dump(words) => words.input,
+    }
+}
+
+/// Does one command on the files of the folder.
+pub(crate) fn run_command<F: Folder, O: Sink>(
+    alloc: Global,
+    command: &Command<'_>,
+    folder: &mut F,
+    out: &mut O,
+) -> Status
+    ensures { RanCommand (command_view command.now) result
+        (beside F.files F.counts folder.old (sink_seen O.written O.faults out.old))
+        (beside F.files F.counts folder.new (sink_seen O.written O.faults out.new)) }
+{
+    match folder.open_file(input_of(command)) {
+        Err(Failed) => Status::ReadFault,
+        Ok(mut file) => {
+            let status = run_on_file(alloc, command, &mut file, out);
+            folder.close_file(file);
+            status
+        }
+    }
+}
+
+// Does a command on a file that was just opened. Its header is read once.
+fn run_on_file<I: File, O: Sink>(
+    alloc: Global,
+    command: &Command<'_>,
+    file: &mut I,
+    out: &mut O,
+) -> Status
+    ensures writes { WritesFor (input_means (command_view command.now)) (I.bytes file.old) result (O.written out.old) (O.written out.new) }
+    ensures causes { IsCaused result (I.faults file.old) (I.faults file.new) (O.faults out.old) (O.faults out.new) }
+    ensures reads { ReadsInput (command_view command.now) (I.bytes file.old) result (I.reads file.old) (I.reads file.new) }
+{
+    match read_header(alloc, file) {
+        Ok(header) => run_on_header(alloc, command, &header, file, out),
+        Err(OpenFault::Read) => Status::ReadFault,
+        Err(OpenFault::Memory) => Status::NoMemory,
+        Err(fault) => Status::Refused(fault),
+    }
+}
+
+// Does a command on a file that has this header: each command is a function of its own with these clauses.
+fn run_on_header<I: File, O: Sink>(
+    alloc: Global,
+    command: &Command<'_>,
+    header: &Header,
+    file: &mut I,
+    out: &mut O,
+) -> Status
+    requires allowed { IsLayout header.now.layout }
+    requires inside { header.now.end ≤ I.size file.old }
+    requires parts { IsBody header.now.cpus header.now.body }
+    requires few { header.now.cpus ≤ 1024 }
+    ensures writes { WritesFor (header_means (command_view command.now) header.now) (I.bytes file.old) result (O.written out.old) (O.written out.new) }
+    ensures causes { IsCaused result (I.faults file.old) (I.faults file.new) (O.faults out.old) (O.faults out.new) }
+    ensures reads { I.reads file.new ≤ raised (I.reads file.old) (share (command_view command.now) header.now (I.size file.old)) }
+{
+    match command {
+        Command::Report(words) => print_report(alloc, words, header, file, out),
+        Command::Dump(words) => print_dump(alloc, words, header, out),
+    }
+}
