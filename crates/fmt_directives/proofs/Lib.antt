@@ -1,0 +1,10 @@
+pub mod Runs
+pub mod Fronts
+pub mod Amounts
+pub mod Lengths
+pub mod KindRows
+pub mod Conversions
+pub mod PieceLemmas
+pub mod Rows
+pub mod Spellings
+pub mod Withins

@@ -1,0 +1,6 @@
+pub mod Reductions
+pub mod Elements
+pub mod Rows
+pub mod PieceLemmas
+pub mod FlagLemmas
+pub mod ReducedLaws

@@ -1,0 +1,11 @@
+pub mod Numbers
+pub mod NumView
+pub mod Operators
+pub mod Values
+pub mod Bytes
+pub mod Pieces
+pub mod Flags
+pub mod Arrays
+pub mod Texts
+pub mod Value
+pub mod Entered

@@ -1,0 +1,23 @@
+//! The values of typed trees over a record: numbers of C's kinds, texts and bytes.
+#![tactic(auto)]
+
+mod array;
+mod cast;
+mod eval;
+mod field_bytes;
+mod flags;
+mod laws;
+mod num;
+mod operators;
+mod pieces;
+#[cfg(test)]
+mod tests;
+mod text;
+
+pub use cast::cast_bits;
+pub use eval::number;
+pub use field_bytes::bytes;
+pub use laws::{one_reduced, reduced_is, values_by_kind};
+pub use num::Num;
+pub use pieces::{put_hexadecimal, put_octets, put_piece};
+pub use text::{put_text, up_to_nul};

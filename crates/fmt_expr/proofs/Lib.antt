@@ -1,0 +1,12 @@
+pub mod Views
+pub mod Chances
+pub mod TypeRows
+pub mod TextRows
+pub mod Places
+pub mod NoTypes
+pub mod Layers
+pub mod RowTurns
+pub mod EntryTurns
+pub mod Complete
+pub mod Sound
+pub mod Fmts

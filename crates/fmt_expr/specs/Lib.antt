@@ -1,0 +1,15 @@
+pub mod Tree
+pub mod TreeView
+pub mod Kinds
+pub mod Source
+pub mod SourceView
+pub mod Ops
+pub mod Heads
+pub mod Texts
+pub mod Types
+pub mod Steps
+pub mod Fields
+pub mod Parsing
+pub mod TakenView
+pub mod Derivation
+pub mod FmtView

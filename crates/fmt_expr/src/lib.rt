@@ -1,0 +1,36 @@
+//! The typed trees of a print fmt: what its tokens mean, with the fields of its event.
+//!
+//! [`parse_args`] goes once over the tokens, with one method a production of the grammar. The grammar itself is a
+//! relation between places in the tokens and trees, in `specs/Derivation.antt`; the laws say that it has at most one
+//! tree, and that this is the tree that is given.
+#![tactic(auto)]
+
+mod args;
+mod calls;
+mod expr;
+mod fields;
+mod head;
+mod heads;
+mod judge;
+mod kinds;
+pub mod laws;
+mod leaf;
+mod make;
+mod ops;
+mod parse;
+mod print_fmt;
+mod reader;
+mod stop;
+mod taken;
+#[cfg(test)]
+mod tests;
+mod texts;
+mod types;
+mod words;
+
+pub use args::parse_args;
+pub use expr::{Entry, Expr, Op, Operand, PrefixOp};
+pub use fmt_literal::{CKind, CastTo};
+pub use judge::kind;
+pub use kinds::Kind;
+pub use print_fmt::PrintFmt;

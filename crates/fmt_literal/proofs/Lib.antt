@@ -1,0 +1,4 @@
+pub mod Numbers
+pub mod Meant
+pub mod Escapes
+pub mod Letters

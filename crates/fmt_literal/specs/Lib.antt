@@ -1,0 +1,5 @@
+pub mod Numeral
+pub mod Escape
+pub mod Quoted
+pub mod Types
+pub mod Views

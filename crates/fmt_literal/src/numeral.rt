@@ -1,0 +1,137 @@
+//! Numbers: their value and their kind.
+
+ghost use Rattle.std.specs.Prelude.{◌≡◌, ◌*◌, ◌^◌, ◌<◌, ◌≤◌, ◌⊎◌, count_by, IfSome, IfNone, ℕ, option_map, Some, IsTrue};
+ghost use Rattle.std.specs.List.{AllPass, list_any};
+ghost use Rattle.std.specs.Char.{is_digit, digit_value};
+ghost use Rattle.std.specs.Str.Parse.{digits_value};
+ghost use Rattle.fmt_lexer.specs.declared.number.Base.{Base};
+ghost use Rattle.fmt_lexer.specs.Number.{radix_of};
+ghost use Rattle.fmt_literal.specs.declared.ckind.CKind.{CKind};
+ghost use Rattle.fmt_literal.specs.Numeral.{says_unsigned, least_width, may_have, kind_of_number, numeral_of, IsNumeral};
+ghost use Rattle.fmt_literal.specs.Views.{numeral_view};
+
+use crate::ckind::CKind;
+use fmt_lexer::{Base, NumberParts, number_parts};
+
+/// A number and its kind.
+#[derive(Clone, Copy, Debug, PartialEq, Eq)]
+pub struct Numeral {
+    /// Its 64 bits.
+    pub bits: u64,
+    /// Its kind.
+    pub kind: CKind,
+}
+
+/// What a digit counts.
+fn digit_value(digit: u8, radix: u32) -> u32
+    requires is_one { IsTrue (is_digit digit radix) }
+    requires range { (2 ≤ radix) × (radix ≤ 16) }
+    ensures value { result ≡ digit_value digit }
+    ensures small { result < radix }
+{
+    char::from(digit).to_digit(radix).unwrap_or(0)
+}
+
+/// The number that digits write.
+fn value(base: Base, digits: &[u8]) -> u64
+    requires each { AllPass (λ b. is_digit b (radix_of base)) digits.now }
+    requires fits { digits_value (radix_of base) digits.now < 2 ^ 64 }
+    ensures { result ≡ digits_value (radix_of base) digits.now }
+{
+    let radix = base.radix();
+    let mut number: u64 = 0;
+    for byte in digits {
+        number = number * u64::from(radix) + u64::from(digit_value(*byte, radix));
+    }
+    number
+}
+
+/// Whether a suffix has a `u`.
+fn says_unsigned(suffix: &[u8]) -> bool
+    ensures { result ≡ says_unsigned suffix.now }
+{
+    suffix.iter().any(|byte| matches!(byte, b'u' | b'U'))
+}
+
+/// The fewest bits that the `l`s of a suffix ask for.
+fn least_width(suffix: &[u8], long: u32) -> u32
+    requires { long ≤ 8 }
+    ensures { result ≡ least_width suffix.now long }
+{
+    let longs = suffix
+        .iter()
+        .filter(|byte| matches!(byte, b'l' | b'L'))
+        .count();
+    match longs {
+        0 => 32,
+        1 => 8 * long,
+        _ => 64,
+    }
+}
+
+impl CKind {
+    /// Whether a number with this base and suffix may have the kind.
+    fn may_have(self, base: Base, suffix: &[u8], long: u32, number: u64) -> bool
+        requires { long ≤ 8 }
+        ensures { result ≡ may_have base suffix.now long number self }
+    {
+        let unsigned = says_unsigned(suffix);
+        let (width, signed, limit): (u32, bool, u64) = match self {
+            CKind::I32 => (32, true, 0x7fff_ffff),
+            CKind::U32 => (32, false, 0xffff_ffff),
+            CKind::I64 => (64, true, 0x7fff_ffff_ffff_ffff),
+            CKind::U64 => (64, false, 0xffff_ffff_ffff_ffff),
+        };
+        let may_sign = if signed {
+            !unsigned
+        } else {
+            unsigned || base != Base::Decimal
+        };
+        least_width(suffix, long) <= width && may_sign && number <= limit
+    }
+}
+
+/// The kind of a number (C11 6.4.4.1).
+#[tactic(auto, unfolding(crate::specs::Numeral::kind_of_number))]
+fn kind_of_number(base: Base, suffix: &[u8], long: u32, number: u64) -> CKind
+    requires { long ≤ 8 }
+    ensures { result ≡ kind_of_number base suffix.now long number }
+{
+    if CKind::I32.may_have(base, suffix, long, number) {
+        CKind::I32
+    } else if CKind::U32.may_have(base, suffix, long, number) {
+        CKind::U32
+    } else if CKind::I64.may_have(base, suffix, long, number) {
+        CKind::I64
+    } else {
+        CKind::U64
+    }
+}
+
+/// The number that a spelling is, as it is computed.
+#[tactic(auto, using(crate::proofs::Numbers::numeral_there, crate::proofs::Numbers::no_numeral))]
+fn computed(spelling: &[u8], long: u32) -> Option<Numeral>
+    requires { long ≤ 8 }
+    ensures { option_map numeral_view result ≡ numeral_of spelling.now long }
+{
+    let NumberParts {
+        base,
+        digits,
+        suffix,
+    } = number_parts(spelling)?;
+    let bits = value(base, digits);
+    let kind = kind_of_number(base, suffix, long, bits);
+    Some(Numeral { bits, kind })
+}
+
+/// The number that a spelling is, where the kernel's long has 4 or 8 bytes. None exactly where it is no number of 64
+/// bits.
+#[tactic(auto, using(crate::proofs::Numbers::found_numeral, crate::proofs::Numbers::none_numeral))]
+pub fn number(spelling: &[u8], long: u32) -> Option<Numeral>
+    requires { (long ≡ 4) ⊎ (long ≡ 8) }
+    ensures found { IfSome result (λ n. IsNumeral spelling.now long n.bits n.kind) }
+    ensures none { IfNone result ((n : ℕ) (kind : CKind) → IsNumeral spelling.now long n kind → ⊥) }
+    ensures exact { option_map numeral_view result ≡ numeral_of spelling.now long }
+{
+    computed(spelling, long)
+}

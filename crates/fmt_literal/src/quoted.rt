@@ -1,0 +1,53 @@
+//! Letters and texts.
+
+ghost use Rattle.std.specs.Prelude.{◌≡◌, ◌++◌, ◌<◌, ◌≤◌, List, ℕ, IfOk, IfSome, IfNone};
+ghost use Rattle.fmt_literal.specs.Quoted.{inside, text_of, letter_of, IsTextOf, IsLetterOf};
+
+use crate::escape::{item, push_meant};
+use std::alloc::AllocError;
+
+/// What stands between the two marks of a letter or a text.
+fn inside(spelling: &[u8]) -> &[u8]
+    ensures { result.now ≡ inside spelling.now }
+{
+    match spelling {
+        [_, inside @ .., _] => inside,
+        _ => &[],
+    }
+}
+
+/// The one byte that stands between the marks.
+#[tactic(auto, using(crate::proofs::Meant::letter_is, crate::proofs::Meant::no_letter, crate::proofs::Meant::empty_letter))]
+fn only_byte(spelling: &[u8]) -> Option<u8>
+    ensures { result ≡ letter_of spelling.now }
+{
+    let (first, behind) = inside(spelling).split_first()?;
+    let spelled = item(*first, behind);
+    if spelled.len < behind.len() {
+        None
+    } else {
+        Some(spelled.byte)
+    }
+}
+
+/// The byte that a letter is, by its spelling with both marks. None exactly where not one byte stands between them.
+#[tactic(auto, using(crate::proofs::Letters::found_letter, crate::proofs::Letters::none_letter))]
+pub fn letter(spelling: &[u8]) -> Option<u8>
+    ensures found { IfSome result (λ b. IsLetterOf spelling.now b) }
+    ensures none { IfNone result ((b : ℕ) → IsLetterOf spelling.now b → ⊥) }
+    ensures exact { result ≡ letter_of spelling.now }
+{
+    only_byte(spelling)
+}
+
+/// Puts a text behind what is there, by its spelling with both marks.
+///
+/// # Errors
+///
+/// Want of memory alone; then some of the text may have been put there.
+#[tactic(auto, unfolding(crate::specs::Quoted::text_of))]
+pub fn push_text(into: &mut Vec<u8>, spelling: &[u8]) -> Result<(), AllocError>
+    ensures { IfOk result (λ _. into.new.items ≡ into.old.items ++ text_of spelling.now) }
+{
+    push_meant(into, inside(spelling))
+}

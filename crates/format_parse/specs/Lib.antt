@@ -1,0 +1,3 @@
+pub mod FieldKinds
+pub mod Format
+pub mod Table

@@ -1,0 +1,58 @@
+-- The entries of a list that are put one behind another.
+use Rattle.std.proofs.Common.{◌≡◌, ℕ, zero, suc, ◌+◌, ◌<◌, ◌≤◌, List, [], ◌∷◌, ◌++◌, length, take, get_or, slice_get, append_assoc, append-nil, Option, Some, None, Result, IsErr, subst, sym, ap, refl, ◌∙◌, arith}
+use Rattle.std.proofs.lemmas.List.{take_all}
+use Rattle.std.proofs.lemmas.List.Concat.{flat_map-cons}
+use Rattle.std.proofs.lemmas.Grind.{flat_map-append}
+use Rattle.std.proofs.lemmas.Option.{slice_get-get_or}
+use Rattle.std.specs.List.{flat_map, cons_option}
+use Rattle.trace_outside.specs.Writing.{GainedPrefix}
+use Rattle.trace_outside.specs.Pending.{Holds, Puts}
+use Rattle.trace_outside.proofs.PendingLemmas.{parts_stopped}
+use Rattle.report_lists.specs.Lists.{entry}
+
+-- a piece was put behind any text
+abbrev pub Put : List ℕ → Option (List ℕ) → List ℕ → Option (List ℕ) → List ℕ → Type 0
+Put piece old waiting now waiting_now =
+    (before : Option (List ℕ)) (text : List ℕ) → Holds before old waiting text → Holds before now waiting_now (text ++ piece)
+
+-- a sink was stopped within a piece behind any text
+abbrev pub Stopped : List ℕ → Option (List ℕ) → List ℕ → Option (List ℕ) → Type 0
+Stopped piece old waiting now =
+    (before : Option (List ℕ)) (text : List ℕ) → Holds before old waiting text → GainedPrefix before now (text ++ piece)
+
+take_next : {X : Type 0} (xs : List X) (i : ℕ) → take (i + 1) xs ≡ take i xs ++ cons_option (slice_get xs i) []
+take_next [] i = take_all (i + 1) [] (omega arith) ∙ sym (ap (λ (l : List _). l ++ []) (take_all i [] (omega arith)))
+take_next (x ∷ xs) zero = refl
+take_next (x ∷ xs) (suc i) = let more : suc i + 1 ≡ suc (i + 1) = omega arith in ap (λ (n : ℕ). take n (x ∷ xs)) more ∙ ap (λ (l : List _). x ∷ l) (take_next xs i)
+
+one_entry : {X : Type 0} (f : X → List ℕ) (o : Option X) → flat_map f (cons_option o []) ≡ entry f o
+one_entry f None = refl
+one_entry f (Some x) = flat_map-cons f x [] ∙ append-nil (f x)
+
+up_to : {X : Type 0} (f : X → List ℕ) (xs : List X) (i : ℕ) → flat_map f (take (i + 1) xs) ≡ flat_map f (take i xs) ++ entry f (slice_get xs i)
+up_to f xs i =
+    ap (flat_map f) (take_next xs i) ∙ flat_map-append f (take i xs) (cons_option (slice_get xs i) [])
+    ∙ ap (λ (l : List ℕ). flat_map f (take i xs) ++ l) (one_entry f (slice_get xs i))
+
+-- one more entry was put
+pub entry_put : {X : Type 0} (f : X → List ℕ) (xs : List X) (i : ℕ) (piece : List ℕ) (old mid now : Option (List ℕ)) (waiting waiting_mid waiting_now : List ℕ)
+    → Put (flat_map f (take i xs)) old waiting mid waiting_mid → Put piece mid waiting_mid now waiting_now → piece ≡ entry f (slice_get xs i)
+    → Put (flat_map f (take (i + 1) xs)) old waiting now waiting_now
+entry_put f xs i piece old mid now waiting waiting_mid waiting_now one two is = λ before text held.
+    subst (λ (whole : List ℕ). Holds before now waiting_now whole)
+    (append_assoc text (flat_map f (take i xs)) piece ∙ ap (λ (l : List ℕ). text ++ l) (ap (λ (l : List ℕ). flat_map f (take i xs) ++ l) is ∙ sym (up_to f xs i)))
+    (two before (text ++ flat_map f (take i xs)) (one before text held))
+
+-- a sink was stopped within an entry
+pub entry_stopped : {T E X : Type 0} (f : X → List ℕ) (xs : List X) (i : ℕ) (piece : List ℕ) (old mid now : Option (List ℕ)) (waiting waiting_mid waiting_now : List ℕ) (result : Result T E)
+    → i < length xs → IsErr result → Put (flat_map f (take i xs)) old waiting mid waiting_mid → Stopped piece mid waiting_mid now → piece ≡ entry f (slice_get xs i) → Puts (flat_map f xs) old waiting now waiting_now result
+entry_stopped f [] i piece old mid now waiting waiting_mid waiting_now result inside failed one two is = absurd (omega (arith, inside))
+entry_stopped f (x ∷ xs) i piece old mid now waiting waiting_mid waiting_now result inside failed one two is =
+    parts_stopped f (x ∷ xs) i x old mid now waiting waiting_mid waiting_now result inside failed one
+    (subst (λ (piece : List ℕ). Stopped piece mid waiting_mid now) (is ∙ ap (entry f) (slice_get-get_or (x ∷ xs) i x inside)) two)
+
+-- all entries were put
+pub all_put : {X : Type 0} (f : X → List ℕ) (xs : List X) (i : ℕ) (old now : Option (List ℕ)) (waiting waiting_now : List ℕ)
+    → length xs ≤ i → Put (flat_map f (take i xs)) old waiting now waiting_now → Put (flat_map f xs) old waiting now waiting_now
+all_put f xs i old now waiting waiting_now all put =
+    subst (λ (some : List _). Put (flat_map f some) old waiting now waiting_now) (take_all i xs all) put

@@ -1,0 +1,12 @@
+use Rattle.std.proofs.Common.{take, ◌≡◌, ◌≤◌}
+use Rattle.std.specs.List.{flat_map}
+use Rattle.report_lists.specs.Lists.{printk_line}
+use Rattle.report_lists.proofs.Putting.{Put}
+use Rattle.report_lists.proofs.names.put_printk_formats.Given as goal
+
+abbrev pub invariant-loop-i : goal.invariant-loop-i
+invariant-loop-i g l = record {
+  held : Put (flat_map printk_line (take l.i l.symbols.printk)) (g.O.Sink.written l.initial.out) l.initial.pending (g.O.Sink.written l.out) l.pending;
+  name : g.O.Sink.name l.out ≡ g.O.Sink.name l.initial.out;
+  later : g.O.Sink.faults l.initial.out ≤ g.O.Sink.faults l.out;
+}

@@ -1,0 +1,63 @@
+-- Hexadecimal digits at the front of a text.
+use Rattle.std.proofs.Common.{◌≡◌, ℕ, ◌+◌, ◌-◌, ◌*◌, ◌%◌, ◌^◌, ◌<◌, ◌≤◌, Bool, true, false, ltb, leb, ◌&&◌, List, [], ◌∷◌, Some, length, take, drop, get_or, refl, sym, ap, subst, ◌∙◌, arith}
+use Rattle.std.proofs.lemmas.Bool.{ltb-true, le-ltb, lt-ltb, le-leb}
+use Rattle.std.proofs.lemmas.List.{length-take, take-append-drop, take_all, at_drop_more, at_drop_all}
+use Rattle.std.proofs.lemmas.List.Folds.{list_all_more}
+use Rattle.std.proofs.lemmas.Int.Digits.{digits_value-lt, digits_value_more}
+use Rattle.std.proofs.Math.Nat.{pow-le-pow_right}
+use Rattle.std.specs.List.{list_all, prefix_len}
+use Rattle.std.specs.Char.{digit_value, is_digit}
+use Rattle.std.specs.Str.Parse.{AllDigits, digits_value}
+use Rattle.trace_base.proofs.FieldSteps.{both}
+use Rattle.trace_base.proofs.FieldRuns.{BeginsOutside, run_again, run_all, run_outside}
+use Rattle.symbols.specs.LineForms.{is_hexadecimal}
+use Rattle.symbols.specs.Forms.{address_at}
+
+run_len : (text : List ℕ) (i : ℕ) → i ≤ length text → list_all is_hexadecimal (take i text) ≡ true → BeginsOutside is_hexadecimal (drop i text) → prefix_len is_hexadecimal text ≡ i
+run_len text i within all outside =
+    ap (prefix_len is_hexadecimal) (sym (take-append-drop i text)) ∙ run_again is_hexadecimal (take i text) (drop i text) all outside ∙ (let long = length-take i text in omega (arith, long, within))
+
+-- a digit that is none ends the run, and so does the end of the text
+pub run_stops : (text : List ℕ) (i : ℕ) → i < length text → list_all is_hexadecimal (take i text) ≡ true → 16 ≤ digit_value (get_or text i 0) → i ≡ prefix_len is_hexadecimal text
+run_stops text i inside all none =
+    let outside : BeginsOutside is_hexadecimal (get_or text i 0 ∷ drop (i + 1) text) = le-ltb _ _ none in
+    sym (run_len text i (omega (arith, inside)) all (subst (BeginsOutside is_hexadecimal) (sym (at_drop_more (λ (l : List ℕ). l) text i 0 inside)) outside))
+
+pub run_whole : (text : List ℕ) (i : ℕ) → length text ≤ i → i ≤ length text → list_all is_hexadecimal (take i text) ≡ true → length text ≡ prefix_len is_hexadecimal text
+run_whole text i le ge all =
+    let long : i ≡ length text = omega (arith, le, ge) in
+    sym (run_len text (length text) (omega arith) (subst (λ (n : ℕ). list_all is_hexadecimal (take n text) ≡ true) long all) (subst (BeginsOutside is_hexadecimal) (sym (at_drop_all (λ (l : List ℕ). l) text (length text) (omega arith))) tt))
+
+-- one more digit
+pub digits_more : (text : List ℕ) (i : ℕ) → i < length text → list_all is_hexadecimal (take i text) ≡ true → digit_value (get_or text i 0) < 16 → list_all is_hexadecimal (take (i + 1) text) ≡ true
+digits_more text i inside before digit =
+    let passes : is_digit (get_or text i 0) 16 ≡ true = lt-ltb _ _ digit in
+    list_all_more is_hexadecimal text i 0 inside ∙ rw (before, passes) refl
+
+pub value_more : (text : List ℕ) (i : ℕ) → i < length text → digits_value 16 (take (i + 1) text) ≡ digits_value 16 (take i text) * 16 + digit_value (get_or text i 0)
+value_more text i inside = digits_value_more 16 text i inside
+
+-- at most 16 digits write a number of 64 bits
+all_digits : (text : List ℕ) → list_all is_hexadecimal text ≡ true → AllDigits 16 text
+all_digits [] all = tt
+all_digits (byte ∷ text) all = let parts = both (is_hexadecimal byte) (list_all is_hexadecimal text) all in (ltb-true _ _ parts.0, all_digits text parts.1)
+
+pub fits : (text : List ℕ) → list_all is_hexadecimal text ≡ true → length text ≤ 16 → digits_value 16 text % 2 ^ 64 ≡ digits_value 16 text
+fits text all few =
+    let below : digits_value 16 text < 16 ^ length text = digits_value-lt 16 text (all_digits text all) in
+    let most : 16 ^ length text ≤ 16 ^ 16 = pow-le-pow_right {n = 16} (omega arith) few in
+    omega (arith, below, most)
+
+pub address_read : (text : List ℕ) (address count : ℕ) → count ≡ prefix_len is_hexadecimal text → address ≡ digits_value 16 (take count text) % 2 ^ 64 → 0 < count → count ≤ 16 → Some (address, drop count text) ≡ address_at text
+unfolding address_at
+address_read text address count is value some few =
+    let run = prefix_len is_hexadecimal text in
+    let long : length (take run text) ≤ 16 = (let cut = length-take run text in omega (arith, cut, is, few)) in
+    let whole : address ≡ digits_value 16 (take run text) = value ∙ ap (λ (n : ℕ). digits_value 16 (take n text) % 2 ^ 64) is ∙ fits (take run text) (run_all is_hexadecimal text) long in
+    let positive : ltb 0 run ≡ true = lt-ltb 0 run (omega (arith, is, some)) in
+    let within : leb run 16 ≡ true = le-leb run 16 (omega (arith, is, few)) in
+    ap (λ (n : ℕ). Some (n, drop count text)) whole ∙ ap (λ (n : ℕ). Some (digits_value 16 (take run text), drop n text)) is ∙ sym (rw (positive, within) refl)
+
+-- the low bits of a number with a further digit
+pub step : (whole digit : ℕ) → ((whole % 2 ^ 64 * 16) % 2 ^ 64 + digit) % 2 ^ 64 ≡ (whole * 16 + digit) % 2 ^ 64
+step whole digit = omega arith

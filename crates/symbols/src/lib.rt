@@ -1,0 +1,20 @@
+//! The names that a trace file carries: of addresses in the kernel, of printk formats and of tasks.
+//!
+//! [`Symbols::read`] reads three texts once; each look-up is then one binary search over numbers in one array, and takes no
+//! memory.
+#![tactic(auto)]
+
+mod digits;
+mod found;
+pub mod lines;
+mod maps;
+mod read;
+mod rows;
+mod search;
+mod table;
+#[cfg(test)]
+mod tests;
+
+pub use found::Found;
+pub use maps::Symbols;
+pub use table::one_map;

@@ -1,0 +1,112 @@
+ghost use Rattle.std.specs.Prelude.{◌≡◌, length, reverse, slice_get, IfOk, IfSome, IfNone};
+ghost use Rattle.std.specs.Option.{option_map};
+ghost use Rattle.symbols.specs.NameMap.{first_at, nearest, IsNearest, NoneUpTo};
+ghost use Rattle.symbols.specs.Maps.{AreMapsOf, maps_of, task_name};
+
+use crate::lines::Form;
+use crate::read::found_in;
+use crate::table::NameTable;
+use std::alloc::{AllocError, Global};
+use std::marker::Model;
+
+/// The names of addresses, printk formats and tasks. Contracts see three finite maps.
+#[derive(Drop)]
+pub struct Symbols {
+    symbols: NameTable,
+    printk: NameTable,
+    tasks: NameTable,
+}
+
+impl Model for Symbols {
+    ghost use Rattle.symbols.specs.Maps.{Maps};
+
+    ghost Value = { Maps };
+
+    ghost view = { λ s. record { symbols = s.symbols; printk = s.printk; tasks = s.tasks } };
+}
+
+impl Symbols {
+    /// Reads the texts of kallsyms, of printk formats and of saved command lines, as a trace file carries them.
+    ///
+    /// Lines of another form are passed over. Of equal addresses the first line counts, of equal pids the last.
+    #[tactic(auto, unfolding(crate::specs::Maps::maps_of))]
+    pub fn read(
+        alloc: Global,
+        kallsyms: &[u8],
+        printk: &[u8],
+        cmdlines: &[u8],
+    ) -> Result<Symbols, AllocError>
+        ensures maps { IfOk result (AreMapsOf kallsyms.now printk.now cmdlines.now) }
+        ensures exact { IfOk result (λ symbols. symbols ≡ maps_of kallsyms.now printk.now cmdlines.now) }
+    {
+        let symbols = NameTable::build(alloc, found_in(alloc, Form::Kallsyms, kallsyms)?)?;
+        let printk = NameTable::build(alloc, found_in(alloc, Form::Printk, printk)?)?;
+        let mut found = found_in(alloc, Form::Tasks, cmdlines)?;
+        found.reverse();
+        let tasks = NameTable::build(alloc, found)?;
+        Ok(Symbols {
+            symbols,
+            printk,
+            tasks,
+        })
+    }
+
+    /// The name of the symbol at the greatest address that is at most this one, and how many bytes it is below. None exactly
+    /// where no address is at most this one.
+    pub fn name_at(&self, address: u64) -> Option<(&[u8], u64)>
+        ensures found { IfSome result (λ r. IsNearest self.now.symbols address r.0.now r.1) }
+        ensures none { IfNone result (NoneUpTo address self.now.symbols) }
+        ensures exact { option_map (λ r. (r.0.now, r.1)) result ≡ nearest address self.now.symbols }
+    {
+        self.symbols.nearest(address)
+    }
+
+    /// The printk format of this address. None exactly where no line has it.
+    pub fn printk_at(&self, address: u64) -> Option<&[u8]>
+        ensures { option_map (λ text. text.now) result ≡ first_at address self.now.printk }
+    {
+        self.printk.name(address)
+    }
+
+    /// The name of the task: `<idle>` for 0, and `<...>` where no name was saved.
+    pub fn comm_of(&self, pid: i32) -> &[u8]
+        ensures { result.now ≡ task_name self.now.tasks pid }
+    {
+        match u64::try_from(pid) {
+            Ok(0) => b"<idle>",
+            Ok(pid) => match self.tasks.name(pid) {
+                Some(name) => name,
+                None => b"<...>",
+            },
+            Err(_) => b"<...>",
+        }
+    }
+
+    /// How many symbols there are.
+    pub fn symbol_count(&self) -> usize
+        ensures { result ≡ length self.now.symbols }
+    {
+        self.symbols.len()
+    }
+
+    /// How many printk formats there are.
+    pub fn printk_count(&self) -> usize
+        ensures { result ≡ length self.now.printk }
+    {
+        self.printk.len()
+    }
+
+    /// The symbol at this place by rising address, counted from 0. None exactly past the last.
+    pub fn symbol(&self, i: usize) -> Option<(u64, &[u8])>
+        ensures { option_map (λ r. (r.0, r.1.now)) result ≡ slice_get self.now.symbols i }
+    {
+        self.symbols.row(i)
+    }
+
+    /// The printk format at this place by rising address, counted from 0. None exactly past the last.
+    pub fn printk(&self, i: usize) -> Option<(u64, &[u8])>
+        ensures { option_map (λ r. (r.0, r.1.now)) result ≡ slice_get self.now.printk i }
+    {
+        self.printk.row(i)
+    }
+}

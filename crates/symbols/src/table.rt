@@ -1,0 +1,86 @@
+// Names by rising numbers.
+
+ghost use Rattle.std.specs.Prelude.{◌≡◌, length, slice_get, IfOk, IfSome, IfNone};
+ghost use Rattle.std.specs.Option.{option_map};
+ghost use Rattle.symbols.specs.NameMap.{first_at, map_of, nearest, IsMapOf, IsNearest, NoneUpTo, OneMap};
+ghost use Rattle.symbols.specs.Found.{pairs_of};
+
+use crate::found::{Found, sort_found};
+use crate::rows::{Rows, gather};
+use std::alloc::{AllocError, Global};
+use std::marker::Model;
+
+/// Names by rising numbers. Contracts see the list of them.
+#[derive(Drop)]
+pub(crate) struct NameTable {
+    rows: Rows,
+}
+
+impl Model for NameTable {
+    ghost use Rattle.std.specs.Prelude.{List};
+    ghost use Rattle.symbols.specs.NameMap.{Pair, RisesFrom};
+    ghost use Rattle.symbols.specs.RowsView.{rows_view, IsSound};
+
+    ghost Value = { List Pair };
+
+    ghost view = { λ t. rows_view t.rows };
+
+    ghost invariant = { λ t. IsSound t.rows × RisesFrom 0 (rows_view t.rows) };
+}
+
+impl NameTable {
+    /// The names that were found; of equal numbers the first counts.
+    #[tactic(auto, using(crate::proofs::PairLemmas::rises_all, crate::proofs::PairLemmas::same_firsts))]
+    pub fn build(alloc: Global, found: Vec<Found<'_>>) -> Result<NameTable, AllocError>
+        ensures { IfOk result (IsMapOf (pairs_of found.entry.items)) }
+    {
+        let mut found = found;
+        sort_found(&mut found)?;
+        let rows = gather(alloc, &found)?;
+        Ok(NameTable { rows })
+    }
+
+    /// How many names there are.
+    pub fn len(&self) -> usize
+        ensures { result ≡ length self.now }
+    {
+        self.rows.len()
+    }
+
+    /// The name at a place.
+    pub fn row(&self, i: usize) -> Option<(u64, &[u8])>
+        ensures { option_map (λ r. (r.0, r.1.now)) result ≡ slice_get self.now i }
+    {
+        self.rows.row(i)
+    }
+
+    /// The name of the greatest number that is at most this one, and how far it is behind.
+    #[tactic(auto, unfolding(crate::specs::NameMap::nearest))]
+    pub fn nearest(&self, address: u64) -> Option<(&[u8], u64)>
+        ensures found { IfSome result (λ r. IsNearest self.now address r.0.now r.1) }
+        ensures none { IfNone result (NoneUpTo address self.now) }
+        ensures exact { option_map (λ r. (r.0.now, r.1)) result ≡ nearest address self.now }
+    {
+        match self.rows.row_up_to(address) {
+            Some((key, name)) => Some((name, address - key)),
+            None => None,
+        }
+    }
+
+    /// The name of this number.
+    #[tactic(auto, using(crate::proofs::PairLemmas::name_here, crate::proofs::PairLemmas::name_not, crate::proofs::PairLemmas::name_none))]
+    pub fn name(&self, key: u64) -> Option<&[u8]>
+        ensures { option_map (λ r. r.now) result ≡ first_at key self.now }
+    {
+        match self.nearest(key) {
+            Some((name, 0)) => Some(name),
+            Some((_, _)) => None,
+            None => None,
+        }
+    }
+}
+
+/// Pairs stand for exactly one map, and it can be computed.
+pub fn one_map()
+    ensures { OneMap }
+{}
