@@ -1,0 +1,52 @@
+-- Texts that a NUL or a precision cuts.
+use Rattle.std.proofs.Common.{◌≡◌, ℕ, zero, suc, ◌+◌, ◌-◌, Bool, true, false, List, [], ◌∷◌, ◌++◌, take, Option, Some, None, refl, sym, ap, ◌∙◌, arith, inl, inr}
+use Rattle.std.specs.Prelude.{codes}
+use Rattle.std.specs.List.{prefix_len}
+use Rattle.std.specs.Option.{option_map}
+use Rattle.std.proofs.lemmas.Bool.{cases_Bool}
+use Rattle.std.proofs.lemmas.List.{take-take, take_all, append-nil}
+use Rattle.trace_base.specs.Kept.{is_letter}
+use Rattle.fmt_eval.specs.Texts.{up_to_nul}
+use Rattle.fmt_print.specs.Strings.{cut_to}
+use Rattle.fmt_print.specs.Addresses.{network_text}
+
+one_more : (n : ℕ) → 1 + n ≡ suc n
+one_more n = omega arith
+
+two_less : (p : ℕ) → p ≡ suc (suc p) - 2
+two_less p = omega arith
+
+more : (n x : ℕ) (xs : List ℕ) → take (1 + n) (x ∷ xs) ≡ x ∷ take n xs
+more n x xs = ap (λ m. take m (x ∷ xs)) (one_more n)
+
+letters : (xs : List ℕ) → prefix_len is_letter (take (prefix_len is_letter xs) xs) ≡ prefix_len is_letter xs
+letters [] = refl
+letters (x ∷ xs) = elim (cases_Bool (is_letter x)) as (λ _. prefix_len is_letter (take (prefix_len is_letter (x ∷ xs)) (x ∷ xs)) ≡ prefix_len is_letter (x ∷ xs)) [
+  | inl is ↦ rw is (ap (prefix_len is_letter) (more (prefix_len is_letter xs) x xs) ∙ rw is (ap (λ n. 1 + n) (letters xs)))
+  | inr none ↦ rw none refl
+]
+
+-- a text that was cut at its first NUL has none
+pub nul_once : (xs : List ℕ) → up_to_nul xs ≡ up_to_nul (up_to_nul xs)
+nul_once xs = sym (ap (λ n. take n (up_to_nul xs)) (letters xs) ∙ take-take (prefix_len is_letter xs) (prefix_len is_letter xs) xs (omega arith))
+
+cut_one : (p : ℕ) (ds : List ℕ) → take p (48 ∷ 120 ∷ ds) ≡ take p (48 ∷ 120 ∷ []) ++ take (p - 2) ds
+cut_one zero ds = refl
+cut_one (suc zero) ds = refl
+cut_one (suc (suc p)) ds =
+    ap (λ n. 48 ∷ 120 ∷ take n ds) (two_less p) ∙ ap (λ l. 48 ∷ 120 ∷ (l ++ take (suc (suc p) - 2) ds)) (sym (take_all p [] (omega arith)))
+
+pub cut_two : (precision : Option ℕ) (ds : List ℕ) → cut_to precision (codes "0x") ++ (cut_to (option_map (λ p. p - 2) precision) ds ++ []) ≡ cut_to precision (codes "0x" ++ ds)
+cut_two None ds = ap (λ l. 48 ∷ 120 ∷ l) (append-nil ds)
+cut_two (Some p) ds = ap (λ l. take p (48 ∷ 120 ∷ []) ++ l) (append-nil (take (p - 2) ds)) ∙ sym (cut_one p ds)
+
+-- six bytes are enough
+pub first_six : (ip4 : Bool) (text : List ℕ) → network_text ip4 (take 6 text) ≡ network_text ip4 text
+first_six ip4 [] = refl
+first_six ip4 (a ∷ []) = refl
+first_six ip4 (a ∷ b ∷ []) = refl
+first_six ip4 (a ∷ b ∷ c ∷ []) = refl
+first_six ip4 (a ∷ b ∷ c ∷ d ∷ []) = refl
+first_six ip4 (a ∷ b ∷ c ∷ d ∷ e ∷ []) = refl
+first_six true (a ∷ b ∷ c ∷ d ∷ e ∷ f ∷ text) = refl
+first_six false (a ∷ b ∷ c ∷ d ∷ e ∷ f ∷ text) = refl

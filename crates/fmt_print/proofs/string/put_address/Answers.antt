@@ -1,0 +1,18 @@
+use Rattle.std.proofs.Common.{◌++◌, ◌-◌, [], ap, ◌∙◌, false}
+use Rattle.std.specs.Prelude.{codes}
+use Rattle.std.specs.Fmt.{digits}
+use Rattle.std.specs.Option.{option_map}
+use Rattle.trace_base.specs.Kept.{put}
+use Rattle.trace_base.specs.TailView.{kept}
+use Rattle.fmt_print.specs.Strings.{cut_to, padded}
+use Rattle.fmt_print.proofs.TextLemmas.{cut_two}
+use Rattle.fmt_print.proofs.string.put_address.Goals as goal
+
+pub returns-clause-value : goal.returns-clause-value
+returns-clause-value c =
+    let shown = c.cut_to-shown.ensures ∙ ap (λ p. cut_to p c.written-digits.result.now) c.behind_prefix.ensures ∙ ap (λ ds. cut_to (option_map (λ p. p - 2) c.args.precision) ds) c.written-digits.ensures in
+    c.put_padded.ensures.value
+    ∙ ap (λ t. put (kept c.args.into.now) (padded c.args.form.now.left c.args.form.now.width t))
+    (ap (λ a. a ++ (c.cut_to-shown.result.now ++ [])) c.cut_to-prefix.ensures
+    ∙ ap (λ b. cut_to c.args.precision (codes "0x") ++ (b ++ [])) shown
+    ∙ cut_two c.args.precision (digits 16 false c.args.address))

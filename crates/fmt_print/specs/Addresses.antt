@@ -1,0 +1,54 @@
+-- The conversions of addresses: `p` and its extensions (Documentation/core-api/printk-formats.rst).
+use Rattle.std.specs.Prelude.{ℕ, Bool, true, false, List, [], ◌∷◌, ◌++◌, map, slice_index, codes, Option, Some, None}
+use Rattle.std.specs.Fmt.{decimal}
+use Rattle.fmt_directives.specs.declared.directive.PointerForm.{PointerForm}
+use Rattle.fmt_directives.specs.declared.directive.PointerForm.TheVariants.{Plain, Name, NameOffset, Ip4, Mac}
+use Rattle.symbols.specs.NameMap.{nearest}
+use Rattle.symbols.specs.Maps.{Maps}
+use Rattle.fmt_expr.specs.Tree.{Tree}
+use Rattle.fmt_expr.specs.Kinds.{kind_of}
+use Rattle.fmt_expr.specs.declared.kinds.Kind.{Kind}
+use Rattle.fmt_expr.specs.declared.kinds.Kind.TheVariants as kinds
+use Rattle.fmt_eval.specs.Values.{Given}
+use Rattle.fmt_eval.specs.Bytes.{bytes_of}
+use Rattle.fmt_eval.specs.Texts.{text_of}
+use Rattle.fmt_eval.specs.Pieces.{join, hexadecimal, two_digits}
+use Rattle.fmt_print.specs.declared.form.Form.{Form}
+use Rattle.fmt_print.specs.Strings.{address_of, padded}
+
+-- the name of a symbol, and how far behind it the address is
+abbrev pub name_or : ℕ → Option (List ℕ × ℕ) → List ℕ
+name_or address None = hexadecimal address
+name_or address (Some found) = found.0
+
+abbrev pub offset_or : ℕ → Option (List ℕ × ℕ) → List ℕ
+offset_or address None = hexadecimal address
+offset_or address (Some found) = found.0 ++ (codes "+" ++ hexadecimal found.1)
+
+-- the first bytes; those that are missing are 0
+abbrev pub four_bytes : List ℕ → List ℕ
+four_bytes bytes = slice_index bytes 0 ∷ slice_index bytes 1 ∷ slice_index bytes 2 ∷ slice_index bytes 3 ∷ []
+
+abbrev pub six_bytes : List ℕ → List ℕ
+six_bytes bytes = slice_index bytes 0 ∷ slice_index bytes 1 ∷ slice_index bytes 2 ∷ slice_index bytes 3 ∷ slice_index bytes 4 ∷ slice_index bytes 5 ∷ []
+
+-- an IPv4 address, or else a hardware address
+abbrev pub network_text : Bool → List ℕ → List ℕ
+network_text true bytes = join (codes ".") (map decimal (four_bytes bytes))
+network_text false bytes = join (codes ":") (map two_digits (six_bytes bytes))
+
+-- an address of the network is read from a text or from bytes; of a number it is shown as a plain address
+abbrev pub network_by : Kind → (List ℕ → List ℕ) → Given → Tree → List ℕ
+network_by kinds.Number f g t = hexadecimal (address_of g t)
+network_by kinds.Text f g t = f (text_of g t)
+network_by kinds.Bytes f g t = f (bytes_of g t)
+
+abbrev pub address_text : PointerForm → Given → Maps → Tree → List ℕ
+address_text Plain g maps t = hexadecimal (address_of g t)
+address_text Name g maps t = name_or (address_of g t) (nearest (address_of g t) maps.symbols)
+address_text NameOffset g maps t = offset_or (address_of g t) (nearest (address_of g t) maps.symbols)
+address_text Ip4 g maps t = network_by (kind_of t) (network_text true) g t
+address_text Mac g maps t = network_by (kind_of t) (network_text false) g t
+
+abbrev pub pointer_text : PointerForm → Given → Maps → Form → Tree → List ℕ
+pointer_text pointer g maps form t = padded form.left form.width (address_text pointer g maps t)

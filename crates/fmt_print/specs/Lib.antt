@@ -1,0 +1,9 @@
+pub mod Fills
+pub mod Integers
+pub mod Strings
+pub mod Addresses
+pub mod Arguments
+pub mod Plan
+pub mod Printed
+pub mod PlanView
+pub mod Views

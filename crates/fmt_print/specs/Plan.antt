@@ -1,0 +1,33 @@
+-- A print fmt whose format text was read.
+use Rattle.std.specs.Prelude.{◌≡◌, ℕ, ◌^◌, ◌≤◌, ◌⊎◌, nat_lt, if◌then◌else◌, List, length, map, Option, None}
+use Rattle.std.specs.Option.{option_map}
+use Rattle.fmt_directives.specs.declared.directive.Directive.{Directive}
+use Rattle.fmt_directives.specs.Directives.{AreDirectives, IsUnlisted}
+use Rattle.fmt_directives.specs.Reading.{directives_of}
+use Rattle.fmt_expr.specs.Tree.{Tree}
+use Rattle.fmt_expr.specs.TreeView.{tree_of}
+use Rattle.fmt_expr.specs.declared.print_fmt.PrintFmt.{PrintFmt}
+
+pub record Plan : Type 0 where
+  pub text : List ℕ
+  pub directives : List Directive
+  pub args : List Tree
+  pub long : ℕ
+
+-- the plan is that of the print fmt: its text, arguments and long size, with directives that spell the text
+pub record IsPlanOf (fmt : PrintFmt) (plan : Plan) : Type 0 where
+  pub text : plan.text ≡ fmt.text
+  pub args : plan.args ≡ map tree_of fmt.args.items
+  pub long : plan.long ≡ fmt.long
+  pub spelled : AreDirectives plan.text plan.directives
+
+-- a text that no directives spell, or whose places are no numbers of 32 bits
+abbrev pub IsUnread : List ℕ → Type 0
+IsUnread text = (2 ^ 32 ≤ length text) ⊎ IsUnlisted text
+
+-- the plan, computed
+abbrev pub plan_with : PrintFmt → List Directive → Plan
+plan_with fmt directives = record { text = fmt.text; directives = directives; args = map tree_of fmt.args.items; long = fmt.long }
+
+unfoldable pub plan_of : PrintFmt → Option Plan
+plan_of fmt = if nat_lt (length fmt.text) (2 ^ 32) then option_map (plan_with fmt) (directives_of fmt.text) else None

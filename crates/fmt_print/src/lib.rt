@@ -1,0 +1,21 @@
+//! Print fmts: a format text that is read once, and the text that it prints of a record.
+#![tactic(auto)]
+
+mod address;
+mod arguments;
+mod flow;
+mod form;
+mod integer;
+mod layout;
+mod plan;
+mod printing;
+mod reading;
+mod repeat;
+mod string;
+#[cfg(test)]
+mod tests;
+
+pub use fmt_directives::{Amount, Base, Directive, Length, PointerForm, Spec};
+pub use plan::PrintPlan;
+pub use printing::print;
+pub use reading::compile;

@@ -1,0 +1,54 @@
+ghost use Rattle.std.specs.Prelude.{length};
+ghost use Rattle.std.specs.List.{All};
+ghost use Rattle.std.proofs.Props.{props};
+ghost use Rattle.fmt_directives.specs.Directives.{IsWithin};
+ghost use Rattle.fmt_directives.proofs.Withins.{within_prop};
+
+use fmt_directives::Directive;
+use fmt_expr::Expr;
+use trace_base::ByteText;
+
+/// A print fmt whose format text was read: its directives, and the arguments that they show. Contracts see it as a `Plan`.
+#[derive(Drop)]
+pub struct PrintPlan {
+    pub(crate) text: ByteText,
+    pub(crate) directives: Vec<Directive>,
+    pub(crate) args: Vec<Expr>,
+    pub(crate) long: u32,
+    ghost within: { All (IsWithin (length text)) directives.items } by { Prim.hlevel (props, within_prop) },
+}
+
+impl PrintPlan {
+    ghost use Rattle.std.specs.Prelude.{◌≡◌, map};
+    ghost use Rattle.fmt_expr.specs.TreeView.{tree_of};
+    ghost use Rattle.fmt_print.specs.PlanView.{plan_view};
+
+    /// The format text, with its escapes resolved. The places of a literal are places in it.
+    pub fn text(&self) -> &[u8]
+        ensures { result.now ≡ (plan_view self.now).text }
+    {
+        self.text.as_bytes()
+    }
+
+    /// The directives that spell the format text, in order.
+    pub fn directives(&self) -> &[Directive]
+        ensures value { result.now ≡ (plan_view self.now).directives }
+        ensures within { All (IsWithin (length (plan_view self.now).text)) result.now }
+    {
+        self.directives.as_slice()
+    }
+
+    /// The arguments, in order.
+    pub fn args(&self) -> &[Expr]
+        ensures { map tree_of result.now ≡ (plan_view self.now).args }
+    {
+        self.args.as_slice()
+    }
+
+    /// The kernel's long size in bytes.
+    pub fn long(&self) -> u32
+        ensures { result ≡ (plan_view self.now).long }
+    {
+        self.long
+    }
+}

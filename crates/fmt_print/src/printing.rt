@@ -1,0 +1,243 @@
+//! Directives over arguments.
+
+ghost use Rattle.std.specs.Prelude.{◌≡◌, length, map};
+ghost use Rattle.std.specs.List.{All};
+ghost use Rattle.trace_base.specs.Kept.{put, put_held};
+ghost use Rattle.trace_base.specs.TailView.{kept, held, lent};
+ghost use Rattle.fmt_directives.specs.Directives.{IsWithin};
+ghost use Rattle.fmt_expr.specs.TreeView.{tree_of};
+ghost use Rattle.fmt_eval.specs.Values.{given};
+ghost use Rattle.fmt_print.specs.Strings.{letter_text, string_text};
+ghost use Rattle.fmt_print.specs.Addresses.{pointer_text};
+ghost use Rattle.fmt_print.specs.Arguments.{taken, by};
+ghost use Rattle.fmt_print.specs.PlanView.{plan_view};
+ghost use Rattle.fmt_print.specs.Printed.{long_bits, bits_of, is_signed, number_text, printed_one, printed, print_text};
+
+use crate::address::put_pointer;
+use crate::arguments::{Conversion, taken};
+use crate::form::Form;
+use crate::integer::put_integer;
+use crate::plan::PrintPlan;
+use crate::string::{put_letter, put_string};
+use fmt_directives::{Base, Directive, Length, PointerForm, Spec};
+use fmt_eval::{cast_bits, number};
+use fmt_expr::Expr;
+use symbols::Symbols;
+use trace_base::{Rec, Tail};
+
+fn long_bits(long: u32) -> u32
+    ensures { result ≡ long_bits long }
+{
+    if long == 4 { 32 } else { 64 }
+}
+
+/// How many bits a length asks for.
+fn bits_of(length: Length, long: u32) -> u32
+    ensures { result ≡ bits_of length long }
+{
+    match length {
+        Length::Usual => 32,
+        Length::CharSize => 8,
+        Length::ShortSize => 16,
+        Length::LongSize | Length::SizeSize | Length::DiffSize => long_bits(long),
+        Length::LongLongSize | Length::MaxSize | Length::BigSize => 64,
+    }
+}
+
+fn is_signed(base: Base) -> bool
+    ensures { result ≡ is_signed base }
+{
+    match base {
+        Base::Signed => true,
+        Base::Unsigned | Base::Hex | Base::UpperHex | Base::Octal => false,
+    }
+}
+
+/// Puts the text of a conversion of numbers.
+fn put_number(
+    long: u32,
+    spec: Spec,
+    base: Base,
+    form: &Form,
+    argument: &Expr,
+    rec: &Rec<'_>,
+    into: &mut Tail<'_>,
+)
+    ensures same_slice { lent into.new ≡ lent into.old }
+    ensures value { kept into.new ≡ put (kept into.old) (number_text (given rec.now) long spec base form.now (tree_of argument.now)) }
+{
+    let bits = bits_of(spec.length, long);
+    let exact = cast_bits(bits, is_signed(base), number(argument, rec).exact()).exact();
+    put_integer(base, form, exact < 0, exact.unsigned_abs() as u64, into);
+}
+
+/// Puts the text of a conversion of numbers, and gives the arguments behind it.
+#[tactic(auto, using(crate::proofs::PrintLemmas::held_nothing, trace_base::proofs::TailJoins::held_put))]
+fn put_number_directive<'a>(
+    long: u32,
+    spec: Spec,
+    base: Base,
+    args: &'a [Expr],
+    rec: &Rec<'_>,
+    into: &mut Tail<'_>,
+) -> &'a [Expr]
+    ensures same_slice { lent into.new ≡ lent into.old }
+    ensures value { held into.new ≡ put_held (held into.old) (by (number_text (given rec.now) long spec base) (taken (given rec.now) spec (map tree_of args.now))).0 }
+    ensures rest { map tree_of result.now ≡ (by (number_text (given rec.now) long spec base) (taken (given rec.now) spec (map tree_of args.now))).1 }
+{
+    match taken(rec, spec, args) {
+        Some(conversion) => {
+            put_number(
+                long,
+                spec,
+                base,
+                &conversion.form,
+                conversion.argument,
+                rec,
+                into,
+            );
+            conversion.rest
+        }
+        None => &[],
+    }
+}
+
+/// Puts the text of a conversion `c`, and gives the arguments behind it.
+#[tactic(auto, using(crate::proofs::PrintLemmas::held_nothing, trace_base::proofs::TailJoins::held_put))]
+fn put_letter_directive<'a>(
+    spec: Spec,
+    args: &'a [Expr],
+    rec: &Rec<'_>,
+    into: &mut Tail<'_>,
+) -> &'a [Expr]
+    ensures same_slice { lent into.new ≡ lent into.old }
+    ensures value { held into.new ≡ put_held (held into.old) (by (letter_text (given rec.now)) (taken (given rec.now) spec (map tree_of args.now))).0 }
+    ensures rest { map tree_of result.now ≡ (by (letter_text (given rec.now)) (taken (given rec.now) spec (map tree_of args.now))).1 }
+{
+    match taken(rec, spec, args) {
+        Some(conversion) => {
+            put_letter(&conversion.form, conversion.argument, rec, into);
+            conversion.rest
+        }
+        None => &[],
+    }
+}
+
+/// Puts the text of a conversion `s`, and gives the arguments behind it.
+#[tactic(auto, using(crate::proofs::PrintLemmas::held_nothing))]
+fn put_text_directive<'a>(
+    spec: Spec,
+    args: &'a [Expr],
+    rec: &Rec<'_>,
+    symbols: &Symbols,
+    into: &mut Tail<'_>,
+) -> &'a [Expr]
+    ensures same_slice { lent into.new ≡ lent into.old }
+    ensures value { held into.new ≡ put_held (held into.old) (by (string_text (given rec.now) symbols.now) (taken (given rec.now) spec (map tree_of args.now))).0 }
+    ensures rest { map tree_of result.now ≡ (by (string_text (given rec.now) symbols.now) (taken (given rec.now) spec (map tree_of args.now))).1 }
+{
+    match taken(rec, spec, args) {
+        Some(conversion) => {
+            put_string(&conversion.form, conversion.argument, rec, symbols, into);
+            conversion.rest
+        }
+        None => &[],
+    }
+}
+
+/// Puts the text of a conversion `p`, and gives the arguments behind it.
+#[tactic(auto, using(crate::proofs::PrintLemmas::held_nothing, trace_base::proofs::TailJoins::held_put))]
+fn put_pointer_directive<'a>(
+    spec: Spec,
+    pointer: PointerForm,
+    args: &'a [Expr],
+    rec: &Rec<'_>,
+    symbols: &Symbols,
+    into: &mut Tail<'_>,
+) -> &'a [Expr]
+    ensures same_slice { lent into.new ≡ lent into.old }
+    ensures value { held into.new ≡ put_held (held into.old) (by (pointer_text pointer (given rec.now) symbols.now) (taken (given rec.now) spec (map tree_of args.now))).0 }
+    ensures rest { map tree_of result.now ≡ (by (pointer_text pointer (given rec.now) symbols.now) (taken (given rec.now) spec (map tree_of args.now))).1 }
+{
+    match taken(rec, spec, args) {
+        Some(conversion) => {
+            put_pointer(
+                pointer,
+                &conversion.form,
+                conversion.argument,
+                rec,
+                symbols,
+                into,
+            );
+            conversion.rest
+        }
+        None => &[],
+    }
+}
+
+/// Puts the text of one directive, and gives the arguments behind it.
+#[tactic(auto, using(trace_base::proofs::TailJoins::held_put))]
+fn put_directive<'a>(
+    long: u32,
+    text: &[u8],
+    directive: Directive,
+    args: &'a [Expr],
+    rec: &Rec<'_>,
+    symbols: &Symbols,
+    into: &mut Tail<'_>,
+) -> &'a [Expr]
+    requires { IsWithin (length text.now) directive }
+    ensures same_slice { lent into.new ≡ lent into.old }
+    ensures value { held into.new ≡ put_held (held into.old) (printed_one (given rec.now) symbols.now long text.now directive (map tree_of args.now)).0 }
+    ensures rest { map tree_of result.now ≡ (printed_one (given rec.now) symbols.now long text.now directive (map tree_of args.now)).1 }
+{
+    match directive {
+        Directive::Literal { start, end } => {
+            into.put(&text[start as usize..end as usize]);
+            args
+        }
+        Directive::Number { spec, base } => put_number_directive(long, spec, base, args, rec, into),
+        Directive::Letter { spec } => put_letter_directive(spec, args, rec, into),
+        Directive::Text { spec } => put_text_directive(spec, args, rec, symbols, into),
+        Directive::Pointer { spec, form } => put_pointer_directive(
+            spec, form, args, rec, symbols, into,
+        ),
+    }
+}
+
+/// Puts the texts of directives, one after another.
+fn put_directives(
+    long: u32,
+    text: &[u8],
+    directives: &[Directive],
+    args: &[Expr],
+    rec: &Rec<'_>,
+    symbols: &Symbols,
+    into: &mut Tail<'_>,
+)
+    requires { All (IsWithin (length text.now)) directives.now }
+    ensures same_slice { lent into.new ≡ lent into.old }
+    ensures value { held into.new ≡ put_held (held into.old) (printed (given rec.now) symbols.now long text.now directives.now (map tree_of args.now)) }
+{
+    let mut left = args;
+    for directive in directives {
+        left = put_directive(long, text, *directive, left, rec, symbols, into);
+    }
+}
+
+/// Puts the text that a plan prints of a record.
+#[tactic(auto, unfolding(crate::specs::Printed::print_text))]
+pub fn print(plan: &PrintPlan, rec: &Rec<'_>, symbols: &Symbols, into: &mut Tail<'_>)
+    ensures same_slice { lent into.new ≡ lent into.old }
+    ensures value { held into.new ≡ put_held (held into.old) (print_text (plan_view plan.now) (given rec.now) symbols.now) }
+{
+    put_directives(
+        plan.long(),
+        plan.text(),
+        plan.directives(),
+        plan.args(),
+        rec,
+        symbols,
+        into,
+    );
+}

@@ -1,0 +1,38 @@
+//! Format texts, read into plans.
+
+ghost use Rattle.std.specs.Prelude.{◌≡◌, IfOk, IfSome, IfNone};
+ghost use Rattle.std.specs.Option.{option_map};
+ghost use Rattle.fmt_print.specs.Plan.{IsPlanOf, IsUnread, plan_of};
+ghost use Rattle.fmt_print.specs.PlanView.{plan_view};
+
+use crate::plan::PrintPlan;
+use fmt_directives::directives;
+use fmt_expr::PrintFmt;
+use std::alloc::{AllocError, Global};
+
+/// Reads the format text of a print fmt. None exactly where a conversion in it is not listed, or where it is longer than
+/// 2^32 - 1 bytes.
+///
+/// # Errors
+///
+/// Want of memory alone.
+#[tactic(auto, unfolding(crate::specs::Plan::plan_of))]
+pub fn compile(alloc: Global, fmt: PrintFmt) -> Result<Option<PrintPlan>, AllocError>
+    ensures found { IfOk result (λ plan. IfSome plan (λ p. IsPlanOf fmt (plan_view p))) }
+    ensures none { IfOk result (λ plan. IfNone plan (IsUnread fmt.text)) }
+    ensures exact { IfOk result (λ plan. option_map plan_view plan ≡ plan_of fmt) }
+{
+    let PrintFmt { text, args, long } = fmt;
+    if text.as_bytes().len() > u32::MAX as usize {
+        return Ok(None);
+    }
+    let Some(directives) = directives(alloc, text.as_bytes())? else {
+        return Ok(None);
+    };
+    Ok(Some(PrintPlan {
+        text,
+        directives,
+        args,
+        long,
+    }))
+}

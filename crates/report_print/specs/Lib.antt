@@ -1,0 +1,9 @@
+pub mod Given
+pub mod CommonFields
+pub mod Columns
+pub mod Marks
+pub mod FieldTexts
+pub mod Ending
+pub mod Plans
+pub mod Line
+pub mod HeadView

@@ -1,0 +1,176 @@
+// The text of an item, without the line's end.
+
+ghost use Rattle.std.specs.Prelude.{◌≡◌, ◌≤◌, ◌++◌, length};
+ghost use Rattle.format_parse.specs.Table.{format_at};
+ghost use Rattle.trace_base.specs.Kept.{put_held};
+ghost use Rattle.trace_base.specs.TailView.{held, lent};
+ghost use Rattle.subpage.specs.ItemView.{item_view};
+ghost use Rattle.std.specs.Option.{option_map};
+ghost use Rattle.fmt_print.specs.PlanView.{plan_view};
+ghost use Rattle.report_print.specs.Line as spec;
+
+use crate::context::Context;
+use crate::fields::{put_fields, put_pair, put_unread};
+use crate::front::Front;
+use crate::head::Known;
+use crate::show::Show;
+use fmt_print::print;
+use itoa::Buffer;
+use subpage::Item;
+use trace_base::{Rec, Tail};
+
+/// Puts the text of an item.
+pub(crate) fn put_item(context: &Context, cpu: u32, item: &Item<'_>, into: &mut Tail<'_>)
+    ensures same_slice { lent into.new ≡ lent into.old }
+    ensures value { held into.new ≡ put_held (held into.old) (spec.item_text context.now cpu (item_view item.now)) }
+{
+    match item {
+        Item::Event { time, payload } => put_event(context, cpu, *time, payload, into),
+        Item::Loss { time: _, count } => put_loss(cpu, *count, into),
+    }
+}
+
+#[tactic(auto, unfolding(crate::specs::Line::event_text), using(trace_base::proofs::TailJoins::put_held_twice))]
+fn put_event(context: &Context, cpu: u32, time: u64, payload: &[u8], into: &mut Tail<'_>)
+    ensures same_slice { lent into.new ≡ lent into.old }
+    ensures value { held into.new ≡ put_held (held into.old) (spec.event_text context.now cpu time payload.now) }
+{
+    put_front(context, cpu, time, payload, into);
+    put_text(context, context.id(payload), payload, into);
+}
+
+/// Puts the columns before the event's name.
+#[tactic(auto, unfolding(crate::specs::Line::front_text), using(crate::proofs::FrontLemmas::wide_task, trace_base::proofs::TailJoins::put_held_twice))]
+fn put_front(context: &Context, cpu: u32, time: u64, payload: &[u8], into: &mut Tail<'_>)
+    ensures same_slice { lent into.new ≡ lent into.old }
+    ensures value { held into.new ≡ put_held (held into.old) (spec.front_text context.now cpu time payload.now) }
+{
+    let name = context.symbols().comm_of(context.pid(payload));
+    let mut front = columns(context, cpu, time, payload);
+    let width = task_width(context.show());
+    if name.len() <= 40 {
+        front.task(width, name);
+        into.put(front.as_bytes());
+    } else {
+        put_pair(name, front.as_bytes(), into);
+    }
+}
+
+fn task_width(show: &Show) -> usize
+    ensures value { result ≡ spec.task_width show.now }
+    ensures narrow { result ≤ 16 }
+{
+    if show.latency { 8 } else { 16 }
+}
+
+/// The columns behind the task's name.
+#[tactic(auto, unfolding(crate::specs::Line::columns_text))]
+fn columns(context: &Context, cpu: u32, time: u64, payload: &[u8]) -> Front
+    ensures value { result ≡ spec.columns_text context.now cpu time payload.now }
+    ensures short { length result ≤ 115 }
+{
+    let show = context.show();
+    let mut front = Front::new();
+    front.text(b": ");
+    front.time(show.full, time);
+    front.place(
+        show,
+        cpu,
+        context.flags(payload),
+        context.preempt_count(payload),
+    );
+    front.pid(context.pid(payload));
+    front.byte(b'-');
+    front
+}
+
+/// Puts the event's name and what is said of it.
+#[tactic(auto, using(trace_base::proofs::TailJoins::put_held_twice, crate::proofs::FrontLemmas::known_text, crate::proofs::FrontLemmas::unknown_is))]
+fn put_text(context: &Context, id: u32, payload: &[u8], into: &mut Tail<'_>)
+    ensures same_slice { lent into.new ≡ lent into.old }
+    ensures value { held into.new ≡ put_held (held into.old) (spec.text_by context.now payload.now id (format_at id context.now.formats)) }
+{
+    match context.known(id) {
+        None => put_unknown(id, into),
+        Some(known) => {
+            into.put(known.head.label.as_bytes());
+            put_body(context, &known, payload, into);
+        }
+    }
+}
+
+/// Puts the event's fields, or the text of its print fmt.
+fn put_body(context: &Context, known: &Known<'_>, payload: &[u8], into: &mut Tail<'_>)
+    ensures same_slice { lent into.new ≡ lent into.old }
+    ensures value { held into.new ≡ put_held (held into.old) (spec.body_by context.now known.now.head.now.raw (option_map plan_view known.now.head.now.plan) payload.now known.now.format.now) }
+{
+    let rec = Rec {
+        order: context.show().order,
+        payload,
+    };
+    if known.head.raw {
+        put_fields(&rec, known.format.fields.as_slice(), into);
+    } else {
+        put_print(context, known, &rec, into);
+    }
+}
+
+/// Puts the text of the event's print fmt, or its fields where that is unread.
+fn put_print(context: &Context, known: &Known<'_>, rec: &Rec<'_>, into: &mut Tail<'_>)
+    requires { rec.now.order ≡ context.now.show.order }
+    ensures same_slice { lent into.new ≡ lent into.old }
+    ensures value { held into.new ≡ put_held (held into.old) (spec.print_by context.now rec.now.payload.now known.now.format.now (option_map plan_view known.now.head.now.plan)) }
+{
+    match &known.head.plan {
+        Some(plan) => print(plan, rec, context.symbols(), into),
+        None => put_unread(rec, known.format.fields.as_slice(), into),
+    }
+}
+
+#[tactic(auto, unfolding(crate::specs::Line::unknown_text))]
+fn put_unknown(id: u32, into: &mut Tail<'_>)
+    ensures same_slice { lent into.new ≡ lent into.old }
+    ensures value { held into.new ≡ put_held (held into.old) (spec.unknown_text id) }
+{
+    let mut digits = Buffer::new();
+    put_three(b"[UNKNOWN EVENT ", digits.format(id).as_bytes(), b"]", into);
+}
+
+#[tactic(auto, unfolding(crate::specs::Line::loss_text))]
+fn put_loss(cpu: u32, count: Option<u64>, into: &mut Tail<'_>)
+    ensures same_slice { lent into.new ≡ lent into.old }
+    ensures value { held into.new ≡ put_held (held into.old) (spec.loss_text cpu count) }
+{
+    let mut cpu_digits = Buffer::new();
+    let cpu = cpu_digits.format(cpu).as_bytes();
+    match count {
+        None => put_three(b"CPU:", cpu, b" [EVENTS DROPPED]", into),
+        Some(count) => {
+            let mut digits = Buffer::new();
+            let count = digits.format(count).as_bytes();
+            put_five(b"CPU:", cpu, b" [", count, b" EVENTS DROPPED]", into);
+        }
+    }
+}
+
+#[tactic(auto, using(trace_base::proofs::TailJoins::put_held_twice))]
+fn put_three(one: &[u8], two: &[u8], three: &[u8], into: &mut Tail<'_>)
+    ensures same_slice { lent into.new ≡ lent into.old }
+    ensures value { held into.new ≡ put_held (held into.old) (one.now ++ (two.now ++ three.now)) }
+{
+    into.put(one);
+    into.put(two);
+    into.put(three);
+}
+
+#[tactic(auto, using(trace_base::proofs::TailJoins::put_held_twice))]
+fn put_five(one: &[u8], two: &[u8], three: &[u8], four: &[u8], five: &[u8], into: &mut Tail<'_>)
+    ensures same_slice { lent into.new ≡ lent into.old }
+    ensures value { held into.new ≡ put_held (held into.old) (one.now ++ (two.now ++ (three.now ++ (four.now ++ five.now)))) }
+{
+    into.put(one);
+    into.put(two);
+    into.put(three);
+    into.put(four);
+    into.put(five);
+}
