@@ -12,7 +12,8 @@ It ends with 0 where all lines agree but for differences of the kinds below, and
 
 - bprint: the original expands the binary arguments of trace_printk, and PROGRAM shows the format text;
 - unread: PROGRAM says `[FAILED TO PARSE]`, for a print fmt with enum constants, variables or a conversion that is not read;
-- null: the original prints `(nil)` for the address 0, and PROGRAM `0x0`.
+- null: the original prints `(nil)` for the address 0, and PROGRAM `0x0`;
+- escape: the original resolves the `\\n` that a stored printk format ends in, and PROGRAM shows it as it is stored.
 """
 
 import re
@@ -51,6 +52,8 @@ def kind(ours, theirs):
         return f"{event} unread"
     if our["text"].replace(b"0x0", b"(nil)") == their["text"]:
         return f"{event} null"
+    if our["text"].replace(b"\\n", b"") == their["text"]:
+        return f"{event} escape"
     return None
 
 

@@ -1,11 +1,12 @@
 -- The layout that a header_page text gives to the file's sub-buffers.
--- Source: trace-cmd.dat.v6(5), `header_page`; the text is the kernel's events/header_page. The limits on the places are this
--- program's.
+-- Source: trace-cmd.dat.v6(5), `header_page`; the text is the kernel's events/header_page. The limits on the places are
+-- this program's.
 use Rattle.std.specs.Prelude.{◌+◌, ◌%◌, ◌==◌, ◌&&◌, ◌||◌, Bool, ℕ, nat_le, List, [], ◌∷◌, Option, Some, None, if◌then◌else◌, codes}
 use Rattle.std.specs.List.{find, filter_map}
 use Rattle.std.specs.Str.{bytes_eq}
 use Rattle.trace_base.specs.FieldLine.{FieldData}
-use Rattle.trace_base.specs.FieldReading.{field_line, ◌>>=◌}
+use Rattle.trace_base.specs.FieldReading.{field_line}
+use Rattle.trace_base.specs.OptionSteps.{◌>>=◌}
 use Rattle.text_lines.specs.Lines.{lines_of}
 use Rattle.trace_base.specs.declared.order.Order.{Order}
 use Rattle.trace_base.specs.declared.layout.Layout.{Layout}
@@ -22,7 +23,8 @@ field_lines text = filter_map field_line (lines_of text)
 abbrev pub line_named : List ℕ → List FieldData → Option FieldData
 line_named name lines = find (λ line. bytes_eq line.declaration.name name) lines
 
--- a timestamp and a commit word of 4 or 8 bytes, apart from each other and in front of data that begin early at a multiple of 4
+-- a timestamp and a commit word of 4 or 8 bytes, apart from each other and in front of data that begin early at a
+-- multiple of 4
 abbrev pub may_be : Layout → Bool
 may_be layout = (layout.commit_size == 4 || layout.commit_size == 8)
     && (nat_le (layout.time_at + 8) layout.commit_at || nat_le (layout.commit_at + layout.commit_size) layout.time_at)

@@ -2,7 +2,7 @@
 use Rattle.std.specs.Prelude.{ℕ, nat_lt, if◌then◌else◌, List, length, take, drop, Option, Some, None}
 use Rattle.trace_base.specs.declared.order.Order.{Order}
 use Rattle.trace_base.specs.Number.{num}
-use Rattle.trace_base.specs.FieldReading.{◌>>=◌}
+use Rattle.trace_base.specs.OptionSteps.{◌>>=◌}
 
 -- so many bytes
 unfoldable pub leading_piece : ℕ → List ℕ → Option (List ℕ × List ℕ)

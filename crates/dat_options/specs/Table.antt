@@ -8,7 +8,7 @@ use Rattle.trace_base.specs.declared.part.Part.{Part}
 use Rattle.trace_base.specs.Number.{bytes_of}
 use Rattle.dat_options.specs.declared.fault.OpenFault.{OpenFault}
 use Rattle.dat_options.specs.declared.fault.OpenFault.TheVariants.{Truncated}
-use Rattle.trace_base.specs.FieldReading.{◌>>=◌}
+use Rattle.trace_base.specs.OptionSteps.{◌>>=◌}
 use Rattle.dat_options.specs.Front.{leading_number}
 use Rattle.dat_options.specs.Place.{StandsAt, AreBytes}
 use Rattle.dat_options.specs.Answer.{found_in}

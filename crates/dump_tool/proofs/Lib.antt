@@ -1,3 +1,3 @@
-mod Putting
+pub mod Putting
 mod Parts
 mod Chosen

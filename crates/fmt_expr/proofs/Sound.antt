@@ -11,7 +11,7 @@ use Rattle.fmt_expr.specs.Ops.{op_at}
 use Rattle.fmt_expr.specs.Texts.{AreTexts, text_at}
 use Rattle.fmt_expr.specs.Types.{TypeName, closed_type}
 use Rattle.fmt_expr.specs.Fields.{is_indexed, named_at, dynamic_at}
-use Rattle.fmt_expr.specs.Steps.{◌>>=◌}
+use Rattle.trace_base.specs.OptionSteps.{◌>>=◌}
 use Rattle.fmt_expr.specs.Parsing.{Found, found, Row, row, Read, Inner, nothing, layer, within, top, row_at, row_step, row_behind, joined, joined_with, with_operand, level_at, choice_at, cond_with, cond_at, unary_by, unary_with, call_by, Valued, Listed, listed, with_entry, entry_at, tail_at, entries_behind, entries_at, argument_at, flags_at, symbolic_at, hex_at, array_at, sized_at, got_at, constant_or, leaf_at, element_at, field_at, cast_at, open_by, open_at, bracket_at, prefixed_at}
 use Rattle.fmt_expr.specs.Derivation.{IsCond, plain, conditional, IsLevel, unary, single, several, IsRow, no_more, goes_on, IsUnary, prefixed, bracketed, casted, field, indexed, constant, texts, sized, got, flagged, symbolized, in_hex, in_array, IsEntry, braced, AreEntries, last, further}
 use Rattle.fmt_expr.specs.declared.expr.PrefixOp.{PrefixOp}

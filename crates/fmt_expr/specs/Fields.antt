@@ -2,7 +2,8 @@
 use Rattle.std.specs.Prelude.{ℕ, ◌+◌, Bool, false, ◌||◌, ◌==◌, Option, Some, codes}
 use Rattle.fmt_expr.specs.Tree.{Tree, field_number, field_text, field_bytes, len_of}
 use Rattle.fmt_expr.specs.Source.{Source, name_at, is_mark, field_named, is_dynamic}
-use Rattle.fmt_expr.specs.Steps.{◌>>=◌, ◌>>◌}
+use Rattle.trace_base.specs.OptionSteps.{◌>>=◌}
+use Rattle.fmt_expr.specs.Steps.{◌>>◌}
 use Rattle.fmt_expr.specs.declared.head.Got.{Got}
 use Rattle.fmt_expr.specs.declared.head.Got.TheVariants as got
 use Rattle.trace_base.specs.declared.field.Field.{Field}

@@ -11,7 +11,8 @@ use Rattle.fmt_expr.specs.Ops.{op_at}
 use Rattle.fmt_expr.specs.Texts.{text_at}
 use Rattle.fmt_expr.specs.Types.{TypeName, closed_type}
 use Rattle.fmt_expr.specs.Fields.{field_tree, got_tree, is_indexed, named_at, dynamic_at}
-use Rattle.fmt_expr.specs.Steps.{◌>>=◌, ◌>>◌}
+use Rattle.trace_base.specs.OptionSteps.{◌>>=◌}
+use Rattle.fmt_expr.specs.Steps.{◌>>◌}
 use Rattle.fmt_expr.specs.declared.expr.Op.{Op}
 use Rattle.fmt_expr.specs.declared.expr.PrefixOp.{PrefixOp}
 use Rattle.fmt_expr.specs.declared.head.Got.{Got}

@@ -1,6 +1,7 @@
 -- What a format text says of an event.
-use Rattle.std.specs.Prelude.{ℕ, ◌==◌, Bool, if◌then◌else◌, List, [], ◌∷◌, ◌++◌, map, codes, Option, Some, None, option_and_then}
+use Rattle.std.specs.Prelude.{ℕ, ◌==◌, Bool, if◌then◌else◌, List, [], ◌∷◌, ◌++◌, map, codes, Option, Some, None}
 use Rattle.std.specs.List.{cons_option, join_with_byte}
+use Rattle.trace_base.specs.OptionSteps.{◌>>=◌}
 use Rattle.trace_base.specs.FieldLine.{FieldData, is_identifier, decimal}
 use Rattle.trace_base.specs.FieldReading.{after_word, field_line}
 use Rattle.format_parse.specs.declared.format.EventFormat.{EventFormat}
@@ -27,10 +28,6 @@ print_text (line ∷ lines) = print_by (after_word (codes "print fmt:") line) li
 
 abbrev pub identifier : List ℕ → Option (List ℕ)
 identifier text = if is_identifier text then Some text else None
-
-infixl 10 ◌>>=◌
-abbrev pub ◌>>=◌ : {A B : Type 0} → Option A → (A → Option B) → Option B
-o >>= f = option_and_then f o
 
 unfoldable pub name_in : List ℕ → Option (List ℕ)
 name_in text = do

@@ -3,6 +3,8 @@ pub mod ElementSound
 pub mod ElementComplete
 pub mod Elements
 pub mod Walking
+pub mod Suffixes
+pub mod Settling
 pub mod Counting
 pub mod PageItems
 pub mod Arranging

@@ -1,7 +1,7 @@
 -- Steps that may fail.
 use Rattle.std.proofs.Common.{◌≡◌, Bool, true, false, cond, Option, Some, None, refl, ◌⊎◌, inl, inr}
 use Rattle.std.specs.Option.{option_map}
-use Rattle.subpage.specs.Reading.{◌>>=◌}
+use Rattle.trace_base.specs.OptionSteps.{◌>>=◌}
 
 pub bind_some : {A B : Type 0} (o : Option A) (f : A → Option B) (y : B) → (o >>= f) ≡ Some y → (x : A) × (o ≡ Some x) × (f x ≡ Some y)
 bind_some None f y e = absurd cc

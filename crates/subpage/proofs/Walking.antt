@@ -6,7 +6,8 @@ use Rattle.trace_base.specs.declared.order.Order.{Order}
 use Rattle.subpage.specs.Element.{ElementData, Event, End, Discarded, Extend, Stamp}
 use Rattle.subpage.specs.RunningTime.{in_64_bits, in_time, time_after}
 use Rattle.subpage.specs.ItemData.{ItemData, told_by, events}
-use Rattle.subpage.specs.Reading.{◌>>=◌, element_at, elements, walk}
+use Rattle.trace_base.specs.OptionSteps.{◌>>=◌}
+use Rattle.subpage.specs.Reading.{element_at, elements, walk}
 use Rattle.subpage.proofs.Elements.{elements_nil, elements_step, elements_none, shrinks}
 
 pub walk_nil : (order : Order) (time : ℕ) → walk order time [] ≡ Some []

@@ -1,4 +1,4 @@
--- Where malformed sub-pages end the arranged items.
+-- Where malformed sub-buffers end the arranged items.
 -- A processor's part is told by its number and its place in the file; the processors are the selected ones, and rise.
 use Rattle.std.specs.Prelude.{ℕ, max, Bool, true, false, ◌&&◌, ◌||◌, nat_lt, nat_le, ◌==◌, IsTrue, All, Contains, if◌then◌else◌, List, map, fold, filter, filter_map, Option, Some, None, option_map}
 use Rattle.std.specs.List.{reduce}
@@ -8,8 +8,8 @@ use Rattle.subpage.specs.ItemData.{ItemData, item_time}
 use Rattle.subpage.specs.Processor.{list_of, bad_of}
 use Rattle.subpage.specs.Arrangement.{Keyed, arranged}
 
--- A malformed sub-page, by its processor and number, and the key of the last item before it on its processor. There is
--- no key where there is no such item: the very start.
+-- A malformed sub-buffer, by its processor and number, and the key of the last item before it on its processor. There
+-- is no key where there is no such item: the very start.
 pub record Cut : Type 0 where
   pub key : Option ℕ
   pub cpu : ℕ
@@ -19,7 +19,7 @@ pub record Cut : Type 0 where
 abbrev pub last_key : List ItemData → Option ℕ
 last_key items = reduce max (map item_time items)
 
--- the cut of a processor that has a malformed sub-page: of the first such one
+-- the cut of a processor that has a malformed sub-buffer: of the first such one
 abbrev pub own_cut : Layout → List ℕ → ℕ × Part → Option Cut
 own_cut layout file part =
     option_map (λ page. record { key = last_key (list_of layout file part.1); cpu = part.0; page = page })

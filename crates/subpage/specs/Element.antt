@@ -1,4 +1,4 @@
--- The elements of a sub-page, and the bytes that spell them.
+-- The elements of a sub-buffer, and the bytes that spell them.
 -- Source: the kernel's ring_buffer.h (`enum ring_buffer_type`, `struct ring_buffer_event`), trace-cmd.dat.v6(5).
 -- That a length below 4 is none, that a length is filled up to whole words, and that a discarded record counts its
 -- delta are choices of this project where these sources are silent.

@@ -1,4 +1,4 @@
--- The items that a sub-page tells, as plain data.
+-- The items that a sub-buffer tells, as plain data.
 use Rattle.std.specs.Prelude.{ℕ, List, [], ◌∷◌, map, Option, Some, None}
 use Rattle.std.specs.List.{flat_map, zip, last_or}
 use Rattle.subpage.specs.Element.{ElementData, Event, End, Discarded, Extend, Stamp}

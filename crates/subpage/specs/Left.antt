@@ -1,4 +1,4 @@
--- What an iterator over a sub-page's items has left.
+-- What an iterator over a sub-buffer's items has left.
 use Rattle.std.specs.Prelude.{ℕ, List, [], ◌∷◌, ◌++◌, Option, Some, None, unwrap_or}
 use Rattle.trace_base.specs.declared.order.Order.{Order}
 use Rattle.subpage.specs.declared.loss.Loss.{Loss}

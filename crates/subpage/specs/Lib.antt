@@ -13,3 +13,4 @@ pub mod Left
 pub mod ItemsView
 pub mod Summary
 pub mod PageView
+pub mod Marks

@@ -1,5 +1,5 @@
 -- What the next event is, told by the events of all bytes.
-use Rattle.std.specs.Prelude.{◌≡◌, ℕ, ◌<◌, List, [], ◌∷◌, length, Some, None, option_map}
+use Rattle.std.specs.Prelude.{◌≡◌, ℕ, ◌-◌, ◌<◌, drop, List, [], ◌∷◌, length, Some, None, option_map}
 use Rattle.trace_base.specs.declared.order.Order.{Order}
 use Rattle.subpage.specs.declared.next.Next.{Next}
 use Rattle.subpage.specs.declared.next.Next.TheVariants as code
@@ -12,3 +12,9 @@ IsNext order time bytes code.Done = walk order time bytes ≡ Some []
 IsNext order time bytes (code.Event after payload rest) =
     (walk order time bytes ≡ option_map (λ xs. EventAt after payload.now ∷ xs) (walk order after rest.now))
     × (length rest.now < length bytes)
+
+-- the bytes behind the event are the last ones
+abbrev pub IsSuffix : List ℕ → Next → Type 0
+IsSuffix bytes code.Malformed = Unit {0}
+IsSuffix bytes code.Done = Unit {0}
+IsSuffix bytes (code.Event after payload rest) = rest.now ≡ drop (length bytes - length rest.now) bytes

@@ -1,4 +1,4 @@
--- The items of a whole sub-page.
+-- The items of a whole sub-buffer.
 -- Source: trace-cmd.dat.v6(5) and the kernel's `struct buffer_data_page` (timestamp, commit word, data); its missed
 -- events stand in bits 31 and 30 of the commit word (ring_buffer.c, RB_MISSED_EVENTS and RB_MISSED_STORED). All other
 -- bits above the low 27 are ignored, and bit 30 alone is.
@@ -52,7 +52,7 @@ abbrev pub page_losses : Layout → List ℕ → List ItemData
 page_losses layout page =
     losses layout (commit_word layout page) (timestamp layout page) (behind_committed layout page)
 
--- The items of a sub-page: a loss, if it tells one, and the events of the elements that spell the committed bytes.
+-- The items of a sub-buffer: a loss, if it tells one, and the events of the elements that spell the committed bytes.
 pub record AreItems (layout : Layout) (page : List ℕ) (items : List ItemData) : Type 0 where
   pub inside : committed_size (commit_word layout page) ≤ length (data_area layout page)
   pub elements : List ElementData
@@ -60,7 +60,7 @@ pub record AreItems (layout : Layout) (page : List ℕ) (items : List ItemData) 
   pub in_64_bits : IsTrue (in_time (timestamp layout page) elements)
   pub items_are : items ≡ page_losses layout page ++ events (timestamp layout page) elements
 
--- The same, computed: none where the sub-page is malformed.
+-- The same, computed: none where the sub-buffer is malformed.
 unfoldable pub items : Layout → List ℕ → Option (List ItemData)
 items layout page =
     if nat_lt (length (data_area layout page)) (committed_size (commit_word layout page)) then None

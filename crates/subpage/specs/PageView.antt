@@ -1,4 +1,4 @@
--- A sub-page that was checked, seen as its items.
+-- A sub-buffer that was checked, seen as its items.
 use Rattle.std.specs.Prelude.{◌≡◌, List, IsSome}
 use Rattle.subpage.specs.declared.page.Page.TheInside.{Inside}
 use Rattle.subpage.specs.ItemData.{ItemData}

@@ -1,14 +1,11 @@
 -- The elements that bytes spell, computed from the front.
-use Rattle.std.specs.Prelude.{ℕ, zero, suc, ◌+◌, ◌-◌, ◌*◌, ◌^◌, nat_lt, ◌==◌, if◌then◌else◌, List, [], ◌∷◌, length, take, drop, Option, Some, None, option_map, option_and_then}
+use Rattle.std.specs.Prelude.{ℕ, zero, suc, ◌+◌, ◌-◌, ◌*◌, ◌^◌, nat_lt, ◌==◌, if◌then◌else◌, List, [], ◌∷◌, length, take, drop, Option, Some, None, option_map}
 use Rattle.trace_base.specs.declared.order.Order.{Order}
+use Rattle.trace_base.specs.OptionSteps.{◌>>=◌}
 use Rattle.trace_base.specs.Number.{num}
 use Rattle.subpage.specs.Element.{ElementData, Event, End, Discarded, Extend, Stamp, type_len, time_delta, round4}
 use Rattle.subpage.specs.RunningTime.{in_time}
 use Rattle.subpage.specs.ItemData.{ItemData, events}
-
-infixl 10 ◌>>=◌
-abbrev pub ◌>>=◌ : {A B : Type 0} → Option A → (A → Option B) → Option B
-o >>= f = option_and_then f o
 
 -- Each of these gives what it reads, and the bytes after it.
 unfoldable pub word_at : Order → List ℕ → Option (ℕ × List ℕ)

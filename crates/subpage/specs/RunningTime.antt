@@ -1,4 +1,4 @@
--- The running time over the elements of a sub-page.
+-- The running time over the elements of a sub-buffer.
 -- Source: the kernel's ring_buffer.h (time extends and absolute stamps of 59 bits) and events.rst. That a stamp takes
 -- over the upper five bits of the running time is a choice of this project: a stamp has no room for them.
 use Rattle.std.specs.Prelude.{ℕ, ◌+◌, ◌-◌, ◌%◌, ◌^◌, Bool, nat_lt, nat_le, ◌==◌, if◌then◌else◌, List, [], ◌∷◌, Option, Some, None}

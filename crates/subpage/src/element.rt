@@ -1,4 +1,4 @@
-/// An element of a sub-page's committed bytes (the kernel's `struct ring_buffer_event`). Deltas and times are in
+/// An element of a sub-buffer's committed bytes (the kernel's `struct ring_buffer_event`). Deltas and times are in
 /// nanoseconds.
 #[derive(Clone, Copy, Debug)]
 pub enum Element<'a> {

@@ -1,4 +1,4 @@
-/// What a sub-page tells. Times are in nanoseconds of the trace's clock.
+/// What a sub-buffer tells. Times are in nanoseconds of the trace's clock.
 #[derive(Clone, Copy, Debug, PartialEq, Eq)]
 pub enum Item<'a> {
     /// An event, with the bytes of its payload: the event's own fields, behind the words that lead to it.

@@ -10,7 +10,7 @@ use crate::next::{Next, next_event};
 use std::marker::Model;
 use trace_base::Order;
 
-/// The items of a sub-page, one after another. It takes no memory, and a contract sees it as the items that are left.
+/// The items of a sub-buffer, one after another. It takes no memory, and a contract sees it as the items that are left.
 #[derive(Drop)]
 pub struct Items<'a> {
     loss: Option<Loss>,

@@ -18,7 +18,7 @@ pub fn one_spelling()
         → Spelled order es bytes → Spelled order fs bytes → es ≡ fs }
 {}
 
-/// A sub-page has at most one list of items, and it is the one that `items` computes.
+/// A sub-buffer has at most one list of items, and it is the one that `items` computes.
 pub fn one_list_of_items()
     ensures { (layout : Layout) (page : List ℕ) (xs : List ItemData)
         → AreItems layout page xs ↔ (items layout page ≡ Some xs) }
@@ -64,7 +64,7 @@ pub fn least_cut()
 {}
 
 /// The reached items are the first of the arranged ones, and all items of the cut's own processor are among them: those
-/// of its sub-pages before the malformed one.
+/// of its sub-buffers before the malformed one.
 pub fn reached_items()
     ensures first { (layout : Layout) (file : List ℕ) (parts : List (ℕ × Part)) → CpusRise parts
         → reached_of layout file parts

@@ -1,11 +1,12 @@
-//! Sub-pages of a trace.dat file, which the kernel calls sub-buffers: what stands in one, and the items that it tells.
+//! Sub-buffers of a trace.dat file: what stands in one, and the items that it tells.
 //!
-//! [`check_page`] finds whether a sub-page is well formed, and [`Page`] then gives its items, which borrow their payloads
-//! from it. Nothing here takes memory, and no size that stands in the page is trusted.
+//! [`check_page`] finds whether a sub-buffer is well formed, and [`Page`] then gives its items, which borrow their
+//! payloads from it. [`open_page`] gives the [`Mark`] before the first item instead: plain numbers that a cursor keeps
+//! beside the bytes. Nothing here takes memory, and no size that stands in the page is trusted.
 //!
 //! The definitions go further than the code: `specs/` also says what the items of a whole processor are
 //! (`Processor.antt`), in which order those of several processors stand (`Arrangement.antt`), and where a malformed
-//! sub-page ends them (`Cut.antt`). [`laws`] tells what these definitions come to.
+//! sub-buffer ends them (`Cut.antt`). [`laws`] tells what these definitions come to.
 #![tactic(auto)]
 
 mod element;
@@ -13,6 +14,7 @@ mod item;
 mod items;
 pub mod laws;
 mod loss;
+mod mark;
 mod next;
 mod page;
 mod reading;
@@ -23,4 +25,5 @@ mod tests;
 
 pub use item::Item;
 pub use items::Items;
-pub use page::{Page, check_page};
+pub use mark::{Mark, first_at, settle};
+pub use page::{Page, check_page, open_page};

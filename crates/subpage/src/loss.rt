@@ -1,4 +1,4 @@
-/// A loss that a sub-page tells before its events.
+/// A loss that a sub-buffer tells before its events.
 #[derive(Clone, Copy, Debug)]
 pub struct Loss {
     pub time: u64,

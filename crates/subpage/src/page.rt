@@ -1,12 +1,15 @@
-ghost use Rattle.std.specs.Prelude.{◌≡◌, ◌≤◌, ◌⊎◌, List, length, drop, take, IfSome, IfNone};
+ghost use Rattle.std.specs.Prelude.{◌≡◌, ◌^◌, ◌<◌, ◌≤◌, ◌⊎◌, List, length, drop, take, IfSome, IfNone, option_map};
+ghost use Rattle.subpage.specs.Marks.{items_from, IsMark};
 ghost use Rattle.trace_base.specs.Layout.{IsLayout};
 ghost use Rattle.trace_base.specs.Number.{num};
 ghost use Rattle.subpage.specs.ItemData.{ItemData, first_time, last_time};
 ghost use Rattle.subpage.specs.Left.{loss_items};
-ghost use Rattle.subpage.specs.Page.{items, AreItems, losses, stored_number};
+ghost use Rattle.subpage.specs.Summary.{summary_of};
+ghost use Rattle.subpage.specs.Page.{items, AreItems, commit_word, committed_size, data_area, losses, stored_number, timestamp};
 
 use crate::items::Items;
 use crate::loss::Loss;
+use crate::mark::{Mark, bytes_behind, settle};
 use crate::summary::{Summary, summarize};
 use std::marker::Model;
 use trace_base::{Layout, Order, read_u32, read_u64};
@@ -20,7 +23,7 @@ const MISSED_BIT: u32 = 31;
 
 const STORED_BIT: u32 = 30;
 
-/// A well-formed sub-page. A contract sees it as the list of its items.
+/// A well-formed sub-buffer. A contract sees it as the list of its items.
 #[derive(Drop)]
 pub struct Page<'a> {
     loss: Option<Loss>,
@@ -83,13 +86,13 @@ fn loss_of(layout: &Layout, word: u64, time: u64, behind: &[u8]) -> Option<Loss>
     }
 }
 
-/// The sub-page that these `layout.page` bytes are (trace-cmd.dat.v6(5); the kernel's `struct buffer_data_page`), or `None`
-/// where it is malformed: where more bytes are committed than its data area has, where no elements spell them, or where
-/// a running time would be 2^64 or more.
+/// The sub-buffer that these `layout.page` bytes are (trace-cmd.dat.v6(5); the kernel's `struct buffer_data_page`), or
+/// `None` where it is malformed: where more bytes are committed than its data area has, where no elements spell them,
+/// or where a running time would be 2^64 or more.
 ///
 /// Of the commit word the low 27 bits are the number of committed bytes, bit 31 tells a loss, and bit 30 beside it that
-/// the number of lost events stands behind the committed bytes; where it does not fit there the loss has no number. Bits
-/// 27 to 29, bits above 31, and bit 30 alone are ignored.
+/// the number of lost events stands behind the committed bytes; where it does not fit there the loss has no number.
+/// Bits 27 to 29, bits above 31, and bit 30 alone are ignored.
 pub fn check_page<'a>(layout: &Layout, bytes: &'a [u8]) -> Option<Page<'a>>
     requires allowed { IsLayout layout.now }
     requires whole { length bytes.now ≡ layout.now.page }
@@ -108,25 +111,91 @@ fn read_page<'a>(layout: &Layout, bytes: &'a [u8]) -> Option<Page<'a>>
     requires whole { length bytes.now ≡ layout.now.page }
     ensures { result ≡ items layout.now bytes.now }
 {
-    let order = layout.order;
-    let time = read_u64(order, &bytes[layout.time_at as usize..]);
-    let commit = &bytes[layout.commit_at as usize..];
-    let word = read_long(order, layout.commit_size, commit);
-    let area = &bytes[layout.data_at as usize..];
-    let size = (word & SIZE_MASK) as usize;
-    if area.len() < size {
-        return None;
-    }
-    let (committed, behind) = area.split_at(size);
-    let loss = loss_of(layout, word, time, behind);
-    let summary = summarize(loss, order, time, committed)?;
+    let (mark, summary) = read_front(layout, bytes)?;
     Some(Page {
-        loss,
-        order,
-        time,
-        committed,
+        loss: mark.loss,
+        order: layout.order,
+        time: mark.time,
+        committed: bytes_behind(bytes, mark),
         summary,
     })
+}
+
+/// The place before the first item of the sub-buffer that these bytes are, or `None` where it is malformed.
+pub fn open_page(layout: &Layout, bytes: &[u8]) -> Option<Mark>
+    requires allowed { IsLayout layout.now }
+    requires whole { length bytes.now ≡ layout.now.page }
+    ensures exact { option_map (λ mark. items_from layout.now bytes.now mark) result ≡ items layout.now bytes.now }
+    ensures mark { IfSome result (λ mark. IsMark layout.now bytes.now mark) }
+    ensures few { IfSome result (λ mark. length (items_from layout.now bytes.now mark) < 2 ^ 32) }
+{
+    let (first, summary) = read_front(layout, bytes)?;
+    let _count = summary.count;
+    Some(settle(layout, bytes, first))
+}
+
+fn timestamp_of(layout: &Layout, bytes: &[u8]) -> u64
+    requires allowed { IsLayout layout.now }
+    requires whole { length bytes.now ≡ layout.now.page }
+    ensures { result ≡ timestamp layout.now bytes.now }
+{
+    read_u64(layout.order, &bytes[layout.time_at as usize..])
+}
+
+fn commit_word_of(layout: &Layout, bytes: &[u8]) -> u64
+    requires allowed { IsLayout layout.now }
+    requires whole { length bytes.now ≡ layout.now.page }
+    ensures { result ≡ commit_word layout.now bytes.now }
+{
+    read_long(
+        layout.order,
+        layout.commit_size,
+        &bytes[layout.commit_at as usize..],
+    )
+}
+
+fn committed_size_of(word: u64) -> u32
+    ensures size { result ≡ committed_size word }
+    ensures bits { result < 2 ^ 27 }
+{
+    (word & SIZE_MASK) as u32
+}
+
+fn data_area_of<'a>(layout: &Layout, bytes: &'a [u8]) -> &'a [u8]
+    requires allowed { IsLayout layout.now }
+    requires whole { length bytes.now ≡ layout.now.page }
+    ensures { result.now ≡ data_area layout.now bytes.now }
+{
+    &bytes[layout.data_at as usize..]
+}
+
+/// The place before the first item, and how many items there are and when.
+fn read_front(layout: &Layout, bytes: &[u8]) -> Option<(Mark, Summary)>
+    requires allowed { IsLayout layout.now }
+    requires whole { length bytes.now ≡ layout.now.page }
+    ensures exact { option_map (λ front. items_from layout.now bytes.now front.0) result ≡ items layout.now bytes.now }
+    ensures mark { IfSome result (λ front. IsMark layout.now bytes.now front.0) }
+    ensures summary { IfSome result (λ front. front.1 ≡ summary_of (items_from layout.now bytes.now front.0)) }
+{
+    let time = timestamp_of(layout, bytes);
+    let word = commit_word_of(layout, bytes);
+    let area = data_area_of(layout, bytes);
+    let size = committed_size_of(word);
+    if area.len() < size as usize {
+        return None;
+    }
+    let (committed, behind) = area.split_at(size as usize);
+    let loss = loss_of(layout, word, time, behind);
+    let Some(summary) = summarize(loss, layout.order, time, committed) else {
+        return None;
+    };
+    let mark = Mark {
+        loss,
+        time,
+        from: layout.data_at,
+        to: layout.data_at + size,
+    };
+    Some((mark, summary))
 }
 
 impl<'a> Page<'a> {

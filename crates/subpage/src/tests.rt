@@ -1,4 +1,4 @@
-//! Sub-pages written out byte by byte.
+//! Sub-buffers written out byte by byte.
 
 ghost use Rattle.std.specs.Prelude.{◌≡◌, ◌≤◌, List, [], ◌∷◌, ℕ, length, map, filter, Some, None, IfOk};
 ghost use Rattle.trace_base.specs.Layout.{IsLayout};
@@ -7,13 +7,14 @@ ghost use Rattle.subpage.specs.Cut.{Cut, is_up_to};
 ghost use Rattle.subpage.specs.ItemData.{ItemData, LossAt, item_time};
 
 use crate::item::Item;
-use crate::page::{Page, check_page};
+use crate::mark::{first_at, settle};
+use crate::page::{Page, check_page, open_page};
 use Order::{Big, Little};
 use std::alloc::{AllocError, Global};
 use std::test::Fail;
 use trace_base::{Layout, Order, put_u32, put_u64};
 
-/// A sub-page of 4096 bytes: time, commit word, and the bytes that its data begin with; zero bytes fill it.
+/// A sub-buffer of 4096 bytes: time, commit word, and the bytes that its data begin with; zero bytes fill it.
 #[derive(Clone, Copy)]
 struct SubPage {
     order: Order,
@@ -94,14 +95,36 @@ fn tells_just(page: &Page<'_>, items: &[Item<'_>]) -> bool {
         && page.last_time() == items.last().map(time_of)
 }
 
-/// The sub-page tells these items, or is malformed where there are none to be told.
+/// The marks of the sub-buffer, from the first on, lead over these items.
+fn leads_over(layout: &Layout, bytes: &[u8], items: &[Item<'_>]) -> bool
+    requires allowed { IsLayout layout.now }
+    requires whole { length bytes.now ≡ layout.now.page }
+{
+    let Some(mut mark) = open_page(layout, bytes) else {
+        return false;
+    };
+    for item in items {
+        let Some((first, behind)) = first_at(layout, bytes, mark) else {
+            return false;
+        };
+        if first != *item {
+            return false;
+        }
+        mark = settle(layout, bytes, behind);
+    }
+    first_at(layout, bytes, mark).is_none()
+}
+
+/// The sub-buffer tells these items, or is malformed where there are none to be told.
 fn tells(alloc: Global, page: SubPage, items: Option<&[Item<'_>]>) -> Result<bool, AllocError> {
     let layout = layout_of(page.order, page.is_64_bit);
     let bytes = write(alloc, &layout, &page)?;
     let found = check_page(&layout, bytes.as_slice());
     Ok(match (found, items) {
-        (Some(found), Some(items)) => tells_just(&found, items),
-        (None, None) => true,
+        (Some(found), Some(items)) => {
+            tells_just(&found, items) && leads_over(&layout, bytes.as_slice(), items)
+        }
+        (None, None) => open_page(&layout, bytes.as_slice()).is_none(),
         _ => false,
     })
 }
@@ -302,7 +325,7 @@ fn arranges_by_key_then_processor()
         ≡ 4 ∷ 5 ∷ 3 ∷ 5 ∷ [] }
 {}
 
-// Items at 10 and 30 beside one at 20, behind which the second sub-page of processor 1 is malformed.
+// Items at 10 and 30 beside one at 20, behind which the second sub-buffer of processor 1 is malformed.
 #[tactic(auto, unfolding(crate::specs::Arrangement::arranged))]
 fn reaches_the_cut()
     ensures { let first = LossAt 10 None ∷ LossAt 30 None ∷ [] in

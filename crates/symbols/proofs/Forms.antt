@@ -7,7 +7,8 @@ use Rattle.std.specs.Option.{option_map, unwrap_or}
 use Rattle.std.specs.Char.{is_digit, is_ascii_alphabetic}
 use Rattle.std.specs.Str.Parse.{digits_value}
 use Rattle.trace_base.specs.FieldLine.{is_decimal, decimal}
-use Rattle.trace_base.specs.FieldReading.{◌>>=◌, after_word}
+use Rattle.trace_base.specs.FieldReading.{after_word}
+use Rattle.trace_base.specs.OptionSteps.{◌>>=◌}
 use Rattle.trace_base.proofs.FieldSteps.{bind_some, guarded, some_is, both}
 use Rattle.trace_base.proofs.FieldRuns as runs
 use Rattle.trace_base.proofs.FieldRuns.{run_again, run_all, run_outside}

@@ -5,7 +5,8 @@ use Rattle.std.specs.Option.{option_map, unwrap_or}
 use Rattle.std.specs.Char.{is_digit, is_ascii_alphabetic}
 use Rattle.std.specs.Str.Parse.{digits_value}
 use Rattle.trace_base.specs.FieldLine.{decimal}
-use Rattle.trace_base.specs.FieldReading.{after_word, ◌>>=◌}
+use Rattle.trace_base.specs.FieldReading.{after_word}
+use Rattle.trace_base.specs.OptionSteps.{◌>>=◌}
 use Rattle.text_lines.specs.Lines.{lines_of}
 use Rattle.symbols.specs.NameMap.{Pair}
 use Rattle.symbols.specs.LineForms.{is_hexadecimal, in_name}

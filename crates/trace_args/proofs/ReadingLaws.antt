@@ -1,5 +1,5 @@
 -- The reading of words as a function is their reading by the grammar and by each setting's own fault, and the only one.
-use Rattle.std.proofs.Common.{◌≡◌, ◌≢◌, ℕ, Bool, true, false, List, [], ◌∷◌, drop, Option, Some, None, Result, Ok, Err, IfOk, IfErr, IsErrAnd, codes, if◌then◌else◌, refl, ap, sym, subst, ◌∙◌}
+use Rattle.std.proofs.Common.{◌≡◌, ◌≢◌, ℕ, Bool, true, false, List, [], ◌∷◌, drop, Option, Some, None, Result, Ok, Err, IfOk, IfErr, IsErrAnd, MatchResult, codes, if◌then◌else◌, refl, ap, sym, subst, ◌∙◌}
 use Rattle.std.specs.Str.{bytes_eq}
 use Rattle.std.proofs.lemmas.Slice.Eq.{bytes_eq-Decides}
 use Rattle.trace_args.specs.declared.fault.WordFault.{WordFault}
@@ -123,9 +123,11 @@ reading_judged words command wrong h e =
 pub reading_fault : (words : List (List ℕ)) (command : Tool) (f : WordFault) → tool_of words ≡ Ok command → first_fault [] (settings command AnyWord 2 (drop 1 words)) ≡ Some f → reading words ≡ Err f
 reading_fault words command f h e = reading_judged words command (Some f) h e
 
-pub reading_command : (words : List (List ℕ)) (command : Tool) (given : List Setting) → tool_of words ≡ Ok command → given ≡ settings command AnyWord 2 (drop 1 words) → first_fault [] (settings command AnyWord 2 (drop 1 words)) ≡ None → reading words ≡ Ok (command_of command given)
-reading_command words command given h same e =
-    reading_judged words command None h e ∙ ap Ok (ap (command_of command) (sym same))
+pub reading_command : (words : List (List ℕ)) (command : Tool) (given : List Setting) (result : Result Command WordFault) → tool_of words ≡ Ok command → given ≡ settings command AnyWord 2 (drop 1 words) → first_fault [] (settings command AnyWord 2 (drop 1 words)) ≡ None → MatchResult result (λ asked. command_view asked ≡ command_of command given) (λ f. f.kind ≡ kind.Memory) → IsAnswer words result
+reading_command words command given (Ok asked) h same e is =
+    reading_judged words command None h e
+    ∙ ap Ok (ap (command_of command) (sym same) ∙ sym is)
+reading_command words command given (Err f) h same e is = λ other. absurd (other is)
 
 -- a fault that is passed on
 pub fault_answer : (words : List (List ℕ)) (result : Result Command WordFault) (f : WordFault) (P : WordFault → Type 0) → ((e : WordFault) → P e → e ≡ f) → IsErrAnd result P → (f.kind ≢ kind.Memory → reading words ≡ Err f) → IsAnswer words result

@@ -1,7 +1,7 @@
 -- The command that settings ask for.
 -- Source: trace-cmd-report(1) and trace-cmd-dump(1), `OPTIONS`.
 use Rattle.std.specs.Prelude.{ℕ, Bool, true, false, ◌&&◌, ◌||◌, not, List, map, Option, unwrap_or, codes}
-use Rattle.std.specs.List.{list_any}
+use Rattle.std.specs.List.{list_any, find}
 use Rattle.std.specs.Option.{option_and_then, option_map_or}
 use Rattle.trace_args.specs.declared.section.Section.{Section}
 use Rattle.trace_args.specs.declared.section.Section.TheVariants as section
@@ -9,15 +9,23 @@ use Rattle.trace_args.specs.declared.tool.Tool.{Tool}
 use Rattle.trace_args.specs.declared.tool.Tool.TheVariants as tool
 use Rattle.trace_args.specs.declared.option.FlagOption.TheVariants as flag
 use Rattle.trace_args.specs.declared.option.ValuedOption.TheVariants as valued
+use Rattle.trace_args.specs.declared.listing.Listing.{Listing}
+use Rattle.trace_args.specs.declared.listing.Listing.TheVariants.{Nothing}
+use Rattle.trace_args.specs.Listings.{listings}
 use Rattle.trace_args.specs.Sections.{sections}
 use Rattle.trace_args.specs.Command.{CommandData, Report, Dump, ReportData, DumpData}
 use Rattle.trace_args.specs.Setting.{Setting}
-use Rattle.trace_args.specs.Given.{value_of, is_set}
+use Rattle.trace_args.specs.Given.{value_of, texts_of, is_set}
 use Rattle.trace_args.specs.CpuList.{cpu_set}
 use Rattle.trace_args.specs.Number.{worker_count}
 
 abbrev pub input_of : List Setting → List ℕ
 input_of settings = option_map_or (λ text. text.bytes) (value_of valued.Input settings) (codes "trace.dat")
+
+-- the list that is printed in place of the events
+abbrev pub listing_of : List Setting → Listing
+listing_of settings =
+    unwrap_or (find (λ listing. is_set (flag.Listing listing) settings) listings) Nothing
 
 -- the processors that are selected, where not all are
 abbrev pub cpus_of : List Setting → Option (List Bool)
@@ -33,8 +41,11 @@ report_of settings =
       input = input_of settings;
       full = is_set flag.FullTime settings;
       latency = is_set flag.Latency settings;
+      raw = is_set flag.Raw settings;
+      raw_events = texts_of valued.RawEvent settings;
       no_hard = is_set flag.NoHard settings;
       no_soft = is_set flag.NoSoft settings;
+      list = listing_of settings;
       cpus = cpus_of settings;
       workers = workers_of settings;
     }

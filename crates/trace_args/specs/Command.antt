@@ -1,16 +1,20 @@
 -- What a command line asks for, as plain data.
-use Rattle.std.specs.Prelude.{ℕ, Bool, List, Option}
+use Rattle.std.specs.Prelude.{ℕ, Bool, List, map, Option}
 use Rattle.trace_args.specs.declared.command.Command.{Command}
 use Rattle.trace_args.specs.declared.command.Command.TheVariants as code
 use Rattle.trace_args.specs.declared.command.ReportWords.{ReportWords}
+use Rattle.trace_args.specs.declared.listing.Listing.{Listing}
 use Rattle.trace_args.specs.declared.command.DumpWords.{DumpWords}
 
 pub record ReportData : Type 0 where
   pub input : List ℕ
   pub full : Bool
   pub latency : Bool
+  pub raw : Bool
+  pub raw_events : List (List ℕ)
   pub no_hard : Bool
   pub no_soft : Bool
+  pub list : Listing
   pub cpus : Option (List Bool)
   pub workers : ℕ
 
@@ -28,8 +32,11 @@ report_view w =
       input = w.input.now;
       full = w.full;
       latency = w.latency;
+      raw = w.raw;
+      raw_events = map (λ name. name.now) w.raw_events.items;
       no_hard = w.no_hard;
       no_soft = w.no_soft;
+      list = w.list;
       cpus = w.cpus;
       workers = w.workers;
     }

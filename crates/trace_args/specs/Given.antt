@@ -1,6 +1,6 @@
 -- What settings give: which flags, which options with a value, and their values.
-use Rattle.std.specs.Prelude.{Bool, false, List, Option, None, is_some}
-use Rattle.std.specs.List.{list_any, find}
+use Rattle.std.specs.Prelude.{ℕ, Bool, false, List, map, Option, None, is_some, if◌then◌else◌}
+use Rattle.std.specs.List.{list_any, find, filter_map}
 use Rattle.std.specs.Option.{option_and_then}
 use Rattle.trace_args.specs.declared.option.FlagOption.{FlagOption}
 use Rattle.trace_args.specs.declared.option.ValuedOption.{ValuedOption}
@@ -37,3 +37,11 @@ is_given option settings = is_some (find (gives option) settings)
 -- the value of an option, which is the first that was given
 abbrev pub value_of : ValuedOption → List Setting → Option Text
 value_of option settings = option_and_then value_in (find (gives option) settings)
+
+-- the value that the setting gives this option
+abbrev pub value_for : ValuedOption → Setting → Option Text
+value_for option setting = if gives option setting then value_in setting else None
+
+-- the texts of all values of an option that may be given more than once
+abbrev pub texts_of : ValuedOption → List Setting → List (List ℕ)
+texts_of option settings = map (λ value. value.bytes) (filter_map (value_for option) settings)

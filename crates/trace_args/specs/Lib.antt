@@ -1,5 +1,6 @@
 pub mod KindText
 pub mod Sections
+pub mod Listings
 pub mod Command
 pub mod Cut
 pub mod Number

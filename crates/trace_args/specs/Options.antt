@@ -1,15 +1,16 @@
 -- The options of each command: one row an option, as it is written, and which it is.
 -- Source: trace-cmd-report(1) and trace-cmd-dump(1), `OPTIONS`.
-use Rattle.std.specs.Prelude.{ℕ, List, [], ◌∷◌, map, Option, option_map, codes}
+use Rattle.std.specs.Prelude.{ℕ, Bool, true, false, List, [], ◌∷◌, map, Option, option_map, codes}
 use Rattle.std.specs.List.{find}
 use Rattle.std.specs.Str.{bytes_eq}
 use Rattle.trace_args.specs.Sections.{sections, section_name}
 use Rattle.trace_args.specs.declared.tool.Tool.{Tool}
 use Rattle.trace_args.specs.declared.tool.Tool.TheVariants as tool
 use Rattle.trace_args.specs.declared.option.FlagOption.{FlagOption}
-use Rattle.trace_args.specs.declared.option.FlagOption.TheVariants.{FullTime, Latency, NoHard, NoSoft, NoPlugins, Section, All}
+use Rattle.trace_args.specs.declared.option.FlagOption.TheVariants.{FullTime, Latency, Raw, NoHard, NoSoft, NoPlugins, Listing, Section, All}
 use Rattle.trace_args.specs.declared.option.ValuedOption.{ValuedOption}
-use Rattle.trace_args.specs.declared.option.ValuedOption.TheVariants.{Input, Cpus, Workers}
+use Rattle.trace_args.specs.declared.option.ValuedOption.TheVariants.{Input, RawEvent, Cpus, Workers}
+use Rattle.trace_args.specs.declared.listing.Listing.TheVariants.{Names, Formats, Symbols, Printk}
 use Rattle.trace_args.specs.declared.option.KnownOption.{KnownOption}
 use Rattle.trace_args.specs.declared.option.KnownOption.TheVariants.{Flag, Valued}
 
@@ -36,8 +37,14 @@ options_of tool.Report =
     valued (codes "-i") Input
     ∷ flag (codes "-t") FullTime
     ∷ flag (codes "-l") Latency
+    ∷ flag (codes "-R") Raw
+    ∷ valued (codes "-r") RawEvent
     ∷ flag (codes "-I") NoHard
     ∷ flag (codes "-S") NoSoft
+    ∷ flag (codes "-E") (Listing Names)
+    ∷ flag (codes "--events") (Listing Formats)
+    ∷ flag (codes "-f") (Listing Symbols)
+    ∷ flag (codes "-P") (Listing Printk)
     ∷ flag (codes "-N") NoPlugins
     ∷ valued (codes "--cpu") Cpus
     ∷ valued (codes "--workers") Workers
@@ -56,3 +63,8 @@ option_named command written =
 abbrev pub operand_option : Tool → ValuedOption
 operand_option tool.Report = Input
 operand_option tool.Dump = Input
+
+-- whether an option with a value may be given more than once
+abbrev pub may_repeat : ValuedOption → Bool
+may_repeat RawEvent = true
+may_repeat _ = false

@@ -1,17 +1,22 @@
-ghost use Rattle.std.specs.Prelude.{◌≡◌, option_map};
-ghost use Rattle.std.specs.List.{list_any};
-ghost use Rattle.trace_args.specs.Asked.{command_of, cpus_of, dump_of, input_of, is_printed, names_any, names_section, report_of, workers_of};
+ghost use Rattle.std.specs.Prelude.{◌≡◌, IfOk, MatchResult};
+ghost use Rattle.std.specs.List.{find, list_any};
+ghost use Rattle.trace_args.specs.Asked.{command_of, cpus_of, dump_of, input_of, is_printed, listing_of, names_any, names_section, report_of, workers_of};
 ghost use Rattle.trace_args.specs.Command.{command_view, dump_view, report_view};
+ghost use Rattle.trace_args.specs.Given.{is_set};
+ghost use Rattle.trace_args.specs.Listings.{listings};
 ghost use Rattle.trace_args.specs.Sections.{sections};
 ghost use Rattle.trace_args.specs.Views.{given_view};
 
 use crate::cpu_list::cpu_set;
 use crate::cpu_set::CpuSet;
+use crate::fault::{WordFault, WordKind};
 use crate::given::Given;
+use crate::listing::Listing;
 use crate::number::worker_count;
 use crate::option::{FlagOption, ValuedOption};
 use crate::section::Section;
 use crate::tool::Tool;
+use std::alloc::{AllocError, Global};
 
 /// What a command line asks for.
 #[derive(Drop)]
@@ -31,10 +36,16 @@ pub struct ReportWords<'a> {
     pub full: bool,
     /// `-l`: the latency columns are printed.
     pub latency: bool,
+    /// `-R`: all fields of all events are printed as they are.
+    pub raw: bool,
+    /// `-r`: the names of events whose fields are printed as they are.
+    pub raw_events: Vec<&'a str>,
     /// `-I`: events in a hard interrupt are hidden.
     pub no_hard: bool,
     /// `-S`: events in a soft interrupt are hidden.
     pub no_soft: bool,
+    /// The list that is printed in place of the events.
+    pub list: Listing,
     /// `--cpu`: the processors that are printed, where not all are.
     pub cpus: Option<CpuSet>,
     /// `--workers`: how many threads work, from 1 to 64.
@@ -52,29 +63,42 @@ pub struct DumpWords<'a> {
 
 impl<'a> Command<'a> {
     // The command that the settings ask for.
-    pub(crate) fn asked(tool: Tool, given: &Given<'a>) -> Command<'a>
-        ensures { command_view result ≡ command_of tool (given_view given.now) }
+    pub(crate) fn asked(
+        alloc: Global,
+        tool: Tool,
+        given: &Given<'a>,
+    ) -> Result<Command<'a>, WordFault>
+        ensures { MatchResult result
+            (λ command. command_view command ≡ command_of tool (given_view given.now))
+            (λ fault. fault.kind ≡ WordKind.Memory) }
     {
         match tool {
-            Tool::Report => Command::Report(ReportWords::asked(given)),
-            Tool::Dump => Command::Dump(DumpWords::asked(given)),
+            Tool::Report => match ReportWords::asked(alloc, given) {
+                Ok(words) => Ok(Command::Report(words)),
+                Err(_) => Err(WordKind::Memory.at(1)),
+            },
+            Tool::Dump => Ok(Command::Dump(DumpWords::asked(given))),
         }
     }
 }
 
 impl<'a> ReportWords<'a> {
-    fn asked(given: &Given<'a>) -> ReportWords<'a>
-        ensures { report_view result ≡ report_of (given_view given.now) }
+    fn asked(alloc: Global, given: &Given<'a>) -> Result<ReportWords<'a>, AllocError>
+        ensures { IfOk result (λ words. report_view words ≡ report_of (given_view given.now)) }
     {
-        ReportWords {
+        let raw_events = given.texts(alloc, ValuedOption::RawEvent)?;
+        Ok(ReportWords {
             input: input(given),
             full: given.is_set(FlagOption::FullTime),
             latency: given.is_set(FlagOption::Latency),
+            raw: given.is_set(FlagOption::Raw),
+            raw_events,
             no_hard: given.is_set(FlagOption::NoHard),
             no_soft: given.is_set(FlagOption::NoSoft),
+            list: listing(given),
             cpus: cpus(given),
             workers: workers(given),
-        }
+        })
     }
 }
 
@@ -110,6 +134,23 @@ fn input<'a>(given: &Given<'a>) -> &'a str
         Some(value) => value.text,
         None => "trace.dat",
     }
+}
+
+// The list that is printed in place of the events.
+fn listing(given: &Given<'_>) -> Listing
+    ensures { result ≡ listing_of (given_view given.now) }
+{
+    asked_listing(given).unwrap_or(Listing::Nothing)
+}
+
+// The first list that was asked for.
+fn asked_listing(given: &Given<'_>) -> Option<Listing>
+    ensures { result ≡ find (λ listing. is_set (FlagOption.Listing listing) (given_view given.now)) listings }
+{
+    Listing::ALL
+        .iter()
+        .copied()
+        .find(|listing| given.is_set(FlagOption::Listing(*listing)))
 }
 
 // The processors that are selected, where not all are.

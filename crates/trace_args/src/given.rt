@@ -1,17 +1,18 @@
 // The settings of a command line so far, none of which has a fault.
 
-ghost use Rattle.std.specs.Prelude.{◌≡◌, ◌≢◌, ◌++◌, ◌∷◌, [], IfErr, OnOk, None, Some, option_map};
+ghost use Rattle.std.specs.Prelude.{◌≡◌, ◌≢◌, ◌++◌, ◌∷◌, [], IfErr, IfOk, OnOk, None, Some, map, option_map};
 ghost use Rattle.std.specs.List.{find, list_any};
-ghost use Rattle.trace_args.specs.Faults.{fault_of, refusal, text_fault, valued_fault, value_fault};
-ghost use Rattle.trace_args.specs.Given.{gives, is_given, is_set, sets, value_of};
+ghost use Rattle.trace_args.specs.Faults.{fault, fault_of, flag_refusal, lists_other, refusal, text_fault, valued_fault, value_fault};
+ghost use Rattle.trace_args.specs.Given.{gives, is_given, is_set, sets, texts_of, value_of};
 ghost use Rattle.trace_args.specs.Views.{given_view, setting_view, text_view};
 
 use crate::cpu_list::cpu_set;
 use crate::fault::{WordFault, WordKind};
+use crate::listing::Listing;
 use crate::number::worker_count;
 use crate::option::{FlagOption, ValuedOption};
 use crate::setting::{Setting, Value};
-use std::alloc::Global;
+use std::alloc::{AllocError, Global};
 
 /// The settings that were given, in their order.
 #[derive(Drop)]
@@ -50,10 +51,30 @@ impl<'a> Given<'a> {
         ensures { result ≡ fault_of (given_view self.now) (setting_view setting.entry) }
     {
         match setting {
-            Setting::Flag(_, _) => None,
+            Setting::Flag(option, word) => self.flag_fault(option, word),
             Setting::Valued(option, word, value) => self.valued_fault(option, word, value),
             Setting::Stray(word) => Some(WordKind::Unknown.at(word)),
         }
+    }
+
+    // What is wrong with one more flag.
+    fn flag_fault(&self, option: FlagOption, word: u64) -> Option<WordFault>
+        ensures { result ≡ option_map (fault word) (flag_refusal (given_view self.now) option) }
+    {
+        match option {
+            FlagOption::Listing(listing) if self.lists_other(listing) => {
+                Some(WordKind::Excluded.at(word))
+            }
+            _ => None,
+        }
+    }
+
+    // Whether a list that is not this one was asked for.
+    fn lists_other(&self, listing: Listing) -> bool
+        ensures { result ≡ lists_other (given_view self.now) listing }
+    {
+        Listing::ALL.iter().any(|other| self.is_set(FlagOption::Listing(*other))
+            && *other != listing)
     }
 
     // What is wrong with one more option with a value.
@@ -75,7 +96,7 @@ impl<'a> Given<'a> {
     fn refusal(&self, option: ValuedOption) -> Option<WordKind>
         ensures { result ≡ refusal (given_view self.now) option }
     {
-        if self.has(option) {
+        if self.has(option) && !option.repeats() {
             Some(WordKind::Repeated)
         } else {
             None
@@ -94,6 +115,14 @@ impl<'a> Given<'a> {
         ensures { option_map text_view result ≡ value_of option (given_view self.now) }
     {
         self.giving(option)?.value()
+    }
+
+    /// The texts of all values of the option, in their order.
+    pub fn texts(&self, alloc: Global, option: ValuedOption) -> Result<Vec<&'a str>, AllocError>
+        ensures { IfOk result (λ texts.
+            map (λ text. text.now) texts.items ≡ texts_of option (given_view self.now)) }
+    {
+        texts_in(alloc, &self.settings, option)
     }
 
     // The first setting that gives the option a value.
@@ -122,6 +151,23 @@ fn first_giving<'a>(settings: &[Setting<'a>], option: ValuedOption) -> Option<Se
         .find(|setting| setting.gives(option))
 }
 
+fn texts_in<'a>(
+    alloc: Global,
+    settings: &[Setting<'a>],
+    option: ValuedOption,
+) -> Result<Vec<&'a str>, AllocError>
+    ensures { IfOk result (λ texts.
+        map (λ text. text.now) texts.items ≡ texts_of option (map setting_view settings.now)) }
+{
+    let mut texts = Vec::new(alloc);
+    for setting in settings {
+        if let Some(value) = setting.value_for(option) {
+            texts.push(value.text)?;
+        }
+    }
+    Ok(texts)
+}
+
 fn any_sets(settings: &[Setting<'_>], option: FlagOption) -> bool
     ensures { result ≡ list_any (λ setting. sets option (setting_view setting)) settings.now }
 {
@@ -145,7 +191,7 @@ fn text_fault(option: ValuedOption, value: Value<'_>) -> Option<WordFault>
     let bytes = value.text.as_bytes();
     let word = value.word;
     match option {
-        ValuedOption::Input => None,
+        ValuedOption::Input | ValuedOption::RawEvent => None,
         ValuedOption::Cpus => match cpu_set(bytes) {
             Some(_) => None,
             None => Some(WordKind::BadCpuList.at(word)),

@@ -1,7 +1,7 @@
 //! The words of a command line, read into a command.
 //!
-//! Words say settings: flags, options with their values, and operands (`specs/Grammar.antt`). Each setting may have a fault
-//! of its own behind those before it (`specs/Faults.antt`), and settings without one ask for a command
+//! Words say settings: flags, options with their values, and operands (`specs/Grammar.antt`). Each setting may have a
+//! fault of its own behind those before it (`specs/Faults.antt`), and settings without one ask for a command
 //! (`specs/Reading.antt`). The code goes over the words once: `Settings` yields what they say, `Given` keeps it, and a
 //! command is made of what was kept (`specs/Asked.antt`).
 #![tactic(auto)]
@@ -12,6 +12,7 @@ mod cpu_set;
 mod fault;
 mod given;
 mod laws;
+mod listing;
 mod number;
 mod option;
 mod read;
@@ -24,6 +25,7 @@ pub use command::{Command, DumpWords, ReportWords};
 pub use cpu_set::CpuSet;
 pub use fault::{WordFault, WordKind};
 pub use laws::{members_of_ranges, one_reading};
+pub use listing::Listing;
 pub use read::read_words;
 pub use section::Section;
 

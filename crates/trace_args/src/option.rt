@@ -1,6 +1,7 @@
 ghost use Rattle.std.specs.Prelude.{◌≡◌, ◌<◌, OnSome};
-ghost use Rattle.trace_args.specs.Options.{long, operand_option, option_named, short};
+ghost use Rattle.trace_args.specs.Options.{long, may_repeat, operand_option, option_named, short};
 
+use crate::listing::Listing;
 use crate::section::Section;
 use crate::tool::Tool;
 
@@ -11,12 +12,16 @@ pub enum FlagOption {
     FullTime,
     /// `-l`: the latency columns.
     Latency,
+    /// `-R`: all fields of all events as they are.
+    Raw,
     /// `-I`: no events in a hard interrupt.
     NoHard,
     /// `-S`: no events in a soft interrupt.
     NoSoft,
     /// `-N`: no plugins, of which there are none.
     NoPlugins,
+    /// A list in place of the events.
+    Listing(Listing),
     /// A section of a dump.
     Section(Section),
     /// `--all`: all sections of a dump but `validate`.
@@ -28,10 +33,21 @@ pub enum FlagOption {
 pub enum ValuedOption {
     /// `-i`: the name of the file.
     Input,
+    /// `-r`: the name of an event whose fields are printed as they are.
+    RawEvent,
     /// `--cpu`: a list of processors.
     Cpus,
     /// `--workers`: a number of threads.
     Workers,
+}
+
+impl ValuedOption {
+    /// Whether it may be given more than once.
+    pub fn repeats(self) -> bool
+        ensures { result ≡ may_repeat self }
+    {
+        matches!(self, ValuedOption::RawEvent)
+    }
 }
 
 /// An option of a command.
@@ -47,14 +63,9 @@ impl Tool {
         ensures value { result ≡ option_named self (short letter) }
         ensures ascii { OnSome result (letter < 128) }
     {
-        match (self, letter) {
-            (_, b'i') => Some(KnownOption::Valued(ValuedOption::Input)),
-            (Tool::Report, b't') => Some(KnownOption::Flag(FlagOption::FullTime)),
-            (Tool::Report, b'l') => Some(KnownOption::Flag(FlagOption::Latency)),
-            (Tool::Report, b'I') => Some(KnownOption::Flag(FlagOption::NoHard)),
-            (Tool::Report, b'S') => Some(KnownOption::Flag(FlagOption::NoSoft)),
-            (Tool::Report, b'N') => Some(KnownOption::Flag(FlagOption::NoPlugins)),
-            _ => None,
+        match self {
+            Tool::Report => report_letter(letter),
+            Tool::Dump => dump_letter(letter),
         }
     }
 
@@ -78,11 +89,42 @@ impl Tool {
     }
 }
 
+fn report_letter(letter: u8) -> Option<KnownOption>
+    ensures value { result ≡ option_named Tool.Report (short letter) }
+    ensures ascii { OnSome result (letter < 128) }
+{
+    match letter {
+        b'i' => Some(KnownOption::Valued(ValuedOption::Input)),
+        b't' => Some(KnownOption::Flag(FlagOption::FullTime)),
+        b'l' => Some(KnownOption::Flag(FlagOption::Latency)),
+        b'R' => Some(KnownOption::Flag(FlagOption::Raw)),
+        b'r' => Some(KnownOption::Valued(ValuedOption::RawEvent)),
+        b'I' => Some(KnownOption::Flag(FlagOption::NoHard)),
+        b'S' => Some(KnownOption::Flag(FlagOption::NoSoft)),
+        b'E' => Some(KnownOption::Flag(FlagOption::Listing(Listing::Names))),
+        b'f' => Some(KnownOption::Flag(FlagOption::Listing(Listing::Symbols))),
+        b'P' => Some(KnownOption::Flag(FlagOption::Listing(Listing::Printk))),
+        b'N' => Some(KnownOption::Flag(FlagOption::NoPlugins)),
+        _ => None,
+    }
+}
+
+fn dump_letter(letter: u8) -> Option<KnownOption>
+    ensures value { result ≡ option_named Tool.Dump (short letter) }
+    ensures ascii { OnSome result (letter < 128) }
+{
+    match letter {
+        b'i' => Some(KnownOption::Valued(ValuedOption::Input)),
+        _ => None,
+    }
+}
+
 fn report_option(name: &str) -> Option<KnownOption>
     ensures { result ≡ option_named Tool.Report (long name.now) }
 {
     match name {
         "cpu" => Some(KnownOption::Valued(ValuedOption::Cpus)),
+        "events" => Some(KnownOption::Flag(FlagOption::Listing(Listing::Formats))),
         "workers" => Some(KnownOption::Valued(ValuedOption::Workers)),
         _ => None,
     }

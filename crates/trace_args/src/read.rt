@@ -15,9 +15,9 @@ use trace_base::Words;
 /// Reads the words of a command line, the program's own name left out.
 ///
 /// The first word is the command. Behind it stand its options and operands, by the utility syntax of POSIX (Base
-/// Definitions, 12.2) with long options as in getopt_long(3); trace-cmd-report(1) and trace-cmd-dump(1) have the options.
-/// The fault is the first from the left. Only `WordKind::Memory`, at word 1, may stand in place of the reading or of its
-/// first fault.
+/// Definitions, 12.2) with long options as in getopt_long(3); trace-cmd-report(1) and trace-cmd-dump(1) have the
+/// options. The fault is the first from the left. Only `WordKind::Memory`, at word 1, may stand in place of the reading
+/// or of its first fault.
 pub fn read_words<'a>(alloc: Global, words: &'a Words) -> Result<Command<'a>, WordFault>
     ensures reads { IfOk result (λ command. Reads words.now (command_view command)) }
     ensures first_fault { IfErr result
@@ -33,7 +33,7 @@ fn read<'a>(alloc: Global, words: &'a Words) -> Result<Command<'a>, WordFault>
 {
     let tool = read_tool(words)?;
     let given = read_settings(alloc, tool, words)?;
-    Ok(Command::asked(tool, &given))
+    Command::asked(alloc, tool, &given)
 }
 
 // The command that the first word names.

@@ -15,12 +15,14 @@ fn words_of(alloc: Global, line: &str) -> Result<Words, AllocError> {
     Ok(words)
 }
 
-// The input, the letters of the flags, the workers, and the processors where they are named.
+// The input, the letters of the flags, the workers, the list where one is asked for, the events that are printed as
+// they are, and the processors where they are named.
 fn report_text(alloc: Global, words: &ReportWords<'_>) -> Result<String, AllocError> {
     let mut text = format!(in alloc; "report {} ", words.input)?;
     for (letter, is_set) in [
         ("t", words.full),
         ("l", words.latency),
+        ("R", words.raw),
         ("I", words.no_hard),
         ("S", words.no_soft),
     ] {
@@ -29,6 +31,10 @@ fn report_text(alloc: Global, words: &ReportWords<'_>) -> Result<String, AllocEr
         }
     }
     text.push_str(format!(in alloc; " {}", words.workers)?.as_str())?;
+    text.push_str(list_text(words.list))?;
+    for name in &words.raw_events {
+        text.push_str(format!(in alloc; " ={name}")?.as_str())?;
+    }
     if let Some(cpus) = &words.cpus {
         for cpu in 0..1030 {
             if cpus.has(cpu) {
@@ -37,6 +43,16 @@ fn report_text(alloc: Global, words: &ReportWords<'_>) -> Result<String, AllocEr
         }
     }
     Ok(text)
+}
+
+fn list_text(list: Listing) -> &'static str {
+    match list {
+        Listing::Nothing => "",
+        Listing::Names => " names",
+        Listing::Formats => " formats",
+        Listing::Symbols => " symbols",
+        Listing::Printk => " printk",
+    }
 }
 
 // The input, and the names of the sections.
@@ -157,6 +173,23 @@ report --workers +1 => word 3: bad number
 report --workers 1x => word 3: bad number
 report --workers 18446744073709551617 => word 3: bad number
 report --workers 2 --workers 2 => word 4: given twice
+report -R => report trace.dat R 1
+report -tRr a -rb -r a => report trace.dat tR 1 =a =b =a
+report -r @ => report trace.dat  1 =
+report -r --cpu=x => report trace.dat  1 =--cpu=x
+report -r a -r => word 4: value missing
+report -E => report trace.dat  1 names
+report --events => report trace.dat  1 formats
+report -f => report trace.dat  1 symbols
+report -P a -r b => report a  1 printk =b
+report -EE -E => report trace.dat  1 names
+report -E -f => word 3: not with an earlier word
+report -PE --cpu x => word 2: not with an earlier word
+report -f --events --cpu x => word 3: not with an earlier word
+report -E -r a -tPx => word 5: not with an earlier word
+report --cpu x -E -f => word 3: bad processor list
+report -E a b -f => word 4: given twice
+report --events= => word 2: unknown word
 report --worker 3 => word 2: unknown word
 report --t => word 2: unknown word
 report --=x => word 2: unknown word
@@ -172,6 +205,7 @@ dump --options --cmd-lines --printk --kallsyms --systems --ftrace-events --head-
 dump --all => dump trace.dat summary head-page head-event ftrace-events systems events kallsyms printk cmd-lines options flyrecord
 dump --validate --all => dump trace.dat summary head-page head-event ftrace-events systems events kallsyms printk cmd-lines options flyrecord validate
 dump --summary= => word 2: unknown word
+dump -E => word 2: unknown word
 dump -t => word 2: unknown word
 dump --cpu 0 => word 2: unknown word
 dump a b => word 3: given twice

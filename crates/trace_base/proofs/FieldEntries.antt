@@ -9,7 +9,8 @@ use Rattle.std.specs.Char.{is_digit}
 use Rattle.std.specs.Str.{bytes_eq}
 use Rattle.std.specs.Str.Parse.{digits_value}
 use Rattle.trace_base.specs.FieldLine.{is_blank, skip_blanks, is_decimal, decimal, IsEntry, IsSign}
-use Rattle.trace_base.specs.FieldReading.{◌>>=◌, after_word, cut_at, entry_at, sign_at}
+use Rattle.trace_base.specs.FieldReading.{after_word, cut_at, entry_at, sign_at}
+use Rattle.trace_base.specs.OptionSteps.{◌>>=◌}
 use Rattle.trace_base.proofs.FieldSteps.{bind_some, guarded, chosen, some_is, both}
 use Rattle.trace_base.proofs.FieldNumbers.{digits}
 use Rattle.trace_base.proofs.FieldRuns.{BeginsOutside, run_again, run_all}

@@ -1,6 +1,6 @@
 -- Steps that may fail, and tests of two parts.
 use Rattle.std.proofs.Common.{◌≡◌, ◌⊎◌, Bool, true, false, cond, ◌&&◌, Option, None, Some, refl, inl, inr}
-use Rattle.trace_base.specs.FieldReading.{◌>>=◌}
+use Rattle.trace_base.specs.OptionSteps.{◌>>=◌}
 
 pub bind_some : {A B : Type 0} (o : Option A) (f : A → Option B) (y : B) → (o >>= f) ≡ Some y → (x : A) × (o ≡ Some x) × (f x ≡ Some y)
 bind_some None f y e = absurd cc

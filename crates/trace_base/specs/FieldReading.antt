@@ -1,14 +1,11 @@
 -- The field that a line declares, computed from the left.
-use Rattle.std.specs.Prelude.{ℕ, zero, suc, ◌+◌, ◌-◌, Bool, true, false, not, ◌&&◌, ◌==◌, if◌then◌else◌, List, length, take, drop, codes, slice_index, Option, Some, None, is_some, unwrap_or, option_and_then}
+use Rattle.std.specs.Prelude.{ℕ, zero, suc, ◌+◌, ◌-◌, Bool, true, false, not, ◌&&◌, ◌==◌, if◌then◌else◌, List, length, take, drop, codes, slice_index, Option, Some, None, is_some, unwrap_or}
 use Rattle.std.specs.List.{position, suffix_len}
 use Rattle.std.specs.Str.{bytes_eq}
+use Rattle.trace_base.specs.OptionSteps.{◌>>=◌}
 use Rattle.trace_base.specs.FieldLine.{Declaration, FieldData, is_word, is_identifier, skip_blanks, trimmed, decimal}
 use Rattle.trace_base.specs.declared.field_line.FieldLine.{FieldLine}
 use Rattle.trace_base.specs.declared.field_line.Declared.{Declared}
-
-infixl 10 ◌>>=◌
-abbrev pub ◌>>=◌ : {A B : Type 0} → Option A → (A → Option B) → Option B
-o >>= f = option_and_then f o
 
 -- what follows the word that the text begins with
 unfoldable pub after_word : List ℕ → List ℕ → Option (List ℕ)

@@ -18,6 +18,7 @@ pub fn read_all<I: File>(file: &mut I, at: u64, into: &mut [u8]) -> Result<(), F
     ensures size { I.size file.new ≡ I.size file.old }
     ensures cause { HasCause (I.faults file.old) (I.faults file.new) result }
 {
+    // The file ends at a number of 64 bits, so no place in it overflows.
     let _size = file.len();
     let mut done = 0;
     while done < into.len() {

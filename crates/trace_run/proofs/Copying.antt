@@ -1,10 +1,9 @@
 -- A range of a file that is copied piece by piece.
-use Rattle.std.proofs.Common.{◌≡◌, ℕ, ◌+◌, ◌-◌, ◌≤◌, arith, List, [], ◌∷◌, ◌++◌, take, drop, length, map, Option, None, Some, IfSome, Result, Ok, Err, OnOk, OnErr, IsErr, refl, sym, ap, ◌∙◌, subst}
-use Rattle.std.proofs.lemmas.List.{take_all, drop-drop, length-drop, append-nil}
+use Rattle.std.proofs.Common.{◌≡◌, ℕ, ◌+◌, ◌-◌, ◌≤◌, arith, List, ◌++◌, take, drop, Option, None, Some, IfSome, Result, Ok, Err, IsErr, sym, ap, ◌∙◌, subst}
+use Rattle.std.proofs.lemmas.List.{drop-drop}
 use Rattle.std.proofs.Math.Seq.{take-add}
 use Rattle.std.specs.Io.KnownBytes.{append_known}
-use Rattle.trace_outside.specs.Reading.{GivesBytesAt}
-use Rattle.trace_outside.specs.Writing.{Gained, GainedPrefix}
+use Rattle.trace_outside.specs.Writing.{GainedPrefix}
 use Rattle.trace_outside.proofs.Gains.{gained_nothing, gained_both, prefix_behind}
 use Rattle.trace_run.specs.Rest.{Copies, Copied}
 

@@ -1,5 +1,5 @@
 -- From what the parts of a run did to one of its four endings.
-use Rattle.std.proofs.Common.{◌≡◌, ◌≢◌, inl, inr, arith, length, ℕ, ◌≤◌, List, [], ◌∷◌, map, take, drop, Option, None, Some, IfSome, IsSome, refl, sym, ap, ◌∙◌, subst, slice_get, Result, Ok, Err}
+use Rattle.std.proofs.Common.{◌≡◌, ◌≢◌, inl, inr, arith, length, ℕ, List, [], Option, None, Some, IfSome, IsSome, refl, sym, ap, ◌∙◌, subst, slice_get, Result, Ok, Err}
 use Rattle.std.specs.FinMap.{get}
 use Rattle.std.specs.Option.{IsSomeAnd}
 use Rattle.trace_outside.specs.Causes.{Rose, raised}
@@ -16,8 +16,10 @@ use Rattle.dat_header.specs.Header.{header_of, ReadsHeader}
 use Rattle.trace_run.specs.declared.status.Status.{Status}
 use Rattle.trace_run.specs.declared.status.Status.TheVariants.{Done, Usage, Refused, Malformed, ReadFault, WriteFault, NoMemory}
 use Rattle.trace_args.specs.declared.fault.WordFault.{WordFault}
-use Rattle.trace_args.specs.Command.{CommandData, Report, Dump, ReportData, DumpData}
-use Rattle.trace_run.specs.Meaning.{Meaning, NewFile, Target, on_out, on_folder, body_report, header_means, file_means, input_means, command_means, command_meaning, meaning_of, input_of, target_of}
+use Rattle.trace_args.specs.declared.listing.Listing.{Listing}
+use Rattle.trace_args.specs.declared.listing.Listing.TheVariants.{Nothing}
+use Rattle.trace_args.specs.Command.{CommandData, Report, Dump, ReportData}
+use Rattle.trace_run.specs.Meaning.{Meaning, NewFile, Target, on_out, body_report, report_by, header_means, file_means, input_means, command_means, command_meaning, meaning_of, input_of, target_of}
 use Rattle.trace_run.specs.Work.{Writes, WritesFor, IsOfFile}
 use Rattle.trace_run.specs.Causes.{AnswersUsage, IsComplete, HasRisen, target_read}
 use Rattle.trace_run.specs.Counts.{MissesNothingElse, ReadsFor, CommandReads}
@@ -72,17 +74,25 @@ body_target : (words : ReportData) (header : Header) (body : Body) (bytes : List
 body_target words header Latency bytes = refl
 body_target words header (Fly parts) bytes = refl
 
+report_files : (list : Listing) (words : ReportData) (header : Header) (bytes : List ℕ) → (report_by list words header bytes).files ≡ []
+report_files Nothing words header bytes = body_files words header header.body bytes
+report_files list words header bytes = refl
+
+report_target : (list : Listing) (words : ReportData) (header : Header) (bytes : List ℕ) → (report_by list words header bytes).target ≡ on_out
+report_target Nothing words header bytes = body_target words header header.body bytes
+report_target list words header bytes = refl
+
 on_output : (command : CommandData) → target_of command ≡ on_out
 on_output (Report words) = refl
 on_output (Dump words) = refl
 
 file_files : (command : CommandData) (header : Result Header OpenFault) (bytes : List ℕ) → (file_means command header bytes).files ≡ []
-file_files (Report words) (Ok header) bytes = body_files words header header.body bytes
+file_files (Report words) (Ok header) bytes = report_files words.list words header bytes
 file_files (Dump words) (Ok header) bytes = refl
 file_files command (Err fault) bytes = refl
 
 file_target : (command : CommandData) (header : Result Header OpenFault) (bytes : List ℕ) → (file_means command header bytes).target ≡ on_out
-file_target (Report words) (Ok header) bytes = body_target words header header.body bytes
+file_target (Report words) (Ok header) bytes = report_target words.list words header bytes
 file_target (Dump words) (Ok header) bytes = refl
 file_target command (Err fault) bytes = on_output command
 

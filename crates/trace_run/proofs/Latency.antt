@@ -1,17 +1,13 @@
 -- A latency file's report: the first line, and behind it the rest of the file in pieces of one byte.
-use Rattle.std.proofs.Common.{◌≡◌, ℕ, zero, suc, ◌+◌, ◌-◌, ◌≤◌, arith, List, [], ◌∷◌, ◌++◌, length, map, take, drop, Option, None, Some, IfSome, refl, sym, ap, ◌∙◌, subst}
+use Rattle.std.proofs.Common.{◌≡◌, ℕ, zero, suc, ◌-◌, arith, List, [], ◌∷◌, ◌++◌, length, map, take, drop, Option, None, Some, IfSome, refl, sym, ap, ◌∙◌, subst}
 use Rattle.std.proofs.lemmas.List.{append-nil, take_all, length-drop}
 use Rattle.std.proofs.lemmas.List.Concat.{flat_map-cons}
-use Rattle.std.specs.List.{flat_map}
 use Rattle.std.specs.Io.KnownBytes.{append_known}
-use Rattle.trace_base.specs.declared.order.Order.{Order}
 use Rattle.trace_outside.specs.Writing.{Gained, GainedPrefix}
-use Rattle.trace_outside.proofs.Gains.{gained_both, prefix_behind, gained_nothing}
+use Rattle.trace_outside.proofs.Gains.{gained_both, prefix_behind}
 use Rattle.trace_outside.proofs.PendingLemmas.{prefix_longer}
-use Rattle.trace_run.specs.Line.{cpus_line}
-use Rattle.trace_run.specs.Meaning.{report_pieces, latency_report}
+use Rattle.trace_run.specs.Meaning.{cpus_line, latency_report}
 use Rattle.trace_run.specs.Work.{WritesFor}
-use Rattle.trace_run.specs.declared.show.Show.{Show}
 use Rattle.trace_run.specs.Text.{text}
 use Rattle.trace_run.specs.declared.status.Status.TheVariants.{Done, ReadFault, WriteFault}
 
@@ -33,45 +29,42 @@ whole_text cpus end bytes =
 rest_is : (size end : ℕ) (bytes : List ℕ) → length bytes ≡ size → take (size - end) (drop end bytes) ≡ drop end bytes
 rest_is size end bytes is = take_all (size - end) (drop end bytes) (omega (arith, length-drop end bytes, is))
 
-first_line : (cpus : ℕ) (show : Show) (order : Order) → text (report_pieces cpus show order []) ≡ cpus_line cpus
-first_line cpus show order = flat_map-cons (λ piece. piece) (cpus_line cpus) [] ∙ append-nil (cpus_line cpus)
-
-pub latency_done : (told : Option (List ℕ)) (size cpus end : ℕ) (show : Show) (order : Order) (old mid now : Option (List ℕ)) → IfSome told (λ file. length file ≡ size)
-    → Gained old mid (text (report_pieces cpus show order [])) → IfSome told (λ bytes. Gained mid now (take (size - end) (drop end bytes)))
+pub latency_done : (told : Option (List ℕ)) (size cpus end : ℕ) (old mid now : Option (List ℕ)) → IfSome told (λ file. length file ≡ size)
+    → Gained old mid (cpus_line cpus) → IfSome told (λ bytes. Gained mid now (take (size - end) (drop end bytes)))
     → WritesFor (latency_report cpus end) told Done old now
-latency_done None size cpus end show order old mid now is first copied = tt
-latency_done (Some bytes) size cpus end show order old mid now is first copied = (
+latency_done None size cpus end old mid now is first copied = tt
+latency_done (Some bytes) size cpus end old mid now is first copied = (
   refl,
   gained_both old mid now (cpus_line cpus) (drop end bytes)
-      (first ∙ ap (append_known old) (first_line cpus show order)) (copied ∙ ap (append_known mid) (rest_is size end bytes is))
+      first (copied ∙ ap (append_known mid) (rest_is size end bytes is))
       ∙ ap (append_known old) (sym (whole_text cpus end bytes)),
 )
 
-pub latency_unread : (told : Option (List ℕ)) (size cpus end : ℕ) (show : Show) (order : Order) (old mid now : Option (List ℕ)) → IfSome told (λ file. length file ≡ size)
-    → Gained old mid (text (report_pieces cpus show order [])) → IfSome told (λ bytes. GainedPrefix mid now (take (size - end) (drop end bytes)))
+pub latency_unread : (told : Option (List ℕ)) (size cpus end : ℕ) (old mid now : Option (List ℕ)) → IfSome told (λ file. length file ≡ size)
+    → Gained old mid (cpus_line cpus) → IfSome told (λ bytes. GainedPrefix mid now (take (size - end) (drop end bytes)))
     → WritesFor (latency_report cpus end) told ReadFault old now
-latency_unread None size cpus end show order old mid now is first copied = tt
-latency_unread (Some bytes) size cpus end show order old mid now is first copied = (
+latency_unread None size cpus end old mid now is first copied = tt
+latency_unread (Some bytes) size cpus end old mid now is first copied = (
   suc copied.0,
   gained_both old mid now (cpus_line cpus) (take copied.0 (drop end bytes))
-      (first ∙ ap (append_known old) (first_line cpus show order)) (copied.1 ∙ ap (λ rest. append_known mid (take copied.0 rest)) (rest_is size end bytes is))
+      first (copied.1 ∙ ap (λ rest. append_known mid (take copied.0 rest)) (rest_is size end bytes is))
       ∙ ap (append_known old) (sym (flat_map-cons (λ piece. piece) (cpus_line cpus) (take copied.0 (map (λ byte. byte ∷ []) (drop end bytes)))
       ∙ ap (λ rest. cpus_line cpus ++ rest) (bytes_alone (drop end bytes) copied.0))),
 )
 
-pub latency_unwritten : (told : Option (List ℕ)) (size cpus end : ℕ) (show : Show) (order : Order) (old mid now : Option (List ℕ)) → IfSome told (λ file. length file ≡ size)
-    → Gained old mid (text (report_pieces cpus show order [])) → IfSome told (λ bytes. GainedPrefix mid now (take (size - end) (drop end bytes)))
+pub latency_unwritten : (told : Option (List ℕ)) (size cpus end : ℕ) (old mid now : Option (List ℕ)) → IfSome told (λ file. length file ≡ size)
+    → Gained old mid (cpus_line cpus) → IfSome told (λ bytes. GainedPrefix mid now (take (size - end) (drop end bytes)))
     → WritesFor (latency_report cpus end) told WriteFault old now
-latency_unwritten None size cpus end show order old mid now is first copied = tt
-latency_unwritten (Some bytes) size cpus end show order old mid now is first copied =
+latency_unwritten None size cpus end old mid now is first copied = tt
+latency_unwritten (Some bytes) size cpus end old mid now is first copied =
     prefix_behind old mid now (cpus_line cpus) (drop end bytes) [] (text ((latency_report cpus end bytes).pieces))
     (whole_text cpus end bytes ∙ ap (λ rest. cpus_line cpus ++ rest) (sym (append-nil (drop end bytes))))
-    (first ∙ ap (append_known old) (first_line cpus show order))
+    first
     (subst (λ (rest : List ℕ). GainedPrefix mid now rest) (rest_is size end bytes is) copied)
 
-pub latency_unbegun : (told : Option (List ℕ)) (cpus end : ℕ) (show : Show) (order : Order) (old now : Option (List ℕ))
-    → GainedPrefix old now (text (report_pieces cpus show order [])) → WritesFor (latency_report cpus end) told WriteFault old now
-latency_unbegun None cpus end show order old now first = tt
-latency_unbegun (Some bytes) cpus end show order old now first =
+pub latency_unbegun : (told : Option (List ℕ)) (cpus end : ℕ) (old now : Option (List ℕ))
+    → GainedPrefix old now (cpus_line cpus) → WritesFor (latency_report cpus end) told WriteFault old now
+latency_unbegun None cpus end old now first = tt
+latency_unbegun (Some bytes) cpus end old now first =
     subst (λ (whole : List ℕ). GainedPrefix old now whole) (sym (whole_text cpus end bytes))
-    (prefix_longer old now (cpus_line cpus) (drop end bytes) (subst (λ (line : List ℕ). GainedPrefix old now line) (first_line cpus show order) first))
+    (prefix_longer old now (cpus_line cpus) (drop end bytes) first)

@@ -1,5 +1,5 @@
-pub mod Putting
-pub mod Lines
+pub mod LineLength
+pub mod Formats
 pub mod Said
 pub mod Copying
 pub mod Printing

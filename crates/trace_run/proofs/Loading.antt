@@ -22,7 +22,7 @@ use Rattle.trace_run.proofs.LoadingPages.{size_there, pages_there, next_within, 
 abbrev alone : Part → Part
 alone part = record { offset = 0; size = part.size }
 
--- the same sub-pages are there
+-- the same sub-buffers are there
 there_alone : (layout : Layout) (file : List ℕ) (part : Part) (k : ℕ) → 0 < layout.page
     → is_there layout (bytes_there layout file part) (alone part) k ≡ ltb k (pages_there layout (length file) part)
 there_alone layout file part k pos =

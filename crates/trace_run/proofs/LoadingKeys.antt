@@ -1,4 +1,4 @@
--- Keys that go on behind the items of earlier sub-pages.
+-- Keys that go on behind the items of earlier sub-buffers.
 use Rattle.std.proofs.Common.{◌≡◌, ℕ, max, List, [], ◌∷◌, ◌++◌, map, fold, Option, Some, None, refl, sym, ap, ◌∙◌, arith, append_assoc}
 use Rattle.std.proofs.lemmas.List.Sums.{fold-append}
 use Rattle.subpage.specs.ItemData.{ItemData, item_time}
@@ -25,7 +25,7 @@ last_behind-none (x ∷ xs) =
     let e : max 0 (item_time x) ≡ item_time x = omega arith in
     last_behind-some (max 0 (item_time x)) xs ∙ ap (λ (key : ℕ). Some (fold max key (map item_time xs))) e
 
--- one more sub-page
+-- one more sub-buffer
 pub more_added : (cpu : ℕ) (last next : Option ℕ) (xs rest all : List ItemData) (before now : List Keyed)
     → now ≡ before ++ keyed_behind cpu last xs → next ≡ last_behind last xs → all ≡ xs ++ rest
     → now ++ keyed_behind cpu next rest ≡ before ++ keyed_behind cpu last all

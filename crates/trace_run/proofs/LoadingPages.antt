@@ -1,4 +1,4 @@
--- The sub-pages of a part that are there are its first ones, and stand one after another in the file.
+-- The sub-buffers of a part that are there are its first ones, and stand one after another in the file.
 use Rattle.std.proofs.Common.{◌≡◌, ℕ, zero, suc, ◌+◌, ◌-◌, ◌*◌, ◌/◌, ◌%◌, ◌^◌, ◌<◌, ◌≤◌, min, true, false, ltb, leb, List, ◌++◌, length, take, drop, refl, sym, ap, ◌∙◌, inl, inr, arith}
 use Rattle.std.specs.List.{flat_map, range_with_len}
 use Rattle.std.proofs.Math.Nat.{add-mul, suc-mul}
@@ -16,7 +16,7 @@ use Rattle.trace_run.proofs.LoadingLists.{filter-same, filter_below}
 abbrev pub size_there : ℕ → Part → ℕ
 size_there len part = min part.size (min len (2 ^ 64) - part.offset)
 
--- how many whole sub-pages
+-- how many whole sub-buffers
 abbrev pub pages_there : Layout → ℕ → Part → ℕ
 pages_there layout len part = size_there len part / layout.page
 
@@ -31,7 +31,7 @@ whole_within m p = omega (arith, div-add-mod' m p)
 next_positive : (k p : ℕ) → 0 < p → 0 < (k + 1) * p
 next_positive k p pos = omega (arith, mul-le 1 p (k + 1) p (omega arith) (omega arith))
 
--- a sub-page is there just where it is one of so many
+-- a sub-buffer is there just where it is one of so many
 pub there_below : (layout : Layout) (file : List ℕ) (part : Part) (k : ℕ) → 0 < layout.page
     → is_there layout file part k ≡ ltb k (pages_there layout (length file) part)
 there_below layout file part k pos =
@@ -64,7 +64,7 @@ there_below layout file part k pos =
 pub one_more_row : (k p : ℕ) → (k + 1) * p ≡ k * p + p
 one_more_row k p = add-mul k 1 p ∙ ap (λ (x : ℕ). k * p + x) (omega arith)
 
--- sub-pages that follow one another
+-- sub-buffers that follow one another
 pages_joined : (layout : Layout) (file : List ℕ) (part : Part) (a m : ℕ)
     → flat_map (page_bytes layout file part) (range_with_len a m) ≡ take (m * layout.page) (drop (part.offset + a * layout.page) file)
 pages_joined layout file part a zero = let e : 0 * layout.page ≡ 0 = omega arith in rw e refl
@@ -96,7 +96,7 @@ bytes_there-is layout file part pos =
     ∙ pages_joined layout file part 0 n
     ∙ ap (λ (place : ℕ). take (n * layout.page) (drop place file)) start
 
--- as many bytes as the sub-pages have
+-- as many bytes as the sub-buffers have
 pub length_there : (layout : Layout) (file : List ℕ) (part : Part)
     → length (take (pages_there layout (length file) part * layout.page) (drop part.offset file)) ≡ pages_there layout (length file) part * layout.page
 length_there layout file part =

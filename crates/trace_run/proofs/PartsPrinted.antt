@@ -1,5 +1,5 @@
 -- A report of processors' parts, by what was loaded and reached.
-use Rattle.std.proofs.Common.{◌≡◌, ℕ, List, Option, None, Some, refl, sym, ap, ◌∙◌, subst}
+use Rattle.std.proofs.Common.{◌≡◌, ℕ, List, Option, None, Some, sym, ap, ◌∙◌, subst}
 use Rattle.trace_base.specs.declared.layout.Layout.{Layout}
 use Rattle.trace_base.specs.declared.part.Part.{Part}
 use Rattle.trace_base.specs.Layout.{IsLayout}
@@ -8,12 +8,14 @@ use Rattle.subpage.specs.Arrangement.{Keyed}
 use Rattle.subpage.specs.Cut.{Cut, cut_of, reached_of}
 use Rattle.trace_run.specs.Loaded.{LoadedData, AreLoaded, cut_in, reached_in}
 use Rattle.trace_args.specs.Command.{ReportData}
-use Rattle.trace_run.specs.Meaning.{Meaning, ended, selected, show_of, report_pieces, parts_report}
+use Rattle.trace_run.specs.Meaning.{Meaning, ended, selected, report_pieces, parts_report}
+use Rattle.dat_header.specs.declared.header.Header.{Header}
+use Rattle.report_print.specs.Given.{Given}
+use Rattle.trace_run.specs.Context.{context_of}
 use Rattle.trace_run.specs.Work.{Writes, WritesFor}
-use Rattle.trace_run.specs.declared.show.Show.{Show}
 use Rattle.trace_run.specs.Text.{text}
 use Rattle.trace_run.specs.declared.status.Status.{Status}
-use Rattle.trace_run.specs.declared.status.Status.TheVariants.{Done, Malformed, WriteFault}
+use Rattle.trace_run.specs.declared.status.Status.TheVariants.{WriteFault}
 use Rattle.trace_run.proofs.Loading.{cut_is, reached_is}
 
 writes_ended : (m : Meaning) (cut : Option Cut) (status : Status) (old now : Option (List ℕ)) → status ≡ ended cut → status ≡ m.status
@@ -26,24 +28,23 @@ items_are : (words : ReportData) (layout : Layout) (bytes : List ℕ) (parts : L
 items_are words layout bytes parts chosen loaded items allowed all are reached =
     reached ∙ reached_is layout bytes chosen loaded allowed are ∙ ap (reached_of layout bytes) all
 
-pub parts_printed : (words : ReportData) (cpus : ℕ) (layout : Layout) (parts : List Part) (told : Option (List ℕ)) (chosen : List (ℕ × Part)) (loaded : List LoadedData) (items : List Keyed)
-    (cut : Option Cut) (status : Status) (old now : Option (List ℕ)) (show : Show) → show ≡ show_of words → IsLayout layout → chosen ≡ selected words.cpus parts → AreLoaded layout told chosen loaded
-    → items ≡ reached_in layout loaded → cut ≡ cut_in layout loaded → status ≡ ended cut → Gained old now (text (report_pieces cpus show layout.order items))
-    → WritesFor (parts_report words cpus layout parts) told status old now
-parts_printed words cpus layout parts None chosen loaded items cut status old now show shown allowed all are reached cuts is gained = tt
-parts_printed words cpus layout parts (Some bytes) chosen loaded items cut status old now show shown allowed all are reached cuts is gained =
-    writes_ended (parts_report words cpus layout parts bytes) cut status old now is
-    (is ∙ ap ended (cuts ∙ cut_is layout bytes chosen loaded allowed are ∙ ap (cut_of layout bytes) all))
-    (subst (λ (known : List Keyed). Gained old now (text (report_pieces cpus (show_of words) layout.order known)))
-    (items_are words layout bytes parts chosen loaded items allowed all are reached)
-    (subst (λ (by : Show). Gained old now (text (report_pieces cpus by layout.order items))) shown gained))
+pub parts_printed : (words : ReportData) (header : Header) (parts : List Part) (told : Option (List ℕ)) (chosen : List (ℕ × Part)) (loaded : List LoadedData) (items : List Keyed)
+    (cut : Option Cut) (status : Status) (old now : Option (List ℕ)) (given : Given) → given ≡ context_of words header → IsLayout header.layout → chosen ≡ selected words.cpus parts
+    → AreLoaded header.layout told chosen loaded → items ≡ reached_in header.layout loaded → cut ≡ cut_in header.layout loaded → status ≡ ended cut
+    → Gained old now (text (report_pieces header.cpus given items)) → WritesFor (parts_report words header parts) told status old now
+parts_printed words header parts None chosen loaded items cut status old now given shown allowed all are reached cuts is gained = tt
+parts_printed words header parts (Some bytes) chosen loaded items cut status old now given shown allowed all are reached cuts is gained =
+    writes_ended (parts_report words header parts bytes) cut status old now is
+    (is ∙ ap ended (cuts ∙ cut_is header.layout bytes chosen loaded allowed are ∙ ap (cut_of header.layout bytes) all))
+    (subst (λ (known : List Keyed). Gained old now (text (report_pieces header.cpus (context_of words header) known)))
+    (items_are words header.layout bytes parts chosen loaded items allowed all are reached)
+    (subst (λ (by : Given). Gained old now (text (report_pieces header.cpus by items))) shown gained))
 
-pub parts_stopped : (words : ReportData) (cpus : ℕ) (layout : Layout) (parts : List Part) (told : Option (List ℕ)) (chosen : List (ℕ × Part)) (loaded : List LoadedData) (items : List Keyed)
-    (old now : Option (List ℕ)) (show : Show) → show ≡ show_of words → IsLayout layout → chosen ≡ selected words.cpus parts → AreLoaded layout told chosen loaded
-    → items ≡ reached_in layout loaded → GainedPrefix old now (text (report_pieces cpus show layout.order items))
-    → WritesFor (parts_report words cpus layout parts) told WriteFault old now
-parts_stopped words cpus layout parts None chosen loaded items old now show shown allowed all are reached stopped = tt
-parts_stopped words cpus layout parts (Some bytes) chosen loaded items old now show shown allowed all are reached stopped =
-    subst (λ (known : List Keyed). GainedPrefix old now (text (report_pieces cpus (show_of words) layout.order known)))
-    (items_are words layout bytes parts chosen loaded items allowed all are reached)
-    (subst (λ (by : Show). GainedPrefix old now (text (report_pieces cpus by layout.order items))) shown stopped)
+pub parts_stopped : (words : ReportData) (header : Header) (parts : List Part) (told : Option (List ℕ)) (chosen : List (ℕ × Part)) (loaded : List LoadedData) (items : List Keyed)
+    (old now : Option (List ℕ)) (given : Given) → given ≡ context_of words header → IsLayout header.layout → chosen ≡ selected words.cpus parts → AreLoaded header.layout told chosen loaded
+    → items ≡ reached_in header.layout loaded → GainedPrefix old now (text (report_pieces header.cpus given items)) → WritesFor (parts_report words header parts) told WriteFault old now
+parts_stopped words header parts None chosen loaded items old now given shown allowed all are reached stopped = tt
+parts_stopped words header parts (Some bytes) chosen loaded items old now given shown allowed all are reached stopped =
+    subst (λ (known : List Keyed). GainedPrefix old now (text (report_pieces header.cpus (context_of words header) known)))
+    (items_are words header.layout bytes parts chosen loaded items allowed all are reached)
+    (subst (λ (by : Given). GainedPrefix old now (text (report_pieces header.cpus by items))) shown stopped)

@@ -1,5 +1,5 @@
 -- How many bytes of its input a command reads.
-use Rattle.std.proofs.Common.{◌≡◌, ◌≤◌, ◌+◌, ℕ, List, length, Option, None, Some, IfSome, IsSome, Result, Ok, Err, IfOk, sym, subst, arith}
+use Rattle.std.proofs.Common.{◌≡◌, ◌≤◌, ◌+◌, ℕ, List, length, Option, None, Some, IfSome, Result, Ok, Err, IfOk, sym, subst, arith}
 use Rattle.std.specs.FinMap.{get}
 use Rattle.trace_outside.specs.Causes.{raised}
 use Rattle.trace_outside.specs.Folders.{IsFileOf}

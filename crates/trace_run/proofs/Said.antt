@@ -1,6 +1,6 @@
 -- What was said, by what a sink gained.
-use Rattle.std.proofs.Common.{◌≡◌, ℕ, ◌≤◌, List, [], ◌∷◌, ◌++◌, append_assoc, refl, Option, Result, Ok, Err, OnOk, OnErr, ◌∙◌, sym, subst}
-use Rattle.trace_outside.specs.Causes.{HasCause, Rose}
+use Rattle.std.proofs.Common.{◌≡◌, ℕ, List, [], ◌∷◌, ◌++◌, append_assoc, refl, Option, Result, Ok, Err, OnOk, OnErr, sym, subst}
+use Rattle.trace_outside.specs.Causes.{HasCause}
 use Rattle.trace_outside.specs.Writing.{Gained, GainedPrefix}
 use Rattle.trace_outside.proofs.Gains.{prefix_whole}
 use Rattle.trace_args.specs.declared.fault.WordFault.{WordFault}

@@ -1,5 +1,5 @@
 -- When each answer may come.
-use Rattle.std.specs.Prelude.{Option, None, Some, Result, Ok, Err, ◌≡◌, ◌≢◌, ◌⊎◌, ℕ, List, IfSome}
+use Rattle.std.specs.Prelude.{Result, Ok, Err, ◌≡◌, ◌≢◌, ◌⊎◌, ℕ, List, IfSome}
 use Rattle.trace_outside.specs.Causes.{Rose}
 use Rattle.dat_header.specs.Header.{IsRefusal}
 use Rattle.trace_run.specs.declared.status.Status.{Status}
@@ -15,7 +15,8 @@ abbrev pub target_read : Result CommandData WordFault → Target
 target_read (Ok command) = target_of command
 target_read (Err fault) = on_out
 
--- a fault is answered only where its count rose, also over objects that tell no bytes; a refusal is always one of the file's bytes
+-- a fault is answered only where its count rose, also over objects that tell no bytes; a refusal is always one of the
+-- file's bytes
 abbrev pub HasRisen : Target → Status → Outside → Outside → Type 0
 HasRisen target ReadFault before now = Rose before.counts.reading now.counts.reading
 HasRisen target WriteFault before now = Rose (write_faults target before) (write_faults target now)
@@ -30,7 +31,8 @@ IsComplete m status before now = m.status ≡ Done → ¬ (Rose before.counts.re
 abbrev pub RunIsComplete : List (List ℕ) → Status → Outside → Outside → Type 0
 RunIsComplete words status before now = IfSome before.files (λ files. IsComplete (meaning words files) status before now)
 
--- Usage is answered just where the words have no reading, unless there is no memory to read them; nothing is touched then
+-- Usage is answered just where the words have no reading, unless there is no memory to read them; nothing is touched
+-- then
 abbrev pub AnswersUsage : Result CommandData WordFault → Status → Outside → Outside → Type 0
 AnswersUsage (Ok command) status before now = status ≢ Usage
 AnswersUsage (Err fault) status before now = ((status ≡ Usage) ⊎ (status ≡ NoMemory)) × (now ≡ before)

@@ -11,6 +11,8 @@ use Rattle.trace_run.specs.declared.status.Status.{Status}
 use Rattle.trace_run.specs.declared.status.Status.TheVariants.{Done, Malformed, ReadFault, WriteFault}
 use Rattle.trace_args.specs.declared.fault.WordFault.{WordFault}
 use Rattle.trace_args.specs.Command.{CommandData, Report, Dump}
+use Rattle.trace_args.specs.declared.listing.Listing.{Listing}
+use Rattle.trace_args.specs.declared.listing.Listing.TheVariants.{Nothing}
 use Rattle.trace_args.specs.Reading.{reading}
 use Rattle.trace_run.specs.Ending.{Outside}
 use Rattle.trace_run.specs.Meaning.{Meaning, selected, input_of, meaning, command_meaning}
@@ -37,9 +39,14 @@ abbrev pub body_share : Option (List Bool) → ℕ → ℕ → Body → ℕ
 body_share cpus end size Latency = size - end
 body_share cpus end size (Fly parts) = sum_by (λ part. part.1.size) (selected cpus parts)
 
+-- a list needs none
+abbrev pub report_share : Listing → Option (List Bool) → ℕ → ℕ → Body → ℕ
+report_share Nothing cpus end size body = body_share cpus end size body
+report_share list cpus end size body = 0
+
 -- how many bytes behind the header a command needs, of a file of this size
 abbrev pub share : CommandData → Header → ℕ → ℕ
-share (Report words) header size = body_share words.cpus header.end size header.body
+share (Report words) header size = report_share words.list words.cpus header.end size header.body
 share (Dump words) header size = 0
 
 -- no more bytes were read than the header and the command's share have

@@ -1,6 +1,6 @@
--- The four ways in which a run may end, beside its meaning: it did what it means, it found no memory, a read failed, a write
--- failed. Every command has these four.
-use Rattle.std.specs.Prelude.{Option, Some, ◌≡◌, ℕ, List, [], ◌∷◌, ◌≤◌, length, take, slice_get, IfSome, IsSomeAnd, MatchOption}
+-- The four ways in which a run may end, beside its meaning: it did what it means, it found no memory, a read failed, a
+-- write failed. Every command has these four.
+use Rattle.std.specs.Prelude.{Option, ◌≡◌, ℕ, List, [], ◌∷◌, ◌≤◌, length, take, slice_get, IfSome, IsSomeAnd, MatchOption}
 use Rattle.std.specs.FinMap.{insert}
 use Rattle.trace_outside.specs.declared.counts.Counts.{Counts}
 use Rattle.trace_outside.specs.Names.{NamedFiles, SameBut}

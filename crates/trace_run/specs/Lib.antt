@@ -1,5 +1,5 @@
 pub mod Text
-pub mod Line
+pub mod Context
 pub mod Meaning
 pub mod Ending
 pub mod Work

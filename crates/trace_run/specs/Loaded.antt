@@ -15,7 +15,7 @@ pub record LoadedData : Type 0 where
   pub size : ℕ
   pub bytes : List ℕ
 
--- the sub-pages of a part that are there, one after another
+-- the sub-buffers of a part that are there, one after another
 unfoldable pub bytes_there : Layout → List ℕ → Part → List ℕ
 bytes_there layout file part =
     flat_map (page_bytes layout file part) (filter (is_there layout file part) (range_with_len 0 (page_count layout part)))

@@ -1,4 +1,4 @@
--- Keys that go on behind the items of earlier sub-pages.
+-- Keys that go on behind the items of earlier sub-buffers.
 use Rattle.std.specs.Prelude.{ℕ, max, List, fold, Option, Some, unwrap_or}
 use Rattle.subpage.specs.ItemData.{ItemData, item_time}
 use Rattle.subpage.specs.Arrangement.{Keyed, keyed_from}

@@ -1,10 +1,9 @@
 -- What a run means, from its words and the files alone.
-use Rattle.std.specs.Prelude.{Option, Result, Ok, Err, None, Some, ℕ, Bool, true, false, List, [], ◌∷◌, map, filter, drop}
+use Rattle.std.specs.Prelude.{Option, Result, Ok, Err, None, Some, ℕ, Bool, true, false, List, [], ◌∷◌, map, filter, drop, codes}
 use Rattle.std.specs.List.{enumerate_from, slice_index_or}
+use Rattle.std.specs.Fmt.{decimal}
 use Rattle.std.specs.FinMap.{get}
 use Rattle.trace_outside.specs.Names.{NamedFiles}
-use Rattle.trace_base.specs.declared.layout.Layout.{Layout}
-use Rattle.trace_base.specs.declared.order.Order.{Order}
 use Rattle.trace_base.specs.declared.part.Part.{Part}
 use Rattle.dat_options.specs.declared.fault.OpenFault.{OpenFault}
 use Rattle.dat_header.specs.declared.header.Header.{Header}
@@ -18,8 +17,15 @@ use Rattle.trace_run.specs.declared.status.Status.TheVariants.{Done, Usage, Refu
 use Rattle.trace_args.specs.declared.fault.WordFault.{WordFault}
 use Rattle.trace_args.specs.Command.{CommandData, Report, Dump, ReportData, DumpData}
 use Rattle.trace_args.specs.Reading.{reading}
-use Rattle.trace_run.specs.declared.show.Show.{Show}
-use Rattle.trace_run.specs.Line.{line, cpus_line}
+use Rattle.report_print.specs.Given.{Given}
+use Rattle.report_print.specs.Line.{line}
+use Rattle.report_lists.specs.Lists.{names_list, formats_list, symbols_list, printk_list}
+use Rattle.format_parse.specs.declared.format.EventFormat.{EventFormat}
+use Rattle.symbols.specs.Maps.{Maps}
+use Rattle.trace_args.specs.declared.listing.Listing.{Listing}
+use Rattle.trace_args.specs.declared.listing.Listing.TheVariants.{Nothing, Names, Formats, Symbols, Printk}
+use Rattle.trace_run.specs.Context.{context_of, formats_of, symbols_of}
+use Rattle.trace_run.specs.Text.{text}
 use Rattle.dump_tool.specs.Dump.{dump_text}
 
 -- a new file: its name and its bytes
@@ -32,7 +38,8 @@ pub data Target : Type 0 where
   on_out : Target
   on_folder : Target
 
--- the output, in the pieces between which a fault of reading may end it; the status; the new files; and what is written to
+-- the output, in the pieces between which a fault of reading may end it; the status; the new files; and what is written
+-- to
 pub record Meaning : Type 0 where
   pub pieces : List (List ℕ)
   pub status : Status
@@ -61,25 +68,49 @@ is_chosen (Some cpus) cpu = slice_index_or cpus cpu false
 abbrev pub selected : Option (List Bool) → List Part → List (ℕ × Part)
 selected cpus parts = filter (λ part. is_chosen cpus part.0) (enumerate_from 0 parts)
 
-abbrev pub show_of : ReportData → Show
-show_of words = record { full = words.full; latency = words.latency; no_hard = words.no_hard; no_soft = words.no_soft }
+-- a report's first line
+abbrev pub cpus_line : ℕ → List ℕ
+cpus_line cpus = text (codes "cpus=" ∷ decimal cpus ∷ codes "\n" ∷ [])
+
+-- the line of an item in its place
+abbrev pub entry_line : Given → Keyed → List ℕ
+entry_line given keyed = line given keyed.cpu keyed.item
 
 -- the pieces of a report of these items: a line for each behind the first line
-abbrev pub report_pieces : ℕ → Show → Order → List Keyed → List (List ℕ)
-report_pieces cpus show order items = cpus_line cpus ∷ map (line show order) items
+abbrev pub report_pieces : ℕ → Given → List Keyed → List (List ℕ)
+report_pieces cpus given items = cpus_line cpus ∷ map (entry_line given) items
 
 -- the report of processors' parts: the lines of the reached items, in the order in which these happened
-abbrev pub parts_report : ReportData → ℕ → Layout → List Part → List ℕ → Meaning
-parts_report words cpus layout parts bytes =
-    prints (report_pieces cpus (show_of words) layout.order (reached_of layout bytes (selected words.cpus parts))) (ended (cut_of layout bytes (selected words.cpus parts)))
+abbrev pub parts_report : ReportData → Header → List Part → List ℕ → Meaning
+parts_report words header parts bytes =
+    prints (report_pieces header.cpus (context_of words header) (reached_of header.layout bytes (selected words.cpus parts)))
+    (ended (cut_of header.layout bytes (selected words.cpus parts)))
 
 -- the report of a latency file: the rest of its bytes
 abbrev pub latency_report : ℕ → ℕ → List ℕ → Meaning
 latency_report cpus end bytes = prints (cpus_line cpus ∷ map (λ byte. byte ∷ []) (drop end bytes)) Done
 
+-- the report of the events
 abbrev pub body_report : ReportData → Header → Body → List ℕ → Meaning
 body_report words header Latency bytes = latency_report header.cpus header.end bytes
-body_report words header (Fly parts) bytes = parts_report words header.cpus header.layout parts bytes
+body_report words header (Fly parts) bytes = parts_report words header parts bytes
+
+-- the text of a list; none where the events are asked for
+abbrev pub list_text : List EventFormat → Maps → Listing → List ℕ
+list_text formats symbols Nothing = []
+list_text formats symbols Names = names_list formats
+list_text formats symbols Formats = formats_list formats
+list_text formats symbols Symbols = symbols_list symbols.symbols
+list_text formats symbols Printk = printk_list symbols.printk
+
+-- a list, in place of the events
+abbrev pub list_report : Header → Listing → Meaning
+list_report header list = prints (list_text (formats_of header) (symbols_of header) list ∷ []) Done
+
+-- the report that the words ask for
+abbrev pub report_by : Listing → ReportData → Header → List ℕ → Meaning
+report_by Nothing words header bytes = body_report words header header.body bytes
+report_by list words header bytes = list_report header list
 
 -- the header's sections
 abbrev pub dump_of : DumpData → Header → Meaning
@@ -92,7 +123,7 @@ target_of (Dump words) = on_out
 
 -- a command, of a file's bytes with the header that they begin with
 abbrev pub header_means : CommandData → Header → List ℕ → Meaning
-header_means (Report words) header bytes = body_report words header header.body bytes
+header_means (Report words) header bytes = report_by words.list words header bytes
 header_means (Dump words) header bytes = dump_of words header
 
 -- the same, or why they begin with none

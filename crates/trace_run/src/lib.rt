@@ -2,13 +2,15 @@
 #![tactic(auto)]
 
 mod command;
+mod context;
 mod dump;
 mod laws;
-mod line;
+mod lines;
+mod list;
 mod messages;
 mod report;
 mod rest;
-mod show;
+mod select;
 mod status;
 #[cfg(test)]
 mod tests;

@@ -1,30 +1,57 @@
-ghost use Rattle.std.specs.Prelude.{◌≡◌, ◌≤◌, ◌-◌, ◌++◌, [], ◌∷◌, filter, map, length, sum_by, option_map, IfOk, OnOk, OnErr};
+ghost use Rattle.std.specs.Prelude.{◌≡◌, ◌≤◌, ◌-◌, [], map, length, sum_by, option_map, IfOk, OnOk, OnErr};
 ghost use Rattle.trace_outside.specs.Causes.{HasCause, raised};
 ghost use Rattle.trace_base.specs.Layout.{IsLayout};
 ghost use Rattle.trace_outside.specs.Writing.{Gained, GainedPrefix};
 ghost use Rattle.dat_header.specs.Allowed.{IsBody};
 ghost use Rattle.trace_args.specs.Command as Command;
 ghost use Rattle.trace_args.specs.Command.{report_view};
-ghost use Rattle.trace_run.specs.Counts.{share};
-ghost use Rattle.trace_run.specs.Meaning as spec;
-ghost use Rattle.trace_run.specs.Meaning.{body_report, ended, latency_report, parts_report, report_pieces, selected, show_of};
+ghost use Rattle.trace_run.specs.Counts.{body_share, share};
+ghost use Rattle.trace_run.specs.Meaning.{body_report, cpus_line, ended, latency_report, parts_report, report_by, report_pieces, selected};
 ghost use Rattle.trace_run.specs.Work.{IsCaused, WritesFor};
 ghost use Rattle.trace_run.specs.LoadedView.{cut_view, entry_view};
 ghost use Rattle.trace_run.specs.Text.{text};
 
-use crate::line::{put_cpus, put_line};
+use crate::context::context_of;
+use crate::lines::{line_room, put_cpus, put_lines};
+use crate::list::print_list;
 use crate::rest::{CopyFault, copy_rest};
-use crate::show::Show;
+use crate::select::select;
 use crate::status::Status;
 use crate::whole::{Cut, Entry, LoadFault, load, reach};
 use dat_header::{Body, Header};
+use report_print::Context;
 use std::alloc::{AllocError, Global};
-use trace_args::{CpuSet, ReportWords};
-use trace_base::{Layout, Order, Part};
+use trace_args::{Listing, ReportWords};
+use trace_base::Part;
 use trace_outside::{Failed, File, Pending, Sink};
 
-/// Prints the report of a file with this header.
+/// Prints the report of a file with this header: the events, or the list that the words ask for.
 pub(crate) fn print_report<I: File, O: Sink>(
+    alloc: Global,
+    words: &ReportWords<'_>,
+    header: &Header,
+    file: &mut I,
+    out: &mut O,
+) -> Status
+    requires allowed { IsLayout header.now.layout }
+    requires inside { header.now.end ≤ I.size file.old }
+    requires parts { IsBody header.now.cpus header.now.body }
+    requires few { header.now.cpus ≤ 1024 }
+    ensures writes { WritesFor (report_by words.now.list (report_view words.now) header.now) (I.bytes file.old) result (O.written out.old) (O.written out.new) }
+    ensures causes { IsCaused result (I.faults file.old) (I.faults file.new) (O.faults out.old) (O.faults out.new) }
+    ensures reads { I.reads file.new ≤ raised (I.reads file.old) (share (Command.Report (report_view words.now)) header.now (I.size file.old)) }
+{
+    match words.list {
+        Listing::Nothing => print_events(alloc, words, header, file, out),
+        Listing::Names => print_list(alloc, Listing::Names, header, out),
+        Listing::Formats => print_list(alloc, Listing::Formats, header, out),
+        Listing::Symbols => print_list(alloc, Listing::Symbols, header, out),
+        Listing::Printk => print_list(alloc, Listing::Printk, header, out),
+    }
+}
+
+// Prints the events of a file, or the rest of a latency file.
+fn print_events<I: File, O: Sink>(
     alloc: Global,
     words: &ReportWords<'_>,
     header: &Header,
@@ -37,21 +64,11 @@ pub(crate) fn print_report<I: File, O: Sink>(
     requires few { header.now.cpus ≤ 1024 }
     ensures writes { WritesFor (body_report (report_view words.now) header.now header.now.body) (I.bytes file.old) result (O.written out.old) (O.written out.new) }
     ensures causes { IsCaused result (I.faults file.old) (I.faults file.new) (O.faults out.old) (O.faults out.new) }
-    ensures reads { I.reads file.new ≤ raised (I.reads file.old) (share (Command.Report (report_view words.now)) header.now (I.size file.old)) }
+    ensures reads { I.reads file.new ≤ raised (I.reads file.old) (body_share words.now.cpus header.now.end (I.size file.old) header.now.body) }
 {
     match &header.body {
         Body::Latency => print_latency(alloc, header.cpus, header.end, file, out),
-        Body::Fly(parts) => {
-            print_parts(
-                alloc,
-                words,
-                header.cpus,
-                &header.layout,
-                parts.as_slice(),
-                file,
-                out,
-            )
-        }
+        Body::Fly(parts) => { print_parts(alloc, words, header, parts.as_slice(), file, out) }
     }
 }
 
@@ -71,7 +88,7 @@ fn print_latency<I: File, O: Sink>(
     let (Ok(mut buffer), Ok(mut pending)) = (copy_buffer(alloc), Pending::new(alloc)) else {
         return Status::NoMemory;
     };
-    match print_lines(cpus, Show::PLAIN, Order::Little, &[], &mut pending, out) {
+    match print_cpus(cpus, &mut pending, out) {
         Ok(()) => {}
         Err(Failed) => return Status::WriteFault,
     }
@@ -92,37 +109,39 @@ fn copy_buffer(alloc: Global) -> Result<Vec<u8>, AllocError>
 fn print_parts<I: File, O: Sink>(
     alloc: Global,
     words: &ReportWords<'_>,
-    cpus: u32,
-    layout: &Layout,
+    header: &Header,
     parts: &[Part],
     file: &mut I,
     out: &mut O,
 ) -> Status
-    requires allowed { IsLayout layout.now }
+    requires allowed { IsLayout header.now.layout }
     requires few { length parts.now ≤ 1024 }
-    ensures writes { WritesFor (parts_report (report_view words.now) cpus layout.now parts.now) (I.bytes file.old) result (O.written out.old) (O.written out.new) }
+    ensures writes { WritesFor (parts_report (report_view words.now) header.now parts.now) (I.bytes file.old) result (O.written out.old) (O.written out.new) }
     ensures causes { IsCaused result (I.faults file.old) (I.faults file.new) (O.faults out.old) (O.faults out.new) }
     ensures reads { I.reads file.new ≤ raised (I.reads file.old) (sum_by (λ part. part.1.size) (selected words.now.cpus parts.now)) }
 {
+    let Ok(context) = context_of(alloc, words, header) else {
+        return Status::NoMemory;
+    };
     let Ok(selected) = select(alloc, &words.cpus, parts) else {
         return Status::NoMemory;
     };
-    let loaded = match load(alloc, layout, &selected, file) {
+    let loaded = match load(alloc, &header.layout, &selected, file) {
         Ok(loaded) => loaded,
         Err(LoadFault::Read) => return Status::ReadFault,
         Err(LoadFault::Memory) => return Status::NoMemory,
     };
-    let Ok(reached) = reach(alloc, layout, &loaded) else {
+    let Ok(reached) = reach(alloc, &header.layout, &loaded) else {
         return Status::NoMemory;
     };
-    let Ok(mut pending) = Pending::new(alloc) else {
+    let (Ok(mut pending), Ok(mut room)) = (Pending::new(alloc), line_room(alloc)) else {
         return Status::NoMemory;
     };
     match print_lines(
-        cpus,
-        shown_by(words),
-        layout.order,
+        header.cpus,
+        &context,
         &reached.entries,
+        &mut room,
         &mut pending,
         out,
     ) {
@@ -131,75 +150,33 @@ fn print_parts<I: File, O: Sink>(
     }
 }
 
-// The processors that the words choose, with their numbers.
-fn select(
-    alloc: Global,
-    cpus: &Option<CpuSet>,
-    parts: &[Part],
-) -> Result<Vec<(u32, Part)>, AllocError>
-    requires { length parts.now ≤ 1024 }
-    ensures { IfOk result (λ chosen. chosen.items ≡ selected cpus.now parts.now) }
-{
-    let mut chosen = Vec::with_capacity(alloc, parts.len())?;
-    let mut cpu = 0;
-    for part in parts {
-        push_chosen(&mut chosen, cpus, (cpu, *part))?;
-        cpu += 1;
-    }
-    Ok(chosen)
-}
-
-fn push_chosen(
-    chosen: &mut Vec<(u32, Part)>,
-    cpus: &Option<CpuSet>,
-    part: (u32, Part),
-) -> Result<(), AllocError>
-    ensures { OnOk result (chosen.new.items ≡ chosen.old.items ++ filter (λ numbered. spec.is_chosen cpus.now numbered.0) (part ∷ [])) }
-{
-    if is_chosen(cpus, part.0) {
-        chosen.push(part)?;
-    }
-    Ok(())
-}
-
-fn is_chosen(cpus: &Option<CpuSet>, cpu: u32) -> bool
-    ensures { result ≡ spec.is_chosen cpus.now cpu }
-{
-    match cpus {
-        None => true,
-        Some(cpus) => cpus.has(cpu),
-    }
-}
-
-fn shown_by(words: &ReportWords<'_>) -> Show
-    ensures { result ≡ show_of (report_view words.now) }
-{
-    Show {
-        full: words.full,
-        latency: words.latency,
-        no_hard: words.no_hard,
-        no_soft: words.no_soft,
-    }
-}
-
-// Prints the first line and the lines of these items.
+// Prints the first line and the lines of these entries, each of which is formed in the room.
 fn print_lines<O: Sink>(
     cpus: u32,
-    show: Show,
-    order: Order,
+    context: &Context,
     entries: &[Entry<'_>],
+    room: &mut [u8],
     pending: &mut Pending,
     out: &mut O,
 ) -> Result<(), Failed>
+    requires empty { pending.old ≡ [] }
+    requires room { length room.old ≡ 65537 }
+    ensures gained { OnOk result (Gained (O.written out.old) (O.written out.new) (text (report_pieces cpus context.now (map entry_view entries.now)))) }
+    ensures prefix { OnErr result (GainedPrefix (O.written out.old) (O.written out.new) (text (report_pieces cpus context.now (map entry_view entries.now)))) }
+    ensures cause { HasCause (O.faults out.old) (O.faults out.new) result }
+{
+    put_lines(pending, out, cpus, context, entries, room)?;
+    pending.flush(out)
+}
+
+// Prints the first line alone.
+fn print_cpus<O: Sink>(cpus: u32, pending: &mut Pending, out: &mut O) -> Result<(), Failed>
     requires { pending.old ≡ [] }
-    ensures gained { OnOk result (Gained (O.written out.old) (O.written out.new) (text (report_pieces cpus show order (map entry_view entries.now)))) }
-    ensures prefix { OnErr result (GainedPrefix (O.written out.old) (O.written out.new) (text (report_pieces cpus show order (map entry_view entries.now)))) }
+    ensures gained { OnOk result (Gained (O.written out.old) (O.written out.new) (cpus_line cpus)) }
+    ensures prefix { OnErr result (GainedPrefix (O.written out.old) (O.written out.new) (cpus_line cpus)) }
     ensures cause { HasCause (O.faults out.old) (O.faults out.new) result }
 {
     put_cpus(pending, out, cpus)?;
-    for entry in entries {
-        put_line(pending, out, show, order, entry)?;
-    }
     pending.flush(out)
 }
 

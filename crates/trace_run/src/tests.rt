@@ -1,10 +1,12 @@
 // Whole runs over objects in memory: the words, the file's sub-buffers, and what must come of them.
 
 mod disk;
+mod known;
 
 use crate::{Status, run};
 use dat_header::OpenFault;
 use disk::Disk;
+use known::{FUNCTION, SWITCH, Task, put_carried, put_function, put_switch};
 use std::alloc::Global;
 use std::process::Abort;
 use std::test::Fail;
@@ -30,10 +32,18 @@ struct Row {
 enum Input {
     Missing,
     Bytes(&'static [u8]),
-    /// The sub-buffers of each processor.
-    Processors(&'static [&'static [Page]]),
+    /// The sub-buffers of each processor, in a file that carries this.
+    Processors(Carried, &'static [&'static [Page]]),
     /// One processor whose part begins at this place and should have so many bytes.
     PartAt(u64, u64),
+}
+
+/// What a file carries beside its sub-buffers.
+enum Carried {
+    /// No formats and no names.
+    Nothing,
+    /// The formats and names of `known`.
+    Texts,
 }
 
 /// A sub-buffer.
@@ -53,42 +63,82 @@ enum Record {
     Event(u32, u16, u32, u8, u8),
     /// An event whose payload ends behind its id: its delta and id.
     Short(u32, u16),
+    /// A switch: its delta, pid, the task before, its state, and the task behind.
+    Switch(u32, u32, Task, u64, Task),
+    /// A function: its delta, pid, address, and the address that it was called from.
+    Function(u32, u32, u64, u64),
     /// A stamp of this time, below 2^27.
     Stamp(u32),
 }
 
 /// One event of pid 1,234 at one second.
-const ONE: Input = Input::Processors(&[&[Page::Of(
-    1_000_000_000,
-    &[Record::Event(0, 58, 1234, 0, 0)],
-)]]);
+const ONE: Input = Input::Processors(
+    Carried::Nothing,
+    &[&[Page::Of(1_000_000_000, &[Record::Event(0, 58, 1234, 0, 0)])]],
+);
 
 /// The same in a hard interrupt, with interrupts off and a preempt count of one.
-const IN_INTERRUPT: Input = Input::Processors(&[&[Page::Of(
-    1_000_000_000,
-    &[Record::Event(0, 58, 1234, 9, 1)],
-)]]);
+const IN_INTERRUPT: Input = Input::Processors(
+    Carried::Nothing,
+    &[&[Page::Of(1_000_000_000, &[Record::Event(0, 58, 1234, 9, 1)])]],
+);
 
 /// Processor 0 has a malformed sub-buffer alone, processor 1 an event at time 1.
-const MALFORMED_FIRST: Input = Input::Processors(&[
-    &[Page::Malformed],
-    &[Page::Of(1, &[Record::Event(0, 58, 2, 0, 0)])],
-]);
+const MALFORMED_FIRST: Input = Input::Processors(
+    Carried::Nothing,
+    &[
+        &[Page::Malformed],
+        &[Page::Of(1, &[Record::Event(0, 58, 2, 0, 0)])],
+    ],
+);
 
 /// Processor 0 has events at the times 10 and 30, processor 1 one at 20 and then a malformed sub-buffer.
-const MALFORMED_LATER: Input = Input::Processors(&[
-    &[Page::Of(
-        10,
-        &[
-            Record::Event(0, 58, 1, 0, 0),
-            Record::Event(20, 58, 1, 0, 0),
-        ],
-    )],
+const MALFORMED_LATER: Input = Input::Processors(
+    Carried::Nothing,
     &[
-        Page::Of(20, &[Record::Event(0, 58, 2, 0, 0)]),
-        Page::Malformed,
+        &[Page::Of(
+            10,
+            &[
+                Record::Event(0, 58, 1, 0, 0),
+                Record::Event(20, 58, 1, 0, 0),
+            ],
+        )],
+        &[
+            Page::Of(20, &[Record::Event(0, 58, 2, 0, 0)]),
+            Page::Malformed,
+        ],
     ],
-]);
+);
+
+/// Two switches and a function.
+const SWITCHES: Input = Input::Processors(
+    Carried::Texts,
+    &[
+        &[Page::Of(
+            1_000_000_000,
+            &[Record::Switch(
+                0,
+                1234,
+                Task("bash", 1234, 120),
+                1,
+                Task("swapper/0", 0, 120),
+            )],
+        )],
+        &[Page::Of(
+            1_000_001_500,
+            &[
+                Record::Switch(
+                    0,
+                    0,
+                    Task("swapper/1", 0, 120),
+                    0,
+                    Task("kworker/0:1", 42, 120),
+                ),
+                Record::Function(248_500, 42, 0xffff_ffff_8100_0010, 0xffff_ffff_8100_0120),
+            ],
+        )],
+    ],
+);
 
 const ROWS: &[Row] = &[
     Row {
@@ -159,7 +209,10 @@ const ROWS: &[Row] = &[
     // rounding carries into the second
     Row {
         words: &["report", "-i", "trace.dat", "-N"],
-        file: Input::Processors(&[&[Page::Of(999_999_500, &[Record::Event(0, 58, 1234, 0, 0)])]]),
+        file: Input::Processors(
+            Carried::Nothing,
+            &[&[Page::Of(999_999_500, &[Record::Event(0, 58, 1234, 0, 0)])]],
+        ),
         status: Status::Done,
         out: "cpus=1\n           <...>-1234  [000]     1.000000: [UNKNOWN EVENT 58]\n",
         err: "",
@@ -167,10 +220,13 @@ const ROWS: &[Row] = &[
     // an empty sub-buffer before another
     Row {
         words: &["report"],
-        file: Input::Processors(&[&[
-            Page::Empty,
-            Page::Of(1_000_000_000, &[Record::Event(0, 58, 1234, 0, 0)]),
-        ]]),
+        file: Input::Processors(
+            Carried::Nothing,
+            &[&[
+                Page::Empty,
+                Page::Of(1_000_000_000, &[Record::Event(0, 58, 1234, 0, 0)]),
+            ]],
+        ),
         status: Status::Done,
         out: "cpus=1\n           <...>-1234  [000]     1.000000: [UNKNOWN EVENT 58]\n",
         err: "",
@@ -178,14 +234,17 @@ const ROWS: &[Row] = &[
     // the idle task, a negative pid, and a payload that ends before its pid
     Row {
         words: &["report"],
-        file: Input::Processors(&[&[Page::Of(
-            1000,
-            &[
-                Record::Event(0, 1, 0, 0, 0),
-                Record::Event(0, 2, u32::MAX, 0, 0),
-                Record::Short(0, 3),
-            ],
-        )]]),
+        file: Input::Processors(
+            Carried::Nothing,
+            &[&[Page::Of(
+                1000,
+                &[
+                    Record::Event(0, 1, 0, 0, 0),
+                    Record::Event(0, 2, u32::MAX, 0, 0),
+                    Record::Short(0, 3),
+                ],
+            )]],
+        ),
         status: Status::Done,
         out: "cpus=1\n          <idle>-0     [000]     0.000001: [UNKNOWN EVENT 1]\n           <...>--1    [000]     0.000001: [UNKNOWN EVENT 2]\n          <idle>-0     [000]     0.000001: [UNKNOWN EVENT 3]\n",
         err: "",
@@ -193,10 +252,13 @@ const ROWS: &[Row] = &[
     // a loss with its number, and one without
     Row {
         words: &["report"],
-        file: Input::Processors(&[&[
-            Page::Lossy(1000, Some(3), &[Record::Event(0, 58, 1, 0, 0)]),
-            Page::Lossy(1000, None, &[]),
-        ]]),
+        file: Input::Processors(
+            Carried::Nothing,
+            &[&[
+                Page::Lossy(1000, Some(3), &[Record::Event(0, 58, 1, 0, 0)]),
+                Page::Lossy(1000, None, &[]),
+            ]],
+        ),
         status: Status::Done,
         out: "cpus=1\nCPU:0 [3 EVENTS DROPPED]\n           <...>-1     [000]     0.000001: [UNKNOWN EVENT 58]\nCPU:0 [EVENTS DROPPED]\n",
         err: "",
@@ -204,10 +266,13 @@ const ROWS: &[Row] = &[
     // a tie goes to the lower processor
     Row {
         words: &["report"],
-        file: Input::Processors(&[
-            &[Page::Of(5, &[Record::Event(0, 58, 1, 0, 0)])],
-            &[Page::Of(5, &[Record::Event(0, 58, 2, 0, 0)])],
-        ]),
+        file: Input::Processors(
+            Carried::Nothing,
+            &[
+                &[Page::Of(5, &[Record::Event(0, 58, 1, 0, 0)])],
+                &[Page::Of(5, &[Record::Event(0, 58, 2, 0, 0)])],
+            ],
+        ),
         status: Status::Done,
         out: "cpus=2\n           <...>-1     [000]     0.000000: [UNKNOWN EVENT 58]\n           <...>-2     [001]     0.000000: [UNKNOWN EVENT 58]\n",
         err: "",
@@ -215,16 +280,19 @@ const ROWS: &[Row] = &[
     // a time that falls keeps its place behind the later one
     Row {
         words: &["report", "-t"],
-        file: Input::Processors(&[
+        file: Input::Processors(
+            Carried::Nothing,
             &[
-                Page::Of(5, &[Record::Event(0, 58, 1, 0, 0)]),
-                Page::Of(3, &[Record::Event(0, 58, 1, 0, 0)]),
+                &[
+                    Page::Of(5, &[Record::Event(0, 58, 1, 0, 0)]),
+                    Page::Of(3, &[Record::Event(0, 58, 1, 0, 0)]),
+                ],
+                &[Page::Of(
+                    4,
+                    &[Record::Event(0, 58, 2, 0, 0), Record::Event(1, 58, 2, 0, 0)],
+                )],
             ],
-            &[Page::Of(
-                4,
-                &[Record::Event(0, 58, 2, 0, 0), Record::Event(1, 58, 2, 0, 0)],
-            )],
-        ]),
+        ),
         status: Status::Done,
         out: "cpus=2\n           <...>-2     [001]     0.000000004: [UNKNOWN EVENT 58]\n           <...>-1     [000]     0.000000005: [UNKNOWN EVENT 58]\n           <...>-1     [000]     0.000000003: [UNKNOWN EVENT 58]\n           <...>-2     [001]     0.000000005: [UNKNOWN EVENT 58]\n",
         err: "",
@@ -232,15 +300,18 @@ const ROWS: &[Row] = &[
     // stamps, the second of which the running time has passed
     Row {
         words: &["report", "-t"],
-        file: Input::Processors(&[&[Page::Of(
-            0x0800_0000_0000_0064,
-            &[
-                Record::Stamp(200),
-                Record::Event(0, 58, 1, 0, 0),
-                Record::Stamp(50),
-                Record::Event(0, 58, 1, 0, 0),
-            ],
-        )]]),
+        file: Input::Processors(
+            Carried::Nothing,
+            &[&[Page::Of(
+                0x0800_0000_0000_0064,
+                &[
+                    Record::Stamp(200),
+                    Record::Event(0, 58, 1, 0, 0),
+                    Record::Stamp(50),
+                    Record::Event(0, 58, 1, 0, 0),
+                ],
+            )]],
+        ),
         status: Status::Done,
         out: "cpus=1\n           <...>-1     [000] 576460752.303423688: [UNKNOWN EVENT 58]\n           <...>-1     [000] 1152921504.606847026: [UNKNOWN EVENT 58]\n",
         err: "",
@@ -307,6 +378,58 @@ const ROWS: &[Row] = &[
         out: "cpus=1\nhello\n",
         err: "",
     },
+    // known events by the text of their print fmts
+    Row {
+        words: &["report"],
+        file: SWITCHES,
+        status: Status::Done,
+        out: "cpus=2\n            bash-1234  [000]     1.000000: sched_switch:         prev_comm=bash prev_pid=1234 prev_prio=120 prev_state=S ==> next_comm=swapper/0 next_pid=0 next_prio=120\n          <idle>-0     [001]     1.000002: sched_switch:         prev_comm=swapper/1 prev_pid=0 prev_prio=120 prev_state=R ==> next_comm=kworker/0:1 next_pid=42 next_prio=120\n     kworker/0:1-42    [001]     1.000250: function:              schedule <-- do_idle\n",
+        err: "",
+    },
+    // known events by their names and fields, and the lists
+    Row {
+        words: &["report", "-R"],
+        file: SWITCHES,
+        status: Status::Done,
+        out: "cpus=2\n            bash-1234  [000]     1.000000: sched_switch:         prev_comm=bash prev_pid=1234 prev_prio=120 prev_state=1 next_comm=swapper/0 next_pid=0 next_prio=120\n          <idle>-0     [001]     1.000002: sched_switch:         prev_comm=swapper/1 prev_pid=0 prev_prio=120 prev_state=0 next_comm=kworker/0:1 next_pid=42 next_prio=120\n     kworker/0:1-42    [001]     1.000250: function:             ip=18446744071578845200 parent_ip=18446744071578845472\n",
+        err: "",
+    },
+    Row {
+        words: &["report", "-E"],
+        file: SWITCHES,
+        status: Status::Done,
+        out: "ftrace/function\nsched/sched_switch\n",
+        err: "",
+    },
+    Row {
+        words: &["report", "-f"],
+        file: SWITCHES,
+        status: Status::Done,
+        out: "ffffffff81000000 schedule\nffffffff81000100 do_idle\n",
+        err: "",
+    },
+    Row {
+        words: &["report", "-P"],
+        file: SWITCHES,
+        status: Status::Done,
+        out: "",
+        err: "",
+    },
+    Row {
+        words: &["report", "-E", "-f"],
+        file: SWITCHES,
+        status: Status::Usage,
+        out: "",
+        err: "trace-cmd: word 3: not with an earlier word\n",
+    },
+    // a list needs no sub-buffer
+    Row {
+        words: &["report", "--events"],
+        file: MALFORMED_FIRST,
+        status: Status::Done,
+        out: "",
+        err: "",
+    },
     // a dump, in the order of the sections
     Row {
         words: &["dump"],
@@ -364,25 +487,45 @@ const DISKS: &[(u64, Status, &str, &str)] = &[
     ),
 ];
 
+// A record's first word: its delta, and its length in words or what stands for it.
+fn put_head(file: &mut Vec<u8>, delta: u32, kind: u32) -> Result<(), Fail> {
+    file.extend_from_slice(&(delta.wrapping_mul(32) | kind).to_le_bytes())?;
+    Ok(())
+}
+
+// The fields that every event begins with.
+fn put_common(file: &mut Vec<u8>, id: u16, flags: u8, depth: u8, pid: u32) -> Result<(), Fail> {
+    file.extend_from_slice(&id.to_le_bytes())?;
+    file.extend_from_slice(&[flags, depth])?;
+    file.extend_from_slice(&pid.to_le_bytes())?;
+    Ok(())
+}
+
 fn put_record(file: &mut Vec<u8>, record: &Record) -> Result<(), Fail> {
     match record {
         Record::Event(delta, id, pid, flags, depth) => {
-            file.extend_from_slice(&(delta.wrapping_mul(32) | 2).to_le_bytes())?;
-            file.extend_from_slice(&id.to_le_bytes())?;
-            file.extend_from_slice(&[*flags, *depth])?;
-            file.extend_from_slice(&pid.to_le_bytes())?;
+            put_head(file, *delta, 2)?;
+            put_common(file, *id, *flags, *depth, *pid)
         }
         Record::Short(delta, id) => {
-            file.extend_from_slice(&(delta.wrapping_mul(32) | 1).to_le_bytes())?;
-            file.extend_from_slice(&id.to_le_bytes())?;
-            file.extend_from_slice(&[0, 0])?;
+            put_head(file, *delta, 1)?;
+            put_head(file, 0, u32::from(*id))
+        }
+        Record::Switch(delta, pid, from, state, to) => {
+            put_head(file, *delta, 16)?;
+            put_common(file, SWITCH, 0, 0, *pid)?;
+            put_switch(file, from, *state, to)
+        }
+        Record::Function(delta, pid, ip, parent) => {
+            put_head(file, *delta, 6)?;
+            put_common(file, FUNCTION, 0, 0, *pid)?;
+            put_function(file, *ip, *parent)
         }
         Record::Stamp(time) => {
-            file.extend_from_slice(&(time.wrapping_mul(32) | 31).to_le_bytes())?;
-            file.extend_from_slice(&[0; 4])?;
+            put_head(file, *time, 31)?;
+            put_head(file, 0, 0)
         }
     }
-    Ok(())
 }
 
 // A sub-buffer's time, its commit field, and its records.
@@ -420,9 +563,14 @@ fn put_page(alloc: Global, file: &mut Vec<u8>, page: &Page) -> Result<(), Fail> 
 }
 
 // A header with a table of these parts, filled up to a whole sub-buffer.
-fn with_table(alloc: Global, parts: &[(u64, u64)]) -> Result<Vec<u8>, Fail> {
+fn with_table(alloc: Global, carried: &Carried, parts: &[(u64, u64)]) -> Result<Vec<u8>, Fail> {
+    let header: &[u8] = HEADER;
     let mut file = Vec::new(alloc);
-    file.extend_from_slice(&HEADER[..83])?;
+    file.extend_from_slice(&header[..59])?;
+    match carried {
+        Carried::Nothing => file.extend_from_slice(&header[59..83])?,
+        Carried::Texts => put_carried(&mut file)?,
+    }
     file.extend_from_slice(&(parts.len() as u64).to_le_bytes()[..4])?;
     file.extend_from_slice(b"flyrecord\0")?;
     for (offset, size) in parts {
@@ -433,7 +581,11 @@ fn with_table(alloc: Global, parts: &[(u64, u64)]) -> Result<Vec<u8>, Fail> {
     Ok(file)
 }
 
-fn with_processors(alloc: Global, processors: &[&[Page]]) -> Result<Vec<u8>, Fail> {
+fn with_processors(
+    alloc: Global,
+    carried: &Carried,
+    processors: &[&[Page]],
+) -> Result<Vec<u8>, Fail> {
     let mut parts = Vec::new(alloc);
     let mut offset = PAGE as u64;
     for pages in processors {
@@ -441,7 +593,7 @@ fn with_processors(alloc: Global, processors: &[&[Page]]) -> Result<Vec<u8>, Fai
         parts.push((offset, size))?;
         offset = offset.wrapping_add(size);
     }
-    let mut file = with_table(alloc, &parts)?;
+    let mut file = with_table(alloc, carried, &parts)?;
     for pages in processors {
         for page in *pages {
             put_page(alloc, &mut file, page)?;
@@ -454,8 +606,8 @@ fn bytes_of(alloc: Global, file: &Input) -> Result<Vec<u8>, Fail> {
     match file {
         Input::Missing => Ok(Vec::new(alloc)),
         Input::Bytes(bytes) => Ok(bytes.to_vec(alloc)?),
-        Input::Processors(processors) => with_processors(alloc, processors),
-        Input::PartAt(offset, size) => with_table(alloc, &[(*offset, *size)]),
+        Input::Processors(carried, processors) => with_processors(alloc, carried, processors),
+        Input::PartAt(offset, size) => with_table(alloc, &Carried::Nothing, &[(*offset, *size)]),
     }
 }
 

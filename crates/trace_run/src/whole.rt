@@ -1,4 +1,4 @@
-//! The data of the selected processors, read whole, and their items, arranged up to the first malformed sub-page.
+//! The data of the selected processors, read whole, and their items, arranged up to the first malformed sub-buffer.
 //!
 //! [`load`] reads, and [`reach`] then works in memory alone. All memory for items is taken here.
 

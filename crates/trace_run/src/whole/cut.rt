@@ -4,14 +4,14 @@ ghost use Rattle.trace_run.specs.LoadedView.{cut_view, entry_view};
 
 use crate::whole::entry::Entry;
 
-/// Where the arranged items end: a malformed sub-page, and the key of the last item before it on its processor.
+/// Where the arranged items end: a malformed sub-buffer, and the key of the last item before it on its processor.
 #[derive(Clone, Copy, Debug, PartialEq, Eq)]
 pub(crate) struct Cut {
     /// `None` where no item of the processor stands before it, which is the very start.
     pub(crate) key: Option<u64>,
     /// The processor's number.
     pub(crate) cpu: u32,
-    /// The number of the sub-page among those of the processor, from 0.
+    /// The number of the sub-buffer among those of the processor, from 0.
     pub(crate) page: u64,
 }
 

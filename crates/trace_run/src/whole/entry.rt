@@ -33,8 +33,8 @@ fn key_behind(last: Option<u64>, item: &Item<'_>) -> u64
     }
 }
 
-/// Adds the items of a processor's next sub-page, where `last` is the key of its last item so far, and tells that after
-/// them.
+/// Adds the items of a processor's next sub-buffer, where `last` is the key of its last item so far, and tells that
+/// after them.
 pub(crate) fn append_page<'a>(
     entries: &mut Vec<Entry<'a>>,
     cpu: u32,

@@ -17,12 +17,12 @@ pub(crate) struct Loaded {
     pub(crate) cpu: u32,
     /// How many bytes its part of the file should have.
     pub(crate) size: u64,
-    /// The sub-pages that are there, whole, one after another from the first on.
+    /// The sub-buffers that are there, whole, one after another from the first on.
     pub(crate) bytes: Vec<u8>,
 }
 
 impl Loaded {
-    /// How many sub-pages its part should have. The last of them may not be whole.
+    /// How many sub-buffers its part should have. The last of them may not be whole.
     pub(crate) fn page_count(&self, layout: &Layout) -> u64
         requires { IsLayout layout.now }
         ensures { result ≡ page_count layout.now (part_alone (loaded_view self.now)) }
@@ -30,7 +30,7 @@ impl Loaded {
         self.size.div_ceil(u64::from(layout.page))
     }
 
-    /// The sub-page of this number, unless it is malformed or not there.
+    /// The sub-buffer of this number, unless it is malformed or not there.
     #[tactic(auto, unfolding(subpage::specs::Processor::items_at))]
     pub(crate) fn page_at<'a>(&'a self, layout: &Layout, number: u64) -> Option<Page<'a>>
         requires { IsLayout layout.now }
@@ -58,7 +58,8 @@ pub(crate) enum LoadFault {
     Memory,
 }
 
-/// Loads the data of the selected processors: the bytes of each sub-page that stands wholly in its part and in the file.
+/// Loads the data of the selected processors: the bytes of each sub-buffer that stands wholly in its part and in the
+/// file.
 ///
 /// Each of these bytes is read once, and no other byte. The memory for a part is taken before the part is read.
 pub(crate) fn load<F: File>(
@@ -96,7 +97,7 @@ pub(crate) fn load<F: File>(
     Ok(loaded)
 }
 
-/// Reads the sub-pages of one part that are there, all in one piece: they are its first ones.
+/// Reads the sub-buffers of one part that are there, all in one piece: they are its first ones.
 fn load_part<F: File>(
     alloc: Global,
     layout: &Layout,

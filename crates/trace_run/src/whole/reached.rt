@@ -14,12 +14,12 @@ use trace_base::Layout;
 #[derive(Drop)]
 pub(crate) struct Reached<'a> {
     pub(crate) entries: Vec<Entry<'a>>,
-    /// Where they end, if a sub-page is malformed.
+    /// Where they end, if a sub-buffer is malformed.
     pub(crate) cut: Option<Cut>,
 }
 
-/// Arranges the items of the loaded processors, and ends them at the first malformed sub-page in that order. It takes no
-/// memory but for the entries.
+/// Arranges the items of the loaded processors, and ends them at the first malformed sub-buffer in that order. It takes
+/// no memory but for the entries.
 pub(crate) fn reach<'a>(
     alloc: Global,
     layout: &Layout,
@@ -43,7 +43,7 @@ pub(crate) fn reach<'a>(
     Ok(Reached { entries, cut })
 }
 
-/// Adds a processor's items up to its first malformed sub-page, and tells the cut there, if there is one.
+/// Adds a processor's items up to its first malformed sub-buffer, and tells the cut there, if there is one.
 fn append_processor<'a>(
     entries: &mut Vec<Entry<'a>>,
     layout: &Layout,

@@ -1,4 +1,4 @@
-use Rattle.std.proofs.Common.{◌≡◌, ◌≤◌, length}
+use Rattle.std.proofs.Common.{◌≡◌, ◌-◌, ◌≤◌, drop, length}
 use Rattle.subpage.specs.Reading.{walk}
 use Rattle.subpage.proofs.next.next_event.Given as goal
 
@@ -7,6 +7,7 @@ abbrev pub invariant-loop-rest : goal.invariant-loop-rest
 invariant-loop-rest l = record {
   same : walk l.order l.time l.rest ≡ walk l.order l.start l.bytes;
   left : length l.rest ≤ length l.bytes;
+  suffix : l.rest ≡ drop (length l.bytes - length l.rest) l.bytes;
 }
 
 abbrev pub decreases-loop-rest : goal.decreases-loop-rest

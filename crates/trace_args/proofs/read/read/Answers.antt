@@ -1,4 +1,4 @@
-use Rattle.std.proofs.Common.{Ok, sym, ap, ◌∙◌}
+use Rattle.std.proofs.Common.{sym}
 use Rattle.trace_args.proofs.ReadingLaws.{fault_answer, reading_command, reading_fault, reading_no_tool}
 use Rattle.trace_args.proofs.read.read.Goals as goal
 
@@ -16,5 +16,4 @@ returns-in_err-given c =
 
 pub returns : goal.returns
 returns c =
-    reading_command c.args.words.now c.in_ok-tool.tool _ (sym c.in_ok-tool.ensures) c.in_ok-given.ensures.given c.in_ok-given.ensures.clean
-    ∙ ap Ok (sym c.asked.ensures)
+    reading_command c.args.words.now c.in_ok-tool.tool _ c.asked.result (sym c.in_ok-tool.ensures) c.in_ok-given.ensures.given c.in_ok-given.ensures.clean c.asked.ensures

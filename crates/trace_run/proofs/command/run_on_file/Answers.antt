@@ -1,7 +1,5 @@
-use Rattle.std.proofs.Common.{rules, arith}
 use Rattle.trace_args.specs.Command.{command_view}
 use Rattle.trace_run.proofs.Endings.{behind_header_writes}
-use Rattle.trace_run.proofs.Reading.{read_behind_header}
 use Rattle.trace_run.proofs.command.run_on_file.Goals as goal
 
 pub returns-in-Ok-clause-writes : goal.returns-in-Ok-clause-writes

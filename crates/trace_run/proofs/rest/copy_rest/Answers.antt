@@ -1,4 +1,4 @@
-use Rattle.std.proofs.Common.{rules, arith, ◌≡◌, length, subst, Option, List, ℕ, ◌∙◌, sym}
+use Rattle.std.proofs.Common.{rules, arith, ◌≡◌, length, subst, ℕ}
 use Rattle.trace_run.specs.Rest.{Copied}
 use Rattle.trace_run.proofs.Copying.{copied_to, copy_stopped_at}
 use Rattle.trace_run.proofs.rest.copy_rest.Goals as goal

@@ -1,4 +1,4 @@
-use Rattle.std.proofs.Common.{◌≡◌, ◌≤◌, ◌<◌, ◌-◌, length}
+use Rattle.std.proofs.Common.{◌≡◌, ◌≤◌, ◌-◌}
 use Rattle.trace_outside.specs.Causes.{raised}
 use Rattle.trace_run.specs.Rest.{Copied}
 use Rattle.trace_run.proofs.rest.copy_rest.Given as goal

@@ -1,0 +1,24 @@
+/// A list that a report prints in place of its events (trace-cmd-report(1)).
+#[derive(Clone, Copy, Debug, PartialEq, Eq)]
+pub enum Listing {
+    /// No list: the events are printed.
+    Nothing,
+    /// `-E`: the names of the events.
+    Names,
+    /// `--events`: the formats of the events.
+    Formats,
+    /// `-f`: the kernel's symbols.
+    Symbols,
+    /// `-P`: the printk formats.
+    Printk,
+}
+
+impl Listing {
+    /// The lists that have an option.
+    pub const ALL: [Listing; 4] = [
+        Listing::Names,
+        Listing::Formats,
+        Listing::Symbols,
+        Listing::Printk,
+    ];
+}

@@ -1,0 +1,12 @@
+use Rattle.std.proofs.Common.{◌<◌, length, arith}
+use Rattle.trace_run.specs.Meaning.{is_chosen}
+use Rattle.trace_run.proofs.Printing.{numbered_more}
+use Rattle.trace_run.proofs.select.select.Goals as goal
+
+pub loop-part-preserved : goal.loop-part-preserved
+loop-part-preserved c =
+    let inside : c.loop-part.part-index < length c.args.parts.now = omega arith in
+    record {
+      place = omega arith;
+      chosen = numbered_more (λ part. is_chosen c.args.cpus.now part.0) _ _ _ c.loop-part.cpu c.loop-part.part-index c.args.parts.now _ inside c.in_ok-push_chosen.ensures c.loop-part.invariant.chosen;
+    }
