@@ -1,0 +1,9 @@
+pub mod Told
+pub mod Fetches
+pub mod UnreadLaws
+pub mod OneOn
+pub mod Leaving
+pub mod KeyLaws
+pub mod Standing
+pub mod Returning
+pub mod UsedItems

@@ -1,0 +1,99 @@
+-- Going back to a place.
+use Rattle.std.proofs.Common.{◌≡◌, ℕ, suc, ◌+◌, ◌<◌, ◌≤◌, true, List, [], ◌∷◌, ◌++◌, length, drop, Option, Some, None, refl, sym, ap, subst, ◌∙◌, arith}
+use Rattle.std.specs.Option.{unwrap_or}
+use Rattle.std.proofs.lemmas.Bool.{cond-true}
+use Rattle.std.proofs.lemmas.List.{drop-drop, length-drop}
+use Rattle.trace_base.specs.declared.layout.Layout.{Layout}
+use Rattle.trace_base.specs.declared.part.Part.{Part}
+use Rattle.subpage.specs.ItemData.{ItemData}
+use Rattle.subpage.specs.Page.{items}
+use Rattle.subpage.specs.Processor.{is_there, items_at, page_bytes}
+use Rattle.page_pool.specs.declared.lane.Lane.{Lane}
+use Rattle.page_pool.specs.declared.cursor.LaneState.TheVariants.{Held, Ended, Malformed}
+use Rattle.event_cursor.specs.Standing.{HoldsPage, IsInOrder, HoldsOwn, held_left, left_of, bad_left, Stands}
+use Rattle.event_cursor.specs.Places.{HasPlace, IsPlace, place_in, left_behind, bad_behind, HoldsAt, StandsAt}
+use Rattle.event_cursor.specs.declared.places.Place.{Place}
+use Rattle.event_cursor.proofs.Leaving.{left_is, bad_is}
+
+-- the items of a held sub-buffer are the file's
+pub items_held : (l : Layout) (file : List ℕ) (a : Lane) → HoldsOwn l file a → items_at l file a.part a.cursor.held ≡ items l a.page
+unfolding items_at
+items_held l file a h = cond-true _ _ _ h.there ∙ ap (items l) (sym h.page)
+
+-- one item more is passed
+pub one_passed : (xs ys zs : List ItemData) (x : ItemData) (n : ℕ) → ys ≡ drop n xs → ys ≡ x ∷ zs → n ≤ length xs → (zs ≡ drop (n + 1) xs) × (n + 1 ≤ length xs)
+one_passed xs ys zs x n is first le =
+    let more : length (drop n xs) ≡ suc (length zs) = ap length (sym is ∙ first) in
+    (sym (ap (drop 1) (sym is ∙ first)) ∙ drop-drop 1 n xs, omega (arith, length-drop n xs, more))
+
+-- a sub-buffer with fewer items has no such place
+pub never_fewer : (l : Layout) (file : List ℕ) (part old : Part) (place : Place) (xs : List ItemData) → part ≡ old → HasPlace l file old place → items_at l file part place.page ≡ Some xs → length xs < place.at → ⊥
+never_fewer l file part old place xs same p is few =
+    let both : Some p.all ≡ Some xs = sym p.all_are ∙ ap (λ (q : Part). items_at l file q place.page) (sym same) ∙ is in
+    let long : length p.all ≡ length xs = ap (λ (o : Option (List ItemData)). length (unwrap_or o [])) both in
+    let within : place.at ≤ length p.all = p.within in
+    omega (arith, long, within, few)
+
+-- nor has a malformed one
+pub never_none : (l : Layout) (file : List ℕ) (part old : Part) (place : Place) → part ≡ old → HasPlace l file old place → items_at l file part place.page ≡ None → ⊥
+never_none l file part old place same p none =
+    let no_items : Some p.all ≡ None = sym p.all_are ∙ ap (λ (q : Part). items_at l file q place.page) (sym same) ∙ none in
+    cc
+
+pub has_place : (l : Layout) (file : List ℕ) (part old : Part) (place : Place) (xs : List ItemData) → part ≡ old → items_at l file part place.page ≡ Some xs → place.at ≤ length xs → HasPlace l file old place
+has_place l file part old place xs same is le =
+    record { all = xs; all_are = ap (λ (q : Part). items_at l file q place.page) (sym same) ∙ is; within = le }
+
+pub stands_there : (l : Layout) (file : List ℕ) (b : Lane) (old : Part) (place : Place) (all left : List ItemData) → HoldsAt place b → b.part ≡ old
+    → (is_there l file b.part place.page ≡ true) × (b.page ≡ page_bytes l file b.part place.page)
+    → items_at l file b.part place.page ≡ Some all → held_left l b ≡ left → left ≡ drop place.at all
+    → IsPlace l file old place → StandsAt l file place b
+stands_there l file b old place all left h same own is held_is left_is2 p0 =
+    let p : IsPlace l file b.part place = subst (λ (q : Part). IsPlace l file q place) (sym same) p0 in
+    let next : b.cursor.next ≡ place.page + 1 = h.next in
+    let here : held_left l b ≡ drop place.at (unwrap_or (items_at l file b.part place.page) []) =
+    held_is ∙ left_is2 ∙ ap (λ (o : Option (List ItemData)). drop place.at (unwrap_or o [])) (sym is) in
+    let left = left_is l file b (drop place.at (unwrap_or (items_at l file b.part place.page) [])) b.part (place.page + 1) here refl next in
+    let bad = bad_is l file b b.part (place.page + 1) refl next in
+    record {
+      stands = record {
+        used = p.used;
+        parted = p.parted ∙ ap (λ (xs : List ItemData). p.used ++ xs) (sym left);
+        high = h.high ∙ p.high;
+        bad = p.bad ∙ sym bad;
+        own = λ e. record {
+          there = subst (λ (k : ℕ). is_there l file b.part k ≡ true) (sym h.held) own.0;
+          page = own.1 ∙ ap (page_bytes l file b.part) (sym h.held);
+        };
+        ended = λ e. let never : Held ≡ Ended = sym h.state ∙ e in absurd cc;
+        malformed = λ e. let never : Held ≡ Malformed = sym h.state ∙ e in absurd cc;
+      };
+      left = left;
+      bad = bad;
+    }
+
+-- a lane that holds a sub-buffer of the file stands at a place of it
+module _ (l : Layout) (file : List ℕ) (a : Lane) (order : IsInOrder l a) (stands : Stands l file a) (held : a.cursor.state ≡ Held) where
+  here : HoldsPage l a
+  here = order.held held
+
+  items_are : items_at l file a.part a.cursor.held ≡ Some here.all
+  items_are = items_held l file a (stands.own held) ∙ here.all_are
+
+  held_is : held_left l a ≡ drop a.cursor.at (unwrap_or (items_at l file a.part a.cursor.held) [])
+  held_is = rw held (here.left ∙ ap (λ (o : Option (List ItemData)). drop a.cursor.at (unwrap_or o [])) (sym items_are))
+
+  pub left_is_behind : left_of l file a ≡ left_behind l file a.part (place_in a)
+  left_is_behind = left_is l file a (drop a.cursor.at (unwrap_or (items_at l file a.part a.cursor.held) [])) a.part (a.cursor.held + 1) held_is refl here.next
+
+  pub bad_is_behind : bad_left l file a ≡ bad_behind l file a.part (place_in a)
+  bad_is_behind = bad_is l file a a.part (a.cursor.held + 1) refl here.next
+
+  pub is_place : IsPlace l file a.part (place_in a)
+  is_place = record {
+    has = record { all = here.all; all_are = items_are; within = here.used_up };
+    used = stands.used;
+    parted = stands.parted ∙ ap (λ (xs : List ItemData). stands.used ++ xs) left_is_behind;
+    high = stands.high;
+    bad = stands.bad ∙ bad_is_behind;
+  }

@@ -1,0 +1,16 @@
+-- Keys that go on behind items that were used up.
+use Rattle.std.specs.Prelude.{ℕ, max, List, [], ◌∷◌, Option, Some, None, unwrap_or}
+use Rattle.subpage.specs.ItemData.{ItemData, item_time}
+use Rattle.subpage.specs.Arrangement.{Keyed, keyed_from}
+
+-- the key of an item behind those whose greatest time is high, if there are any
+abbrev pub key_behind : Option ℕ → ItemData → ℕ
+key_behind high item = max (unwrap_or high 0) (item_time item)
+
+-- a processor's items behind those, with their keys
+abbrev pub keyed_behind : ℕ → Option ℕ → List ItemData → List Keyed
+keyed_behind cpu high items = keyed_from cpu (unwrap_or high 0) items
+
+abbrev pub first_of : {X : Type 0} → List X → Option X
+first_of [] = None
+first_of (x ∷ xs) = Some x

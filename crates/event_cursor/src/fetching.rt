@@ -1,0 +1,95 @@
+ghost use Rattle.std.specs.Prelude.{◌≡◌, ◌+◌, ◌*◌, ◌≤◌, length, IfSome, OnOk, is_some};
+ghost use Rattle.trace_base.specs.Layout.{IsLayout};
+ghost use Rattle.trace_outside.specs.Causes.{HasCause, Rose, raised};
+ghost use Rattle.trace_outside.specs.Reading.{GivesBytesAt};
+ghost use Rattle.event_cursor.specs.Fetched.{HoldsItems, IsFetched, IsOwnPage};
+ghost use Rattle.event_cursor.specs.Unread.{is_there_in, size_there};
+
+use page_pool::ByteBuffer;
+use subpage::{Mark, open_page};
+use trace_base::{Layout, Part};
+use trace_outside::{Failed, File, read_all};
+
+/// What a sub-buffer is that was asked for.
+#[derive(Clone, Copy, Debug)]
+pub(crate) enum Fetched {
+    /// It is well formed, and its items begin at this mark.
+    Page(Mark),
+    /// It is malformed, or not there.
+    Malformed,
+    /// A read failed.
+    Read,
+}
+
+/// Where a sub-buffer of a part stands in a file of `len` bytes. `None` where it does not stand wholly in the part and
+/// in the file.
+pub(crate) fn place_of(layout: &Layout, len: u64, part: Part, number: u64) -> Option<u64>
+    requires { IsLayout layout.now }
+    ensures there { is_some result ≡ is_there_in layout.now len part number }
+    ensures place { IfSome result (λ place. place ≡ part.offset + number * layout.now.page) }
+    ensures inside { IfSome result (λ place. place + layout.now.page ≤ len) }
+{
+    let page = u64::from(layout.page);
+    if number >= part.size / page {
+        return None;
+    }
+    let place = part.offset.checked_add(number * page)?;
+    if len < page || len - page < place {
+        return None;
+    }
+    Some(place)
+}
+
+/// Whether a sub-buffer of a part stands wholly in the part and in a file of `len` bytes.
+pub fn is_there(layout: &Layout, len: u64, part: Part, number: u64) -> bool
+    requires { IsLayout layout.now }
+    ensures { result ≡ is_there_in layout.now len part number }
+{
+    place_of(layout, len, part, number).is_some()
+}
+
+/// Fills the buffer with the file's bytes from a place on.
+fn read_buffer<F: File>(file: &mut F, place: u64, page: &mut ByteBuffer) -> Result<(), Failed>
+    requires inside { place + length page.old ≤ F.size file.old }
+    ensures long { length page.new ≡ length page.old }
+    ensures given { OnOk result (GivesBytesAt (F.bytes file.old) place (length page.new) page.new) }
+    ensures reads { F.reads file.new ≤ raised (F.reads file.old) (length page.old) }
+    ensures bytes { F.bytes file.new ≡ F.bytes file.old }
+    ensures size { F.size file.new ≡ F.size file.old }
+    ensures cause { HasCause (F.faults file.old) (F.faults file.new) result }
+{
+    read_all(file, place, page.bytes_mut())
+}
+
+/// Reads a sub-buffer of a part into the buffer. Where it is not there nothing is read.
+pub(crate) fn fetch<F: File>(
+    layout: &Layout,
+    file: &mut F,
+    part: Part,
+    number: u64,
+    page: &mut ByteBuffer,
+) -> Fetched
+    requires allowed { IsLayout layout.now }
+    requires long { length page.old ≡ layout.now.page }
+    ensures long { length page.new ≡ layout.now.page }
+    ensures holds { HoldsItems layout.now page.new result }
+    ensures told { IfSome (F.bytes file.old) (λ bytes. IsFetched layout.now bytes part number page.new result) }
+    ensures own { IfSome (F.bytes file.old) (λ bytes. IsOwnPage layout.now bytes part number page.new result) }
+    ensures read { result ≡ Fetched.Read → Rose (F.faults file.old) (F.faults file.new) }
+    ensures later { F.faults file.old ≤ F.faults file.new }
+    ensures reads { F.reads file.new
+        ≤ raised (F.reads file.old) (size_there layout.now (F.size file.old) part number) }
+    ensures bytes { F.bytes file.new ≡ F.bytes file.old }
+    ensures size { F.size file.new ≡ F.size file.old }
+{
+    let Some(place) = place_of(layout, file.len(), part, number) else {
+        return Fetched::Malformed;
+    };
+    match read_buffer(file, place, page) {
+        Ok(()) => match open_page(layout, page.bytes()) {
+            Some(mark) => Fetched::Page(mark),
+            None => Fetched::Malformed,
+        },
+        Err(Failed) => Fetched::Read,
+    }
+}

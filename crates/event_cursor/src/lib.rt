@@ -1,0 +1,21 @@
+//! Where a lane stands among its processor's items: loading its sub-buffers, the item at its place, one item on, and
+//! going back to a place.
+//!
+//! What a lane has used up and what it has left is one definition, `Stands` in `specs/Standing.antt`. A call over a file
+//! that tells its bytes leaves what was left as it was, or takes its first item. Over any file a lane stays in order:
+//! what its cursor says of the held sub-buffer is so.
+#![tactic(auto)]
+
+mod fetching;
+mod laws;
+mod loading;
+mod places;
+mod seeking;
+mod stepping;
+
+pub use fetching::is_there;
+pub use laws::used_items;
+pub use loading::{Loaded, load};
+pub use places::Place;
+pub use seeking::{Sought, place, seek};
+pub use stepping::{head, step};

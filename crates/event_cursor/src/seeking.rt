@@ -1,0 +1,136 @@
+ghost use Rattle.std.specs.Prelude.{◌≡◌, ◌≤◌, ◌<◌, ◌↔◌, true, IsTrue, length, drop, IfSome, IfNone};
+ghost use Rattle.trace_base.specs.Layout.{IsLayout};
+ghost use Rattle.trace_outside.specs.Causes.{Rose, raised};
+ghost use Rattle.subpage.specs.Marks.{IsMark, items_from};
+ghost use Rattle.event_cursor.specs.Fetched.{HoldsItems, IsFetched, IsOwnPage};
+ghost use Rattle.event_cursor.specs.Places.{IsSought, KeepsPart, SoughtIn, place_in};
+ghost use Rattle.event_cursor.specs.Standing.{IsInOrder, Stands};
+ghost use Rattle.event_cursor.specs.Unread.{is_there_in};
+
+use crate::fetching::{Fetched, fetch};
+use crate::places::Place;
+use page_pool::{Cursor, Lane, LaneState};
+use subpage::{Mark, first_at, open_page, settle};
+use trace_base::Layout;
+use trace_outside::File;
+
+/// What going back came to.
+#[derive(Clone, Copy, Debug, PartialEq, Eq)]
+pub enum Sought {
+    /// The lane stands at the place.
+    Held,
+    /// The sub-buffer is malformed, or has fewer items than the place says.
+    Malformed,
+    /// A read failed. The lane is not to be used again.
+    Read,
+}
+
+/// Where a lane stands that holds a sub-buffer.
+pub fn place(lane: &Lane) -> Place
+    requires { lane.now.cursor.state ≡ LaneState.Held }
+    ensures { result ≡ place_in lane.now }
+{
+    Place {
+        page: lane.cursor.held,
+        at: lane.cursor.at,
+        high: lane.cursor.high,
+    }
+}
+
+/// The mark behind the first `count` items of a sub-buffer. `None`: it has fewer.
+fn pass(layout: &Layout, page: &[u8], first: Mark, count: u32) -> Option<Mark>
+    requires { IsMark layout.now page.now first }
+    ensures mark { IfSome result (λ mark. IsMark layout.now page.now mark) }
+    ensures passed { IfSome result (λ mark.
+        items_from layout.now page.now mark ≡ drop count (items_from layout.now page.now first)) }
+    ensures enough { IfSome result (λ mark. count ≤ length (items_from layout.now page.now first)) }
+    ensures few { IfNone result (length (items_from layout.now page.now first) < count) }
+{
+    let mut mark = first;
+    for _ in 0..count {
+        let Some((_, behind)) = first_at(layout, page, mark) else {
+            return None;
+        };
+        mark = behind;
+    }
+    Some(settle(layout, page, mark))
+}
+
+/// Whether the lane holds this sub-buffer.
+fn holds_page(lane: &Lane, number: u64) -> bool
+    ensures { IsTrue result ↔ ((lane.now.cursor.state ≡ LaneState.Held) × (lane.now.cursor.held ≡ number)) }
+{
+    lane.cursor.state == LaneState::Held && lane.cursor.held == number
+}
+
+/// The mark before the first item of a sub-buffer of the lane's part. It is read unless it is held.
+fn turn_to<F: File>(layout: &Layout, number: u64, file: &mut F, lane: &mut Lane) -> Fetched
+    requires allowed { IsLayout layout.now }
+    requires in_order { IsInOrder layout.now lane.old }
+    ensures long { length lane.new.page ≡ layout.now.page }
+    ensures holds { HoldsItems layout.now lane.new.page result }
+    ensures part { KeepsPart lane.old lane.new }
+    ensures own { IfSome (F.bytes file.old) (λ bytes. Stands layout.now bytes lane.old
+        → IsOwnPage layout.now bytes lane.new.part number lane.new.page result) }
+    ensures told { IfSome (F.bytes file.old) (λ bytes. Stands layout.now bytes lane.old
+        → IsFetched layout.now bytes lane.new.part number lane.new.page result) }
+    ensures malformed { result ≡ Fetched.Malformed → lane.new.cursor.state ≡ LaneState.Fresh }
+    ensures failed { result ≡ Fetched.Read → lane.new.cursor.state ≡ LaneState.Fresh }
+    ensures read { result ≡ Fetched.Read → Rose (F.faults file.old) (F.faults file.new) }
+    ensures held { lane.old.cursor.state ≡ LaneState.Held → lane.old.cursor.held ≡ number
+        → F.reads file.new ≡ F.reads file.old }
+    ensures reads { F.reads file.new ≤ raised (F.reads file.old) layout.now.page }
+    ensures later { F.faults file.old ≤ F.faults file.new }
+    ensures bytes { F.bytes file.new ≡ F.bytes file.old }
+    ensures size { F.size file.new ≡ F.size file.old }
+{
+    if holds_page(lane, number) {
+        if let Some(mark) = open_page(layout, lane.page.bytes()) {
+            return Fetched::Page(mark);
+        }
+    }
+    lane.cursor.state = LaneState::Fresh;
+    fetch(layout, file, lane.part, number, &mut lane.page)
+}
+
+/// Goes back to a place: the lane holds the sub-buffer `place.page` at its item `place.at`, with `place.high` as the
+/// greatest time so far. It reads that sub-buffer, and nothing where the lane holds it.
+///
+/// `Malformed` exactly where the sub-buffer is malformed or has fewer than `place.at` items: never for a place of the
+/// processor's items in a file that tells its bytes.
+pub fn seek<F: File>(layout: &Layout, place: &Place, file: &mut F, lane: &mut Lane) -> Sought
+    requires allowed { IsLayout layout.now }
+    requires in_order { IsInOrder layout.now lane.old }
+    requires there { is_there_in layout.now (F.size file.old) lane.old.part place.now.page ≡ true }
+    ensures in_order { IsInOrder layout.now lane.new }
+    ensures part { KeepsPart lane.old lane.new }
+    ensures sought { IsSought place.now lane.new result }
+    ensures told { IfSome (F.bytes file.old) (λ bytes. Stands layout.now bytes lane.old
+        → SoughtIn layout.now bytes lane.old.part place.now lane.new result) }
+    ensures read { result ≡ Sought.Read → Rose (F.faults file.old) (F.faults file.new) }
+    ensures held { lane.old.cursor.state ≡ LaneState.Held → lane.old.cursor.held ≡ place.now.page
+        → F.reads file.new ≡ F.reads file.old }
+    ensures reads { F.reads file.new ≤ raised (F.reads file.old) layout.now.page }
+    ensures later { F.faults file.old ≤ F.faults file.new }
+    ensures bytes { F.bytes file.new ≡ F.bytes file.old }
+    ensures size { F.size file.new ≡ F.size file.old }
+{
+    let first = match turn_to(layout, place.page, file, lane) {
+        Fetched::Page(mark) => mark,
+        Fetched::Malformed => return Sought::Malformed,
+        Fetched::Read => return Sought::Read,
+    };
+    lane.cursor.state = LaneState::Fresh;
+    let Some(mark) = pass(layout, lane.page.bytes(), first, place.at) else {
+        return Sought::Malformed;
+    };
+    lane.cursor = Cursor {
+        state: LaneState::Held,
+        held: place.page,
+        next: place.page + 1,
+        at: place.at,
+        mark,
+        high: place.high,
+    };
+    Sought::Held
+}

@@ -1,0 +1,95 @@
+-- The tree of a condition, computed, or the tokens before which it is refused.
+use Rattle.std.specs.Prelude.{ℕ, zero, suc, List, [], ◌∷◌, length, Option, Some, None, if◌then◌else◌}
+use Rattle.filter_lang.specs.PlainToken.{PlainToken, digits, quoted, identifier, mark, opening, closing}
+use Rattle.filter_lang.specs.Tree.{Tree, number, text, field, prefix, chain, Operands, no_operands, operand}
+use Rattle.filter_lang.specs.Ops.{op_first, is_prefix}
+use Rattle.filter_lang.specs.declared.expr.FilterOp.{FilterOp}
+
+-- what was found and the tokens behind it, or the tokens that nothing goes on with
+pub data Outcome (A : Type 0) : Type 0 where
+  found : A → List PlainToken → Outcome A
+  refused : List PlainToken → Outcome A
+
+infixl 10 ◌>>=◌
+abbrev pub ◌>>=◌ : {A B : Type 0} → Outcome A → (A → List PlainToken → Outcome B) → Outcome B
+found x rs >>= f = f x rs
+refused rs >>= f = refused rs
+
+abbrev pub Read : Type 0
+Read = List PlainToken → Outcome Tree
+
+abbrev pub with_operand : FilterOp → Tree → Operands → List PlainToken → Outcome Operands
+with_operand op t os rs = found (operand op t os) rs
+
+abbrev pub behind_operand : (List PlainToken → Outcome Operands) → FilterOp → Tree → List PlainToken → Outcome Operands
+behind_operand more op t rs = more rs >>= with_operand op t
+
+abbrev pub row_step : Read → (List PlainToken → Outcome Operands) → List PlainToken → Option (FilterOp × List PlainToken) → Outcome Operands
+row_step read more ts None = found no_operands ts
+row_step read more ts (Some o) = read o.1 >>= behind_operand more o.0
+
+-- operators of a level with what stands behind each; the number bounds the turns, and that of the tokens is enough
+unfoldable pub row : Read → ℕ → ℕ → List PlainToken → Outcome Operands
+row read level zero ts = found no_operands ts
+row read level (suc m) ts = row_step read (row read level m) ts (op_first level ts)
+
+-- a chain has operands
+abbrev pub chained : Tree → Operands → Tree
+chained t no_operands = t
+chained t (operand op u rest) = chain t (operand op u rest)
+
+abbrev pub in_chain : Tree → Operands → List PlainToken → Outcome Tree
+in_chain t os rs = found (chained t os) rs
+
+unfoldable pub row_behind : Read → ℕ → Tree → List PlainToken → Outcome Tree
+row_behind read level t rs = row read level (length rs) rs >>= in_chain t
+
+unfoldable pub level_by : Read → ℕ → Read
+level_by read zero ts = read ts
+level_by read (suc level) ts = level_by read level ts >>= row_behind (level_by read level) (suc level)
+
+-- a bracket that closes
+abbrev pub close : Tree → List PlainToken → Outcome Tree
+close t (closing ∷ rs) = found t rs
+close t rs = refused rs
+
+abbrev pub below : FilterOp → Tree → List PlainToken → Outcome Tree
+below op t rs = found (prefix op t) rs
+
+-- what may open a bracket or stand behind a prefix operator: nothing, or a reader of what a prefix operator applies to
+abbrev pub bracket_in : Read → Read
+bracket_in inner ts = level_by inner 10 ts >>= close
+
+abbrev pub under : Read → FilterOp → Read
+under inner op ts = inner ts >>= below op
+
+abbrev pub bracket_by : Option Read → List PlainToken → Outcome Tree
+bracket_by None ts = refused (opening ∷ ts)
+bracket_by (Some inner) ts = bracket_in inner ts
+
+abbrev pub prefix_by : Option Read → FilterOp → List PlainToken → Outcome Tree
+prefix_by None op ts = refused (mark op ∷ ts)
+prefix_by (Some inner) op ts = under inner op ts
+
+abbrev pub unary_from : Option Read → PlainToken → List PlainToken → Outcome Tree
+unary_from inner (digits value) ts = found (number value) ts
+unary_from inner (quoted bytes) ts = found (text bytes) ts
+unary_from inner (identifier bytes) ts = found (field bytes) ts
+unary_from inner opening ts = bracket_by inner ts
+unary_from inner (mark op) ts = if is_prefix op then prefix_by inner op ts else refused (mark op ∷ ts)
+unary_from inner t ts = refused (t ∷ ts)
+
+unfoldable pub unary_by : Option Read → Read
+unary_by inner [] = refused []
+unary_by inner (t ∷ ts) = unary_from inner t ts
+
+-- what stands before, or without, a binary operator, where so many brackets and prefix operators may still open
+unfoldable pub unary_at : ℕ → Read
+unary_at zero = unary_by None
+unary_at (suc n) = unary_by (Some (unary_at n))
+
+abbrev pub level_at : ℕ → ℕ → Read
+level_at n l = level_by (unary_at n) l
+
+abbrev pub cond_at : ℕ → Read
+cond_at n = level_at n 10

@@ -1,0 +1,24 @@
+-- The plain tokens that tokens stand for.
+use Rattle.std.specs.Prelude.{ℕ, List, map}
+use Rattle.filter_lang.specs.PlainToken.{PlainToken, name, comma, slash, colon, digits, quoted, identifier, mark, opening, closing}
+use Rattle.filter_lang.specs.declared.token.Word.{Word}
+use Rattle.filter_lang.specs.declared.token.Word.TheVariants.{Name, Comma, Slash, Colon, Number, Text, Field, Op, Open, Close}
+use Rattle.filter_lang.specs.declared.token.Token.{Token}
+
+abbrev pub plain_token : Word → PlainToken
+plain_token (Name bytes) = name bytes.now
+plain_token Comma = comma
+plain_token Slash = slash
+plain_token Colon = colon
+plain_token (Number value) = digits value
+plain_token (Text bytes) = quoted bytes.now
+plain_token (Field bytes) = identifier bytes.now
+plain_token (Op op) = mark op
+plain_token Open = opening
+plain_token Close = closing
+
+abbrev pub plain_tokens : List Token → List PlainToken
+plain_tokens ts = map (λ (t : Token). plain_token t.word) ts
+
+abbrev pub cut_of : Word × ℕ → PlainToken × ℕ
+cut_of x = (plain_token x.0, x.1)

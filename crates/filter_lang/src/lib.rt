@@ -1,0 +1,29 @@
+//! The filters of a report: which events to show or to hide.
+//!
+//! A filter names events and may have a condition on their fields, as `sched_switch:prev_prio < 100 && COMM != "bash"`.
+//! [`parse_filter`] reads one, or tells the place from which on the text is none.
+#![tactic(auto)]
+
+mod condition;
+mod events;
+mod expr;
+mod fault;
+mod filter;
+mod first;
+pub mod laws;
+mod lexer;
+mod make;
+mod number;
+mod ops;
+mod parser;
+mod reader;
+mod stop;
+mod taken;
+#[cfg(test)]
+mod tests;
+mod token;
+
+pub use expr::{FilterExpr, FilterOp, FilterOperand};
+pub use fault::FilterFault;
+pub use filter::{EventName, Filter};
+pub use parser::parse_filter;

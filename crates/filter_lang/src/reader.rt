@@ -1,0 +1,90 @@
+//! What a condition is read from.
+
+ghost use Rattle.std.specs.Prelude.{◌≡◌, ◌<◌, ◌+◌, [], ◌∷◌, length, option_map, IfSome, IfNone, IsTrue};
+ghost use Rattle.filter_lang.specs.Ops.{op_first, first_name, has_comma, has_slash, has_colon};
+ghost use Rattle.filter_lang.specs.PlainToken.{name, comma, slash, colon};
+ghost use Rattle.filter_lang.specs.TokenView.{plain_token};
+ghost use Rattle.filter_lang.specs.ReaderView.{from, op_view};
+
+use crate::expr::FilterOp;
+use crate::ops::level_of;
+use crate::token::{Token, Word};
+use std::alloc::Global;
+
+/// The tokens of a filter.
+#[derive(Clone, Copy)]
+pub struct Reader<'a> {
+    pub alloc: Global,
+    pub tokens: &'a [Token<'a>],
+}
+
+impl<'a> Reader<'a> {
+    /// The token at a place.
+    #[tactic(auto, using(crate::proofs::Places::from_there, crate::proofs::Places::from_past))]
+    pub fn word(&self, at: usize) -> Option<Word<'a>>
+        ensures there { IfSome result (λ w. from self.now at ≡ plain_token w ∷ from self.now (at + 1)) }
+        ensures within { IfSome result (λ w. at < length self.now.tokens.now) }
+        ensures past { IfNone result (from self.now at ≡ []) }
+    {
+        match self.tokens.get(at) {
+            Some(token) => Some(token.word),
+            None => None,
+        }
+    }
+
+    /// The operator at a place, if it is of the level.
+    pub fn op(&self, level: u32, at: usize) -> Option<FilterOp>
+        ensures value { option_map (op_view self.now at) result ≡ op_first level (from self.now at) }
+        ensures within { IfSome result (λ op. at < length self.now.tokens.now) }
+    {
+        match self.word(at)? {
+            Word::Op(op) if level_of(op) == level => Some(op),
+            _ => None,
+        }
+    }
+
+    /// The name at a place.
+    pub fn name(&self, at: usize) -> Option<&'a [u8]>
+        ensures value { option_map (λ a. a.now) result ≡ first_name (from self.now at) }
+        ensures there { IfSome result (λ a. from self.now at ≡ name a.now ∷ from self.now (at + 1)) }
+        ensures within { IfSome result (λ a. at < length self.now.tokens.now) }
+    {
+        match self.word(at)? {
+            Word::Name(bytes) => Some(bytes),
+            _ => None,
+        }
+    }
+
+    pub fn is_comma(&self, at: usize) -> bool
+        ensures value { result ≡ has_comma (from self.now at) }
+        ensures there { IsTrue result → from self.now at ≡ comma ∷ from self.now (at + 1) }
+        ensures within { IsTrue result → at < length self.now.tokens.now }
+    {
+        match self.word(at) {
+            Some(Word::Comma) => true,
+            _ => false,
+        }
+    }
+
+    pub fn is_slash(&self, at: usize) -> bool
+        ensures value { result ≡ has_slash (from self.now at) }
+        ensures there { IsTrue result → from self.now at ≡ slash ∷ from self.now (at + 1) }
+        ensures within { IsTrue result → at < length self.now.tokens.now }
+    {
+        match self.word(at) {
+            Some(Word::Slash) => true,
+            _ => false,
+        }
+    }
+
+    pub fn is_colon(&self, at: usize) -> bool
+        ensures value { result ≡ has_colon (from self.now at) }
+        ensures there { IsTrue result → from self.now at ≡ colon ∷ from self.now (at + 1) }
+        ensures within { IsTrue result → at < length self.now.tokens.now }
+    {
+        match self.word(at) {
+            Some(Word::Colon) => true,
+            _ => false,
+        }
+    }
+}

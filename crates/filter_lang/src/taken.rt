@@ -1,0 +1,25 @@
+//! What was read, and the place behind it.
+
+use crate::expr::FilterExpr;
+use crate::filter::EventName;
+
+/// A tree, and the place behind it. The tree is boxed, so that giving it up is one call.
+#[derive(Drop)]
+pub struct Taken {
+    pub expr: Box<FilterExpr>,
+    pub next: usize,
+}
+
+/// An event's name, and the place behind it.
+#[derive(Drop)]
+pub struct TakenEvent {
+    pub event: EventName,
+    pub next: usize,
+}
+
+/// Names of events, and the place behind them.
+#[derive(Drop)]
+pub struct TakenEvents {
+    pub events: Vec<EventName>,
+    pub next: usize,
+}

@@ -1,0 +1,58 @@
+-- Binding changes no truth.
+use Rattle.std.proofs.Common.{◌≡◌, ℕ, zero, suc, ◌+◌, ◌<◌, ◌≤◌, length, Bool, true, false, ◌&&◌, ◌||◌, if◌then◌else◌, List, [], ◌∷◌, ◌++◌, map, take, Option, Some, None, slice_get, refl, ap, ap₂, sym, ◌∙◌, arith}
+use Rattle.trace_base.specs.declared.field.Field.{Field}
+use Rattle.format_parse.specs.declared.format.EventFormat.{EventFormat}
+use Rattle.filter_lang.specs.Filter.{FilterData}
+use Rattle.std.specs.List.{list_any}
+use Rattle.std.proofs.lemmas.List.{map-append, take_all}
+use Rattle.filter_lang.specs.declared.filter.EventName.{EventName}
+use Rattle.filter_lang.specs.FilterView.{name_of}
+use Rattle.filter_lang.specs.Tree.{Tree}
+use Rattle.filter_truth.specs.Values.{is_true}
+use Rattle.filter_truth.specs.Naming.{EventData, is_named_by, names_format, condition_holds, filter_holds, holds_at}
+use Rattle.filter_truth.specs.BoundFilter.{BoundCondition, unnamed, condition_true, bound_holds, bind_cond, bind_format, bind_at, bind_filter}
+use Rattle.filter_truth.specs.BoundView.{condition_of, conditions_of}
+use Rattle.filter_truth.specs.declared.bound_expr.Condition.{Condition}
+use Rattle.filter_truth.proofs.BoundRows.{same_value}
+
+same_cond : (cond : Option Tree) (fields : List Field) (e : EventData) → condition_true (bind_cond cond fields) e ≡ condition_holds cond fields e
+same_cond None fields e = refl
+same_cond (Some t) fields e = ap is_true (same_value fields e t)
+
+by_name : (b : Bool) (c : BoundCondition) (t : Bool) (e : EventData) → condition_true c e ≡ t → condition_true (if b then c else unnamed) e ≡ (b && t)
+by_name true c t e is = is
+by_name false c t e is = refl
+
+same_format : (f : FilterData) (format : EventFormat) (e : EventData) → condition_true (bind_format f format) e ≡ filter_holds f format e
+same_format f format e = by_name (names_format f.events format) (bind_cond f.cond format.fields) _ e (same_cond f.cond format.fields e)
+
+at_each : (f : FilterData) (formats : List EventFormat) (i : ℕ) (e : EventData) → bound_holds (map (bind_format f) formats) i e ≡ holds_at f (slice_get formats i) e
+at_each f [] zero e = refl
+at_each f [] (suc i) e = refl
+at_each f (x ∷ formats) zero e = same_format f x e
+at_each f (x ∷ formats) (suc i) e = at_each f formats i e
+
+pub same_truth : (f : FilterData) (formats : List EventFormat) (i : ℕ) (e : EventData) → bound_holds (bind_filter f formats) i e ≡ holds_at f (slice_get formats i) e
+unfolding bind_filter
+same_truth f formats i e = at_each f formats i e
+
+-- the next format
+taken_next : (f : FilterData) (formats : List EventFormat) (i : ℕ) → i < length formats → map (bind_format f) (take (suc i) formats) ≡ map (bind_format f) (take i formats) ++ bind_at f (slice_get formats i) ∷ []
+taken_next f [] i lt = absurd (omega arith)
+taken_next f (y ∷ formats) zero lt = refl
+taken_next f (y ∷ formats) (suc i) lt = ap (λ (zs : List BoundCondition). bind_format f y ∷ zs) (taken_next f formats i (omega arith))
+
+pub bound_next : (f : FilterData) (formats : List EventFormat) (i : ℕ) (done all : List Condition) (c : Condition) → i < length formats → conditions_of done ≡ map (bind_format f) (take i formats) → all ≡ done ++ c ∷ []
+    → condition_of c ≡ bind_at f (slice_get formats i) → conditions_of all ≡ map (bind_format f) (take (i + 1) formats)
+bound_next f formats i done all c lt so_far pushed is =
+    let next : suc i ≡ i + 1 = omega arith in
+    ap conditions_of pushed ∙ map-append condition_of done (c ∷ []) ∙ ap₂ (λ (xs : List BoundCondition) (x : BoundCondition). xs ++ x ∷ []) so_far is ∙ sym (taken_next f formats i lt)
+    ∙ ap (λ k. map (bind_format f) (take k formats)) next
+
+pub all_bound : (f : FilterData) (formats : List EventFormat) (i : ℕ) (done : List Condition) → length formats ≤ i → conditions_of done ≡ map (bind_format f) (take i formats) → conditions_of done ≡ bind_filter f formats
+unfolding bind_filter
+all_bound f formats i done le so_far = so_far ∙ ap (map (bind_format f)) (take_all i formats le)
+
+pub named_each : (format : EventFormat) (events : List EventName) → list_any (is_named_by format) (map name_of events) ≡ list_any (λ e. is_named_by format (name_of e)) events
+named_each format [] = refl
+named_each format (x ∷ events) = ap (λ b. is_named_by format (name_of x) || b) (named_each format events)

@@ -1,0 +1,3 @@
+pub mod BoundRows
+pub mod Bindings
+pub mod Shows

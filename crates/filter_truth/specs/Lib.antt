@@ -1,0 +1,9 @@
+pub mod Values
+pub mod ValueView
+pub mod Naming
+pub mod EventView
+pub mod Bound
+pub mod BoundFilter
+pub mod BoundView
+pub mod Selection
+pub mod SelectionView

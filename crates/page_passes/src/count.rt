@@ -1,0 +1,65 @@
+// How many sub-buffers items take.
+
+ghost use Rattle.std.specs.Prelude.{◌≡◌, ◌<◌, ◌≤◌, ◌+◌, ◌^◌, List, [], ◌∷◌, ◌++◌, length};
+ghost use Rattle.trace_base.specs.declared.layout.Layout.{Layout};
+ghost use Rattle.trace_base.specs.Layout.{IsLayout};
+ghost use Rattle.subpage.specs.ItemData.{ItemData};
+ghost use Rattle.subpage.specs.ItemView.{item_view};
+ghost use Rattle.page_write.specs.Pack.{packed};
+ghost use Rattle.page_write.specs.PageBytes.{IsPackable};
+ghost use Rattle.page_passes.specs.Passes.{IsPageCount};
+
+use page_write::{Added, Room};
+use subpage::Item;
+use trace_base::Layout;
+
+/// How many sub-buffers a processor's items take, one item after another.
+#[derive(Drop)]
+pub struct PageCount {
+    room: Room,
+    pages: u64,
+}
+
+impl PageCount {
+    /// Of no items.
+    pub fn new() -> PageCount
+        ensures counts { (layout : Layout) → IsPageCount layout result [] }
+        ensures pages { result.pages ≡ 0 }
+    {
+        PageCount {
+            room: Room::new(),
+            pages: 0,
+        }
+    }
+
+    /// Counts a further item.
+    pub fn add(&mut self, layout: &Layout, item: &Item<'_>)
+        requires allowed { IsLayout layout.now }
+        requires packable { IsPackable layout.now (item_view item.now) }
+        requires few { self.old.pages < 2 ^ 63 }
+        ensures counts { (xs : List ItemData) → IsPageCount layout.now self.old xs
+            → IsPageCount layout.now self.new (xs ++ item_view item.now ∷ []) }
+        ensures most { self.new.pages ≤ self.old.pages + 1 }
+    {
+        match self.room.add(layout, item) {
+            Added::Added => {
+                if self.pages == 0 {
+                    self.pages = 1;
+                }
+            }
+            Added::Full => {
+                self.pages += 1;
+                self.room = Room::new();
+                let _ = self.room.add(layout, item);
+            }
+        }
+    }
+
+    /// How many sub-buffers the items take that were counted.
+    pub fn pages(&self) -> u64
+        ensures value { result ≡ self.now.pages }
+        ensures counts { (layout : Layout) (xs : List ItemData) → IsPageCount layout self.now xs → result ≡ length (packed layout xs) }
+    {
+        self.pages
+    }
+}

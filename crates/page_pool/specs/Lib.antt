@@ -1,0 +1,5 @@
+pub mod Lending
+pub mod Lines
+pub mod RegionView
+pub mod Fresh
+pub mod LendingLanes

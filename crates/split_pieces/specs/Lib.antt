@@ -1,0 +1,5 @@
+pub mod Cuts
+pub mod Examples
+pub mod Gauging
+pub mod Moments
+pub mod Pieces

@@ -1,0 +1,71 @@
+ghost use Rattle.std.specs.Prelude.{◌≡◌, ◌∷◌, [], List, IsTrue, true, false};
+ghost use Rattle.subpage.specs.Arrangement.{Keyed};
+ghost use Rattle.split_pieces.specs.Pieces.{is_event, piece, unit_closes};
+ghost use Rattle.split_pieces.specs.Gauging.{piece_by, closes_by};
+
+use crate::rules::PieceUnit;
+
+/// How much more a piece takes.
+#[derive(Clone, Copy, Debug, PartialEq, Eq)]
+pub enum Gauge {
+    /// Everything.
+    All,
+    /// From the first item on, so many nanoseconds.
+    Nanos(u64),
+    /// Items with a key below this one.
+    Below(u128),
+    /// Items up to and including so many events.
+    Events(u64),
+}
+
+impl Gauge {
+    /// Before the first item of a piece.
+    pub fn new(unit: PieceUnit) -> Gauge
+        ensures piece { (xs : List Keyed) → piece_by result xs ≡ piece unit xs }
+        ensures closes { (xs : List Keyed) → closes_by result xs ≡ unit_closes unit xs }
+    {
+        match unit {
+            PieceUnit::All => Gauge::All,
+            PieceUnit::Nanos(nanos) => Gauge::Nanos(nanos),
+            PieceUnit::Events(events) => Gauge::Events(events),
+        }
+    }
+
+    /// Takes an item of this key into the piece, or answers that the piece ends before it.
+    pub fn takes(&mut self, key: u64, event: bool) -> bool
+        ensures took { IsTrue result → (x : Keyed) (xs : List Keyed) → x.key ≡ key → is_event x ≡ event
+            → piece_by self.old (x ∷ xs) ≡ x ∷ piece_by self.new xs }
+        ensures goes_on { IsTrue result → (x : Keyed) (xs : List Keyed) → x.key ≡ key → is_event x ≡ event
+            → closes_by self.old (x ∷ xs) ≡ closes_by self.new xs }
+        ensures ended { result ≡ false → (x : Keyed) (xs : List Keyed) → x.key ≡ key → is_event x ≡ event
+            → piece_by self.old (x ∷ xs) ≡ [] }
+        ensures closed { result ≡ false → (x : Keyed) (xs : List Keyed) → x.key ≡ key → is_event x ≡ event
+            → closes_by self.old (x ∷ xs) ≡ true }
+    {
+        match *self {
+            Gauge::All => true,
+            Gauge::Nanos(nanos) => {
+                let limit = u128::from(key) + u128::from(nanos);
+                *self = Gauge::Below(limit);
+                u128::from(key) < limit
+            }
+            Gauge::Below(limit) => u128::from(key) < limit,
+            Gauge::Events(events) => {
+                if events == 0 {
+                    return false;
+                }
+                if event {
+                    *self = Gauge::Events(events - 1);
+                }
+                true
+            }
+        }
+    }
+
+    /// Whether the piece closes its list though nothing follows: all of its events were taken.
+    pub fn is_full(&self) -> bool
+        ensures { result ≡ closes_by self.now [] }
+    {
+        matches!(*self, Gauge::Events(0))
+    }
+}

@@ -1,0 +1,354 @@
+//! Lists cut into pieces, as a split cuts them.
+
+use crate::{Gauge, Moment, PieceUnit, Rules};
+use PieceUnit::{All, Events, Nanos};
+use std::test::Fail;
+
+/// An item of a list: the time of an event, or of a loss.
+#[derive(Clone, Copy)]
+enum Entry {
+    Event(u64),
+    Loss(u64),
+}
+
+use Entry::{Event, Loss};
+
+impl Entry {
+    fn key(self) -> u64 {
+        match self {
+            Event(key) | Loss(key) => key,
+        }
+    }
+
+    fn is_event(self) -> bool {
+        matches!(self, Event(_))
+    }
+}
+
+/// A list, how it is cut, the keys of the items of each file, and whether the list is closed.
+#[derive(Clone, Copy)]
+struct Row {
+    list: &'static [Entry],
+    rules: Rules,
+    files: &'static [&'static [u64]],
+    closed: bool,
+}
+
+const fn by(unit: PieceUnit) -> Rules {
+    Rules {
+        unit,
+        repeat: false,
+        per_cpu: false,
+        start: None,
+        stop: None,
+    }
+}
+
+const fn again(unit: PieceUnit) -> Rules {
+    Rules {
+        unit,
+        repeat: true,
+        per_cpu: false,
+        start: None,
+        stop: None,
+    }
+}
+
+const fn within(rules: Rules, start: Option<Moment>, stop: Option<Moment>) -> Rules {
+    Rules {
+        unit: rules.unit,
+        repeat: rules.repeat,
+        per_cpu: rules.per_cpu,
+        start,
+        stop,
+    }
+}
+
+const fn micros(value: u128) -> Option<Moment> {
+    Some(Moment { micro: true, value })
+}
+
+const fn nanos(value: u128) -> Option<Moment> {
+    Some(Moment {
+        micro: false,
+        value,
+    })
+}
+
+const NONE: &[Entry] = &[];
+
+const FIVE: &[Entry] = &[Event(10), Event(20), Event(30), Event(40), Event(50)];
+
+const LOSSES: &[Entry] = &[Loss(10), Event(10), Loss(20), Event(20), Loss(30)];
+
+const TIES: &[Entry] = &[Event(10), Event(10), Event(20), Event(20), Event(30)];
+
+const LATE: &[Entry] = &[
+    Event(499),
+    Event(500),
+    Event(1499),
+    Event(1500),
+    Event(2499),
+];
+
+// The items in front of the first that is to be left, and that one with those behind it.
+fn before_start(list: &[Entry], start: Option<Moment>) -> &[Entry] {
+    for (i, entry) in list.iter().enumerate() {
+        if !start.is_some_and(|start| start.is_after(entry.key())) {
+            let (_, rest) = list.split_at(i);
+            return rest;
+        }
+    }
+    &[]
+}
+
+// The items up to the end, and whether there is one past it.
+fn up_to_end(list: &[Entry], stop: Option<Moment>) -> (&[Entry], bool) {
+    for (i, entry) in list.iter().enumerate() {
+        if stop.is_some_and(|stop| stop.is_passed_by(entry.key())) {
+            let (front, _) = list.split_at(i);
+            return (front, true);
+        }
+    }
+    (list, false)
+}
+
+// A piece, what is left behind it, and whether it closes the list.
+fn cut(list: &[Entry], unit: PieceUnit) -> (&[Entry], &[Entry], bool) {
+    let mut gauge = Gauge::new(unit);
+    for (i, entry) in list.iter().enumerate() {
+        if !gauge.takes(entry.key(), entry.is_event()) {
+            let (piece, rest) = list.split_at(i);
+            return (piece, rest, true);
+        }
+    }
+    (list, &[], gauge.is_full())
+}
+
+fn has_keys(piece: &[Entry], keys: &[u64]) -> bool {
+    piece.len() == keys.len()
+        && piece
+            .iter()
+            .zip(keys)
+            .all(|(entry, key)| entry.key() == *key)
+}
+
+// Whether a list is cut and closed as the row says.
+fn agrees(row: &Row) -> bool {
+    let from = before_start(row.list, row.rules.start);
+    let (mut left, mut closed) = up_to_end(from, row.rules.stop);
+    for (k, keys) in row.files.iter().enumerate() {
+        if k > 0 && (left.is_empty() || !row.rules.repeat) {
+            return false;
+        }
+        let (piece, rest, closes) = cut(left, row.rules.unit);
+        if !has_keys(piece, keys) {
+            return false;
+        }
+        closed = closed || closes && !row.rules.repeat;
+        left = rest;
+    }
+    closed == row.closed && (left.is_empty() || !row.rules.repeat)
+}
+
+const fn given(
+    list: &'static [Entry],
+    rules: Rules,
+    files: &'static [&'static [u64]],
+    closed: bool,
+) -> Row {
+    Row {
+        list,
+        rules,
+        files,
+        closed,
+    }
+}
+
+#[test]
+fn whole_lists_and_units(rt: HostRuntime) -> Result<(), Fail> {
+    for (i, row) in [
+        given(NONE, by(All), &[&[]], false),
+        given(NONE, again(All), &[&[]], false),
+        given(NONE, by(Events(1)), &[&[]], false),
+        given(NONE, again(Nanos(1)), &[&[]], false),
+        given(FIVE, by(All), &[&[10, 20, 30, 40, 50]], false),
+        given(FIVE, again(All), &[&[10, 20, 30, 40, 50]], false),
+        given(FIVE, by(Events(2)), &[&[10, 20]], true),
+        given(
+            FIVE,
+            again(Events(2)),
+            &[&[10, 20], &[30, 40], &[50]],
+            false,
+        ),
+        given(FIVE, by(Events(5)), &[&[10, 20, 30, 40, 50]], true),
+        given(FIVE, by(Events(6)), &[&[10, 20, 30, 40, 50]], false),
+        given(FIVE, again(Events(5)), &[&[10, 20, 30, 40, 50]], false),
+        given(FIVE, by(Nanos(10)), &[&[10]], true),
+        given(FIVE, by(Nanos(40)), &[&[10, 20, 30, 40]], true),
+        given(FIVE, by(Nanos(41)), &[&[10, 20, 30, 40, 50]], false),
+        given(
+            FIVE,
+            again(Nanos(11)),
+            &[&[10, 20], &[30, 40], &[50]],
+            false,
+        ),
+        given(FIVE, again(Nanos(25)), &[&[10, 20, 30], &[40, 50]], false),
+        given(TIES, again(Nanos(1)), &[&[10, 10], &[20, 20], &[30]], false),
+        given(TIES, again(Events(3)), &[&[10, 10, 20], &[20, 30]], false),
+        given(
+            LOSSES,
+            again(Events(1)),
+            &[&[10, 10], &[20, 20], &[30]],
+            false,
+        ),
+        given(LOSSES, by(Events(1)), &[&[10, 10]], true),
+        given(LOSSES, by(Events(2)), &[&[10, 10, 20, 20]], true),
+        given(LOSSES, by(Events(3)), &[&[10, 10, 20, 20, 30]], false),
+        given(
+            LOSSES,
+            again(Nanos(10)),
+            &[&[10, 10], &[20, 20], &[30]],
+            false,
+        ),
+    ]
+    .iter()
+    .enumerate()
+    {
+        assert!(rt; agrees(row), "row {i}");
+    }
+    Ok(())
+}
+
+#[test]
+fn starts_and_ends(rt: HostRuntime) -> Result<(), Fail> {
+    for (i, row) in [
+        given(
+            FIVE,
+            within(by(All), nanos(30), None),
+            &[&[30, 40, 50]],
+            false,
+        ),
+        given(FIVE, within(by(All), nanos(31), None), &[&[40, 50]], false),
+        given(FIVE, within(by(All), nanos(51), None), &[&[]], false),
+        given(
+            FIVE,
+            within(by(All), None, nanos(30)),
+            &[&[10, 20, 30]],
+            true,
+        ),
+        given(FIVE, within(by(All), None, nanos(29)), &[&[10, 20]], true),
+        given(
+            FIVE,
+            within(by(All), None, nanos(50)),
+            &[&[10, 20, 30, 40, 50]],
+            false,
+        ),
+        given(FIVE, within(by(All), None, nanos(9)), &[&[]], true),
+        given(
+            FIVE,
+            within(by(All), nanos(20), nanos(30)),
+            &[&[20, 30]],
+            true,
+        ),
+        given(FIVE, within(by(All), nanos(40), nanos(20)), &[&[]], true),
+        given(FIVE, within(by(All), nanos(60), nanos(20)), &[&[]], false),
+        given(
+            FIVE,
+            within(again(All), nanos(20), nanos(40)),
+            &[&[20, 30, 40]],
+            true,
+        ),
+        given(
+            FIVE,
+            within(again(Events(2)), nanos(20), nanos(40)),
+            &[&[20, 30], &[40]],
+            true,
+        ),
+        given(
+            FIVE,
+            within(again(Events(2)), nanos(20), nanos(50)),
+            &[&[20, 30], &[40, 50]],
+            false,
+        ),
+        given(
+            FIVE,
+            within(again(Nanos(20)), nanos(15), None),
+            &[&[20, 30], &[40, 50]],
+            false,
+        ),
+        given(
+            FIVE,
+            within(again(Nanos(20)), nanos(15), nanos(45)),
+            &[&[20, 30], &[40]],
+            true,
+        ),
+        given(
+            FIVE,
+            within(by(Events(2)), nanos(40), None),
+            &[&[40, 50]],
+            true,
+        ),
+        given(
+            FIVE,
+            within(by(Events(3)), nanos(40), None),
+            &[&[40, 50]],
+            false,
+        ),
+        given(
+            LOSSES,
+            within(by(All), nanos(11), None),
+            &[&[20, 20, 30]],
+            false,
+        ),
+        given(
+            LOSSES,
+            within(by(All), None, nanos(20)),
+            &[&[10, 10, 20, 20]],
+            true,
+        ),
+        given(
+            LATE,
+            within(by(All), micros(1), None),
+            &[&[500, 1499, 1500, 2499]],
+            false,
+        ),
+        given(
+            LATE,
+            within(by(All), micros(2), None),
+            &[&[1500, 2499]],
+            false,
+        ),
+        given(LATE, within(by(All), None, micros(0)), &[&[499]], true),
+        given(
+            LATE,
+            within(by(All), None, micros(1)),
+            &[&[499, 500, 1499]],
+            true,
+        ),
+        given(
+            LATE,
+            within(by(All), micros(1), micros(1)),
+            &[&[500, 1499]],
+            true,
+        ),
+        given(
+            LATE,
+            within(again(Events(1)), micros(2), micros(2)),
+            &[&[1500], &[2499]],
+            false,
+        ),
+        given(
+            LATE,
+            within(by(All), nanos(500), nanos(1499)),
+            &[&[500, 1499]],
+            true,
+        ),
+    ]
+    .iter()
+    .enumerate()
+    {
+        assert!(rt; agrees(row), "row {i}");
+    }
+    Ok(())
+}

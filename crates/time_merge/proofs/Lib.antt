@@ -1,0 +1,11 @@
+pub mod Parting
+pub mod RowLaws
+pub mod LaneLaws
+pub mod Readying
+pub mod LaneReads
+pub mod Choosing
+pub mod Starting
+pub mod Going
+pub mod TwoLanes
+pub mod Known
+pub mod RoundLaws

@@ -1,0 +1,24 @@
+//! The order of several processors' items, over one held sub-buffer of each.
+//!
+//! Items stand by key, then processor, then position, and end before the least cut. What lanes have to come in that order
+//! is one list, `to_come` in `specs/LaneRows.antt`: [`next_lane`] tells its first item, and whoever steps that lane has
+//! its rest. Over fresh lanes it is the list of the reached items ([`laws`]).
+#![tactic(auto)]
+
+mod best;
+mod ending;
+mod heads;
+mod highs;
+mod horizons;
+pub mod laws;
+mod next_lanes;
+mod ready;
+#[cfg(test)]
+mod tests;
+
+pub use ending::End;
+pub use heads::least;
+pub use highs::horizon;
+pub use horizons::Horizon;
+pub use next_lanes::{Next, next_lane};
+pub use ready::{make_all_ready, make_ready};

@@ -1,0 +1,5 @@
+pub mod Generated
+pub mod At
+pub mod GeneratedHeader
+pub mod GeneratedFile
+pub mod Summary
