@@ -197,12 +197,19 @@ known_is_no_dash tool.Report letter known h e =
     let bad : None ≡ Some known = rw e at h in cc
 known_is_no_dash tool.Dump letter known h e =
     let bad : None ≡ Some known = rw e at h in cc
+known_is_no_dash tool.SelfTest letter known h e =
+    let bad : None ≡ Some known = rw e at h in cc
+known_is_no_dash tool.Split letter known h e =
+    let bad : None ≡ Some known = rw e at h in cc
 
 known_is_some : (command : Tool) (name : List ℕ) (known : KnownOption) → option_named command (long name) ≡ Some known → name ≢ []
 known_is_some tool.Report name known h e =
     let bad : None ≡ Some known = rw e at h in cc
 known_is_some tool.Dump name known h e =
     let bad : None ≡ Some known = rw e at h in cc
+known_is_some tool.SelfTest name known h e =
+    let bad : None ≡ Some known = rw e at h in cc
+known_is_some tool.Split name known h e = cc
 
 test_no : (c d : ℕ) (b : Bool) → (c == d) ≡ b → c ≢ d → b ≡ false
 test_no c d true e h = absurd (h (eqb-true c d e))

@@ -1,11 +1,11 @@
 -- A number's digits, read from the left.
-use Rattle.std.proofs.Common.{◌≡◌, ℕ, ◌+◌, ◌-◌, ◌*◌, ◌^◌, ◌<◌, Bool, true, false, ◌&&◌, nat_le, List, ◌∷◌, length, Option, Some, None, if◌then◌else◌, refl, ap, ◌∙◌, arith}
+use Rattle.std.proofs.Common.{◌≡◌, ℕ, ◌+◌, ◌-◌, ◌*◌, ◌^◌, ◌<◌, ◌≤◌, Bool, true, false, ◌&&◌, nat_le, List, ◌∷◌, length, Option, Some, None, if◌then◌else◌, lit<, refl, ap, ◌∙◌, arith}
 use Rattle.std.specs.List.{list_all}
 use Rattle.std.specs.Char.{is_ascii_digit}
 use Rattle.std.specs.Option.{option_and_then}
-use Rattle.std.proofs.Math.Nat.{pow-succ', one-le-pow, le-mul_of_pos_right}
+use Rattle.std.proofs.Math.Nat.{pow-succ', one-le-pow, le-mul_of_pos_right, mul-le-mul, pow-le-pow_right}
 use Rattle.std.proofs.lemmas.Bool.Decides.{nat_tests}
-use Rattle.trace_args.specs.Number.{digits_value, with_digit}
+use Rattle.trace_args.specs.Number.{digits_value, number_of, number_within, with_digit}
 
 -- the number of some digits that are read, and those that are left
 abbrev pub number_on : ℕ → List ℕ → Option ℕ
@@ -69,3 +69,24 @@ stop_by least value digit most digits false small d s h =
 pub number_on-stop : (least value digit most : ℕ) (digits : List ℕ) → with_digit value digit most ≡ None → within least most (number_on value (digit ∷ digits)) ≡ None
 number_on-stop least value digit most digits h =
     stop_by least value digit most digits (is_ascii_digit digit) (nat_le (10 * value + (digit - 48)) most) refl refl h
+
+most_by : (least most n m : ℕ) (low high : Bool) → nat_le m most ≡ high → (if low && high then Some m else None) ≡ Some n → n ≤ most
+most_by least most n m true true e h = let same : m ≡ n = cc in rw (← same) (grind (arith, nat_tests, e))
+most_by least most n m true false e h = cc
+most_by least most n m false high e h = cc
+
+most_of : (least most n : ℕ) (number : Option ℕ) → within least most number ≡ Some n → n ≤ most
+most_of least most n None h = cc
+most_of least most n (Some m) h = most_by least most n m (nat_le least m) (nat_le m most) refl h
+
+-- a number within a range is at most the most
+pub number_within_most : (least most n : ℕ) (text : List ℕ) → number_within least most text ≡ Some n → n ≤ most
+number_within_most least most n text h = most_of least most n (number_of text) h
+
+pub power_bound : (places : ℕ) → places ≤ 9 → 10 ^ places ≤ 1000000000
+power_bound places h = pow-le-pow_right {n = 10} (lit< tt) h
+
+pub scaled_bound : (part places : ℕ) → part ≤ 999999999 → places ≤ 9 → part * 10 ^ places ≤ 10 ^ 18
+scaled_bound part places h k =
+    let most : part * 10 ^ places ≤ 999999999 * 1000000000 = mul-le-mul h (power_bound places k) in
+    omega (arith, most)

@@ -1,8 +1,8 @@
 -- The command that settings ask for.
--- Source: trace-cmd-report(1) and trace-cmd-dump(1), `OPTIONS`.
-use Rattle.std.specs.Prelude.{ℕ, Bool, true, false, ◌&&◌, ◌||◌, not, List, map, Option, unwrap_or, codes}
-use Rattle.std.specs.List.{list_any, find}
-use Rattle.std.specs.Option.{option_and_then, option_map_or}
+-- Source: trace-cmd-report(1), trace-cmd-split(1) and trace-cmd-dump(1), `OPTIONS`.
+use Rattle.std.specs.Prelude.{ℕ, Bool, true, false, ◌&&◌, ◌||◌, not, List, [], ◌∷◌, map, Option, option_map, unwrap_or, codes}
+use Rattle.std.specs.List.{list_any, find, cons_option}
+use Rattle.std.specs.Option.{option_and_then, option_map_or, option_or}
 use Rattle.trace_args.specs.declared.section.Section.{Section}
 use Rattle.trace_args.specs.declared.section.Section.TheVariants as section
 use Rattle.trace_args.specs.declared.tool.Tool.{Tool}
@@ -11,16 +11,32 @@ use Rattle.trace_args.specs.declared.option.FlagOption.TheVariants as flag
 use Rattle.trace_args.specs.declared.option.ValuedOption.TheVariants as valued
 use Rattle.trace_args.specs.declared.listing.Listing.{Listing}
 use Rattle.trace_args.specs.declared.listing.Listing.TheVariants.{Nothing}
+use Rattle.trace_args.specs.declared.moment.Moment.{Moment}
+use Rattle.trace_args.specs.declared.piece.PieceUnit.{PieceUnit}
+use Rattle.trace_args.specs.declared.piece.PieceUnit.TheVariants.{All}
+use Rattle.trace_args.specs.declared.piece.PieceOption.{PieceOption}
+use Rattle.trace_args.specs.declared.piece.PieceOption.TheVariants.{Seconds, Millis, Micros, Events}
 use Rattle.trace_args.specs.Listings.{listings}
 use Rattle.trace_args.specs.Sections.{sections}
-use Rattle.trace_args.specs.Command.{CommandData, Report, Dump, ReportData, DumpData}
-use Rattle.trace_args.specs.Setting.{Setting}
-use Rattle.trace_args.specs.Given.{value_of, texts_of, is_set}
-use Rattle.trace_args.specs.CpuList.{cpu_set}
-use Rattle.trace_args.specs.Number.{worker_count}
+use Rattle.trace_args.specs.Command.{CommandData, Report, Dump, SelfTest, Split, ReportData, DumpData, SelfData, SplitData, FilterData}
+use Rattle.trace_args.specs.Setting.{Text, Setting}
+use Rattle.trace_args.specs.Given.{sets, value_for, value_of, value_at, texts_of, is_set}
+use Rattle.trace_args.specs.CpuList.{cpu_set, cpu_number}
+use Rattle.trace_args.specs.Number.{worker_count, seed_number, event_count, piece_count}
+use Rattle.trace_args.specs.Moments.{moment_of}
+use Rattle.trace_args.specs.Pieces.{piece}
 
 abbrev pub input_of : List Setting → List ℕ
 input_of settings = option_map_or (λ text. text.bytes) (value_of valued.Input settings) (codes "trace.dat")
+
+abbrev pub filter_data : Bool → Text → FilterData
+filter_data hide filter = record { word = filter.word; hide = hide; text = filter.bytes }
+
+-- the filters of these settings; whether they hide, which all behind a `-v` do
+abbrev pub filters_from : Bool → List Setting → List FilterData
+filters_from hide [] = []
+filters_from hide (setting ∷ later) =
+    cons_option (option_map (filter_data hide) (value_for valued.Filter setting)) (filters_from (hide || sets flag.Hide setting) later)
 
 -- the list that is printed in place of the events
 abbrev pub listing_of : List Setting → Listing
@@ -39,6 +55,7 @@ abbrev pub report_of : List Setting → ReportData
 report_of settings =
     record {
       input = input_of settings;
+      filters = filters_from false settings;
       full = is_set flag.FullTime settings;
       latency = is_set flag.Latency settings;
       raw = is_set flag.Raw settings;
@@ -64,7 +81,7 @@ abbrev pub names_section : List Setting → Section → Bool
 names_section settings section = is_set (flag.Section section) settings
 
 -- whether an option names a section, or all
-abbrev pub names_any : List Setting → Bool
+unfoldable pub names_any : List Setting → Bool
 names_any settings = is_set flag.All settings || list_any (names_section settings) sections
 
 abbrev pub is_printed : List Setting → Section → Bool
@@ -75,6 +92,57 @@ abbrev pub dump_of : List Setting → DumpData
 dump_of settings =
     record { input = input_of settings; sections = map (is_printed settings) sections }
 
+-- the numbers of a self-test, in their order
+abbrev pub seed_of : List Setting → ℕ
+seed_of settings =
+    unwrap_or (option_and_then (λ text. seed_number text.bytes) (value_at 0 valued.TestNumber settings)) 0
+
+abbrev pub events_of : List Setting → ℕ
+events_of settings =
+    unwrap_or (option_and_then (λ text. event_count text.bytes) (value_at 1 valued.TestNumber settings)) 0
+
+abbrev pub self_of : List Setting → SelfData
+self_of settings =
+    record { seed = seed_of settings; events = events_of settings; workers = workers_of settings }
+
+-- what the names of new files begin with
+abbrev pub base_of : List Setting → List ℕ
+base_of settings = option_map_or (λ text. text.bytes) (value_of valued.Base settings) (input_of settings)
+
+-- the size of a piece by this option
+abbrev pub piece_by : List Setting → PieceOption → Option PieceUnit
+piece_by settings option =
+    option_map (piece option) (option_and_then (λ text. piece_count text.bytes) (value_of (valued.Piece option) settings))
+
+abbrev pub unit_of : List Setting → PieceUnit
+unit_of settings =
+    let timed = option_or (option_or (piece_by settings Seconds) (piece_by settings Millis)) (piece_by settings Micros) in
+    unwrap_or (option_or timed (piece_by settings Events)) All
+
+-- the processor that is taken, where not all are
+abbrev pub cpu_of : List Setting → Option ℕ
+cpu_of settings = option_and_then (λ text. cpu_number text.bytes) (value_of valued.Cpu settings)
+
+-- the start, and behind it the end
+abbrev pub bound_of : ℕ → List Setting → Option Moment
+bound_of place settings =
+    option_and_then (λ text. moment_of text.bytes) (value_at place valued.Bound settings)
+
+abbrev pub split_of : List Setting → SplitData
+split_of settings =
+    record {
+      input = input_of settings;
+      base = base_of settings;
+      unit = unit_of settings;
+      repeat = is_set flag.Repeat settings;
+      per_cpu = is_set flag.PerCpu settings;
+      cpu = cpu_of settings;
+      start = bound_of 0 settings;
+      stop = bound_of 1 settings;
+    }
+
 abbrev pub command_of : Tool → List Setting → CommandData
 command_of tool.Report settings = Report (report_of settings)
 command_of tool.Dump settings = Dump (dump_of settings)
+command_of tool.SelfTest settings = SelfTest (self_of settings)
+command_of tool.Split settings = Split (split_of settings)

@@ -4,10 +4,22 @@ use Rattle.trace_args.specs.declared.command.Command.{Command}
 use Rattle.trace_args.specs.declared.command.Command.TheVariants as code
 use Rattle.trace_args.specs.declared.command.ReportWords.{ReportWords}
 use Rattle.trace_args.specs.declared.listing.Listing.{Listing}
+use Rattle.trace_args.specs.declared.command.FilterWord.{FilterWord}
 use Rattle.trace_args.specs.declared.command.DumpWords.{DumpWords}
+use Rattle.trace_args.specs.declared.command.SelfWords.{SelfWords}
+use Rattle.trace_args.specs.declared.command.SplitWords.{SplitWords}
+use Rattle.trace_args.specs.declared.moment.Moment.{Moment}
+use Rattle.trace_args.specs.declared.piece.PieceUnit.{PieceUnit}
+
+-- a filter, the number of the word that holds it, and whether it hides
+pub record FilterData : Type 0 where
+  pub word : ℕ
+  pub hide : Bool
+  pub text : List ℕ
 
 pub record ReportData : Type 0 where
   pub input : List ℕ
+  pub filters : List FilterData
   pub full : Bool
   pub latency : Bool
   pub raw : Bool
@@ -22,14 +34,35 @@ pub record DumpData : Type 0 where
   pub input : List ℕ
   pub sections : List Bool
 
+pub record SelfData : Type 0 where
+  pub seed : ℕ
+  pub events : ℕ
+  pub workers : ℕ
+
+pub record SplitData : Type 0 where
+  pub input : List ℕ
+  pub base : List ℕ
+  pub unit : PieceUnit
+  pub repeat : Bool
+  pub per_cpu : Bool
+  pub cpu : Option ℕ
+  pub start : Option Moment
+  pub stop : Option Moment
+
 pub data CommandData : Type 0 where
   Report : ReportData → CommandData
   Dump : DumpData → CommandData
+  SelfTest : SelfData → CommandData
+  Split : SplitData → CommandData
+
+abbrev pub filter_view : FilterWord → FilterData
+filter_view w = record { word = w.word; hide = w.hide; text = w.text.now }
 
 abbrev pub report_view : ReportWords → ReportData
 report_view w =
     record {
       input = w.input.now;
+      filters = map filter_view w.filters.items;
       full = w.full;
       latency = w.latency;
       raw = w.raw;
@@ -44,7 +77,25 @@ report_view w =
 abbrev pub dump_view : DumpWords → DumpData
 dump_view w = record { input = w.input.now; sections = w.sections }
 
+abbrev pub self_view : SelfWords → SelfData
+self_view w = record { seed = w.seed; events = w.events; workers = w.workers }
+
+abbrev pub split_view : SplitWords → SplitData
+split_view w =
+    record {
+      input = w.input.now;
+      base = w.base.now;
+      unit = w.unit;
+      repeat = w.repeat;
+      per_cpu = w.per_cpu;
+      cpu = w.cpu;
+      start = w.start;
+      stop = w.stop;
+    }
+
 -- a command's words as plain data
 abbrev pub command_view : Command → CommandData
 command_view (code.Report w) = Report (report_view w)
 command_view (code.Dump w) = Dump (dump_view w)
+command_view (code.SelfTest w) = SelfTest (self_view w)
+command_view (code.Split w) = Split (split_view w)

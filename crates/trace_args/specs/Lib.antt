@@ -5,6 +5,8 @@ pub mod Command
 pub mod Cut
 pub mod Number
 pub mod CpuList
+pub mod Moments
+pub mod Pieces
 pub mod Options
 pub mod Setting
 pub mod Views

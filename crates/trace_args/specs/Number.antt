@@ -25,6 +25,17 @@ number_within least most text =
 abbrev pub worker_count : List ℕ → Option ℕ
 worker_count text = number_within 1 64 text
 
+-- the seed of a self-test, and its number of events
+abbrev pub seed_number : List ℕ → Option ℕ
+seed_number text = number_within 0 (2 ^ 64 - 1) text
+
+abbrev pub event_count : List ℕ → Option ℕ
+event_count text = number_within 0 1000000 text
+
+-- the size of a piece
+abbrev pub piece_count : List ℕ → Option ℕ
+piece_count text = number_within 1 1000000000 text
+
 -- a number with one digit more, while it is at most the most
 abbrev pub with_digit : ℕ → ℕ → ℕ → Option ℕ
 with_digit value digit most =

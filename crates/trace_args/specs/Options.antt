@@ -1,5 +1,5 @@
 -- The options of each command: one row an option, as it is written, and which it is.
--- Source: trace-cmd-report(1) and trace-cmd-dump(1), `OPTIONS`.
+-- Source: trace-cmd-report(1), trace-cmd-split(1) and trace-cmd-dump(1), `OPTIONS`.
 use Rattle.std.specs.Prelude.{ℕ, Bool, true, false, List, [], ◌∷◌, map, Option, option_map, codes}
 use Rattle.std.specs.List.{find}
 use Rattle.std.specs.Str.{bytes_eq}
@@ -7,9 +7,10 @@ use Rattle.trace_args.specs.Sections.{sections, section_name}
 use Rattle.trace_args.specs.declared.tool.Tool.{Tool}
 use Rattle.trace_args.specs.declared.tool.Tool.TheVariants as tool
 use Rattle.trace_args.specs.declared.option.FlagOption.{FlagOption}
-use Rattle.trace_args.specs.declared.option.FlagOption.TheVariants.{FullTime, Latency, Raw, NoHard, NoSoft, NoPlugins, Listing, Section, All}
+use Rattle.trace_args.specs.declared.option.FlagOption.TheVariants.{Hide, FullTime, Latency, Raw, NoHard, NoSoft, NoPlugins, Listing, Section, All, Repeat, PerCpu}
 use Rattle.trace_args.specs.declared.option.ValuedOption.{ValuedOption}
-use Rattle.trace_args.specs.declared.option.ValuedOption.TheVariants.{Input, RawEvent, Cpus, Workers}
+use Rattle.trace_args.specs.declared.option.ValuedOption.TheVariants.{Input, Filter, RawEvent, Cpus, Workers, TestNumber, Base, Piece, Cpu, Bound}
+use Rattle.trace_args.specs.declared.piece.PieceOption.TheVariants.{Seconds, Millis, Micros, Events}
 use Rattle.trace_args.specs.declared.listing.Listing.TheVariants.{Names, Formats, Symbols, Printk}
 use Rattle.trace_args.specs.declared.option.KnownOption.{KnownOption}
 use Rattle.trace_args.specs.declared.option.KnownOption.TheVariants.{Flag, Valued}
@@ -35,6 +36,8 @@ long name = 45 ∷ 45 ∷ name
 abbrev pub options_of : Tool → List OptionRow
 options_of tool.Report =
     valued (codes "-i") Input
+    ∷ valued (codes "-F") Filter
+    ∷ flag (codes "-v") Hide
     ∷ flag (codes "-t") FullTime
     ∷ flag (codes "-l") Latency
     ∷ flag (codes "-R") Raw
@@ -53,6 +56,18 @@ options_of tool.Dump =
     valued (codes "-i") Input
     ∷ flag (codes "--all") All
     ∷ map (λ section. flag (long (section_name section)) (Section section)) sections
+options_of tool.Split =
+    valued (codes "-i") Input
+    ∷ valued (codes "-o") Base
+    ∷ valued (codes "-s") (Piece Seconds)
+    ∷ valued (codes "-m") (Piece Millis)
+    ∷ valued (codes "-u") (Piece Micros)
+    ∷ valued (codes "-e") (Piece Events)
+    ∷ flag (codes "-r") Repeat
+    ∷ flag (codes "-c") PerCpu
+    ∷ valued (codes "-C") Cpu
+    ∷ []
+options_of tool.SelfTest = valued (codes "--workers") Workers ∷ []
 
 -- the option of the command that is so written
 abbrev pub option_named : Tool → List ℕ → Option KnownOption
@@ -63,8 +78,17 @@ option_named command written =
 abbrev pub operand_option : Tool → ValuedOption
 operand_option tool.Report = Input
 operand_option tool.Dump = Input
+operand_option tool.SelfTest = TestNumber
+operand_option tool.Split = Bound
 
 -- whether an option with a value may be given more than once
 abbrev pub may_repeat : ValuedOption → Bool
+may_repeat Filter = true
 may_repeat RawEvent = true
 may_repeat _ = false
+
+-- whether two words give it a value, and no third
+abbrev pub takes_two : ValuedOption → Bool
+takes_two TestNumber = true
+takes_two Bound = true
+takes_two _ = false

@@ -1,19 +1,21 @@
 ghost use Rattle.std.specs.Prelude.{◌≡◌, IfOk, MatchResult};
 ghost use Rattle.std.specs.List.{find, list_any};
-ghost use Rattle.trace_args.specs.Asked.{command_of, cpus_of, dump_of, input_of, is_printed, listing_of, names_any, names_section, report_of, workers_of};
-ghost use Rattle.trace_args.specs.Command.{command_view, dump_view, report_view};
+ghost use Rattle.trace_args.specs.Asked.{base_of, bound_of, command_of, cpu_of, cpus_of, dump_of, events_of, input_of, is_printed, listing_of, names_any, names_section, piece_by, report_of, seed_of, self_of, split_of, unit_of, workers_of};
+ghost use Rattle.trace_args.specs.Command.{command_view, dump_view, report_view, self_view, split_view};
 ghost use Rattle.trace_args.specs.Given.{is_set};
 ghost use Rattle.trace_args.specs.Listings.{listings};
 ghost use Rattle.trace_args.specs.Sections.{sections};
 ghost use Rattle.trace_args.specs.Views.{given_view};
 
-use crate::cpu_list::cpu_set;
+use crate::cpu_list::{cpu_number, cpu_set};
 use crate::cpu_set::CpuSet;
 use crate::fault::{WordFault, WordKind};
 use crate::given::Given;
 use crate::listing::Listing;
-use crate::number::worker_count;
+use crate::moment::Moment;
+use crate::number::{event_count, piece_count, seed_number, worker_count};
 use crate::option::{FlagOption, ValuedOption};
+use crate::piece::{PieceOption, PieceUnit};
 use crate::section::Section;
 use crate::tool::Tool;
 use std::alloc::{AllocError, Global};
@@ -25,6 +27,10 @@ pub enum Command<'a> {
     Report(ReportWords<'a>),
     /// Print what a file's header says.
     Dump(DumpWords<'a>),
+    /// Count the output of a report on a file that is made up.
+    SelfTest(SelfWords),
+    /// Cut a file into pieces.
+    Split(SplitWords<'a>),
 }
 
 /// The words of `report` (trace-cmd-report(1)).
@@ -32,6 +38,8 @@ pub enum Command<'a> {
 pub struct ReportWords<'a> {
     /// The name of the file.
     pub input: &'a str,
+    /// `-F` and `-v`: the filters, in their order.
+    pub filters: Vec<FilterWord<'a>>,
     /// `-t`: times are printed to the nanosecond.
     pub full: bool,
     /// `-l`: the latency columns are printed.
@@ -52,6 +60,17 @@ pub struct ReportWords<'a> {
     pub workers: u32,
 }
 
+/// A filter of `report`.
+#[derive(Clone, Copy)]
+pub struct FilterWord<'a> {
+    /// The number of the word that holds it.
+    pub word: u64,
+    /// Whether a `-v` stands before it: the events that it matches are hidden.
+    pub hide: bool,
+    /// What the word says.
+    pub text: &'a str,
+}
+
 /// The words of `dump` (trace-cmd-dump(1)).
 #[derive(Drop)]
 pub struct DumpWords<'a> {
@@ -59,6 +78,38 @@ pub struct DumpWords<'a> {
     pub input: &'a str,
     /// For each section whether it is printed, in the order of `Section::ALL`.
     pub sections: [bool; 12],
+}
+
+/// The words of `selftest`.
+#[derive(Clone, Copy)]
+pub struct SelfWords {
+    /// The number from which the file is made.
+    pub seed: u64,
+    /// How many events it has, up to 1,000,000.
+    pub events: u32,
+    /// `--workers`: how many threads work, from 1 to 64.
+    pub workers: u32,
+}
+
+/// The words of `split` (trace-cmd-split(1)).
+#[derive(Clone, Copy)]
+pub struct SplitWords<'a> {
+    /// The name of the file.
+    pub input: &'a str,
+    /// `-o`: what the names of the new files begin with, up to 4,096 bytes.
+    pub base: &'a str,
+    /// `-s`, `-m`, `-u` and `-e`: the size of a piece.
+    pub unit: PieceUnit,
+    /// `-r`: there is a file for each piece.
+    pub repeat: bool,
+    /// `-c`: each processor is cut by itself.
+    pub per_cpu: bool,
+    /// `-C`: the processor that is taken, where not all are.
+    pub cpu: Option<u32>,
+    /// From when on events are taken.
+    pub start: Option<Moment>,
+    /// Up to when events are taken.
+    pub stop: Option<Moment>,
 }
 
 impl<'a> Command<'a> {
@@ -78,6 +129,8 @@ impl<'a> Command<'a> {
                 Err(_) => Err(WordKind::Memory.at(1)),
             },
             Tool::Dump => Ok(Command::Dump(DumpWords::asked(given))),
+            Tool::SelfTest => Ok(Command::SelfTest(SelfWords::asked(given))),
+            Tool::Split => Ok(Command::Split(SplitWords::asked(given))),
         }
     }
 }
@@ -86,9 +139,11 @@ impl<'a> ReportWords<'a> {
     fn asked(alloc: Global, given: &Given<'a>) -> Result<ReportWords<'a>, AllocError>
         ensures { IfOk result (λ words. report_view words ≡ report_of (given_view given.now)) }
     {
+        let filters = given.filters(alloc)?;
         let raw_events = given.texts(alloc, ValuedOption::RawEvent)?;
         Ok(ReportWords {
             input: input(given),
+            filters,
             full: given.is_set(FlagOption::FullTime),
             latency: given.is_set(FlagOption::Latency),
             raw: given.is_set(FlagOption::Raw),
@@ -123,6 +178,101 @@ impl<'a> DumpWords<'a> {
                 prints(given, Section::Validate),
             ],
         }
+    }
+}
+
+impl SelfWords {
+    fn asked(given: &Given<'_>) -> SelfWords
+        ensures { self_view result ≡ self_of (given_view given.now) }
+    {
+        SelfWords {
+            seed: seed(given),
+            events: events(given),
+            workers: workers(given),
+        }
+    }
+}
+
+impl<'a> SplitWords<'a> {
+    fn asked(given: &Given<'a>) -> SplitWords<'a>
+        ensures { split_view result ≡ split_of (given_view given.now) }
+    {
+        SplitWords {
+            input: input(given),
+            base: base(given),
+            unit: unit(given),
+            repeat: given.is_set(FlagOption::Repeat),
+            per_cpu: given.is_set(FlagOption::PerCpu),
+            cpu: cpu(given),
+            start: bound(given, 0),
+            stop: bound(given, 1),
+        }
+    }
+}
+
+// What the names of new files begin with.
+fn base<'a>(given: &Given<'a>) -> &'a str
+    ensures { result.now ≡ base_of (given_view given.now) }
+{
+    match given.value(ValuedOption::Base) {
+        Some(value) => value.text,
+        None => input(given),
+    }
+}
+
+// The size of a piece.
+fn unit(given: &Given<'_>) -> PieceUnit
+    ensures { result ≡ unit_of (given_view given.now) }
+{
+    piece(given, PieceOption::Seconds)
+        .or(piece(given, PieceOption::Millis))
+        .or(piece(given, PieceOption::Micros))
+        .or(piece(given, PieceOption::Events))
+        .unwrap_or(PieceUnit::All)
+}
+
+// The size of a piece by this option.
+fn piece(given: &Given<'_>, option: PieceOption) -> Option<PieceUnit>
+    ensures { result ≡ piece_by (given_view given.now) option }
+{
+    let value = given.value(ValuedOption::Piece(option))?;
+    let count = piece_count(value.text.as_bytes())?;
+    Some(option.piece(count))
+}
+
+// The processor that is taken, where not all are.
+fn cpu(given: &Given<'_>) -> Option<u32>
+    ensures { result ≡ cpu_of (given_view given.now) }
+{
+    let value = given.value(ValuedOption::Cpu)?;
+    cpu_number(value.text.as_bytes())
+}
+
+// The start, or behind it the end.
+fn bound(given: &Given<'_>, place: usize) -> Option<Moment>
+    ensures { result ≡ bound_of place (given_view given.now) }
+{
+    let value = given.nth(ValuedOption::Bound, place)?;
+    Moment::parse(value.text.as_bytes())
+}
+
+// The number from which a file is made.
+fn seed(given: &Given<'_>) -> u64
+    ensures { result ≡ seed_of (given_view given.now) }
+{
+    match given.nth(ValuedOption::TestNumber, 0) {
+        Some(value) => seed_number(value.text.as_bytes()).unwrap_or(0),
+        None => 0,
+    }
+}
+
+// How many events it has.
+fn events(given: &Given<'_>) -> u32
+    ensures { result ≡ events_of (given_view given.now) }
+{
+    match given.nth(ValuedOption::TestNumber, 1) {
+        Some(value) => event_count(value.text.as_bytes()).unwrap_or(0),
+        None => 0,
     }
 }
 
@@ -181,6 +331,7 @@ fn prints(given: &Given<'_>, section: Section) -> bool
 }
 
 // Whether an option names a section, or all.
+#[tactic(auto, unfolding(crate::specs::Asked::names_any))]
 fn names_any(given: &Given<'_>) -> bool
     ensures { result ≡ names_any (given_view given.now) }
 {

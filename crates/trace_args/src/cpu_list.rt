@@ -1,6 +1,6 @@
 // The LIST of `--cpu`.
 
-ghost use Rattle.std.specs.Prelude.{◌≡◌, ◌+◌, ◌∷◌, ◌<◌, ◌≤◌, [], IfSome, drop, length, option_map, take};
+ghost use Rattle.std.specs.Prelude.{◌≡◌, ◌∷◌, ◌<◌, ◌≤◌, [], IfSome, length, option_map};
 ghost use Rattle.std.specs.List.{position, slice_split};
 ghost use Rattle.std.specs.Option.{option_map_or};
 ghost use Rattle.trace_args.specs.CpuList.{cpu_number, cpu_set, is_dash, is_separator, range_of};
@@ -8,7 +8,8 @@ ghost use Rattle.trace_args.specs.Cut.{cut};
 ghost use Rattle.trace_args.specs.Views.{parts_view, range_view};
 
 use crate::cpu_set::CpuSet;
-use crate::number::number_within;
+use crate::cut::around;
+use crate::number::small_within;
 
 /// The set that the list names.
 pub fn cpu_set(text: &[u8]) -> Option<CpuSet>
@@ -68,15 +69,6 @@ fn around_dash(piece: &[u8]) -> Option<(&[u8], &[u8])>
     Some(around(piece, at))
 }
 
-// What stands before and after the byte at a place.
-fn around(text: &[u8], at: usize) -> (&[u8], &[u8])
-    requires { at < length text.now }
-    ensures before { result.0.now ≡ take at text.now }
-    ensures after { result.1.now ≡ drop (at + 1) text.now }
-{
-    (&text[..at], &text[at + 1..])
-}
-
 // The place of the first separator.
 fn separator_place(text: &[u8]) -> Option<usize>
     ensures { result ≡ position is_separator text.now }
@@ -91,10 +83,10 @@ fn dash_place(text: &[u8]) -> Option<usize>
     text.iter().position(|byte| *byte == b'-')
 }
 
-// The number of a processor.
-fn cpu_number(text: &[u8]) -> Option<u32>
+/// The number of a processor.
+pub fn cpu_number(text: &[u8]) -> Option<u32>
     ensures value { result ≡ cpu_number text.now }
     ensures bound { IfSome result (λ cpu. cpu < 1024) }
 {
-    number_within(text, 0, CpuSet::LIMIT - 1)
+    small_within(text, 0, CpuSet::LIMIT - 1)
 }

@@ -9,23 +9,28 @@
 mod command;
 mod cpu_list;
 mod cpu_set;
+mod cut;
 mod fault;
 mod given;
 mod laws;
 mod listing;
+mod moment;
 mod number;
 mod option;
+mod piece;
 mod read;
 mod section;
 mod setting;
 mod settings;
 mod tool;
 
-pub use command::{Command, DumpWords, ReportWords};
+pub use command::{Command, DumpWords, FilterWord, ReportWords, SelfWords, SplitWords};
 pub use cpu_set::CpuSet;
 pub use fault::{WordFault, WordKind};
 pub use laws::{members_of_ranges, one_reading};
 pub use listing::Listing;
+pub use moment::Moment;
+pub use piece::PieceUnit;
 pub use read::read_words;
 pub use section::Section;
 

@@ -1,13 +1,16 @@
 ghost use Rattle.std.specs.Prelude.{◌≡◌, ◌<◌, OnSome};
-ghost use Rattle.trace_args.specs.Options.{long, may_repeat, operand_option, option_named, short};
+ghost use Rattle.trace_args.specs.Options.{long, may_repeat, operand_option, option_named, short, takes_two};
 
 use crate::listing::Listing;
+use crate::piece::PieceOption;
 use crate::section::Section;
 use crate::tool::Tool;
 
 /// An option without a value.
 #[derive(Clone, Copy, PartialEq, Eq)]
 pub enum FlagOption {
+    /// `-v`: the filters behind it hide.
+    Hide,
     /// `-t`: times to the nanosecond.
     FullTime,
     /// `-l`: the latency columns.
@@ -26,6 +29,10 @@ pub enum FlagOption {
     Section(Section),
     /// `--all`: all sections of a dump but `validate`.
     All,
+    /// `-r`: a file for each piece.
+    Repeat,
+    /// `-c`: each processor is cut by itself.
+    PerCpu,
 }
 
 /// An option with a value.
@@ -33,12 +40,24 @@ pub enum FlagOption {
 pub enum ValuedOption {
     /// `-i`: the name of the file.
     Input,
+    /// `-F`: a filter.
+    Filter,
     /// `-r`: the name of an event whose fields are printed as they are.
     RawEvent,
     /// `--cpu`: a list of processors.
     Cpus,
     /// `--workers`: a number of threads.
     Workers,
+    /// No option, but a word of `selftest`: the seed, and then the number of events.
+    TestNumber,
+    /// `-o`: what the names of new files begin with.
+    Base,
+    /// `-s`, `-m`, `-u` and `-e`: the size of a piece.
+    Piece(PieceOption),
+    /// `-C`: the one processor that is taken.
+    Cpu,
+    /// No option, but a word of `split`: the start, and then the end.
+    Bound,
 }
 
 impl ValuedOption {
@@ -46,7 +65,14 @@ impl ValuedOption {
     pub fn repeats(self) -> bool
         ensures { result ≡ may_repeat self }
     {
-        matches!(self, ValuedOption::RawEvent)
+        matches!(self, ValuedOption::Filter | ValuedOption::RawEvent)
+    }
+
+    /// Whether two words give it a value, and no third.
+    pub fn takes_two(self) -> bool
+        ensures { result ≡ takes_two self }
+    {
+        matches!(self, ValuedOption::TestNumber | ValuedOption::Bound)
     }
 }
 
@@ -66,6 +92,8 @@ impl Tool {
         match self {
             Tool::Report => report_letter(letter),
             Tool::Dump => dump_letter(letter),
+            Tool::SelfTest => None,
+            Tool::Split => split_letter(letter),
         }
     }
 
@@ -76,6 +104,8 @@ impl Tool {
         match self {
             Tool::Report => report_option(name),
             Tool::Dump => dump_option(name),
+            Tool::SelfTest => selftest_option(name),
+            Tool::Split => None,
         }
     }
 
@@ -85,6 +115,8 @@ impl Tool {
     {
         match self {
             Tool::Report | Tool::Dump => ValuedOption::Input,
+            Tool::SelfTest => ValuedOption::TestNumber,
+            Tool::Split => ValuedOption::Bound,
         }
     }
 }
@@ -95,6 +127,8 @@ fn report_letter(letter: u8) -> Option<KnownOption>
 {
     match letter {
         b'i' => Some(KnownOption::Valued(ValuedOption::Input)),
+        b'F' => Some(KnownOption::Valued(ValuedOption::Filter)),
+        b'v' => Some(KnownOption::Flag(FlagOption::Hide)),
         b't' => Some(KnownOption::Flag(FlagOption::FullTime)),
         b'l' => Some(KnownOption::Flag(FlagOption::Latency)),
         b'R' => Some(KnownOption::Flag(FlagOption::Raw)),
@@ -105,6 +139,24 @@ fn report_letter(letter: u8) -> Option<KnownOption>
         b'f' => Some(KnownOption::Flag(FlagOption::Listing(Listing::Symbols))),
         b'P' => Some(KnownOption::Flag(FlagOption::Listing(Listing::Printk))),
         b'N' => Some(KnownOption::Flag(FlagOption::NoPlugins)),
+        _ => None,
+    }
+}
+
+fn split_letter(letter: u8) -> Option<KnownOption>
+    ensures value { result ≡ option_named Tool.Split (short letter) }
+    ensures ascii { OnSome result (letter < 128) }
+{
+    match letter {
+        b'i' => Some(KnownOption::Valued(ValuedOption::Input)),
+        b'o' => Some(KnownOption::Valued(ValuedOption::Base)),
+        b's' => Some(KnownOption::Valued(ValuedOption::Piece(PieceOption::Seconds))),
+        b'm' => Some(KnownOption::Valued(ValuedOption::Piece(PieceOption::Millis))),
+        b'u' => Some(KnownOption::Valued(ValuedOption::Piece(PieceOption::Micros))),
+        b'e' => Some(KnownOption::Valued(ValuedOption::Piece(PieceOption::Events))),
+        b'r' => Some(KnownOption::Flag(FlagOption::Repeat)),
+        b'c' => Some(KnownOption::Flag(FlagOption::PerCpu)),
+        b'C' => Some(KnownOption::Valued(ValuedOption::Cpu)),
         _ => None,
     }
 }
@@ -138,4 +190,13 @@ fn dump_option(name: &str) -> Option<KnownOption>
     }
     let section = Section::named(name)?;
     Some(KnownOption::Flag(FlagOption::Section(section)))
+}
+
+fn selftest_option(name: &str) -> Option<KnownOption>
+    ensures { result ≡ option_named Tool.SelfTest (long name.now) }
+{
+    match name {
+        "workers" => Some(KnownOption::Valued(ValuedOption::Workers)),
+        _ => None,
+    }
 }

@@ -3,20 +3,70 @@ use std::alloc::{AllocError, Global};
 use std::test::Fail;
 use trace_base::Words;
 
-// The words of a line, with one space between two of them; `@` stands for the empty word.
+// The words of a line, with one space between two of them; `@` stands for the empty word, `%` for one of 4,096 bytes, and
+// `%%` for one of 4,097.
 fn words_of(alloc: Global, line: &str) -> Result<Words, AllocError> {
     let mut words = Words::new(alloc);
     if line.is_empty() {
         return Ok(words);
     }
+    let long = name_of(alloc, 4096)?;
+    let longer = name_of(alloc, 4097)?;
     for word in line.split(' ') {
-        words.push(if word == "@" { "" } else { word })?;
+        words.push(match word {
+            "@" => "",
+            "%" => long.as_str(),
+            "%%" => longer.as_str(),
+            _ => word,
+        })?;
     }
     Ok(words)
 }
 
+fn name_of(alloc: Global, length: u32) -> Result<String, AllocError> {
+    let mut name = String::new(alloc);
+    for _ in 0..length {
+        name.push_str("n")?;
+    }
+    Ok(name)
+}
+
+// A name, or its length where it is long.
+fn name_text(alloc: Global, name: &str) -> Result<String, AllocError> {
+    if name.len() < 100 {
+        format!(in alloc; "{name}")
+    } else {
+        format!(in alloc; "{} bytes", name.len())
+    }
+}
+
+// The input, the base, the size of a piece, the letters of the flags, the processor, the start and the end.
+fn split_text(alloc: Global, words: &SplitWords<'_>) -> Result<String, AllocError> {
+    let input = name_text(alloc, words.input)?;
+    let base = name_text(alloc, words.base)?;
+    let mut text = format!(in alloc; "split {input} {base}")?;
+    let unit = match words.unit {
+        PieceUnit::All => format!(in alloc; " all"),
+        PieceUnit::Nanos(count) => format!(in alloc; " {count} ns"),
+        PieceUnit::Events(count) => format!(in alloc; " {count} events"),
+    }?;
+    text.push_str(unit.as_str())?;
+    text.push_str(if words.repeat { " r" } else { "" })?;
+    text.push_str(if words.per_cpu { " c" } else { "" })?;
+    if let Some(cpu) = words.cpu {
+        text.push_str(format!(in alloc; " cpu {cpu}")?.as_str())?;
+    }
+    for (word, bound) in [("from", words.start), ("to", words.stop)] {
+        if let Some(moment) = bound {
+            let unit = if moment.micro { "us" } else { "ns" };
+            text.push_str(format!(in alloc; " {word} {} {unit}", moment.value)?.as_str())?;
+        }
+    }
+    Ok(text)
+}
+
 // The input, the letters of the flags, the workers, the list where one is asked for, the events that are printed as
-// they are, and the processors where they are named.
+// they are, the filters with the numbers of their words, and the processors where they are named.
 fn report_text(alloc: Global, words: &ReportWords<'_>) -> Result<String, AllocError> {
     let mut text = format!(in alloc; "report {} ", words.input)?;
     for (letter, is_set) in [
@@ -34,6 +84,10 @@ fn report_text(alloc: Global, words: &ReportWords<'_>) -> Result<String, AllocEr
     text.push_str(list_text(words.list))?;
     for name in &words.raw_events {
         text.push_str(format!(in alloc; " ={name}")?.as_str())?;
+    }
+    for filter in &words.filters {
+        let sign = if filter.hide { "!" } else { "?" };
+        text.push_str(format!(in alloc; " {}{sign}{}", filter.word, filter.text)?.as_str())?;
     }
     if let Some(cpus) = &words.cpus {
         for cpu in 0..1030 {
@@ -72,6 +126,13 @@ fn text_of(alloc: Global, line: &str) -> Result<String, AllocError> {
     match read_words(alloc, &words) {
         Ok(Command::Report(words)) => report_text(alloc, &words),
         Ok(Command::Dump(words)) => dump_text(alloc, &words),
+        Ok(Command::Split(words)) => split_text(alloc, &words),
+        Ok(Command::SelfTest(words)) => {
+            format!(in alloc;
+                "selftest {} {} {}",
+                words.seed, words.events, words.workers
+            )
+        }
         Err(fault) => format!(in alloc; "{fault}"),
     }
 }
@@ -90,8 +151,6 @@ fn lines_of_words_have_these_readings(rt: HostRuntime) -> Result<(), Fail> {
 static LINES: &str = " => word 1: no command
 @ => word 1: unknown word
 record => word 1: unknown word
-split => word 1: unknown word
-selftest 7 0 => word 1: unknown word
 Report => word 1: unknown word
 -t report => word 1: unknown word
 report => report trace.dat  1
@@ -194,7 +253,12 @@ report --worker 3 => word 2: unknown word
 report --t => word 2: unknown word
 report --=x => word 2: unknown word
 report --all => word 2: unknown word
-report -F x => word 2: unknown word
+report -F x => report trace.dat  1 3?x
+report -Fx a -F y -v -Fx -vF => word 8: value missing
+report -Fx a -F y -v -Fx -vF -v => report a  1 2?x 5?y 7!x 9!-v
+report -vtF @ => report trace.dat t 1 3!
+report -v => report trace.dat  1
+report -E -F x -r y => report trace.dat  1 names =y 4?x
 report a -x b => word 3: unknown word
 report a b -x => word 3: given twice
 report -x --workers 65 => word 2: unknown word
@@ -208,6 +272,62 @@ dump --summary= => word 2: unknown word
 dump -E => word 2: unknown word
 dump -t => word 2: unknown word
 dump --cpu 0 => word 2: unknown word
+split => split trace.dat trace.dat all
+split -i a -o b -s 2 => split a b 2000000000 ns
+split -ia -m1000000000 => split a a 1000000000000000 ns
+split -u 5 -r => split trace.dat trace.dat 5000 ns r
+split -e 7 -c -C 3 => split trace.dat trace.dat 7 events c cpu 3
+split -rcrC01023 1 2.5 => split trace.dat trace.dat all r c cpu 1023 from 1000000 us to 2500000 us
+split 0.123456 -s 1 0.1234567 => split trace.dat trace.dat 1000000000 ns from 123456 us to 123456700 ns
+split 99999999999.999999999 007 => split trace.dat trace.dat all from 99999999999999999999 ns to 7000000 us
+split 1.000000 1.0000000 => split trace.dat trace.dat all from 1000000 us to 1000000000 ns
+split -e 0 => word 3: bad number
+split -s 1000000001 => word 3: bad number
+split -s=1 => word 2: bad number
+split -s => word 2: value missing
+split -s 1 -s x => word 4: given twice
+split -s 1 -m x => word 4: not with an earlier word
+split -e 1 -ru => word 4: not with an earlier word
+split -C 1024 => word 3: bad number
+split -C 0-1 => word 3: bad number
+split -C @ => word 3: bad number
+split -i a -i b => word 4: given twice
+split trace.dat => word 2: bad time
+split @ => word 2: bad time
+split 123456789012 => word 2: bad time
+split 1. => word 2: bad time
+split .5 => word 2: bad time
+split 1.2.3 => word 2: bad time
+split 1.1234567890 => word 2: bad time
+split 1 +2 => word 3: bad time
+split -- -1 => word 3: bad time
+split 1 2 3 => word 4: unknown word
+split 1 2 x -s 0 => word 4: unknown word
+split -t => word 2: unknown word
+split --cpu 0 => word 2: unknown word
+split -i % => split 4096 bytes 4096 bytes all
+split -o % => split trace.dat 4096 bytes all
+split -i %% -o b => split 4097 bytes b all
+split -o %% -s 0 => word 3: name too long
+split -i %% 1 2 => word 3: name too long
+split -i %% -s 0 => word 5: bad number
+split -i %% 1 -o %% => word 6: name too long
+selftest 7 0 => selftest 7 0 1
+selftest --workers 2 18446744073709551615 -- 1000000 => selftest 18446744073709551615 1000000 2
+selftest 007 --workers=64 05 => selftest 7 5 64
+selftest => word 1: value missing
+selftest 7 => word 2: value missing
+selftest 7 --workers 2 => word 4: value missing
+selftest --workers 0 => word 3: bad number
+selftest 7 1000001 => word 3: bad number
+selftest 18446744073709551616 0 => word 2: bad number
+selftest x => word 2: bad number
+selftest @ 0 => word 2: bad number
+selftest 7 0 0 => word 4: unknown word
+selftest 7 0 x --workers 65 => word 4: unknown word
+selftest -i a => word 2: unknown word
+selftest -7 0 => word 2: unknown word
+selftest 7 0 --workers 2 --workers 2 => word 6: given twice
 dump a b => word 3: given twice
 dump -- --all => dump --all summary
 ";

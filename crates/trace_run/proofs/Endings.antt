@@ -18,11 +18,12 @@ use Rattle.trace_run.specs.declared.status.Status.TheVariants.{Done, Usage, Refu
 use Rattle.trace_args.specs.declared.fault.WordFault.{WordFault}
 use Rattle.trace_args.specs.declared.listing.Listing.{Listing}
 use Rattle.trace_args.specs.declared.listing.Listing.TheVariants.{Nothing}
-use Rattle.trace_args.specs.Command.{CommandData, Report, Dump, ReportData}
-use Rattle.trace_run.specs.Meaning.{Meaning, NewFile, Target, on_out, body_report, report_by, header_means, file_means, input_means, command_means, command_meaning, meaning_of, input_of, target_of}
+use Rattle.trace_args.specs.Command.{ReportData}
+use Rattle.trace_run.specs.Job.{FileCommand, Report, Dump, Job, OnFile, SelfTest}
+use Rattle.trace_run.specs.Meaning.{Meaning, NewFile, Target, on_out, body_report, report_by, header_means, file_means, input_means, command_means, command_meaning, meaning_of, input_of, target_of, job_meaning, job_target}
 use Rattle.trace_run.specs.Work.{Writes, WritesFor, IsOfFile}
 use Rattle.trace_run.specs.Causes.{AnswersUsage, IsComplete, HasRisen, target_read}
-use Rattle.trace_run.specs.Counts.{MissesNothingElse, ReadsFor, CommandReads}
+use Rattle.trace_run.specs.Counts.{MissesNothingElse, ReadsFor, JobReads}
 use Rattle.trace_run.specs.Ending.{Outside, Ends, FilesStored, FirstFilesStored, SameButNext, write_faults}
 
 same_next : (next : Option NewFile) (files : NamedFiles) → SameButNext next files files
@@ -40,7 +41,7 @@ stored_first_none news (Some files) now same =
     subst (λ (after : Option NamedFiles). FirstFilesStored news (Some files) after) (sym same) (0, files, refl, same_next (slice_get news 0) files)
 
 -- a command that stores no file and writes to the output
-ends_plain : (m : Meaning) (status : Status) (before now : Outside) → m.files ≡ [] → m.target ≡ on_out
+pub ends_plain : (m : Meaning) (status : Status) (before now : Outside) → m.files ≡ [] → m.target ≡ on_out
     → Writes m status before.out.written now.out.written
     → (status ≡ ReadFault → Rose before.counts.reading now.counts.reading)
     → (status ≡ WriteFault → Rose before.out.faults now.out.faults)
@@ -82,21 +83,21 @@ report_target : (list : Listing) (words : ReportData) (header : Header) (bytes :
 report_target Nothing words header bytes = body_target words header header.body bytes
 report_target list words header bytes = refl
 
-on_output : (command : CommandData) → target_of command ≡ on_out
+on_output : (command : FileCommand) → target_of command ≡ on_out
 on_output (Report words) = refl
 on_output (Dump words) = refl
 
-file_files : (command : CommandData) (header : Result Header OpenFault) (bytes : List ℕ) → (file_means command header bytes).files ≡ []
+file_files : (command : FileCommand) (header : Result Header OpenFault) (bytes : List ℕ) → (file_means command header bytes).files ≡ []
 file_files (Report words) (Ok header) bytes = report_files words.list words header bytes
 file_files (Dump words) (Ok header) bytes = refl
 file_files command (Err fault) bytes = refl
 
-file_target : (command : CommandData) (header : Result Header OpenFault) (bytes : List ℕ) → (file_means command header bytes).target ≡ on_out
+file_target : (command : FileCommand) (header : Result Header OpenFault) (bytes : List ℕ) → (file_means command header bytes).target ≡ on_out
 file_target (Report words) (Ok header) bytes = report_target words.list words header bytes
 file_target (Dump words) (Ok header) bytes = refl
 file_target command (Err fault) bytes = on_output command
 
-command_found : (command : CommandData) (found bytes : Option (List ℕ)) (status : Status) (before now : Outside) → IsSome found → bytes ≡ found
+command_found : (command : FileCommand) (found bytes : Option (List ℕ)) (status : Status) (before now : Outside) → IsSome found → bytes ≡ found
     → WritesFor (input_means command) bytes status before.out.written now.out.written
     → (status ≡ ReadFault → Rose before.counts.reading now.counts.reading)
     → (status ≡ WriteFault → Rose before.out.faults now.out.faults)
@@ -108,7 +109,7 @@ command_found command (Some found) bytes status before now there is writes read 
     read write files created
 
 -- what a command did with an opened file is what it means of the file's name
-pub command_ends : (command : CommandData) (told : Option NamedFiles) (bytes : Option (List ℕ)) (status : Status) (before now : Outside) → before.files ≡ told
+pub command_ends : (command : FileCommand) (told : Option NamedFiles) (bytes : Option (List ℕ)) (status : Status) (before now : Outside) → before.files ≡ told
     → IsFileOf told (input_of command) bytes
     → WritesFor (input_means command) bytes status before.out.written now.out.written
     → (status ≡ ReadFault → Rose before.counts.reading now.counts.reading)
@@ -127,54 +128,54 @@ ends_complete m WriteFault before now ends = λ done unread unwritten. absurd (u
 ends_complete m status before now ends = λ done unread unwritten. inl (ends.answer ∙ done)
 
 -- a run that ends in one of the four ways is complete
-run_complete : (command : CommandData) (told : Option NamedFiles) (status : Status) (before now : Outside)
-    → IfSome told (λ files. Ends (command_meaning command files) status before now) → IfSome told (λ files. IsComplete (command_meaning command files) status before now)
-run_complete command None status before now ends = tt
-run_complete command (Some files) status before now ends = ends_complete (command_meaning command files) status before now ends
+run_complete : (job : Job) (told : Option NamedFiles) (status : Status) (before now : Outside)
+    → IfSome told (λ files. Ends (job_meaning job files) status before now) → IfSome told (λ files. IsComplete (job_meaning job files) status before now)
+run_complete job None status before now ends = tt
+run_complete job (Some files) status before now ends = ends_complete (job_meaning job files) status before now ends
 
 -- words without a reading, and nothing done
-pub unread_ends : (fault : WordFault) (read : Result CommandData WordFault) (told : Option NamedFiles) (before : Outside) → read ≡ Err fault → before.files ≡ told
+pub unread_ends : (fault : WordFault) (read : Result Job WordFault) (told : Option NamedFiles) (before : Outside) → read ≡ Err fault → before.files ≡ told
     → IfSome told (λ files. Ends (meaning_of read files) Usage before before)
 unread_ends fault read None before is files = tt
-unread_ends fault read (Some known) before is files = subst (λ (reading : Result CommandData WordFault). Ends (meaning_of reading known) Usage before before) (sym is) record {
+unread_ends fault read (Some known) before is files = subst (λ (reading : Result Job WordFault). Ends (meaning_of reading known) Usage before before) (sym is) record {
   answer = refl;
   output = gained_nothing before.out.written;
   files = stored_none before.files before.files refl;
   created = omega arith;
 }
 
-pub unread_complete : (fault : WordFault) (read : Result CommandData WordFault) (told : Option NamedFiles) (before : Outside) → read ≡ Err fault
+pub unread_complete : (fault : WordFault) (read : Result Job WordFault) (told : Option NamedFiles) (before : Outside) → read ≡ Err fault
     → IfSome told (λ files. IsComplete (meaning_of read files) Usage before before)
 unread_complete fault read None before is = tt
-unread_complete fault read (Some known) before is = subst (λ (reading : Result CommandData WordFault). IsComplete (meaning_of reading known) Usage before before) (sym is)
+unread_complete fault read (Some known) before is = subst (λ (reading : Result Job WordFault). IsComplete (meaning_of reading known) Usage before before) (sym is)
     (λ done unread unwritten. inl done)
 
--- what one command did is what the words that ask for it mean
-pub read_ends : (command : CommandData) (read : Result CommandData WordFault) (told : Option NamedFiles) (status : Status) (before now : Outside) → read ≡ Ok command
-    → IfSome told (λ files. Ends (command_meaning command files) status before now) → IfSome told (λ files. Ends (meaning_of read files) status before now)
-read_ends command read told status before now is ends =
-    subst (λ (reading : Result CommandData WordFault). IfSome told (λ files. Ends (meaning_of reading files) status before now)) (sym is) ends
+-- what one job did is what the words that ask for it mean
+pub read_ends : (job : Job) (read : Result Job WordFault) (told : Option NamedFiles) (status : Status) (before now : Outside) → read ≡ Ok job
+    → IfSome told (λ files. Ends (job_meaning job files) status before now) → IfSome told (λ files. Ends (meaning_of read files) status before now)
+read_ends job read told status before now is ends =
+    subst (λ (reading : Result Job WordFault). IfSome told (λ files. Ends (meaning_of reading files) status before now)) (sym is) ends
 
-pub read_complete : (command : CommandData) (read : Result CommandData WordFault) (told : Option NamedFiles) (status : Status) (before now : Outside) → read ≡ Ok command
-    → IfSome told (λ files. Ends (command_meaning command files) status before now) → IfSome told (λ files. IsComplete (meaning_of read files) status before now)
-read_complete command read told status before now is ends =
-    subst (λ (reading : Result CommandData WordFault). IfSome told (λ files. IsComplete (meaning_of reading files) status before now)) (sym is)
-    (run_complete command told status before now ends)
+pub read_complete : (job : Job) (read : Result Job WordFault) (told : Option NamedFiles) (status : Status) (before now : Outside) → read ≡ Ok job
+    → IfSome told (λ files. Ends (job_meaning job files) status before now) → IfSome told (λ files. IsComplete (meaning_of read files) status before now)
+read_complete job read told status before now is ends =
+    subst (λ (reading : Result Job WordFault). IfSome told (λ files. IsComplete (meaning_of reading files) status before now)) (sym is)
+    (run_complete job told status before now ends)
 
-pub read_misses : (command : CommandData) (read : Result CommandData WordFault) (told : Option NamedFiles) (before now : Counts) → read ≡ Ok command
-    → IfSome told (λ files. MissesNothingElse (command_meaning command files) before now) → IfSome told (λ files. MissesNothingElse (meaning_of read files) before now)
-read_misses command read told before now is misses =
-    subst (λ (reading : Result CommandData WordFault). IfSome told (λ files. MissesNothingElse (meaning_of reading files) before now)) (sym is) misses
+pub read_misses : (job : Job) (read : Result Job WordFault) (told : Option NamedFiles) (before now : Counts) → read ≡ Ok job
+    → IfSome told (λ files. MissesNothingElse (job_meaning job files) before now) → IfSome told (λ files. MissesNothingElse (meaning_of read files) before now)
+read_misses job read told before now is misses =
+    subst (λ (reading : Result Job WordFault). IfSome told (λ files. MissesNothingElse (meaning_of reading files) before now)) (sym is) misses
 
-pub read_causes : (command : CommandData) (read : Result CommandData WordFault) (status : Status) (before now : Outside) → read ≡ Ok command
-    → HasRisen (target_of command) status before now → HasRisen (target_read read) status before now
-read_causes command read status before now is causes =
-    subst (λ (reading : Result CommandData WordFault). HasRisen (target_read reading) status before now) (sym is) causes
+pub read_causes : (job : Job) (read : Result Job WordFault) (status : Status) (before now : Outside) → read ≡ Ok job
+    → HasRisen (job_target job) status before now → HasRisen (target_read read) status before now
+read_causes job read status before now is causes =
+    subst (λ (reading : Result Job WordFault). HasRisen (target_read reading) status before now) (sym is) causes
 
-pub read_reads : (command : CommandData) (read : Result CommandData WordFault) (status : Status) (before now : Outside) → read ≡ Ok command
-    → CommandReads command status before now → ReadsFor read status before now
-read_reads command read status before now is reads =
-    subst (λ (reading : Result CommandData WordFault). ReadsFor reading status before now) (sym is) reads
+pub read_reads : (job : Job) (read : Result Job WordFault) (status : Status) (before now : Outside) → read ≡ Ok job
+    → JobReads job status before now → ReadsFor read status before now
+read_reads job read status before now is reads =
+    subst (λ (reading : Result Job WordFault). ReadsFor reading status before now) (sym is) reads
 
 not_usage : (status : Status) → IsOfFile status → status ≢ Usage
 not_usage Usage own = λ is. own
@@ -185,25 +186,26 @@ not_usage ReadFault own = λ is. cc
 not_usage WriteFault own = λ is. cc
 not_usage NoMemory own = λ is. cc
 
-pub read_usage : (command : CommandData) (read : Result CommandData WordFault) (status : Status) (before now : Outside) → read ≡ Ok command
+pub read_usage : (job : Job) (read : Result Job WordFault) (status : Status) (before now : Outside) → read ≡ Ok job
     → IsOfFile status → AnswersUsage read status before now
-read_usage command read status before now is own =
-    subst (λ (reading : Result CommandData WordFault). AnswersUsage reading status before now) (sym is) (not_usage status own)
+read_usage job read status before now is own =
+    subst (λ (reading : Result Job WordFault). AnswersUsage reading status before now) (sym is) (not_usage status own)
 
-pub unread_usage : (fault : WordFault) (read : Result CommandData WordFault) (before : Outside) → read ≡ Err fault → AnswersUsage read Usage before before
+pub unread_usage : (fault : WordFault) (read : Result Job WordFault) (before : Outside) → read ≡ Err fault → AnswersUsage read Usage before before
 unread_usage fault read before is =
-    subst (λ (reading : Result CommandData WordFault). AnswersUsage reading Usage before before) (sym is) (inl refl, refl)
+    subst (λ (reading : Result Job WordFault). AnswersUsage reading Usage before before) (sym is) (inl refl, refl)
 
-pub unread_reads : (fault : WordFault) (read : Result CommandData WordFault) (before : Outside) → read ≡ Err fault → ReadsFor read Usage before before
-unread_reads fault read before is = subst (λ (reading : Result CommandData WordFault). ReadsFor reading Usage before before) (sym is) refl
+pub unread_reads : (fault : WordFault) (read : Result Job WordFault) (before : Outside) → read ≡ Err fault → ReadsFor read Usage before before
+unread_reads fault read before is = subst (λ (reading : Result Job WordFault). ReadsFor reading Usage before before) (sym is) refl
 
 -- there was no memory to read the words, and nothing was touched
-pub unknown_usage : (read : Result CommandData WordFault) (before : Outside) → AnswersUsage read NoMemory before before
-unknown_usage (Ok command) before = λ is. cc
+pub unknown_usage : (read : Result Job WordFault) (before : Outside) → AnswersUsage read NoMemory before before
+unknown_usage (Ok job) before = λ is. cc
 unknown_usage (Err fault) before = (inr refl, refl)
 
-pub unknown_reads : (read : Result CommandData WordFault) (before : Outside) → ReadsFor read NoMemory before before
-unknown_reads (Ok command) before = none before.files
+pub unknown_reads : (read : Result Job WordFault) (before : Outside) → ReadsFor read NoMemory before before
+unknown_reads (Ok (SelfTest words)) before = ((λ is. cc), refl)
+unknown_reads (Ok (OnFile command)) before = none before.files
   where
     none : (told : Option NamedFiles) → IfSome told (λ files. Unit {0})
     none None = tt
@@ -211,7 +213,7 @@ unknown_reads (Ok command) before = none before.files
 unknown_reads (Err fault) before = refl
 
 -- a command on a file with a header means what it does behind that header
-pub behind_header_writes : (command : CommandData) (header : Header) (told same : Option (List ℕ)) (status : Status) (old now : Option (List ℕ)) → same ≡ told
+pub behind_header_writes : (command : FileCommand) (header : Header) (told same : Option (List ℕ)) (status : Status) (old now : Option (List ℕ)) → same ≡ told
     → ReadsHeader told (Ok header) → WritesFor (header_means command header) same status old now → WritesFor (input_means command) told status old now
 behind_header_writes command header None same status old now is found writes = tt
 behind_header_writes command header (Some bytes) same status old now is found writes =
@@ -219,7 +221,7 @@ behind_header_writes command header (Some bytes) same status old now is found wr
     (subst (λ (told : Option (List ℕ)). WritesFor (header_means command header) told status old now) is writes)
 
 -- a fault of a command shows in the counts
-pub command_risen : (command : CommandData) (status : Status) (before now : Outside) → (status ≡ ReadFault → Rose before.counts.reading now.counts.reading)
+pub command_risen : (command : FileCommand) (status : Status) (before now : Outside) → (status ≡ ReadFault → Rose before.counts.reading now.counts.reading)
     → (status ≡ WriteFault → Rose before.out.faults now.out.faults) → IsOfFile status → HasRisen (target_of command) status before now
 command_risen command Done before now read write own = tt
 command_risen command Usage before now read write own = tt
@@ -231,7 +233,7 @@ command_risen command WriteFault before now read write own =
 command_risen command NoMemory before now read write own = tt
 
 -- the input could not be opened
-pub unopened_ends : (command : CommandData) (told : Option NamedFiles) (before now : Outside) → before.files ≡ told → Rose before.counts.reading now.counts.reading
+pub unopened_ends : (command : FileCommand) (told : Option NamedFiles) (before now : Outside) → before.files ≡ told → Rose before.counts.reading now.counts.reading
     → now.out.written ≡ before.out.written → now.files ≡ before.files → now.counts.created ≡ before.counts.created
     → IfSome told (λ files. Ends (command_meaning command files) ReadFault before now)
 unopened_ends command None before now is rose output files created = tt
@@ -242,13 +244,13 @@ unopened_ends command (Some known) before now is rose output files created = rec
   created = omega arith;
 }
 
-misses_unless_found : (command : CommandData) (found : Option (List ℕ)) (before now : Counts) → now.misses ≡ (if is_none found then raised before.misses 1 else before.misses)
+misses_unless_found : (command : FileCommand) (found : Option (List ℕ)) (before now : Counts) → now.misses ≡ (if is_none found then raised before.misses 1 else before.misses)
     → MissesNothingElse (command_means command found) before now
 misses_unless_found command None before now is = λ other. absurd (other refl)
 misses_unless_found command (Some bytes) before now is = λ other. is
 
 -- the input's name was asked for, and no other
-pub command_misses : (command : CommandData) (told : Option NamedFiles) (name : List ℕ) (before mid now : Counts) → name ≡ input_of command
+pub command_misses : (command : FileCommand) (told : Option NamedFiles) (name : List ℕ) (before mid now : Counts) → name ≡ input_of command
     → IfSome told (λ files. mid.misses ≡ misses_after files name before.misses) → now.misses ≡ mid.misses
     → IfSome told (λ files. MissesNothingElse (command_meaning command files) before now)
 command_misses command None name before mid now is asked same = tt

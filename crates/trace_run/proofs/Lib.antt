@@ -7,6 +7,9 @@ pub mod Latency
 pub mod PartsPrinted
 pub mod Selection
 pub mod Endings
+pub mod Jobs
+pub mod GeneratedReport
+pub mod SelfTested
 pub mod Reading
 pub mod LoadingLists
 pub mod LoadingPages

@@ -8,7 +8,8 @@ use Rattle.subpage.specs.Arrangement.{Keyed}
 use Rattle.subpage.specs.Cut.{Cut, cut_of, reached_of}
 use Rattle.trace_run.specs.Loaded.{LoadedData, AreLoaded, cut_in, reached_in}
 use Rattle.trace_args.specs.Command.{ReportData}
-use Rattle.trace_run.specs.Meaning.{Meaning, ended, selected, report_pieces, parts_report}
+use Rattle.trace_run.specs.Meaning.{Meaning, ended, parts_report}
+use Rattle.trace_run.specs.Report.{selected, report_pieces}
 use Rattle.dat_header.specs.declared.header.Header.{Header}
 use Rattle.report_print.specs.Given.{Given}
 use Rattle.trace_run.specs.Context.{context_of}

@@ -6,7 +6,7 @@ use Rattle.std.specs.List.{flat_map, enumerate_from}
 use Rattle.report_print.specs.Given.{Given}
 use Rattle.trace_run.specs.declared.whole.entry.Entry.{Entry}
 use Rattle.trace_run.specs.LoadedView.{entry_view}
-use Rattle.trace_run.specs.Meaning.{cpus_line, entry_line, report_pieces}
+use Rattle.trace_run.specs.Report.{cpus_line, entry_line, report_pieces}
 use Rattle.trace_run.specs.Text.{text}
 
 filter_both : {X : Type 0} (p : X → Bool) (x : X) (xs : List X) → filter p (x ∷ []) ++ filter p xs ≡ filter p (x ∷ xs)

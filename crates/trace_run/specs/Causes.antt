@@ -5,14 +5,14 @@ use Rattle.dat_header.specs.Header.{IsRefusal}
 use Rattle.trace_run.specs.declared.status.Status.{Status}
 use Rattle.trace_run.specs.declared.status.Status.TheVariants.{Done, Usage, Refused, ReadFault, WriteFault, NoMemory}
 use Rattle.trace_args.specs.declared.fault.WordFault.{WordFault}
-use Rattle.trace_args.specs.Command.{CommandData}
-use Rattle.trace_run.specs.Ending.{Outside, RunsCommand, write_faults}
-use Rattle.trace_run.specs.Meaning.{Meaning, Target, on_out, target_of, meaning}
+use Rattle.trace_run.specs.Job.{Job}
+use Rattle.trace_run.specs.Ending.{Outside, RunsJob, write_faults}
+use Rattle.trace_run.specs.Meaning.{Meaning, Target, on_out, job_target, meaning}
 use Rattle.trace_run.specs.Work.{IsOfFile}
-use Rattle.trace_run.specs.Counts.{ClosesAll, CommandMisses, CommandReads, OpensAtMostOne}
+use Rattle.trace_run.specs.Counts.{ClosesAll, JobMisses, JobReads, OpensAtMostOne}
 
-abbrev pub target_read : Result CommandData WordFault → Target
-target_read (Ok command) = target_of command
+abbrev pub target_read : Result Job WordFault → Target
+target_read (Ok job) = job_target job
 target_read (Err fault) = on_out
 
 -- a fault is answered only where its count rose, also over objects that tell no bytes; a refusal is always one of the
@@ -33,16 +33,16 @@ RunIsComplete words status before now = IfSome before.files (λ files. IsComplet
 
 -- Usage is answered just where the words have no reading, unless there is no memory to read them; nothing is touched
 -- then
-abbrev pub AnswersUsage : Result CommandData WordFault → Status → Outside → Outside → Type 0
-AnswersUsage (Ok command) status before now = status ≢ Usage
+abbrev pub AnswersUsage : Result Job WordFault → Status → Outside → Outside → Type 0
+AnswersUsage (Ok job) status before now = status ≢ Usage
 AnswersUsage (Err fault) status before now = ((status ≡ Usage) ⊎ (status ≡ NoMemory)) × (now ≡ before)
 
--- all that is said of one command over a folder and an output
-pub record RanCommand (command : CommandData) (status : Status) (before now : Outside) : Type 0 where
-  pub ends : RunsCommand command status before now
-  pub causes : HasRisen (target_of command) status before now
+-- all that is said of one job over a folder and an output
+pub record RanJob (job : Job) (status : Status) (before now : Outside) : Type 0 where
+  pub ends : RunsJob job status before now
+  pub causes : HasRisen (job_target job) status before now
   pub of_file : IsOfFile status
-  pub misses : CommandMisses command before now
+  pub misses : JobMisses job before now
   pub closes : ClosesAll before.counts now.counts
   pub opens : OpensAtMostOne before.counts now.counts
-  pub reads : CommandReads command status before now
+  pub reads : JobReads job status before now

@@ -10,12 +10,12 @@ use Rattle.dat_header.specs.Header.{header_of}
 use Rattle.trace_run.specs.declared.status.Status.{Status}
 use Rattle.trace_run.specs.declared.status.Status.TheVariants.{Done, Malformed, ReadFault, WriteFault}
 use Rattle.trace_args.specs.declared.fault.WordFault.{WordFault}
-use Rattle.trace_args.specs.Command.{CommandData, Report, Dump}
 use Rattle.trace_args.specs.declared.listing.Listing.{Listing}
 use Rattle.trace_args.specs.declared.listing.Listing.TheVariants.{Nothing}
-use Rattle.trace_args.specs.Reading.{reading}
 use Rattle.trace_run.specs.Ending.{Outside}
-use Rattle.trace_run.specs.Meaning.{Meaning, selected, input_of, meaning, command_meaning}
+use Rattle.trace_run.specs.Job.{FileCommand, Report, Dump, Job, OnFile, SelfTest, job_of}
+use Rattle.trace_run.specs.Meaning.{Meaning, input_of, meaning, job_meaning}
+use Rattle.trace_run.specs.Report.{selected}
 
 -- files were opened as often as closed, as far as the counts go
 abbrev pub ClosesAll : Counts → Counts → Type 0
@@ -31,8 +31,8 @@ MissesNothingElse m before now = m.status ≢ ReadFault → now.misses ≡ befor
 abbrev pub RunMisses : List (List ℕ) → Outside → Outside → Type 0
 RunMisses words before now = IfSome before.files (λ files. MissesNothingElse (meaning words files) before.counts now.counts)
 
-abbrev pub CommandMisses : CommandData → Outside → Outside → Type 0
-CommandMisses command before now = IfSome before.files (λ files. MissesNothingElse (command_meaning command files) before.counts now.counts)
+abbrev pub JobMisses : Job → Outside → Outside → Type 0
+JobMisses job before now = IfSome before.files (λ files. MissesNothingElse (job_meaning job files) before.counts now.counts)
 
 -- how many bytes behind the header a report needs: the parts of the chosen processors, or the rest of a latency file
 abbrev pub body_share : Option (List Bool) → ℕ → ℕ → Body → ℕ
@@ -45,28 +45,33 @@ report_share Nothing cpus end size body = body_share cpus end size body
 report_share list cpus end size body = 0
 
 -- how many bytes behind the header a command needs, of a file of this size
-abbrev pub share : CommandData → Header → ℕ → ℕ
+abbrev pub share : FileCommand → Header → ℕ → ℕ
 share (Report words) header size = report_share words.list words.cpus header.end size header.body
 share (Dump words) header size = 0
 
 -- no more bytes were read than the header and the command's share have
-abbrev pub ReadsAtMost : CommandData → Option (List ℕ) → ℕ → ℕ → Type 0
+abbrev pub ReadsAtMost : FileCommand → Option (List ℕ) → ℕ → ℕ → Type 0
 ReadsAtMost command told before now = IfSome told (λ bytes. IfOk (header_of bytes) (λ header. now ≤ raised before (header.end + share command header (length bytes))))
 
 -- the same for the answers behind a header
-abbrev pub ReadsInput : CommandData → Option (List ℕ) → Status → ℕ → ℕ → Type 0
+abbrev pub ReadsInput : FileCommand → Option (List ℕ) → Status → ℕ → ℕ → Type 0
 ReadsInput command told Done before now = ReadsAtMost command told before now
 ReadsInput command told (Malformed cpu page) before now = ReadsAtMost command told before now
 ReadsInput command told WriteFault before now = ReadsAtMost command told before now
 ReadsInput command told status before now = Unit {0}
 
-abbrev pub CommandReads : CommandData → Status → Outside → Outside → Type 0
+abbrev pub CommandReads : FileCommand → Status → Outside → Outside → Type 0
 CommandReads command status before now = IfSome before.files (λ files. ReadsInput command (get files (input_of command)) status before.counts.bytes now.counts.bytes)
 
+-- a self-test leaves the folder alone, and never answers a fault of reading
+abbrev pub JobReads : Job → Status → Outside → Outside → Type 0
+JobReads (OnFile command) status before now = CommandReads command status before now
+JobReads (SelfTest words) status before now = (status ≢ ReadFault) × (now.counts ≡ before.counts)
+
 -- words without a reading read nothing
-abbrev pub ReadsFor : Result CommandData WordFault → Status → Outside → Outside → Type 0
-ReadsFor (Ok command) status before now = CommandReads command status before now
+abbrev pub ReadsFor : Result Job WordFault → Status → Outside → Outside → Type 0
+ReadsFor (Ok job) status before now = JobReads job status before now
 ReadsFor (Err fault) status before now = now.counts.bytes ≡ before.counts.bytes
 
 abbrev pub RunReads : List (List ℕ) → Status → Outside → Outside → Type 0
-RunReads words status before now = ReadsFor (reading words) status before now
+RunReads words status before now = ReadsFor (job_of words) status before now

@@ -9,8 +9,8 @@ use Rattle.trace_outside.specs.Writing.{Gained, GainedPrefix}
 use Rattle.trace_run.specs.declared.status.Status.{Status}
 use Rattle.trace_run.specs.declared.status.Status.TheVariants.{ReadFault, WriteFault, NoMemory}
 use Rattle.trace_run.specs.Text.{text}
-use Rattle.trace_args.specs.Command.{CommandData}
-use Rattle.trace_run.specs.Meaning.{Meaning, NewFile, Target, on_out, on_folder, meaning, command_meaning}
+use Rattle.trace_run.specs.Job.{Job}
+use Rattle.trace_run.specs.Meaning.{Meaning, NewFile, Target, on_out, on_folder, meaning, job_meaning}
 
 -- a sink at one moment
 pub record SinkSeen : Type 0 where
@@ -89,6 +89,6 @@ Ends m status before now = Finished m status before now
 abbrev pub Runs : List (List ℕ) → Status → Outside → Outside → Type 0
 Runs words status before now = IfSome before.files (λ files. Ends (meaning words files) status before now)
 
--- the part of it that does one command
-abbrev pub RunsCommand : CommandData → Status → Outside → Outside → Type 0
-RunsCommand command status before now = IfSome before.files (λ files. Ends (command_meaning command files) status before now)
+-- the part of it that does one job
+abbrev pub RunsJob : Job → Status → Outside → Outside → Type 0
+RunsJob job status before now = IfSome before.files (λ files. Ends (job_meaning job files) status before now)

@@ -1,5 +1,8 @@
 pub mod Text
 pub mod Context
+pub mod Report
+pub mod Job
+pub mod Selftest
 pub mod Meaning
 pub mod Ending
 pub mod Work

@@ -1,7 +1,5 @@
 -- What a run means, from its words and the files alone.
-use Rattle.std.specs.Prelude.{Option, Result, Ok, Err, None, Some, ℕ, Bool, true, false, List, [], ◌∷◌, map, filter, drop, codes}
-use Rattle.std.specs.List.{enumerate_from, slice_index_or}
-use Rattle.std.specs.Fmt.{decimal}
+use Rattle.std.specs.Prelude.{Option, Result, Ok, Err, None, Some, ℕ, List, [], ◌∷◌, map, drop}
 use Rattle.std.specs.FinMap.{get}
 use Rattle.trace_outside.specs.Names.{NamedFiles}
 use Rattle.trace_base.specs.declared.part.Part.{Part}
@@ -10,22 +8,20 @@ use Rattle.dat_header.specs.declared.header.Header.{Header}
 use Rattle.dat_header.specs.declared.header.Body.{Body}
 use Rattle.dat_header.specs.declared.header.Body.TheVariants.{Latency, Fly}
 use Rattle.dat_header.specs.Header.{header_of}
-use Rattle.subpage.specs.Arrangement.{Keyed}
 use Rattle.subpage.specs.Cut.{Cut, cut_of, reached_of}
 use Rattle.trace_run.specs.declared.status.Status.{Status}
 use Rattle.trace_run.specs.declared.status.Status.TheVariants.{Done, Usage, Refused, Malformed, ReadFault}
 use Rattle.trace_args.specs.declared.fault.WordFault.{WordFault}
-use Rattle.trace_args.specs.Command.{CommandData, Report, Dump, ReportData, DumpData}
-use Rattle.trace_args.specs.Reading.{reading}
-use Rattle.report_print.specs.Given.{Given}
-use Rattle.report_print.specs.Line.{line}
+use Rattle.trace_args.specs.Command.{ReportData, DumpData, SelfData}
 use Rattle.report_lists.specs.Lists.{names_list, formats_list, symbols_list, printk_list}
 use Rattle.format_parse.specs.declared.format.EventFormat.{EventFormat}
 use Rattle.symbols.specs.Maps.{Maps}
 use Rattle.trace_args.specs.declared.listing.Listing.{Listing}
 use Rattle.trace_args.specs.declared.listing.Listing.TheVariants.{Nothing, Names, Formats, Symbols, Printk}
 use Rattle.trace_run.specs.Context.{context_of, formats_of, symbols_of}
-use Rattle.trace_run.specs.Text.{text}
+use Rattle.trace_run.specs.Job.{FileCommand, Report, Dump, Job, OnFile, SelfTest, job_of}
+use Rattle.trace_run.specs.Report.{cpus_line, report_pieces, selected}
+use Rattle.trace_run.specs.Selftest.{self_test_line}
 use Rattle.dump_tool.specs.Dump.{dump_text}
 
 -- a new file: its name and its bytes
@@ -58,27 +54,6 @@ prints pieces status = record { pieces = pieces; status = status; files = []; ta
 abbrev pub ended : Option Cut → Status
 ended None = Done
 ended (Some cut) = Malformed cut.cpu cut.page
-
--- whether the words choose this processor: all of them where they name none
-abbrev pub is_chosen : Option (List Bool) → ℕ → Bool
-is_chosen None cpu = true
-is_chosen (Some cpus) cpu = slice_index_or cpus cpu false
-
--- the processors that a report shows, with their numbers
-abbrev pub selected : Option (List Bool) → List Part → List (ℕ × Part)
-selected cpus parts = filter (λ part. is_chosen cpus part.0) (enumerate_from 0 parts)
-
--- a report's first line
-abbrev pub cpus_line : ℕ → List ℕ
-cpus_line cpus = text (codes "cpus=" ∷ decimal cpus ∷ codes "\n" ∷ [])
-
--- the line of an item in its place
-abbrev pub entry_line : Given → Keyed → List ℕ
-entry_line given keyed = line given keyed.cpu keyed.item
-
--- the pieces of a report of these items: a line for each behind the first line
-abbrev pub report_pieces : ℕ → Given → List Keyed → List (List ℕ)
-report_pieces cpus given items = cpus_line cpus ∷ map (entry_line given) items
 
 -- the report of processors' parts: the lines of the reached items, in the order in which these happened
 abbrev pub parts_report : ReportData → Header → List Part → List ℕ → Meaning
@@ -116,41 +91,59 @@ report_by list words header bytes = list_report header list
 abbrev pub dump_of : DumpData → Header → Meaning
 dump_of words header = prints (dump_text words header ∷ []) Done
 
+-- the line of a self-test
+abbrev pub self_test : SelfData → Meaning
+self_test words = prints (self_test_line words ∷ []) Done
+
 -- what a command writes to
-abbrev pub target_of : CommandData → Target
+abbrev pub target_of : FileCommand → Target
 target_of (Report words) = on_out
 target_of (Dump words) = on_out
 
 -- a command, of a file's bytes with the header that they begin with
-abbrev pub header_means : CommandData → Header → List ℕ → Meaning
+abbrev pub header_means : FileCommand → Header → List ℕ → Meaning
 header_means (Report words) header bytes = report_by words.list words header bytes
 header_means (Dump words) header bytes = dump_of words header
 
 -- the same, or why they begin with none
-abbrev pub file_means : CommandData → Result Header OpenFault → List ℕ → Meaning
+abbrev pub file_means : FileCommand → Result Header OpenFault → List ℕ → Meaning
 file_means command (Ok header) bytes = header_means command header bytes
 file_means command (Err fault) bytes = only (target_of command) (Refused fault)
 
 -- a command, of its input's bytes
-abbrev pub input_means : CommandData → List ℕ → Meaning
+abbrev pub input_means : FileCommand → List ℕ → Meaning
 input_means command bytes = file_means command (header_of bytes) bytes
 
 -- a command, of what the folder has under the input's name
-abbrev pub command_means : CommandData → Option (List ℕ) → Meaning
+abbrev pub command_means : FileCommand → Option (List ℕ) → Meaning
 command_means command None = only (target_of command) ReadFault
 command_means command (Some bytes) = input_means command bytes
 
 -- the name of the input
-abbrev pub input_of : CommandData → List ℕ
+abbrev pub input_of : FileCommand → List ℕ
 input_of (Report words) = words.input
 input_of (Dump words) = words.input
 
-abbrev pub command_meaning : CommandData → NamedFiles → Meaning
+abbrev pub command_meaning : FileCommand → NamedFiles → Meaning
 command_meaning command files = command_means command (get files (input_of command))
 
-abbrev pub meaning_of : Result CommandData WordFault → NamedFiles → Meaning
-meaning_of (Ok command) files = command_meaning command files
+-- a job, of the folder's files
+abbrev pub job_meaning : Job → NamedFiles → Meaning
+job_meaning (OnFile command) files = command_meaning command files
+job_meaning (SelfTest words) files = self_test words
+
+abbrev pub job_target : Job → Target
+job_target (OnFile command) = target_of command
+job_target (SelfTest words) = on_out
+
+-- the name of a job's input, of which a self-test has none
+abbrev pub job_input : Job → List ℕ
+job_input (OnFile command) = input_of command
+job_input (SelfTest words) = []
+
+abbrev pub meaning_of : Result Job WordFault → NamedFiles → Meaning
+meaning_of (Ok job) files = job_meaning job files
 meaning_of (Err fault) files = only on_out Usage
 
 abbrev pub meaning : List (List ℕ) → NamedFiles → Meaning
-meaning words files = meaning_of (reading words) files
+meaning words files = meaning_of (job_of words) files

@@ -9,10 +9,9 @@ use Rattle.trace_run.specs.declared.status.Status.{Status}
 use Rattle.trace_run.specs.declared.status.Status.TheVariants.{Done, Usage, Refused, Malformed, ReadFault, WriteFault, NoMemory}
 use Rattle.trace_run.specs.Text.{text}
 use Rattle.trace_args.specs.declared.fault.WordFault.{WordFault}
-use Rattle.trace_args.specs.Command.{CommandData}
 use Rattle.trace_args.specs.KindText.{kind_text}
-use Rattle.trace_args.specs.Reading.{reading}
-use Rattle.trace_run.specs.Meaning.{input_of}
+use Rattle.trace_run.specs.Job.{Job, job_of}
+use Rattle.trace_run.specs.Meaning.{job_input}
 
 abbrev pub fault_text : OpenFault → List ℕ
 fault_text (NotTrace place) = codes "not a trace file"
@@ -64,14 +63,14 @@ message input WriteFault = codes "trace-cmd: write failed\n"
 message input NoMemory = codes "trace-cmd: out of memory\n"
 
 -- the line for this reading and this answer
-abbrev pub line_read : Result CommandData WordFault → Status → List ℕ
-line_read (Ok command) status = message (input_of command) status
+abbrev pub line_read : Result Job WordFault → Status → List ℕ
+line_read (Ok job) status = message (job_input job) status
 line_read (Err fault) Usage = usage_line fault
 line_read (Err fault) status = message [] status
 
 -- the line for these words and this answer
 abbrev pub line_of : List (List ℕ) → Status → List ℕ
-line_of words status = line_read (reading words) status
+line_of words status = line_read (job_of words) status
 
 -- the sink gained the line, or a prefix of it where its own count of faults rose
 pub record Says (line : List ℕ) (before now : Option (List ℕ)) (faults_before faults_now : ℕ) : Type 0 where

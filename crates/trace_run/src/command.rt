@@ -1,44 +1,72 @@
-// One command: its input is opened, its header read, the work done, and the input closed. This stands here once for all
-// commands.
+// One job. Where it is a command on a file, that is opened, its header read, the work done, and the file closed. This
+// stands here once for all such commands.
 
 ghost use Rattle.std.specs.Prelude.{◌≡◌, ◌≤◌};
 ghost use Rattle.trace_base.specs.Layout.{IsLayout};
 ghost use Rattle.trace_outside.specs.Causes.{raised};
 ghost use Rattle.dat_header.specs.Allowed.{IsBody};
-ghost use Rattle.trace_args.specs.Command.{command_view};
-ghost use Rattle.trace_run.specs.Causes.{RanCommand};
+ghost use Rattle.trace_run.specs.Causes.{RanJob};
 ghost use Rattle.trace_run.specs.Counts.{ReadsInput, share};
 ghost use Rattle.trace_run.specs.Ending.{beside, sink_seen};
+ghost use Rattle.trace_run.specs.Job.{OnFile, command_view, job_view};
 ghost use Rattle.trace_run.specs.Meaning as spec;
-ghost use Rattle.trace_run.specs.Meaning.{header_means, input_means};
+ghost use Rattle.trace_run.specs.Meaning.{header_means, input_means, job_input};
 ghost use Rattle.trace_run.specs.Work.{IsCaused, WritesFor};
 
 use crate::dump::print_dump;
+use crate::job::{FileCommand, Job};
 use crate::report::print_report;
+use crate::selftest::print_self_test;
 use crate::status::Status;
 use dat_header::{Header, OpenFault, read_header};
 use std::alloc::Global;
-use trace_args::Command;
 use trace_outside::{Failed, File, Folder, Sink};
 
-/// The name of a command's input.
-pub(crate) fn input_of<'a>(command: &Command<'a>) -> &'a str
-    ensures { result.now ≡ spec.input_of (command_view command.now) }
+/// The name of a job's input.
+pub(crate) fn job_input<'a>(job: &Job<'a>) -> &'a str
+    ensures { result.now ≡ job_input (job_view job.now) }
 {
-    match command {
-        Command::Report(words) => words.input,
-        Command::Dump(words) => words.input,
+    match job {
+        Job::OnFile(command) => input_of(command),
+        Job::SelfTest(_) => "",
     }
 }
 
-/// Does one command on the files of the folder.
-pub(crate) fn run_command<F: Folder, O: Sink>(
+// The name of a command's input.
+fn input_of<'a>(command: &FileCommand<'a>) -> &'a str
+    ensures { result.now ≡ spec.input_of (command_view command.now) }
+{
+    match command {
+        FileCommand::Report(words) => words.input,
+        FileCommand::Dump(words) => words.input,
+    }
+}
+
+/// Does one job on the files of the folder.
+pub(crate) fn run_job<F: Folder, O: Sink>(
     alloc: Global,
-    command: &Command<'_>,
+    job: &Job<'_>,
     folder: &mut F,
     out: &mut O,
 ) -> Status
-    ensures { RanCommand (command_view command.now) result
+    ensures { RanJob (job_view job.now) result
+        (beside F.files F.counts folder.old (sink_seen O.written O.faults out.old))
+        (beside F.files F.counts folder.new (sink_seen O.written O.faults out.new)) }
+{
+    match job {
+        Job::OnFile(command) => run_command(alloc, command, folder, out),
+        Job::SelfTest(words) => print_self_test(alloc, words, out),
+    }
+}
+
+// Does one command on a file of the folder.
+fn run_command<F: Folder, O: Sink>(
+    alloc: Global,
+    command: &FileCommand<'_>,
+    folder: &mut F,
+    out: &mut O,
+) -> Status
+    ensures { RanJob (OnFile (command_view command.now)) result
         (beside F.files F.counts folder.old (sink_seen O.written O.faults out.old))
         (beside F.files F.counts folder.new (sink_seen O.written O.faults out.new)) }
 {
@@ -55,7 +83,7 @@ pub(crate) fn run_command<F: Folder, O: Sink>(
 // Does a command on a file that was just opened. Its header is read once.
 fn run_on_file<I: File, O: Sink>(
     alloc: Global,
-    command: &Command<'_>,
+    command: &FileCommand<'_>,
     file: &mut I,
     out: &mut O,
 ) -> Status
@@ -74,7 +102,7 @@ fn run_on_file<I: File, O: Sink>(
 // Does a command on a file that has this header: each command is a function of its own with these clauses.
 fn run_on_header<I: File, O: Sink>(
     alloc: Global,
-    command: &Command<'_>,
+    command: &FileCommand<'_>,
     header: &Header,
     file: &mut I,
     out: &mut O,
@@ -88,7 +116,7 @@ fn run_on_header<I: File, O: Sink>(
     ensures reads { I.reads file.new ≤ raised (I.reads file.old) (share (command_view command.now) header.now (I.size file.old)) }
 {
     match command {
-        Command::Report(words) => print_report(alloc, words, header, file, out),
-        Command::Dump(words) => print_dump(alloc, words, header, out),
+        FileCommand::Report(words) => print_report(alloc, words, header, file, out),
+        FileCommand::Dump(words) => print_dump(alloc, words, header, out),
     }
 }

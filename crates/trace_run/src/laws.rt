@@ -3,7 +3,7 @@
 ghost use Rattle.std.specs.Prelude.{Bool, List, Option};
 ghost use Rattle.trace_base.specs.declared.part.Part.{Part};
 ghost use Rattle.subpage.specs.Arrangement.{CpusRise};
-ghost use Rattle.trace_run.specs.Meaning.{selected};
+ghost use Rattle.trace_run.specs.Report.{selected};
 
 /// The processors that a report shows come by rising numbers, which is what the laws of `subpage` on arrangements and on
 /// reached items ask for: a report's items have exactly one arrangement.

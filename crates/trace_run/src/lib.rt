@@ -4,6 +4,7 @@
 mod command;
 mod context;
 mod dump;
+mod job;
 mod laws;
 mod lines;
 mod list;
@@ -11,6 +12,7 @@ mod messages;
 mod report;
 mod rest;
 mod select;
+mod selftest;
 mod status;
 #[cfg(test)]
 mod tests;

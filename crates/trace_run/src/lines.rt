@@ -4,7 +4,7 @@ ghost use Rattle.std.specs.Prelude.{◌≡◌, length, map, IfOk};
 ghost use Rattle.std.specs.List.{flat_map};
 ghost use Rattle.trace_outside.specs.Pending.{PutsText, on_way};
 ghost use Rattle.trace_run.specs.LoadedView.{entry_view};
-ghost use Rattle.trace_run.specs.Meaning.{cpus_line, entry_line, report_pieces};
+ghost use Rattle.trace_run.specs.Report.{cpus_line, entry_line, report_pieces};
 ghost use Rattle.trace_run.specs.Text.{text};
 
 use crate::whole::Entry;

@@ -3,10 +3,11 @@ ghost use Rattle.trace_outside.specs.Causes.{HasCause, raised};
 ghost use Rattle.trace_base.specs.Layout.{IsLayout};
 ghost use Rattle.trace_outside.specs.Writing.{Gained, GainedPrefix};
 ghost use Rattle.dat_header.specs.Allowed.{IsBody};
-ghost use Rattle.trace_args.specs.Command as Command;
 ghost use Rattle.trace_args.specs.Command.{report_view};
 ghost use Rattle.trace_run.specs.Counts.{body_share, share};
-ghost use Rattle.trace_run.specs.Meaning.{body_report, cpus_line, ended, latency_report, parts_report, report_by, report_pieces, selected};
+ghost use Rattle.trace_run.specs.Job.{Report};
+ghost use Rattle.trace_run.specs.Meaning.{body_report, ended, latency_report, parts_report, report_by};
+ghost use Rattle.trace_run.specs.Report.{cpus_line, report_pieces, selected};
 ghost use Rattle.trace_run.specs.Work.{IsCaused, WritesFor};
 ghost use Rattle.trace_run.specs.LoadedView.{cut_view, entry_view};
 ghost use Rattle.trace_run.specs.Text.{text};
@@ -39,7 +40,7 @@ pub(crate) fn print_report<I: File, O: Sink>(
     requires few { header.now.cpus ≤ 1024 }
     ensures writes { WritesFor (report_by words.now.list (report_view words.now) header.now) (I.bytes file.old) result (O.written out.old) (O.written out.new) }
     ensures causes { IsCaused result (I.faults file.old) (I.faults file.new) (O.faults out.old) (O.faults out.new) }
-    ensures reads { I.reads file.new ≤ raised (I.reads file.old) (share (Command.Report (report_view words.now)) header.now (I.size file.old)) }
+    ensures reads { I.reads file.new ≤ raised (I.reads file.old) (share (Report (report_view words.now)) header.now (I.size file.old)) }
 {
     match words.list {
         Listing::Nothing => print_events(alloc, words, header, file, out),

@@ -1,8 +1,8 @@
 // The processors that a report shows.
 
 ghost use Rattle.std.specs.Prelude.{◌≡◌, ◌≤◌, ◌++◌, [], ◌∷◌, filter, length, IfOk, OnOk};
-ghost use Rattle.trace_run.specs.Meaning as spec;
-ghost use Rattle.trace_run.specs.Meaning.{selected};
+ghost use Rattle.trace_run.specs.Report as spec;
+ghost use Rattle.trace_run.specs.Report.{selected};
 
 use std::alloc::{AllocError, Global};
 use trace_args::CpuSet;

@@ -2,6 +2,7 @@
 
 mod disk;
 mod known;
+mod selftests;
 
 use crate::{Status, run};
 use dat_header::OpenFault;

@@ -1,16 +1,17 @@
 ghost use Rattle.std.specs.Prelude.{◌≡◌};
+ghost use Rattle.trace_run.specs.Job.{job_of};
 ghost use Rattle.trace_run.specs.Ending.{Runs, beside, sink_seen};
 ghost use Rattle.trace_run.specs.Causes.{AnswersUsage, HasRisen, RunIsComplete, target_read};
 ghost use Rattle.trace_run.specs.Counts.{ClosesAll, OpensAtMostOne, RunMisses, RunReads};
-ghost use Rattle.trace_args.specs.Reading.{reading};
 ghost use Rattle.trace_run.specs.Messages.{line_of, Says};
 
-use crate::command::{input_of, run_command};
+use crate::command::{job_input, run_job};
+use crate::job::read_job;
 use crate::messages::{say, say_usage};
 use crate::status::Status;
 use std::alloc::Global;
 use std::thread::Threads;
-use trace_args::{WordKind, read_words};
+use trace_args::WordKind;
 use trace_base::Words;
 use trace_outside::{Folder, Gate, Sink};
 
@@ -30,7 +31,7 @@ pub fn run<R: Threads + Sync, F: Folder, O: Sink, E: Sink, G: Gate>(
     ensures ends { Runs words.now result
         (beside F.files F.counts folder.old (sink_seen O.written O.faults out.old))
         (beside F.files F.counts folder.new (sink_seen O.written O.faults out.new)) }
-    ensures causes { HasRisen (target_read (reading words.now)) result
+    ensures causes { HasRisen (target_read (job_of words.now)) result
         (beside F.files F.counts folder.old (sink_seen O.written O.faults out.old))
         (beside F.files F.counts folder.new (sink_seen O.written O.faults out.new)) }
     ensures complete { RunIsComplete words.now result
@@ -39,7 +40,7 @@ pub fn run<R: Threads + Sync, F: Folder, O: Sink, E: Sink, G: Gate>(
     ensures misses { RunMisses words.now
         (beside F.files F.counts folder.old (sink_seen O.written O.faults out.old))
         (beside F.files F.counts folder.new (sink_seen O.written O.faults out.new)) }
-    ensures usage { AnswersUsage (reading words.now) result
+    ensures usage { AnswersUsage (job_of words.now) result
         (beside F.files F.counts folder.old (sink_seen O.written O.faults out.old))
         (beside F.files F.counts folder.new (sink_seen O.written O.faults out.new)) }
     ensures closes { ClosesAll (F.counts folder.old) (F.counts folder.new) }
@@ -49,10 +50,10 @@ pub fn run<R: Threads + Sync, F: Folder, O: Sink, E: Sink, G: Gate>(
         (beside F.files F.counts folder.new (sink_seen O.written O.faults out.new)) }
     ensures says { Says (line_of words.now result) (E.written err.old) (E.written err.new) (E.faults err.old) (E.faults err.new) }
 {
-    match read_words(alloc, words) {
-        Ok(command) => {
-            let status = run_command(alloc, &command, folder, out);
-            say(input_of(&command), status, err);
+    match read_job(alloc, words) {
+        Ok(job) => {
+            let status = run_job(alloc, &job, folder, out);
+            say(job_input(&job), status, err);
             status
         }
         Err(fault) if fault.kind == WordKind::Memory => {

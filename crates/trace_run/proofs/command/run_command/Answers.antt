@@ -1,6 +1,6 @@
 use Rattle.std.proofs.Common.{◌≡◌, ◌∙◌, ap, subst, refl, rules, arith, ℕ}
 use Rattle.trace_outside.specs.Causes.{Rose, raised}
-use Rattle.trace_args.specs.Command.{command_view}
+use Rattle.trace_run.specs.Job.{command_view}
 use Rattle.trace_run.specs.Counts.{ReadsInput}
 use Rattle.trace_run.specs.declared.status.Status.TheVariants.{ReadFault}
 use Rattle.trace_run.proofs.Endings.{command_ends, command_misses, command_risen, unopened_ends}

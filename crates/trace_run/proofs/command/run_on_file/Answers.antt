@@ -1,4 +1,4 @@
-use Rattle.trace_args.specs.Command.{command_view}
+use Rattle.trace_run.specs.Job.{command_view}
 use Rattle.trace_run.proofs.Endings.{behind_header_writes}
 use Rattle.trace_run.proofs.command.run_on_file.Goals as goal
 

@@ -1,4 +1,4 @@
-use Rattle.trace_run.specs.Meaning.{is_chosen}
+use Rattle.trace_run.specs.Report.{is_chosen}
 use Rattle.trace_run.proofs.Selection.{chosen_rise}
 use Rattle.trace_run.proofs.laws.selection_rises.Goals as goal
 

@@ -2,7 +2,7 @@ use Rattle.std.proofs.Common.{rules, ◌<◌, ◌≤◌, length, arith}
 use Rattle.trace_outside.proofs.PendingLemmas.{parts_stopped}
 use Rattle.dump_tool.proofs.Putting.{put_all}
 use Rattle.trace_run.specs.LoadedView.{entry_view}
-use Rattle.trace_run.specs.Meaning.{entry_line}
+use Rattle.trace_run.specs.Report.{entry_line}
 use Rattle.trace_run.proofs.lines.put_entries.Goals as goal
 
 pub returns-in_err-put_entry : goal.returns-in_err-put_entry

@@ -2,7 +2,7 @@ use Rattle.std.proofs.Common.{take, ◌≡◌, ◌≤◌}
 use Rattle.std.specs.List.{flat_map}
 use Rattle.dump_tool.proofs.Putting.{Put}
 use Rattle.trace_run.specs.LoadedView.{entry_view}
-use Rattle.trace_run.specs.Meaning.{entry_line}
+use Rattle.trace_run.specs.Report.{entry_line}
 use Rattle.trace_run.proofs.lines.put_entries.Given as goal
 
 abbrev pub invariant-loop-entry : goal.invariant-loop-entry

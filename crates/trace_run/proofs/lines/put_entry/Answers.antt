@@ -3,7 +3,7 @@ use Rattle.trace_base.specs.Kept.{Held, Kept}
 use Rattle.trace_outside.specs.Pending.{PutsText, on_way}
 use Rattle.subpage.specs.ItemView.{item_view}
 use Rattle.trace_run.specs.LoadedView.{entry_view}
-use Rattle.trace_run.specs.Meaning.{entry_line}
+use Rattle.trace_run.specs.Report.{entry_line}
 use Rattle.trace_run.proofs.LineLength.{whole_line}
 use Rattle.trace_run.proofs.lines.put_entry.Goals as goal
 

@@ -3,7 +3,7 @@ use Rattle.std.specs.List.{flat_map}
 use Rattle.trace_outside.specs.Pending.{Puts}
 use Rattle.dump_tool.proofs.Putting.{put_both, stopped_first}
 use Rattle.trace_run.specs.LoadedView.{entry_view}
-use Rattle.trace_run.specs.Meaning.{cpus_line, entry_line}
+use Rattle.trace_run.specs.Report.{cpus_line, entry_line}
 use Rattle.trace_run.proofs.Printing.{report_text}
 use Rattle.trace_run.proofs.lines.put_lines.Goals as goal
 

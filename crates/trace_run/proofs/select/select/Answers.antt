@@ -1,5 +1,5 @@
 use Rattle.std.proofs.Common.{◌<◌, length, arith}
-use Rattle.trace_run.specs.Meaning.{is_chosen}
+use Rattle.trace_run.specs.Report.{is_chosen}
 use Rattle.trace_run.proofs.Printing.{numbered_more}
 use Rattle.trace_run.proofs.select.select.Goals as goal
 

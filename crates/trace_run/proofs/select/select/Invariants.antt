@@ -1,7 +1,7 @@
 use Rattle.std.proofs.Common.{◌≡◌, ◌++◌, drop}
 use Rattle.std.specs.Prelude.{filter}
 use Rattle.std.specs.List.{enumerate_from}
-use Rattle.trace_run.specs.Meaning.{is_chosen, selected}
+use Rattle.trace_run.specs.Report.{is_chosen, selected}
 use Rattle.trace_run.proofs.select.select.Given as goal
 
 abbrev pub invariant-loop-part : goal.invariant-loop-part

@@ -1,0 +1,56 @@
+-- What the words of a command line ask a run for, by what it works on.
+-- Source: trace-cmd(1).
+use Rattle.std.specs.Prelude.{Result, Ok, Err, ◌≡◌, ◌≢◌, ◌==◌, Bool, true, false, List, ℕ, length, MatchResult}
+use Rattle.trace_args.specs.declared.fault.WordFault.{WordFault}
+use Rattle.trace_args.specs.declared.fault.WordKind.TheVariants as kind
+use Rattle.trace_args.specs.Command as asked
+use Rattle.trace_args.specs.Command.{CommandData, ReportData, DumpData, SelfData, report_view, dump_view, self_view}
+use Rattle.trace_args.specs.Faults.{fault}
+use Rattle.trace_args.specs.Reading.{reading}
+use Rattle.trace_run.specs.declared.job.FileCommand.{FileCommand as CodeCommand}
+use Rattle.trace_run.specs.declared.job.FileCommand.TheVariants as code_command
+use Rattle.trace_run.specs.declared.job.Job.{Job as CodeJob}
+use Rattle.trace_run.specs.declared.job.Job.TheVariants as code_job
+
+-- a command on one file
+pub data FileCommand : Type 0 where
+  Report : ReportData → FileCommand
+  Dump : DumpData → FileCommand
+
+pub data Job : Type 0 where
+  OnFile : FileCommand → Job
+  SelfTest : SelfData → Job
+
+-- a report, by whether it has no filters: one with filters is not done yet
+abbrev pub report_job : ReportData → Bool → Result Job WordFault
+report_job report true = Ok (OnFile (Report report))
+report_job report false = Err (fault 1 kind.Unknown)
+
+-- the job that a reading asks for; `split` is not done yet
+abbrev pub job_read : Result CommandData WordFault → Result Job WordFault
+job_read (Ok (asked.Report report)) = report_job report (length report.filters == 0)
+job_read (Ok (asked.Dump dump)) = Ok (OnFile (Dump dump))
+job_read (Ok (asked.SelfTest words)) = Ok (SelfTest words)
+job_read (Ok (asked.Split split)) = Err (fault 1 kind.Unknown)
+job_read (Err wrong) = Err wrong
+
+-- the job that words ask for, or their first fault
+unfoldable pub job_of : List (List ℕ) → Result Job WordFault
+job_of words = job_read (reading words)
+
+abbrev pub command_view : CodeCommand → FileCommand
+command_view (code_command.Report report) = Report (report_view report)
+command_view (code_command.Dump dump) = Dump (dump_view dump)
+
+abbrev pub job_view : CodeJob → Job
+job_view (code_job.OnFile command) = OnFile (command_view command)
+job_view (code_job.SelfTest words) = SelfTest (self_view words)
+
+abbrev pub IsJobRead : Result Job WordFault → Result CodeJob WordFault → Type 0
+IsJobRead read result = MatchResult result (λ job. read ≡ Ok (job_view job)) (λ wrong. read ≡ Err wrong)
+
+-- an answer is the job; the only other is that there was no memory
+abbrev pub IsJob : List (List ℕ) → Result CodeJob WordFault → Type 0
+IsJob words result = MatchResult result
+    (λ job. job_of words ≡ Ok (job_view job))
+    (λ wrong. wrong.kind ≢ kind.Memory → job_of words ≡ Err wrong)

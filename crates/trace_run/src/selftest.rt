@@ -1,0 +1,80 @@
+// A self-test: a generated file is reported in memory, and one line that sums its report up is printed.
+
+ghost use Rattle.std.specs.Prelude.{◌≡◌, [], Some, IfOk, OnOk};
+ghost use Rattle.trace_outside.specs.Writing.{Gained};
+ghost use Rattle.trace_args.specs.Command.{report_view, self_view};
+ghost use Rattle.trace_run.specs.Meaning.{self_test};
+ghost use Rattle.trace_run.specs.Selftest.{generated_report, plain_report, self_test_line};
+ghost use Rattle.trace_run.specs.Work.{IsCaused, Writes};
+
+use crate::report::print_report;
+use crate::status::Status;
+use dat_header::read_header;
+use std::alloc::{AllocError, Global};
+use trace_args::{Listing, ReportWords, SelfWords};
+use trace_base::ByteText;
+use trace_gen::{generate, summary_line};
+use trace_outside::{Failed, MemSink, Sink, write_all};
+
+/// Prints the line of a self-test. No file of a folder is opened.
+pub(crate) fn print_self_test<O: Sink>(alloc: Global, words: &SelfWords, out: &mut O) -> Status
+    ensures writes { Writes (self_test (self_view words.now)) result (O.written out.old) (O.written out.new) }
+    ensures causes { IsCaused result 0 0 (O.faults out.old) (O.faults out.new) }
+{
+    let Ok(line) = line_of(alloc, words) else {
+        return Status::NoMemory;
+    };
+    match write_all(out, line.as_bytes()) {
+        Ok(()) => Status::Done,
+        Err(Failed) => Status::WriteFault,
+    }
+}
+
+// The line that sums up the report of the generated file.
+fn line_of(alloc: Global, words: &SelfWords) -> Result<ByteText, AllocError>
+    ensures { IfOk result (λ line. line ≡ self_test_line (self_view words.now)) }
+{
+    let mut report = MemSink::new(alloc);
+    report_generated(alloc, words.seed, words.events, &mut report)?;
+    summary_line(alloc, words.seed, words.events, report.bytes())
+}
+
+// Reports the generated file to a sink in memory.
+fn report_generated(
+    alloc: Global,
+    seed: u64,
+    events: u32,
+    report: &mut MemSink,
+) -> Result<(), AllocError>
+    ensures { OnOk result (Gained (⟦<MemSink as Sink>⟧.written report.old) (⟦<MemSink as Sink>⟧.written report.new) (generated_report seed events)) }
+{
+    let words = plain_words(alloc);
+    let mut file = generate(alloc, seed, events)?;
+    let Ok(header) = read_header(alloc, &mut file) else {
+        return Err(AllocError);
+    };
+    match print_report(alloc, &words, &header, &mut file, report) {
+        Status::Done => Ok(()),
+        // The file is sound, and its reads and the sink's writes fail only for want of memory.
+        _ => Err(AllocError),
+    }
+}
+
+// The words of a report without options.
+fn plain_words(alloc: Global) -> ReportWords<'static>
+    ensures { report_view result ≡ plain_report }
+{
+    ReportWords {
+        input: "",
+        filters: Vec::new(alloc),
+        full: false,
+        latency: false,
+        raw: false,
+        raw_events: Vec::new(alloc),
+        no_hard: false,
+        no_soft: false,
+        list: Listing::Nothing,
+        cpus: None,
+        workers: 1,
+    }
+}

@@ -1,0 +1,9 @@
+//! The same program, run by the gate on a self-test.
+#![tactic(auto)]
+
+use std::process::ExitCode;
+use trace_program::program;
+
+fn main(rt: HostRuntime) -> ExitCode {
+    ExitCode::from(program(&rt, rt.stdout(), rt.stderr()))
+}
