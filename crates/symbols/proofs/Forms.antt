@@ -17,7 +17,7 @@ use Rattle.symbols.specs.declared.found.Found.{Found}
 use Rattle.symbols.specs.NameMap.{Pair}
 use Rattle.symbols.specs.Found.{found_view}
 use Rattle.symbols.specs.LineForms.{is_hexadecimal, in_name, BeginsOutside, IsAddress, IsSymbolLine, IsPrintkLine, IsTaskLine}
-use Rattle.symbols.specs.Forms.{is_decimal_digit, address_at, number_at, after_letter, symbol_line, unquoted, without_prefix, printk_line, task_line}
+use Rattle.symbols.specs.Forms.{is_decimal_digit, address_at, leading_number, after_letter, symbol_line, unquoted, without_prefix, printk_line, task_line}
 
 -- runs of bytes at the front
 outside_of : (test : ℕ → Bool) (text : List ℕ) → BeginsOutside test text → runs.BeginsOutside test text
@@ -220,8 +220,8 @@ decimal_digits text number is =
     let parts = both (is_decimal text) (ltb (digits_value 10 text) (2 ^ 32)) found.0 in
     (both (ltb 0 (length text)) (list_all is_decimal_digit text) parts.0).1
 
-number_again : (digits rest : List ℕ) (number : ℕ) → decimal digits ≡ Some number → runs.BeginsOutside is_decimal_digit rest → number_at (digits ++ rest) ≡ Some (number, rest)
-unfolding number_at
+number_again : (digits rest : List ℕ) (number : ℕ) → decimal digits ≡ Some number → runs.BeginsOutside is_decimal_digit rest → leading_number (digits ++ rest) ≡ Some (number, rest)
+unfolding leading_number
 number_again digits rest number is outside =
     let count : prefix_len is_decimal_digit (digits ++ rest) ≡ length digits = run_again is_decimal_digit digits rest (decimal_digits digits number is) outside in
     rw (count, take_at digits rest (length digits) refl, drop_at digits rest (length digits) refl, is) refl
@@ -233,8 +233,8 @@ number_by : (text rest : List ℕ) (count number : ℕ) (o : Option ℕ) → dec
 number_by text rest count number None e is = absurd cc
 number_by text rest count number (Some n) e is = subst (λ (p : Pair). Numbered text p.1 p.0) (some_is (n, drop count text) (number, rest) is) (take count text, sym (take-append-drop count text), e)
 
-number_is : (text rest : List ℕ) (number : ℕ) → number_at text ≡ Some (number, rest) → Numbered text rest number
-unfolding number_at
+number_is : (text rest : List ℕ) (number : ℕ) → leading_number text ≡ Some (number, rest) → Numbered text rest number
+unfolding leading_number
 number_is text rest number is = number_by text rest (prefix_len is_decimal_digit text) number (decimal (take (prefix_len is_decimal_digit text) text)) refl is
 
 pub task_again : (line : List ℕ) (task : Pair) → IsTaskLine line task → task_line line ≡ Some task
@@ -247,7 +247,7 @@ task_again line task is =
 pub task_is : (line : List ℕ) (task : Pair) → task_line line ≡ Some task → IsTaskLine line task
 unfolding task_line
 task_is line task is =
-    let pid = bind_some (number_at line) _ task is in
+    let pid = bind_some (leading_number line) _ task is in
     let named = bind_some (after_word (codes " ") pid.0.1) _ task pid.2 in
     let kept = guarded (ltb pid.0.0 (2 ^ 31) && ltb 0 (length named.0)) (Some (pid.0.0, named.0)) task named.2 in
     let parts = both (ltb pid.0.0 (2 ^ 31)) (ltb 0 (length named.0)) kept.0 in

@@ -23,8 +23,8 @@ address_at text =
     if nat_lt 0 count && nat_le count 16 then Some (digits_value 16 (take count text), drop count text) else None
 
 -- a decimal number, and what follows it
-unfoldable pub number_at : List ℕ → Option Pair
-number_at text = let count = prefix_len is_decimal_digit text in option_map (λ n. (n, drop count text)) (decimal (take count text))
+unfoldable pub leading_number : List ℕ → Option Pair
+leading_number text = let count = prefix_len is_decimal_digit text in option_map (λ n. (n, drop count text)) (decimal (take count text))
 
 -- what follows one letter and a space
 unfoldable pub after_letter : List ℕ → Option (List ℕ)
@@ -56,7 +56,7 @@ printk_line line = do
 -- the task that a saved command line gives
 unfoldable pub task_line : List ℕ → Option Pair
 task_line line = do
-  pid ← number_at line
+  pid ← leading_number line
   name ← after_word (codes " ") pid.1
   if nat_lt pid.0 (2 ^ 31) && nat_lt 0 (length name) then Some (pid.0, name) else None
 

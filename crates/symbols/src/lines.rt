@@ -6,7 +6,7 @@ ghost use Rattle.std.specs.Option.{option_map};
 ghost use Rattle.symbols.specs.NameMap.{Pair};
 ghost use Rattle.symbols.specs.Found.{found_view};
 ghost use Rattle.symbols.specs.LineForms.{in_name, IsSymbolLine, IsPrintkLine, IsTaskLine};
-ghost use Rattle.symbols.specs.Forms.{is_decimal_digit, number_at, after_letter, symbol_line, unquoted, without_prefix, printk_line, task_line, line_in};
+ghost use Rattle.symbols.specs.Forms.{is_decimal_digit, leading_number, after_letter, symbol_line, unquoted, without_prefix, printk_line, task_line, line_in};
 
 use crate::digits::address_at;
 use crate::found::Found;
@@ -79,9 +79,9 @@ fn in_name(byte: u8) -> bool
     byte != b'\t' && byte != b' '
 }
 
-#[tactic(auto, unfolding(crate::specs::Forms::number_at), using(crate::proofs::ReadLines::prefix_within))]
-fn number_at(text: &[u8]) -> Option<(u32, &[u8])>
-    ensures { option_map (λ r. (r.0, r.1.now)) result ≡ number_at text.now }
+#[tactic(auto, unfolding(crate::specs::Forms::leading_number), using(crate::proofs::ReadLines::prefix_within))]
+fn leading_number(text: &[u8]) -> Option<(u32, &[u8])>
+    ensures { option_map (λ r. (r.0, r.1.now)) result ≡ leading_number text.now }
 {
     let (digits, rest) = text.split_at(decimal_len(text));
     match decimal(digits) {
@@ -147,7 +147,7 @@ fn read_printk(line: &[u8]) -> Option<Found<'_>>
 fn read_task(line: &[u8]) -> Option<Found<'_>>
     ensures { option_map found_view result ≡ task_line line.now }
 {
-    let (pid, rest) = number_at(line)?;
+    let (pid, rest) = leading_number(line)?;
     let text = after_word(b" ", rest)?;
     if pid < 0x8000_0000 && !text.is_empty() {
         Some(Found {

@@ -1,29 +1,32 @@
 -- A number's digits, read from the left.
-use Rattle.std.proofs.Common.{◌≡◌, ℕ, ◌+◌, ◌-◌, ◌*◌, ◌^◌, ◌<◌, ◌≤◌, Bool, true, false, ◌&&◌, nat_le, List, ◌∷◌, length, Option, Some, None, if◌then◌else◌, lit<, refl, ap, ◌∙◌, arith}
+use Rattle.std.proofs.Common.{◌≡◌, ℕ, ◌+◌, ◌*◌, ◌^◌, ◌<◌, ◌≤◌, Bool, true, false, ◌&&◌, nat_le, List, [], ◌∷◌, Option, Some, None, if◌then◌else◌, lit<, refl, ap, ◌∙◌, arith}
 use Rattle.std.specs.List.{list_all}
-use Rattle.std.specs.Char.{is_ascii_digit}
+use Rattle.std.specs.Char.{is_digit, digit_value}
 use Rattle.std.specs.Option.{option_and_then}
-use Rattle.std.proofs.Math.Nat.{pow-succ', one-le-pow, le-mul_of_pos_right, mul-le-mul, pow-le-pow_right}
+use Rattle.std.specs.Str.Parse.{digits_value_after}
+use Rattle.std.proofs.Math.Nat.{mul-le-mul, pow-le-pow_right}
 use Rattle.std.proofs.lemmas.Bool.Decides.{nat_tests}
-use Rattle.trace_args.specs.Number.{digits_value, number_of, number_within, with_digit}
+use Rattle.trace_args.specs.Number.{number_of, number_within, with_digit}
 
 -- the number of some digits that are read, and those that are left
 abbrev pub number_on : ℕ → List ℕ → Option ℕ
 number_on value digits =
-    if list_all is_ascii_digit digits then Some (value * 10 ^ length digits + digits_value digits) else None
+    if list_all (λ byte. is_digit byte 10) digits then Some (digits_value_after 10 value digits) else None
 
 abbrev pub within : ℕ → ℕ → Option ℕ → Option ℕ
 within least most number =
     option_and_then (λ n. if nat_le least n && nat_le n most then Some n else None) number
 
-weighed : (value digit power rest : ℕ) → value * (10 * power) + (digit * power + rest) ≡ (10 * value + digit) * power + rest
-weighed value digit power rest = omega arith
+number_on-digit : (value digit : ℕ) (digits : List ℕ) → is_digit digit 10 ≡ true → number_on value (digit ∷ digits) ≡ number_on (value * 10 + digit_value digit) digits
+number_on-digit value digit digits h = rw (h) refl
 
-pub number_on-digit : (value digit : ℕ) (digits : List ℕ) → is_ascii_digit digit ≡ true → number_on value (digit ∷ digits) ≡ number_on (10 * value + (digit - 48)) digits
-number_on-digit value digit digits h = rw (h) (ap (λ n. if list_all is_ascii_digit digits then Some n else None) (rw (pow-succ' 10 (length digits)) (weighed value (digit - 48) (10 ^ length digits) (digits_value digits))))
+number_on-other : (value digit : ℕ) (digits : List ℕ) → is_digit digit 10 ≡ false → number_on value (digit ∷ digits) ≡ None
+number_on-other value digit digits h = rw (h) refl
 
-pub number_on-other : (value digit : ℕ) (digits : List ℕ) → is_ascii_digit digit ≡ false → number_on value (digit ∷ digits) ≡ None
-number_on-other value digit digits h = rw h
+-- more digits make no smaller number
+no_less : (value : ℕ) (digits : List ℕ) → value ≤ digits_value_after 10 value digits
+no_less value [] = omega arith
+no_less value (digit ∷ digits) = omega (arith, no_less (value * 10 + digit_value digit) digits)
 
 and-false : (b : Bool) → (b && false) ≡ false
 and-false true = refl
@@ -41,12 +44,12 @@ much least most n false h = refl
 
 pub number_on-much : (least most value : ℕ) (digits : List ℕ) → most < value → within least most (number_on value digits) ≡ None
 number_on-much least most value digits h =
-    much least most _ (list_all is_ascii_digit digits) (omega (arith, le-mul_of_pos_right {m = 10 ^ length digits} value (one-le-pow (length digits) 10 (omega arith))))
+    much least most _ (list_all (λ byte. is_digit byte 10) digits) (omega (arith, no_less value digits))
 
-step_by : (value digit most next : ℕ) (digits : List ℕ) (is_digit small : Bool) → is_ascii_digit digit ≡ is_digit → nat_le (10 * value + (digit - 48)) most ≡ small → with_digit value digit most ≡ Some next → number_on value (digit ∷ digits) ≡ number_on next digits
+step_by : (value digit most next : ℕ) (digits : List ℕ) (passes small : Bool) → is_digit digit 10 ≡ passes → nat_le (value * 10 + digit_value digit) most ≡ small → with_digit value digit most ≡ Some next → number_on value (digit ∷ digits) ≡ number_on next digits
 step_by value digit most next digits true true d s h =
-    let n : Some (10 * value + (digit - 48)) ≡ Some next = rw (d, s) at h in
-    let n' : 10 * value + (digit - 48) ≡ next = cc in
+    let n : Some (value * 10 + digit_value digit) ≡ Some next = rw (d, s) at h in
+    let n' : value * 10 + digit_value digit ≡ next = cc in
     number_on-digit value digit digits d ∙ ap (λ v. number_on v digits) n'
 step_by value digit most next digits true false d s h =
     let n : None ≡ Some next = rw (d, s) at h in cc
@@ -55,11 +58,11 @@ step_by value digit most next digits false small d s h = let n : None ≡ Some n
 -- a digit is read
 pub number_on-step : (value digit most next : ℕ) (digits : List ℕ) → with_digit value digit most ≡ Some next → number_on value (digit ∷ digits) ≡ number_on next digits
 number_on-step value digit most next digits h =
-    step_by value digit most next digits (is_ascii_digit digit) (nat_le (10 * value + (digit - 48)) most) refl refl h
+    step_by value digit most next digits (is_digit digit 10) (nat_le (value * 10 + digit_value digit) most) refl refl h
 
-stop_by : (least value digit most : ℕ) (digits : List ℕ) (is_digit small : Bool) → is_ascii_digit digit ≡ is_digit → nat_le (10 * value + (digit - 48)) most ≡ small → with_digit value digit most ≡ None → within least most (number_on value (digit ∷ digits)) ≡ None
+stop_by : (least value digit most : ℕ) (digits : List ℕ) (passes small : Bool) → is_digit digit 10 ≡ passes → nat_le (value * 10 + digit_value digit) most ≡ small → with_digit value digit most ≡ None → within least most (number_on value (digit ∷ digits)) ≡ None
 stop_by least value digit most digits true true d s h =
-    let n : Some (10 * value + (digit - 48)) ≡ None = rw (d, s) at h in cc
+    let n : Some (value * 10 + digit_value digit) ≡ None = rw (d, s) at h in cc
 stop_by least value digit most digits true false d s h =
     rw (number_on-digit value digit digits d) (number_on-much least most _ digits (grind (arith, nat_tests, s)))
 stop_by least value digit most digits false small d s h =
@@ -68,7 +71,7 @@ stop_by least value digit most digits false small d s h =
 -- no digit is read
 pub number_on-stop : (least value digit most : ℕ) (digits : List ℕ) → with_digit value digit most ≡ None → within least most (number_on value (digit ∷ digits)) ≡ None
 number_on-stop least value digit most digits h =
-    stop_by least value digit most digits (is_ascii_digit digit) (nat_le (10 * value + (digit - 48)) most) refl refl h
+    stop_by least value digit most digits (is_digit digit 10) (nat_le (value * 10 + digit_value digit) most) refl refl h
 
 most_by : (least most n m : ℕ) (low high : Bool) → nat_le m most ≡ high → (if low && high then Some m else None) ≡ Some n → n ≤ most
 most_by least most n m true true e h = let same : m ≡ n = cc in rw (← same) (grind (arith, nat_tests, e))

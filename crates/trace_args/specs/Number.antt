@@ -1,20 +1,14 @@
 -- Decimal numbers: a digit or more, without a sign, and with any number of leading zeros.
 -- Source: POSIX, Base Definitions, 12.1 Utility Argument Syntax, on numbers in operands and option-arguments.
-use Rattle.std.specs.Prelude.{ℕ, ◌+◌, ◌-◌, ◌*◌, ◌^◌, ◌&&◌, nat_le, List, [], ◌∷◌, length, Option, Some, None, if◌then◌else◌}
-use Rattle.std.specs.List.{list_all}
-use Rattle.std.specs.Char.{is_ascii_digit}
+use Rattle.std.specs.Prelude.{ℕ, ◌+◌, ◌-◌, ◌*◌, ◌^◌, ◌&&◌, nat_le, List, Option, Some, None, if◌then◌else◌}
+use Rattle.std.specs.Char.{is_digit, digit_value}
+use Rattle.std.specs.Str.Parse.{digits_value}
 use Rattle.std.specs.Option.{option_and_then}
-
--- the value of a row of digits: each counts its power of ten
-abbrev pub digits_value : List ℕ → ℕ
-digits_value [] = 0
-digits_value (digit ∷ digits) = (digit - 48) * 10 ^ length digits + digits_value digits
+use Rattle.trace_base.specs.FieldLine.{is_decimal}
 
 -- the number that a text spells
 abbrev pub number_of : List ℕ → Option ℕ
-number_of [] = None
-number_of (c ∷ cs) =
-    if list_all is_ascii_digit (c ∷ cs) then Some (digits_value (c ∷ cs)) else None
+number_of text = if is_decimal text then Some (digits_value 10 text) else None
 
 -- the number that a text spells, where it lies in a range
 abbrev pub number_within : ℕ → ℕ → List ℕ → Option ℕ
@@ -39,6 +33,6 @@ piece_count text = number_within 1 1000000000 text
 -- a number with one digit more, while it is at most the most
 abbrev pub with_digit : ℕ → ℕ → ℕ → Option ℕ
 with_digit value digit most =
-    if is_ascii_digit digit && nat_le (10 * value + (digit - 48)) most
-    then Some (10 * value + (digit - 48))
+    if is_digit digit 10 && nat_le (value * 10 + digit_value digit) most
+    then Some (value * 10 + digit_value digit)
     else None

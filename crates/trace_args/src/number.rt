@@ -62,10 +62,8 @@ pub fn piece_count(text: &[u8]) -> Option<u32>
 fn with_digit(value: u64, byte: u8, most: u64) -> Option<u64>
     ensures { result ≡ with_digit value byte most }
 {
-    if !byte.is_ascii_digit() {
-        return None;
-    }
-    let longer = u128::from(value) * 10 + u128::from(byte - b'0');
+    let digit = char::from(byte).to_digit(10)?;
+    let longer = u128::from(value) * 10 + u128::from(digit);
     if longer <= u128::from(most) {
         Some(longer as u64)
     } else {
