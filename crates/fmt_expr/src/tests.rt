@@ -422,12 +422,23 @@ fn fields(alloc: Global) -> Result<Vec<Field>, AllocError> {
 fn written(alloc: Global, text: &[u8], long: u32) -> Result<Vec<u8>, AllocError>
     requires { (long ≡ 4) ⊎ (long ≡ 8) }
 {
+    written_with(alloc, text, &fields(alloc)?, long)
+}
+
+fn written_with(
+    alloc: Global,
+    text: &[u8],
+    fields: &[Field],
+    long: u32,
+) -> Result<Vec<u8>, AllocError>
+    requires { (long ≡ 4) ⊎ (long ≡ 8) }
+{
     let mut out = Vec::new(alloc);
     let Some(row) = tokens(alloc, text)? else {
         out.push(b'!')?;
         return Ok(out);
     };
-    let Some(fmt) = parse_args(alloc, text, &row, &fields(alloc)?, long)? else {
+    let Some(fmt) = parse_args(alloc, text, &row, fields, long)? else {
         out.push(b'!')?;
         return Ok(out);
     };
@@ -515,5 +526,71 @@ fn trees_nest_at_most_64_deep(rt: HostRuntime) -> Result<(), Fail> {
         let found = written(rt.alloc(), &text, 8)?;
         assert_eq!(rt; found.as_slice(), expected);
     }
+    Ok(())
+}
+
+/// The print fmt of a kernel's `function`, and how its arguments are written.
+const FUNCTION: (&[u8], &[u8]) = (
+    b"\" %ps <-- %ps\", (void *)REC->ip, (void *)REC->parent_ip",
+    b"<64u ip>;<64u parent_ip>",
+);
+
+/// The print fmt of a kernel's `sched_switch`, in pieces.
+const SWITCH: [&[u8]; 8] = [
+    b"\"prev_comm=%s prev_pid=%d prev_prio=%d prev_state=%s%s ==> next_comm=%s next_pid=%d next_prio=%d\",",
+    b" REC->prev_comm, REC->prev_pid, REC->prev_prio, (REC->prev_state &",
+    b" ((((0x00 | 0x01 | 0x02 | 0x04 | 0x08 | 0x10 | 0x20 | 0x40) + 1) << 1) - 1)) ? __print_flags(REC->prev_state &",
+    b" ((((0x00 | 0x01 | 0x02 | 0x04 | 0x08 | 0x10 | 0x20 | 0x40) + 1) << 1) - 1), \"|\",",
+    b" { 0x01, \"S\" }, { 0x02, \"D\" }, { 0x04, \"T\" }, { 0x08, \"t\" },",
+    b" { 0x10, \"X\" }, { 0x20, \"Z\" }, { 0x40, \"P\" }, { 0x80, \"I\" }) : \"R\",",
+    b" REC->prev_state & (((0x00 | 0x01 | 0x02 | 0x04 | 0x08 | 0x10 | 0x20 | 0x40) + 1) << 1) ? \"+\" : \"\",",
+    b" REC->next_comm, REC->next_pid, REC->next_prio",
+];
+
+/// How its arguments are written.
+const SWITCH_TREES: [&[u8]; 6] = [
+    b"$prev_comm;prev_pid;prev_prio;",
+    b"(prev_state & ((((0i | 1i | 2i | 4i | 8i | 16i | 32i | 64i) + 1i) << 1i) - 1i))?",
+    b"F((prev_state & ((((0i | 1i | 2i | 4i | 8i | 16i | 32i | 64i) + 1i) << 1i) - 1i)),\"|\",1i \"S\",2i \"D\",",
+    b"4i \"T\",8i \"t\",16i \"X\",32i \"Z\",64i \"P\",128i \"I\"):\"R\";",
+    b"(prev_state & (((0i | 1i | 2i | 4i | 8i | 16i | 32i | 64i) + 1i) << 1i))?\"+\":\"\";",
+    b"$next_comm;next_pid;next_prio",
+];
+
+fn kernel_fields(alloc: Global) -> Result<Vec<Field>, AllocError> {
+    let names: [(&[u8], FieldKind); 9] = [
+        (b"ip", FieldKind::Number),
+        (b"parent_ip", FieldKind::Number),
+        (b"prev_comm", FieldKind::Text),
+        (b"prev_pid", FieldKind::Number),
+        (b"prev_prio", FieldKind::Number),
+        (b"prev_state", FieldKind::Number),
+        (b"next_comm", FieldKind::Text),
+        (b"next_pid", FieldKind::Number),
+        (b"next_prio", FieldKind::Number),
+    ];
+    let mut fields = Vec::new(alloc);
+    for (name, kind) in names {
+        fields.push(field(alloc, name, kind, FieldPlace::Fixed, 1)?)?;
+    }
+    Ok(fields)
+}
+
+fn joined(alloc: Global, pieces: &[&[u8]]) -> Result<Vec<u8>, AllocError> {
+    let mut text = Vec::new(alloc);
+    for piece in pieces {
+        text.extend_from_slice(piece)?;
+    }
+    Ok(text)
+}
+
+#[test]
+fn print_fmts_of_a_kernel_have_these_trees(rt: HostRuntime) -> Result<(), Fail> {
+    let alloc = rt.alloc();
+    let fields = kernel_fields(alloc)?;
+    let function = written_with(alloc, FUNCTION.0, &fields, 8)?;
+    assert_eq!(rt; function.as_slice(), FUNCTION.1);
+    let switch = written_with(alloc, &joined(alloc, &SWITCH)?, &fields, 8)?;
+    assert_eq!(rt; switch.as_slice(), joined(alloc, &SWITCH_TREES)?.as_slice());
     Ok(())
 }

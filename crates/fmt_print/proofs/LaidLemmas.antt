@@ -1,6 +1,7 @@
 -- A text in its width, as spaces, a mark, zeros, a text and spaces.
-use Rattle.std.proofs.Common.{◌≡◌, ℕ, ◌+◌, ◌-◌, Bool, true, false, List, [], ◌++◌, length, replicate, sym, ap, ◌∙◌, append_assoc, length-append, arith}
+use Rattle.std.proofs.Common.{◌≡◌, ℕ, ◌+◌, ◌-◌, Bool, true, false, List, [], ◌++◌, length, replicate, sym, ap, ◌∙◌, append_assoc, length-append, arith, inl, inr}
 use Rattle.std.specs.Prelude.{◌&&◌, is_none}
+use Rattle.std.proofs.lemmas.Bool.{cases_Bool}
 use Rattle.std.proofs.lemmas.List.{append-nil, length-replicate, replicate-append-replicate}
 use Rattle.fmt_print.specs.declared.form.Form.{Form}
 use Rattle.fmt_print.specs.Integers.{parts, laid}
@@ -24,6 +25,21 @@ pub laid_right : (form : Form) (mark text : List ℕ) (zeros pad : ℕ) → form
 laid_right form mark text zeros pad left zero is_pad =
     rw left (rw zero (ap (λ (n : ℕ). replicate n 32 ++ (mark ++ (replicate zeros 48 ++ text))) (body_len mark text form.width zeros ∙ sym is_pad)
     ∙ ap (λ (l : List ℕ). replicate pad 32 ++ (mark ++ (replicate zeros 48 ++ l))) (sym (append-nil text))))
+
+bare_at : (form : Form) (mark text : List ℕ) → 0 ≡ form.width - (length mark + (0 + length text)) → laid form mark text ≡ mark ++ text
+bare_at form mark text is_pad =
+    let bare = ap (λ (l : List ℕ). mark ++ l) (append-nil text) in
+    elim (cases_Bool form.left) as (λ _. laid form mark text ≡ mark ++ text) [
+      | inl left ↦ laid_left form mark text 0 0 left is_pad ∙ bare
+      | inr right ↦ elim (cases_Bool (form.zero && is_none form.precision)) as (λ _. laid form mark text ≡ mark ++ text) [
+        | inl zero ↦ laid_zero form mark text 0 0 right zero is_pad ∙ bare
+        | inr none ↦ laid_right form mark text 0 0 right none is_pad ∙ bare
+      ]
+    ]
+
+pub laid_bare : (form : Form) (mark text : List ℕ) (zeros pad : ℕ) → zeros ≡ 0 → pad ≡ 0 → pad ≡ form.width - (length mark + (zeros + length text)) → laid form mark (replicate zeros 48 ++ text) ≡ mark ++ text
+laid_bare form mark text zeros pad no_zeros no_pad is_pad =
+    ap (λ (n : ℕ). laid form mark (replicate n 48 ++ text)) no_zeros ∙ bare_at form mark text (omega (arith, no_zeros, no_pad, is_pad))
 
 -- ---- texts of pieces between spaces
 

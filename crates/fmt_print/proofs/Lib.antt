@@ -6,3 +6,4 @@ pub mod TextLemmas
 pub mod PutLemmas
 pub mod ArgumentLemmas
 pub mod PrintLemmas
+pub mod SameLemmas

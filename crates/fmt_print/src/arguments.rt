@@ -22,6 +22,7 @@ pub struct Conversion<'a> {
 }
 
 /// The first argument, and those behind it.
+#[inline(always)]
 #[tactic(auto, using(crate::proofs::ArgumentLemmas::first_none, crate::proofs::ArgumentLemmas::first_some))]
 fn first_of(args: &[Expr]) -> Option<(&Expr, &[Expr])>
     ensures { option_map (λ a. (tree_of a.0.now, map tree_of a.1.now)) result ≡ first_of (map tree_of args.now) }
@@ -33,6 +34,7 @@ fn first_of(args: &[Expr]) -> Option<(&Expr, &[Expr])>
 }
 
 /// An amount, and the arguments behind it.
+#[inline(always)]
 fn amount_of<'a>(
     rec: &Rec<'_>,
     amount: Amount,
@@ -51,6 +53,7 @@ fn amount_of<'a>(
 }
 
 /// What a conversion takes; none where an argument is missing.
+#[inline(always)]
 #[tactic(auto, unfolding(crate::specs::Arguments::taken))]
 pub fn taken<'a>(rec: &Rec<'_>, spec: Spec, args: &'a [Expr]) -> Option<Conversion<'a>>
     ensures { option_map taken_view result ≡ taken (given rec.now) spec (map tree_of args.now) }

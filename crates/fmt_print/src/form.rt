@@ -58,6 +58,7 @@ fn precision_of(precision: Option<i128>) -> Option<u32>
 }
 
 /// The form that a conversion has with this width and precision.
+#[inline(always)]
 pub fn form_of(spec: Spec, width: Option<i128>, precision: Option<i128>) -> Form
     ensures { result ≡ form_of spec width precision }
 {

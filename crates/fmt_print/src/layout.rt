@@ -52,15 +52,28 @@ fn pad(width: u32, mark: &[u8], zeros: usize, text: &[u8]) -> usize
         .saturating_sub(text.len())
 }
 
+/// Puts a mark and digits.
+#[tactic(auto, using(trace_base::proofs::TailJoins::put_put))]
+fn put_bare(mark: &[u8], digits: &[u8], into: &mut Tail<'_>)
+    ensures same_slice { lent into.new ≡ lent into.old }
+    ensures value { kept into.new ≡ put (kept into.old) (mark.now ++ digits.now) }
+{
+    put_some(mark, into);
+    into.put(digits);
+}
+
 /// Puts a mark, zeros and digits in their width.
-#[tactic(auto, using(crate::proofs::LaidLemmas::laid_left, crate::proofs::LaidLemmas::laid_zero, crate::proofs::LaidLemmas::laid_right))]
+#[tactic(auto, using(crate::proofs::LaidLemmas::laid_bare, crate::proofs::LaidLemmas::laid_left, crate::proofs::LaidLemmas::laid_zero, crate::proofs::LaidLemmas::laid_right))]
 pub fn put_laid(form: &Form, mark: &[u8], zeros: u32, digits: &[u8], into: &mut Tail<'_>)
     ensures same_slice { lent into.new ≡ lent into.old }
     ensures value { kept into.new ≡ put (kept into.old) (laid form.now mark.now (replicate zeros 48 ++ digits.now)) }
 {
     let zeros = zeros as usize;
     let pad = pad(form.width, mark, zeros, digits);
-    if form.left {
+    if pad == 0 && zeros == 0 {
+        // Most numbers are shown as they are.
+        put_bare(mark, digits, into);
+    } else if form.left {
         put_parts(0, mark, zeros, digits, pad, into);
     } else if form.zero && form.precision.is_none() {
         put_parts(0, mark, pad + zeros, digits, 0, into);

@@ -1,8 +1,10 @@
-ghost use Rattle.std.specs.Prelude.{length};
+ghost use Rattle.std.specs.Prelude.{◌≡◌, length, map};
 ghost use Rattle.std.specs.List.{All};
 ghost use Rattle.std.proofs.Props.{props};
 ghost use Rattle.fmt_directives.specs.Directives.{IsWithin};
 ghost use Rattle.fmt_directives.proofs.Withins.{within_prop};
+ghost use Rattle.fmt_expr.specs.TreeView.{tree_of};
+ghost use Rattle.fmt_fold.specs.Same.{SameTrees};
 
 use fmt_directives::Directive;
 use fmt_expr::Expr;
@@ -14,13 +16,14 @@ pub struct PrintPlan {
     pub(crate) text: ByteText,
     pub(crate) directives: Vec<Directive>,
     pub(crate) args: Vec<Expr>,
+    /// The arguments as they are computed: each the same over every record.
+    pub(crate) folded: Vec<Expr>,
     pub(crate) long: u32,
     ghost within: { All (IsWithin (length text)) directives.items } by { Prim.hlevel (props, within_prop) },
+    ghost same: { SameTrees (map tree_of folded.items) (map tree_of args.items) } by { Prim.hlevel props },
 }
 
 impl PrintPlan {
-    ghost use Rattle.std.specs.Prelude.{◌≡◌, map};
-    ghost use Rattle.fmt_expr.specs.TreeView.{tree_of};
     ghost use Rattle.fmt_print.specs.PlanView.{plan_view};
 
     /// The format text, with its escapes resolved. The places of a literal are places in it.
@@ -43,6 +46,13 @@ impl PrintPlan {
         ensures { map tree_of result.now ≡ (plan_view self.now).args }
     {
         self.args.as_slice()
+    }
+
+    /// Arguments that are the same over every record, with their constant parts computed.
+    pub(crate) fn folded(&self) -> &[Expr]
+        ensures { SameTrees (map tree_of result.now) (plan_view self.now).args }
+    {
+        self.folded.as_slice()
     }
 
     /// The kernel's long size in bytes.

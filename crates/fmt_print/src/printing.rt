@@ -231,11 +231,12 @@ pub fn print(plan: &PrintPlan, rec: &Rec<'_>, symbols: &Symbols, into: &mut Tail
     ensures same_slice { lent into.new ≡ lent into.old }
     ensures value { held into.new ≡ put_held (held into.old) (print_text (plan_view plan.now) (given rec.now) symbols.now) }
 {
+    let args = plan.folded();
     put_directives(
         plan.long(),
         plan.text(),
         plan.directives(),
-        plan.args(),
+        args,
         rec,
         symbols,
         into,

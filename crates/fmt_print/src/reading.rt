@@ -8,6 +8,7 @@ ghost use Rattle.fmt_print.specs.PlanView.{plan_view};
 use crate::plan::PrintPlan;
 use fmt_directives::directives;
 use fmt_expr::PrintFmt;
+use fmt_fold::all_folded;
 use std::alloc::{AllocError, Global};
 
 /// Reads the format text of a print fmt. None exactly where a conversion in it is not listed, or where it is longer than
@@ -29,10 +30,12 @@ pub fn compile(alloc: Global, fmt: PrintFmt) -> Result<Option<PrintPlan>, AllocE
     let Some(directives) = directives(alloc, text.as_bytes())? else {
         return Ok(None);
     };
+    let folded = all_folded(alloc, args.as_slice())?;
     Ok(Some(PrintPlan {
         text,
         directives,
         args,
+        folded,
         long,
     }))
 }

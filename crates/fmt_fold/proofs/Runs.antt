@@ -1,0 +1,93 @@
+-- Rows that were made from the first of others.
+use Rattle.std.proofs.Common.{◌≡◌, ℕ, ◌+◌, ◌<◌, ◌≤◌, List, [], ◌∷◌, ◌++◌, length, map, drop, get_or, refl, ap, sym, ◌∙◌, append_assoc}
+use Rattle.std.proofs.lemmas.List.{append-nil, map-append, drop_more, drop_all}
+use Rattle.fmt_expr.specs.Tree.{Tree}
+use Rattle.fmt_expr.specs.TreeView.{tree_of}
+use Rattle.fmt_expr.specs.declared.expr.Expr.{Expr}
+use Rattle.fmt_expr.specs.declared.expr.Op.{Op}
+use Rattle.fmt_expr.specs.declared.expr.Operand.{Operand}
+use Rattle.fmt_expr.specs.declared.expr.Entry.{Entry}
+use Rattle.fmt_eval.specs.Numbers.{Number, pattern}
+use Rattle.fmt_eval.specs.Values.{Given, number_of}
+use Rattle.fmt_eval.specs.Flags.{Row}
+use Rattle.fmt_eval.specs.Entered.{row_of}
+use Rattle.fmt_fold.specs.Same.{Meaning, meaning_of, IsSame, step_of, SameOperands, SameEntries, SameTrees}
+
+more : {A B : Type 0} (f : A → B) (xs ys : List A) (i : ℕ) (d o : A) → i < length ys → f o ≡ f (get_or ys i d) → map f xs ++ map f (drop i ys) ≡ map f ys
+    → map f (xs ++ o ∷ []) ++ map f (drop (i + 1) ys) ≡ map f ys
+more {A} {B} f xs ys i d o lt s e =
+    let rest = map f (drop (i + 1) ys) in
+    ap (λ (l : List B). l ++ rest) (map-append f xs (o ∷ []))
+    ∙ append_assoc (map f xs) (f o ∷ []) rest
+    ∙ ap (λ (b : B). map f xs ++ (b ∷ rest)) s
+    ∙ ap (λ (l : List A). map f xs ++ map f l) (sym (drop_more ys i d lt))
+    ∙ e
+
+all : {A B : Type 0} (f : A → B) (xs ys : List A) (i : ℕ) → length ys ≤ i → map f xs ++ map f (drop i ys) ≡ map f ys → map f xs ≡ map f ys
+all {A} {B} f xs ys i le e = sym (append-nil (map f xs)) ∙ ap (λ (l : List A). map f xs ++ map f l) (sym (drop_all i ys le)) ∙ e
+
+none : {A B : Type 0} (f : A → B) (xs ys : List A) → xs ≡ [] → map f xs ++ map f (drop 0 ys) ≡ map f ys
+none {A} f xs ys e = ap (λ (l : List A). map f l ++ map f ys) e
+
+abbrev pair : Op → Number → Op × Number
+pair op n = (op, n)
+
+abbrev row : ℕ → List ℕ → Row
+row mask text = (mask, text)
+
+-- what the tree of an argument is
+abbrev pub meant : Given → Expr → Meaning
+meant g e = meaning_of g (tree_of e)
+
+-- operands
+pub record OperandsTo (os ps : List Operand) (i : ℕ) : Type 0 where
+  pub each : (g : Given) → map (step_of g) os ++ map (step_of g) (drop i ps) ≡ map (step_of g) ps
+
+pub operands_none : (os ps : List Operand) → os ≡ [] → OperandsTo os ps 0
+operands_none os ps e = record { each = λ g. none (step_of g) os ps e }
+
+same_step : (g : Given) (o p : Operand) → o.op ≡ p.op → IsSame (tree_of o.value) (tree_of p.value) → step_of g o ≡ step_of g p
+same_step g o p e h =
+    ap (λ (op : Op). pair op (number_of g (tree_of o.value))) e ∙ ap (λ (m : Meaning). pair p.op m.number) (h.each g)
+
+pub operands_more : (os ps : List Operand) (i : ℕ) (d o : Operand) → i < length ps → o.op ≡ (get_or ps i d).op → IsSame (tree_of o.value) (tree_of (get_or ps i d).value)
+    → OperandsTo os ps i → OperandsTo (os ++ o ∷ []) ps (i + 1)
+operands_more os ps i d o lt e h k = record { each = λ g. more (step_of g) os ps i d o lt (same_step g o (get_or ps i d) e h) (k.each g) }
+
+pub operands_all : (os ps : List Operand) (i : ℕ) → length ps ≤ i → OperandsTo os ps i → SameOperands os ps
+operands_all os ps i le k = record { each = λ g. all (step_of g) os ps i le (k.each g) }
+
+-- entries
+pub record EntriesTo (es fs : List Entry) (i : ℕ) : Type 0 where
+  pub each : (g : Given) → map (row_of g) es ++ map (row_of g) (drop i fs) ≡ map (row_of g) fs
+
+pub entries_none : (es fs : List Entry) → es ≡ [] → EntriesTo es fs 0
+entries_none es fs e = record { each = λ g. none (row_of g) es fs e }
+
+same_row : (g : Given) (e f : Entry) → e.text ≡ f.text → IsSame (tree_of e.value) (tree_of f.value) → row_of g e ≡ row_of g f
+same_row g e f s h =
+    ap (λ (text : List ℕ). row (pattern (number_of g (tree_of e.value)).exact) text) s ∙ ap (λ (m : Meaning). row (pattern m.number.exact) f.text) (h.each g)
+
+pub entries_more : (es fs : List Entry) (i : ℕ) (d e : Entry) → i < length fs → e.text ≡ (get_or fs i d).text → IsSame (tree_of e.value) (tree_of (get_or fs i d).value)
+    → EntriesTo es fs i → EntriesTo (es ++ e ∷ []) fs (i + 1)
+entries_more es fs i d e lt s h k = record { each = λ g. more (row_of g) es fs i d e lt (same_row g e (get_or fs i d) s h) (k.each g) }
+
+pub entries_all : (es fs : List Entry) (i : ℕ) → length fs ≤ i → EntriesTo es fs i → SameEntries es fs
+entries_all es fs i le k = record { each = λ g. all (row_of g) es fs i le (k.each g) }
+
+-- trees
+pub record TreesTo (es fs : List Expr) (i : ℕ) : Type 0 where
+  pub each : (g : Given) → map (meant g) es ++ map (meant g) (drop i fs) ≡ map (meant g) fs
+
+pub trees_none : (es fs : List Expr) → es ≡ [] → TreesTo es fs 0
+trees_none es fs e = record { each = λ g. none (meant g) es fs e }
+
+pub trees_more : (es fs : List Expr) (i : ℕ) (d e : Expr) → i < length fs → IsSame (tree_of e) (tree_of (get_or fs i d)) → TreesTo es fs i → TreesTo (es ++ e ∷ []) fs (i + 1)
+trees_more es fs i d e lt h k = record { each = λ g. more (meant g) es fs i d e lt (h.each g) (k.each g) }
+
+twice : (g : Given) (es : List Expr) → map (meant g) es ≡ map (meaning_of g) (map tree_of es)
+twice g [] = refl
+twice g (e ∷ es) = ap (λ (ms : List Meaning). meant g e ∷ ms) (twice g es)
+
+pub trees_all : (es fs : List Expr) (i : ℕ) → length fs ≤ i → TreesTo es fs i → SameTrees (map tree_of es) (map tree_of fs)
+trees_all es fs i le k = record { each = λ g. sym (twice g es) ∙ all (meant g) es fs i le (k.each g) ∙ twice g fs }

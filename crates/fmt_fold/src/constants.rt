@@ -1,0 +1,69 @@
+//! Numbers that read no record.
+
+ghost use Rattle.std.specs.Prelude.{◌≡◌, true, ◌&&◌};
+ghost use Rattle.fmt_expr.specs.TreeView.{tree_of, operands_of};
+ghost use Rattle.fmt_fold.specs.Same.{IsSame};
+ghost use Rattle.fmt_fold.specs.Constants.{is_written, all_written, is_fixed};
+
+use fmt_eval::number;
+use fmt_expr::{Expr, Operand};
+use trace_base::{Order, Rec};
+
+fn is_written(expr: &Expr) -> bool
+    ensures { result ≡ is_written (tree_of expr.now) }
+{
+    match expr {
+        Expr::Number { .. } => true,
+        _ => false,
+    }
+}
+
+fn all_written(rest: &[Operand]) -> bool
+    ensures { result ≡ all_written (operands_of rest.now) }
+{
+    for operand in rest {
+        if !is_written(&operand.value) {
+            return false;
+        }
+    }
+    true
+}
+
+fn is_fixed_row(first: &Expr, rest: &[Operand]) -> bool
+    ensures { result ≡ (is_written (tree_of first.now) && all_written (operands_of rest.now)) }
+{
+    is_written(first) && all_written(rest)
+}
+
+/// Whether a number is made of numbers that are written out.
+fn is_fixed(expr: &Expr) -> bool
+    ensures { result ≡ is_fixed (tree_of expr.now) }
+{
+    match expr {
+        Expr::Number { .. } => true,
+        Expr::Prefix { of, .. } | Expr::Cast { of, .. } => is_written(of),
+        Expr::Chain { first, rest } => is_fixed_row(first, rest.as_slice()),
+        Expr::Choice { test, yes, no } => is_written(test) && is_written(yes) && is_written(no),
+        _ => false,
+    }
+}
+
+/// The same tree, written out where it is made of numbers that are.
+#[tactic(auto, using(crate::proofs::Fixed::fixed_same))]
+pub fn settled(expr: Expr) -> Expr
+    ensures same { IsSame (tree_of result) (tree_of expr) }
+    ensures written { is_fixed (tree_of expr) ≡ true → is_written (tree_of result) ≡ true }
+{
+    if !is_fixed(&expr) {
+        return expr;
+    }
+    let nowhere = Rec {
+        order: Order::Little,
+        payload: &[],
+    };
+    let number = number(&expr, &nowhere);
+    Expr::Number {
+        bits: number.bits,
+        kind: number.kind,
+    }
+}

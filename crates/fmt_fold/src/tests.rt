@@ -1,0 +1,74 @@
+//! Trees with constant parts.
+
+use crate::{all_folded, folded};
+use fmt_eval::number;
+use fmt_expr::CKind::I32;
+use fmt_expr::{Expr, Op, Operand};
+use std::alloc::{AllocError, Global};
+use trace_base::{ByteText, Field, FieldKind, FieldPlace, Order, Rec};
+
+fn int(bits: u64) -> Expr {
+    Expr::Number { bits, kind: I32 }
+}
+
+fn chain(alloc: Global, first: Expr, op: Op, value: Expr) -> Result<Expr, AllocError> {
+    let mut rest = Vec::new(alloc);
+    rest.push(Operand { op, value })?;
+    Ok(Expr::Chain {
+        first: Box::new(alloc, first)?,
+        rest,
+    })
+}
+
+/// `(((1 | 2) + 1) << 1) - 1`
+fn mask(alloc: Global) -> Result<Expr, AllocError> {
+    let flags = chain(alloc, int(1), Op::BitOr, int(2))?;
+    let next = chain(alloc, flags, Op::Plus, int(1))?;
+    let doubled = chain(alloc, next, Op::ShiftLeft, int(1))?;
+    chain(alloc, doubled, Op::Minus, int(1))
+}
+
+/// `REC->state`, a byte
+fn state(alloc: Global) -> Result<Expr, AllocError> {
+    Ok(Expr::FieldNumber {
+        field: Field {
+            name: ByteText::copy(alloc, b"state")?,
+            offset: 1,
+            size: 1,
+            signed: false,
+            kind: FieldKind::Number,
+            place: FieldPlace::Fixed,
+            element: 1,
+        },
+    })
+}
+
+fn written(expr: &Expr) -> Option<u64> {
+    match expr {
+        Expr::Number { bits, .. } => Some(*bits),
+        _ => None,
+    }
+}
+
+#[test]
+fn a_mask_is_written_out(rt: HostRuntime) -> Result<(), AllocError> {
+    let alloc = rt.alloc();
+    assert_eq!(rt; written(&folded(alloc, &mask(alloc)?)?), Some(7));
+    Ok(())
+}
+
+#[test]
+fn a_field_under_a_mask_keeps_its_number(rt: HostRuntime) -> Result<(), AllocError> {
+    let alloc = rt.alloc();
+    let mut args = Vec::new(alloc);
+    args.push(chain(alloc, state(alloc)?, Op::BitAnd, mask(alloc)?)?)?;
+    let rec = Rec {
+        order: Order::Little,
+        payload: &[0, 0x85],
+    };
+    for arg in &all_folded(alloc, args.as_slice())? {
+        assert_eq!(rt; written(arg), None);
+        assert_eq!(rt; number(arg, &rec).bits, 5);
+    }
+    Ok(())
+}

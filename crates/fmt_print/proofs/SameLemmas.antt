@@ -1,0 +1,198 @@
+-- Arguments that are the same over a record print the same.
+use Rattle.std.proofs.Common.{◌≡◌, ◌∙◌, ℕ, Bool, true, false, List, [], ◌∷◌, ◌++◌, map, Option, Some, None, refl, ap, sym, option_map}
+use Rattle.std.specs.Prelude.{ℤ, pos, ◌%◌, ◌^◌, int_lt, unsigned_abs, option_and_then}
+use Rattle.std.specs.Option.{unwrap_or}
+use Rattle.std.proofs.lemmas.Bool.{false≢true}
+use Rattle.fmt_directives.specs.declared.directive.Amount.{Amount}
+use Rattle.fmt_directives.specs.declared.directive.Amount.TheVariants.{Absent, Fixed, FromArgument}
+use Rattle.fmt_directives.specs.declared.directive.Base.{Base}
+use Rattle.fmt_directives.specs.declared.directive.Spec.{Spec}
+use Rattle.fmt_directives.specs.declared.directive.Directive.{Directive}
+use Rattle.fmt_directives.specs.declared.directive.Directive.TheVariants as directive
+use Rattle.fmt_directives.specs.declared.directive.PointerForm.{PointerForm}
+use Rattle.fmt_directives.specs.declared.directive.PointerForm.TheVariants.{Plain, Name, NameOffset, Ip4, Mac}
+use Rattle.symbols.specs.NameMap.{first_at, nearest}
+use Rattle.symbols.specs.Maps.{Maps}
+use Rattle.fmt_expr.specs.Tree.{Tree}
+use Rattle.fmt_expr.specs.Kinds.{kind_of}
+use Rattle.fmt_expr.specs.declared.kinds.Kind.{Kind}
+use Rattle.fmt_expr.specs.declared.kinds.Kind.TheVariants.{Number, Text, Bytes}
+use Rattle.fmt_eval.specs.Numbers.{pattern}
+use Rattle.fmt_eval.specs.Operators.{cast_bits}
+use Rattle.fmt_eval.specs.Pieces.{hexadecimal}
+use Rattle.fmt_eval.specs.Texts.{up_to_nul}
+use Rattle.fmt_eval.specs.Values.{Given}
+use Rattle.fmt_fold.specs.Same.{Meaning, meaning_of}
+use Rattle.fmt_print.specs.declared.form.Form.{Form}
+use Rattle.fmt_print.specs.Integers.{integer_text}
+use Rattle.fmt_print.specs.Strings.{padded, cut_to, letter_text, string_by, string_text}
+use Rattle.fmt_print.specs.Addresses.{name_or, offset_or, network_text, network_by, address_text, pointer_text}
+use Rattle.fmt_print.specs.Arguments.{first_of, amount_of, form_of, Taken, taken, by}
+use Rattle.fmt_print.specs.Printed.{bits_of, is_signed, number_text, printed_one, printed}
+
+-- arguments that are the same, one by one
+abbrev AreSame : Given → List Tree → List Tree → Type 0
+AreSame g [] [] = Unit {0}
+AreSame g (t ∷ ts) (u ∷ us) = (meaning_of g t ≡ meaning_of g u) × AreSame g ts us
+AreSame g [] (u ∷ us) = ⊥
+AreSame g (t ∷ ts) [] = ⊥
+
+abbrev is_empty : List Meaning → Bool
+is_empty [] = true
+is_empty (m ∷ ms) = false
+
+abbrev head_or : Meaning → List Meaning → Meaning
+head_or d [] = d
+head_or d (m ∷ ms) = m
+
+abbrev behind : List Meaning → List Meaning
+behind [] = []
+behind (m ∷ ms) = ms
+
+same_each : (g : Given) (ts us : List Tree) → map (meaning_of g) ts ≡ map (meaning_of g) us → AreSame g ts us
+same_each g [] [] e = tt
+same_each g (t ∷ ts) (u ∷ us) e = (ap (head_or (meaning_of g t)) e, same_each g ts us (ap behind e))
+same_each g [] (u ∷ us) e = absurd (false≢true (sym (ap is_empty e)))
+same_each g (t ∷ ts) [] e = absurd (false≢true (ap is_empty e))
+
+abbrev SameFirst : Given → Option (Tree × List Tree) → Option (Tree × List Tree) → Type 0
+SameFirst g None None = Unit {0}
+SameFirst g (Some a) (Some b) = (meaning_of g a.0 ≡ meaning_of g b.0) × AreSame g a.1 b.1
+SameFirst g None (Some b) = ⊥
+SameFirst g (Some a) None = ⊥
+
+first_same : (g : Given) (ts us : List Tree) → AreSame g ts us → SameFirst g (first_of ts) (first_of us)
+first_same g [] [] s = tt
+first_same g (t ∷ ts) (u ∷ us) s = s
+first_same g [] (u ∷ us) s = absurd s
+first_same g (t ∷ ts) [] s = absurd s
+
+abbrev SameAmount : Given → Option (Option ℤ × List Tree) → Option (Option ℤ × List Tree) → Type 0
+SameAmount g None None = Unit {0}
+SameAmount g (Some a) (Some b) = (a.0 ≡ b.0) × AreSame g a.1 b.1
+SameAmount g None (Some b) = ⊥
+SameAmount g (Some a) None = ⊥
+
+amount_same : (g : Given) (amount : Amount) (ts us : List Tree) → AreSame g ts us → SameAmount g (amount_of g amount ts) (amount_of g amount us)
+amount_same g Absent ts us s = (refl, s)
+amount_same g (Fixed n) ts us s = (refl, s)
+amount_same g FromArgument [] [] s = tt
+amount_same g FromArgument (t ∷ ts) (u ∷ us) s = (ap (λ (m : Meaning). Some m.number.exact) s.0, s.1)
+amount_same g FromArgument [] (u ∷ us) s = absurd s
+amount_same g FromArgument (t ∷ ts) [] s = absurd s
+
+abbrev SameTaken : Given → Option Taken → Option Taken → Type 0
+SameTaken g None None = Unit {0}
+SameTaken g (Some a) (Some b) = (a.0 ≡ b.0) × (meaning_of g a.1 ≡ meaning_of g b.1) × AreSame g a.2 b.2
+SameTaken g None (Some b) = ⊥
+SameTaken g (Some a) None = ⊥
+
+abbrev with_first : Spec → Option ℤ → Option ℤ → Option (Tree × List Tree) → Option Taken
+with_first spec width precision o = option_map (λ a. (form_of spec width precision, a.0, a.1)) o
+
+abbrev with_precision : Spec → Option ℤ → Option (Option ℤ × List Tree) → Option Taken
+with_precision spec width o = option_and_then (λ p. with_first spec width p.0 (first_of p.1)) o
+
+last_same : (g : Given) (spec : Spec) (w v p q : Option ℤ) (a b : Option (Tree × List Tree)) → w ≡ v → p ≡ q → SameFirst g a b → SameTaken g (with_first spec w p a) (with_first spec v q b)
+last_same g spec w v p q None None e f s = tt
+last_same g spec w v p q (Some a) (Some b) e f s = (ap (λ (x : Option ℤ). form_of spec x p) e ∙ ap (form_of spec v) f, s.0, s.1)
+last_same g spec w v p q None (Some b) e f s = absurd s
+last_same g spec w v p q (Some a) None e f s = absurd s
+
+behind_same : (g : Given) (spec : Spec) (w v : Option ℤ) (a b : Option (Option ℤ × List Tree)) → w ≡ v → SameAmount g a b → SameTaken g (with_precision spec w a) (with_precision spec v b)
+behind_same g spec w v None None e s = tt
+behind_same g spec w v (Some a) (Some b) e s = last_same g spec w v a.0 b.0 (first_of a.1) (first_of b.1) e s.0 (first_same g a.1 b.1 s.1)
+behind_same g spec w v None (Some b) e s = absurd s
+behind_same g spec w v (Some a) None e s = absurd s
+
+both_same : (g : Given) (spec : Spec) (ts us : Option (Option ℤ × List Tree)) → SameAmount g ts us
+    → SameTaken g (option_and_then (λ w. with_precision spec w.0 (amount_of g spec.precision w.1)) ts) (option_and_then (λ w. with_precision spec w.0 (amount_of g spec.precision w.1)) us)
+both_same g spec None None s = tt
+both_same g spec (Some a) (Some b) s =
+    behind_same g spec a.0 b.0 (amount_of g spec.precision a.1) (amount_of g spec.precision b.1) s.0 (amount_same g spec.precision a.1 b.1 s.1)
+both_same g spec None (Some b) s = absurd s
+both_same g spec (Some a) None s = absurd s
+
+taken_same : (g : Given) (spec : Spec) (ts us : List Tree) → AreSame g ts us → SameTaken g (taken g spec ts) (taken g spec us)
+unfolding taken
+taken_same g spec ts us s = both_same g spec (amount_of g spec.width ts) (amount_of g spec.width us) (amount_same g spec.width ts us s)
+
+-- a conversion that shows trees that are the same as the same text
+abbrev IsFair : Given → (Form → Tree → List ℕ) → Type 0
+IsFair g f = (form : Form) (t u : Tree) → meaning_of g t ≡ meaning_of g u → f form t ≡ f form u
+
+abbrev SameText : Given → List ℕ × List Tree → List ℕ × List Tree → Type 0
+SameText g a b = (a.0 ≡ b.0) × AreSame g a.1 b.1
+
+by_same : (g : Given) (f : Form → Tree → List ℕ) (a b : Option Taken) → IsFair g f → SameTaken g a b → SameText g (by f a) (by f b)
+by_same g f None None fair s = (refl, tt)
+by_same g f (Some a) (Some b) fair s = (ap (λ (form : Form). f form a.1) s.0 ∙ fair b.0 a.1 b.1 s.1, s.2)
+by_same g f None (Some b) fair s = absurd s
+by_same g f (Some a) None fair s = absurd s
+
+number_fair : (g : Given) (long : ℕ) (spec : Spec) (base : Base) → IsFair g (number_text g long spec base)
+number_fair g long spec base = λ form t u h.
+    ap (λ (m : Meaning). let z = (cast_bits (bits_of spec.length long) (is_signed base) m.number.exact).exact in integer_text base form (int_lt z (pos 0)) (unsigned_abs z)) h
+
+letter_fair : (g : Given) → IsFair g (letter_text g)
+letter_fair g = λ form t u h. ap (λ (m : Meaning). padded form.left form.width (pattern m.number.exact % 2 ^ 8 ∷ [])) h
+
+abbrev string_meant : Kind → Maps → Meaning → List ℕ
+string_meant Number maps m = unwrap_or (first_at (pattern m.number.exact) maps.printk) (hexadecimal (pattern m.number.exact))
+string_meant Text maps m = up_to_nul m.text
+string_meant Bytes maps m = up_to_nul m.bytes
+
+string_is : (k : Kind) (g : Given) (maps : Maps) (t : Tree) → string_by k g maps t ≡ string_meant k maps (meaning_of g t)
+string_is Number g maps t = refl
+string_is Text g maps t = refl
+string_is Bytes g maps t = refl
+
+string_fair : (g : Given) (maps : Maps) → IsFair g (string_text g maps)
+string_fair g maps = λ form t u h.
+    ap (λ (text : List ℕ). padded form.left form.width (cut_to form.precision text))
+    (string_is (kind_of t) g maps t ∙ ap (λ (m : Meaning). string_meant m.kind maps m) h ∙ sym (string_is (kind_of u) g maps u))
+
+abbrev network_meant : Kind → (List ℕ → List ℕ) → Meaning → List ℕ
+network_meant Number f m = hexadecimal (pattern m.number.exact)
+network_meant Text f m = f m.text
+network_meant Bytes f m = f m.bytes
+
+network_is : (k : Kind) (f : List ℕ → List ℕ) (g : Given) (t : Tree) → network_by k f g t ≡ network_meant k f (meaning_of g t)
+network_is Number f g t = refl
+network_is Text f g t = refl
+network_is Bytes f g t = refl
+
+network_fair : (g : Given) (f : List ℕ → List ℕ) (t u : Tree) → meaning_of g t ≡ meaning_of g u → network_by (kind_of t) f g t ≡ network_by (kind_of u) f g u
+network_fair g f t u h = network_is (kind_of t) f g t ∙ ap (λ (m : Meaning). network_meant m.kind f m) h ∙ sym (network_is (kind_of u) f g u)
+
+address_fair : (p : PointerForm) (g : Given) (maps : Maps) (t u : Tree) → meaning_of g t ≡ meaning_of g u → address_text p g maps t ≡ address_text p g maps u
+address_fair Plain g maps t u h = ap (λ (m : Meaning). hexadecimal (pattern m.number.exact)) h
+address_fair Name g maps t u h = ap (λ (m : Meaning). name_or (pattern m.number.exact) (nearest (pattern m.number.exact) maps.symbols)) h
+address_fair NameOffset g maps t u h = ap (λ (m : Meaning). offset_or (pattern m.number.exact) (nearest (pattern m.number.exact) maps.symbols)) h
+address_fair Ip4 g maps t u h = network_fair g (network_text true) t u h
+address_fair Mac g maps t u h = network_fair g (network_text false) t u h
+
+pointer_fair : (p : PointerForm) (g : Given) (maps : Maps) → IsFair g (pointer_text p g maps)
+pointer_fair p g maps = λ form t u h. ap (padded form.left form.width) (address_fair p g maps t u h)
+
+one_same : (g : Given) (maps : Maps) (long : ℕ) (text : List ℕ) (d : Directive) (ts us : List Tree) → AreSame g ts us → SameText g (printed_one g maps long text d ts) (printed_one g maps long text d us)
+one_same g maps long text (directive.Literal start end) ts us s = (refl, s)
+one_same g maps long text (directive.Number spec base) ts us s =
+    by_same g (number_text g long spec base) (taken g spec ts) (taken g spec us) (number_fair g long spec base) (taken_same g spec ts us s)
+one_same g maps long text (directive.Letter spec) ts us s = by_same g (letter_text g) (taken g spec ts) (taken g spec us) (letter_fair g) (taken_same g spec ts us s)
+one_same g maps long text (directive.Text spec) ts us s =
+    by_same g (string_text g maps) (taken g spec ts) (taken g spec us) (string_fair g maps) (taken_same g spec ts us s)
+one_same g maps long text (directive.Pointer spec p) ts us s =
+    by_same g (pointer_text p g maps) (taken g spec ts) (taken g spec us) (pointer_fair p g maps) (taken_same g spec ts us s)
+
+all_same : (g : Given) (maps : Maps) (long : ℕ) (text : List ℕ) (ds : List Directive) (ts us : List Tree) → AreSame g ts us → printed g maps long text ds ts ≡ printed g maps long text ds us
+all_same g maps long text [] ts us s = refl
+all_same g maps long text (d ∷ ds) ts us s =
+    let a = printed_one g maps long text d ts in
+    let b = printed_one g maps long text d us in
+    let one = one_same g maps long text d ts us s in
+    ap (λ (x : List ℕ). x ++ printed g maps long text ds a.1) one.0 ∙ ap (λ (x : List ℕ). b.0 ++ x) (all_same g maps long text ds a.1 b.1 one.1)
+
+pub printed_same : (g : Given) (maps : Maps) (long : ℕ) (text : List ℕ) (ds : List Directive) (ts us : List Tree) → map (meaning_of g) ts ≡ map (meaning_of g) us
+    → printed g maps long text ds ts ≡ printed g maps long text ds us
+printed_same g maps long text ds ts us e = all_same g maps long text ds ts us (same_each g ts us e)
