@@ -24,7 +24,7 @@ heads_more f xs i front now before is =
     ∙ sym (map-append f (take i xs) (cons_option (slice_get xs i) [])) ∙ ap (map f) (sym (take_next xs i))
 
 -- the place of an id is that of its format
-at_place : (id : ℕ) (formats : List EventFormat) → format_at id formats ≡ slice_get formats (position_or_len (has_id id) formats)
+pub at_place : (id : ℕ) (formats : List EventFormat) → format_at id formats ≡ slice_get formats (position_or_len (has_id id) formats)
 at_place id [] = refl
 at_place id (format ∷ formats) = elim (cases_Bool (has_id id format)) as (λ _. format_at id (format ∷ formats) ≡ slice_get (format ∷ formats) (position_or_len (has_id id) (format ∷ formats))) [
   | inl here ↦ rw here refl

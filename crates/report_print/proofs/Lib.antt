@@ -5,3 +5,4 @@ pub mod Heads
 pub mod HeldPuts
 pub mod Lengths
 pub mod LineLemmas
+pub mod Passing

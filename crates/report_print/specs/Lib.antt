@@ -1,4 +1,5 @@
 pub mod Given
+pub mod FilterCode
 pub mod CommonFields
 pub mod Columns
 pub mod Marks

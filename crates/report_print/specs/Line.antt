@@ -8,6 +8,8 @@ use Rattle.format_parse.specs.Table.{format_at}
 use Rattle.symbols.specs.NameMap.{Pair}
 use Rattle.symbols.specs.Maps.{task_name}
 use Rattle.subpage.specs.ItemData.{ItemData, EventAt, LossAt}
+use Rattle.filter_truth.specs.Naming.{EventData}
+use Rattle.filter_truth.specs.Selection.{filters_show}
 use Rattle.report_print.specs.declared.show.Show.{Show}
 use Rattle.report_print.specs.Given.{Given}
 use Rattle.report_print.specs.CommonFields.{commons_of, common_number, common_signed}
@@ -98,15 +100,25 @@ abbrev pub item_text : Given → ℕ → ItemData → List ℕ
 item_text given cpu (EventAt time payload) = event_text given cpu time payload
 item_text given cpu (LossAt time count) = loss_text cpu count
 
--- whether an event of these flags is shown
+-- whether an event of these flags is shown, as far as interrupts go
 abbrev pub is_shown : Show → ℕ → Bool
 is_shown show flags = not (show.no_hard && has_flag 8 flags) && not (show.no_soft && has_flag 16 flags)
 
--- whether an item is shown; a loss always is
-abbrev pub selected : Given → ItemData → Bool
-selected given (EventAt time payload) = is_shown given.show (flags_of given payload)
-selected given (LossAt time count) = true
+-- an event, as filters see it
+abbrev pub event_seen : Given → ℕ → List ℕ → EventData
+event_seen given cpu payload =
+    record { order = given.show.order; payload = payload; task = task_name given.symbols.tasks (pid_of given payload); cpu = cpu }
+
+-- whether the filters show an event
+abbrev pub passes : Given → ℕ → List ℕ → Bool
+passes given cpu payload =
+    filters_show given.filters (format_at (id_of given payload) given.formats) (event_seen given cpu payload)
+
+-- whether an item is shown; a loss always is, whatever the filters
+abbrev pub selected : Given → ℕ → ItemData → Bool
+selected given cpu (EventAt time payload) = is_shown given.show (flags_of given payload) && passes given cpu payload
+selected given cpu (LossAt time count) = true
 
 -- the line of an item, none where it is not shown
 abbrev pub line : Given → ℕ → ItemData → List ℕ
-line given cpu item = if selected given item then closed (item_text given cpu item) else []
+line given cpu item = if selected given cpu item then closed (item_text given cpu item) else []

@@ -1,55 +1,72 @@
-ghost use Rattle.std.specs.Prelude.{◌≡◌, ◌⊎◌, IfOk};
+ghost use Rattle.std.specs.Prelude.{◌≡◌, ◌⊎◌, map, IfOk};
 ghost use Rattle.std.specs.Option.{option_map};
 ghost use Rattle.std.specs.Int.{w32};
 ghost use Rattle.std.specs.Prelude.{FitsSigned};
 ghost use Rattle.format_parse.specs.Table.{format_at};
 ghost use Rattle.symbols.specs.Maps.{task_name};
-ghost use Rattle.report_print.specs.Line.{id_of, flags_of, preempt_count_of, pid_of};
+ghost use Rattle.filter_truth.specs.EventView.{event_with};
+ghost use Rattle.filter_truth.specs.SelectionView.{bound_show, use_of};
+ghost use Rattle.report_print.specs.Line.{id_of, flags_of, preempt_count_of, pid_of, passes};
 ghost use Rattle.report_print.specs.HeadView.{known_view, known_of};
 
 use crate::common::CommonFields;
 use crate::head::{Head, Known, heads_of};
 use crate::show::Show;
+use filter_truth::{Event, FilterUse, Filters};
 use format_parse::FormatTable;
 use std::alloc::{AllocError, Global};
 use std::marker::Model;
 use symbols::Symbols;
+use trace_base::Rec;
 
-/// What the lines of a report stand on. Contracts see the formats, the names and what is to be shown.
+/// What the lines of a report stand on. Contracts see the formats, the names, the filters and what is to be shown.
 #[derive(Drop)]
 pub struct Context {
     formats: FormatTable,
     symbols: Symbols,
+    filters: Vec<FilterUse>,
     show: Show,
     commons: CommonFields,
     heads: Vec<Head>,
+    bound: Filters,
 }
 
 impl Model for Context {
-    ghost use Rattle.std.specs.Prelude.{◌≡◌, map};
+    ghost use Rattle.std.specs.Prelude.{◌≡◌, ℕ, Option, map};
+    ghost use Rattle.filter_truth.specs.Naming.{EventData};
+    ghost use Rattle.filter_truth.specs.Selection.{filters_show};
+    ghost use Rattle.filter_truth.specs.SelectionView as place;
+    ghost use Rattle.filter_truth.specs.SelectionView.{bound_show, use_of};
     ghost use Rattle.report_print.specs.Given.{Given};
     ghost use Rattle.report_print.specs.CommonFields.{commons_of};
     ghost use Rattle.report_print.specs.HeadView.{head_of, head_view};
+    ghost use Rattle.std.specs.Coded.{codes};
+    ghost use Rattle.report_print.specs.FilterCode.{coded_use};
 
     ghost Value = { Given };
 
-    ghost view = { λ c. record { formats = c.formats; symbols = c.symbols; show = c.show } };
+    ghost coded = { Prim.hlevel (codes, coded_use) };
 
-    ghost invariant = { λ c. (c.commons ≡ commons_of c.formats) × (map head_view c.heads.items ≡ map (head_of c.show) c.formats) };
+    ghost view = { λ c. record { formats = c.formats; symbols = c.symbols; filters = map use_of c.filters.items; show = c.show } };
+
+    ghost invariant = { λ c. (c.commons ≡ commons_of c.formats) × (map head_view c.heads.items ≡ map (head_of c.show) c.formats)
+        × ((i : Option ℕ) (e : EventData) → bound_show c.bound i e ≡ filters_show (map use_of c.filters.items) (place.format_at c.formats i) e) };
 }
 
 impl Context {
-    /// The context of exactly these formats, names and wishes.
+    /// The context of exactly these formats, names, filters and wishes. The filters are bound to the formats here, once.
     pub fn build(
         alloc: Global,
         formats: FormatTable,
         symbols: Symbols,
+        filters: Vec<FilterUse>,
         show: Show,
     ) -> Result<Context, AllocError>
         requires { (show.long ≡ 4) ⊎ (show.long ≡ 8) }
-        ensures { IfOk result (λ context. context ≡ record { formats = formats; symbols = symbols; show = show }) }
+        ensures { IfOk result (λ context. context ≡ record { formats = formats; symbols = symbols; filters = map use_of filters.items; show = show }) }
     {
         let heads = heads_of(alloc, &show, &formats)?;
+        let bound = Filters::bind(alloc, &filters, &formats)?;
         let commons = CommonFields::find(match formats.get(0) {
             Some(first) => first.fields.as_slice(),
             None => &[],
@@ -57,9 +74,11 @@ impl Context {
         Ok(Context {
             formats,
             symbols,
+            filters,
             show,
             commons,
             heads,
+            bound,
         })
     }
 
@@ -110,6 +129,20 @@ impl Context {
         self.commons.pid.signed(self.show.order, payload)
     }
 
+    /// Whether the filters show an event of this processor.
+    pub(crate) fn passes(&self, cpu: u32, payload: &[u8]) -> bool
+        ensures { result ≡ passes self.now cpu payload.now }
+    {
+        let id = self.id(payload);
+        let pid = self.pid(payload);
+        let rec = Rec {
+            order: self.show.order,
+            payload,
+        };
+        let format = self.formats.by_id(id);
+        shows(&self.bound, format, &self.symbols, pid, cpu, rec)
+    }
+
     /// The format with this number, and what was made of it.
     #[tactic(auto, using(crate::proofs::Heads::no_place, crate::proofs::Heads::no_format, crate::proofs::Heads::no_head, crate::proofs::Heads::known_is))]
     pub(crate) fn known(&self, id: u32) -> Option<Known<'_>>
@@ -119,5 +152,26 @@ impl Context {
         let format = self.formats.get(place)?;
         let head = self.heads.get(place)?;
         Some(Known { head, format })
+    }
+}
+
+/// Whether bound filters show an event of the format at this place. The task's name is looked up only where a condition
+/// decides.
+fn shows(
+    filters: &Filters,
+    format: Option<usize>,
+    symbols: &Symbols,
+    pid: i32,
+    cpu: u32,
+    rec: Rec<'_>,
+) -> bool
+    ensures { result ≡ bound_show filters.now format (event_with rec.entry (task_name symbols.now.tasks pid) cpu) }
+{
+    match filters.settled(format) {
+        Some(shown) => shown,
+        None => {
+            let comm = symbols.comm_of(pid);
+            filters.show(format, &Event { rec, comm, cpu })
+        }
     }
 }

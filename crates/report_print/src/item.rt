@@ -7,27 +7,9 @@ ghost use Rattle.report_print.specs.Line as spec;
 use crate::context::Context;
 use crate::ending::{close, ends_in_newline};
 use crate::event::put_item;
-use crate::marks::has_flag;
-use crate::show::Show;
+use crate::selection::selected;
 use subpage::Item;
 use trace_base::Tail;
-
-fn is_shown(show: &Show, flags: u32) -> bool
-    ensures { result ≡ spec.is_shown show.now flags }
-{
-    !(show.no_hard && has_flag(8, flags)) && !(show.no_soft && has_flag(16, flags))
-}
-
-/// Whether the item of this processor is shown: a loss always, and an event unless it was written in an interrupt of a kind
-/// that is left out.
-pub fn selected(context: &Context, _cpu: u32, item: &Item<'_>) -> bool
-    ensures { result ≡ spec.selected context.now (item_view item.now) }
-{
-    match item {
-        Item::Event { time: _, payload } => is_shown(context.show(), context.flags(payload)),
-        Item::Loss { .. } => true,
-    }
-}
 
 /// Puts the line of an item of this processor into a tail in which nothing is, and gives its length in bytes with its newline:
 /// 0, and nothing is put, where the item is not shown.

@@ -1,7 +1,7 @@
 //! The lines of a report, one an item.
 //!
-//! A [`Context`] is built once of a file's formats and names, and of what is to be shown. [`line`] then forms the line of an
-//! item in memory that is there: it takes none, and makes no system call.
+//! A [`Context`] is built once of a file's formats and names, the filters, and what is to be shown. [`line`] then forms the line
+//! of an item in memory that is there: it takes none, and makes no system call.
 #![tactic(auto)]
 
 mod common;
@@ -14,11 +14,13 @@ mod head;
 mod item;
 mod marks;
 mod plan;
+mod selection;
 mod show;
 #[cfg(test)]
 mod tests;
 
 pub use context::Context;
 pub use ending::closes;
-pub use item::{line, selected};
+pub use item::line;
+pub use selection::selected;
 pub use show::Show;

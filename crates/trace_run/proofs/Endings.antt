@@ -15,7 +15,7 @@ use Rattle.dat_header.specs.declared.header.Body.TheVariants.{Latency, Fly}
 use Rattle.dat_header.specs.Header.{header_of, ReadsHeader}
 use Rattle.trace_run.specs.declared.status.Status.{Status}
 use Rattle.trace_run.specs.declared.status.Status.TheVariants.{Done, Usage, Refused, Malformed, ReadFault, WriteFault, NoMemory}
-use Rattle.trace_args.specs.declared.fault.WordFault.{WordFault}
+use Rattle.trace_run.specs.declared.usage.UsageFault.{UsageFault}
 use Rattle.trace_args.specs.declared.listing.Listing.{Listing}
 use Rattle.trace_args.specs.declared.listing.Listing.TheVariants.{Nothing}
 use Rattle.trace_args.specs.Command.{ReportData}
@@ -134,48 +134,48 @@ run_complete job None status before now ends = tt
 run_complete job (Some files) status before now ends = ends_complete (job_meaning job files) status before now ends
 
 -- words without a reading, and nothing done
-pub unread_ends : (fault : WordFault) (read : Result Job WordFault) (told : Option NamedFiles) (before : Outside) → read ≡ Err fault → before.files ≡ told
+pub unread_ends : (fault : UsageFault) (read : Result Job UsageFault) (told : Option NamedFiles) (before : Outside) → read ≡ Err fault → before.files ≡ told
     → IfSome told (λ files. Ends (meaning_of read files) Usage before before)
 unread_ends fault read None before is files = tt
-unread_ends fault read (Some known) before is files = subst (λ (reading : Result Job WordFault). Ends (meaning_of reading known) Usage before before) (sym is) record {
+unread_ends fault read (Some known) before is files = subst (λ (reading : Result Job UsageFault). Ends (meaning_of reading known) Usage before before) (sym is) record {
   answer = refl;
   output = gained_nothing before.out.written;
   files = stored_none before.files before.files refl;
   created = omega arith;
 }
 
-pub unread_complete : (fault : WordFault) (read : Result Job WordFault) (told : Option NamedFiles) (before : Outside) → read ≡ Err fault
+pub unread_complete : (fault : UsageFault) (read : Result Job UsageFault) (told : Option NamedFiles) (before : Outside) → read ≡ Err fault
     → IfSome told (λ files. IsComplete (meaning_of read files) Usage before before)
 unread_complete fault read None before is = tt
-unread_complete fault read (Some known) before is = subst (λ (reading : Result Job WordFault). IsComplete (meaning_of reading known) Usage before before) (sym is)
+unread_complete fault read (Some known) before is = subst (λ (reading : Result Job UsageFault). IsComplete (meaning_of reading known) Usage before before) (sym is)
     (λ done unread unwritten. inl done)
 
 -- what one job did is what the words that ask for it mean
-pub read_ends : (job : Job) (read : Result Job WordFault) (told : Option NamedFiles) (status : Status) (before now : Outside) → read ≡ Ok job
+pub read_ends : (job : Job) (read : Result Job UsageFault) (told : Option NamedFiles) (status : Status) (before now : Outside) → read ≡ Ok job
     → IfSome told (λ files. Ends (job_meaning job files) status before now) → IfSome told (λ files. Ends (meaning_of read files) status before now)
 read_ends job read told status before now is ends =
-    subst (λ (reading : Result Job WordFault). IfSome told (λ files. Ends (meaning_of reading files) status before now)) (sym is) ends
+    subst (λ (reading : Result Job UsageFault). IfSome told (λ files. Ends (meaning_of reading files) status before now)) (sym is) ends
 
-pub read_complete : (job : Job) (read : Result Job WordFault) (told : Option NamedFiles) (status : Status) (before now : Outside) → read ≡ Ok job
+pub read_complete : (job : Job) (read : Result Job UsageFault) (told : Option NamedFiles) (status : Status) (before now : Outside) → read ≡ Ok job
     → IfSome told (λ files. Ends (job_meaning job files) status before now) → IfSome told (λ files. IsComplete (meaning_of read files) status before now)
 read_complete job read told status before now is ends =
-    subst (λ (reading : Result Job WordFault). IfSome told (λ files. IsComplete (meaning_of reading files) status before now)) (sym is)
+    subst (λ (reading : Result Job UsageFault). IfSome told (λ files. IsComplete (meaning_of reading files) status before now)) (sym is)
     (run_complete job told status before now ends)
 
-pub read_misses : (job : Job) (read : Result Job WordFault) (told : Option NamedFiles) (before now : Counts) → read ≡ Ok job
+pub read_misses : (job : Job) (read : Result Job UsageFault) (told : Option NamedFiles) (before now : Counts) → read ≡ Ok job
     → IfSome told (λ files. MissesNothingElse (job_meaning job files) before now) → IfSome told (λ files. MissesNothingElse (meaning_of read files) before now)
 read_misses job read told before now is misses =
-    subst (λ (reading : Result Job WordFault). IfSome told (λ files. MissesNothingElse (meaning_of reading files) before now)) (sym is) misses
+    subst (λ (reading : Result Job UsageFault). IfSome told (λ files. MissesNothingElse (meaning_of reading files) before now)) (sym is) misses
 
-pub read_causes : (job : Job) (read : Result Job WordFault) (status : Status) (before now : Outside) → read ≡ Ok job
+pub read_causes : (job : Job) (read : Result Job UsageFault) (status : Status) (before now : Outside) → read ≡ Ok job
     → HasRisen (job_target job) status before now → HasRisen (target_read read) status before now
 read_causes job read status before now is causes =
-    subst (λ (reading : Result Job WordFault). HasRisen (target_read reading) status before now) (sym is) causes
+    subst (λ (reading : Result Job UsageFault). HasRisen (target_read reading) status before now) (sym is) causes
 
-pub read_reads : (job : Job) (read : Result Job WordFault) (status : Status) (before now : Outside) → read ≡ Ok job
+pub read_reads : (job : Job) (read : Result Job UsageFault) (status : Status) (before now : Outside) → read ≡ Ok job
     → JobReads job status before now → ReadsFor read status before now
 read_reads job read status before now is reads =
-    subst (λ (reading : Result Job WordFault). ReadsFor reading status before now) (sym is) reads
+    subst (λ (reading : Result Job UsageFault). ReadsFor reading status before now) (sym is) reads
 
 not_usage : (status : Status) → IsOfFile status → status ≢ Usage
 not_usage Usage own = λ is. own
@@ -186,24 +186,24 @@ not_usage ReadFault own = λ is. cc
 not_usage WriteFault own = λ is. cc
 not_usage NoMemory own = λ is. cc
 
-pub read_usage : (job : Job) (read : Result Job WordFault) (status : Status) (before now : Outside) → read ≡ Ok job
+pub read_usage : (job : Job) (read : Result Job UsageFault) (status : Status) (before now : Outside) → read ≡ Ok job
     → IsOfFile status → AnswersUsage read status before now
 read_usage job read status before now is own =
-    subst (λ (reading : Result Job WordFault). AnswersUsage reading status before now) (sym is) (not_usage status own)
+    subst (λ (reading : Result Job UsageFault). AnswersUsage reading status before now) (sym is) (not_usage status own)
 
-pub unread_usage : (fault : WordFault) (read : Result Job WordFault) (before : Outside) → read ≡ Err fault → AnswersUsage read Usage before before
+pub unread_usage : (fault : UsageFault) (read : Result Job UsageFault) (before : Outside) → read ≡ Err fault → AnswersUsage read Usage before before
 unread_usage fault read before is =
-    subst (λ (reading : Result Job WordFault). AnswersUsage reading Usage before before) (sym is) (inl refl, refl)
+    subst (λ (reading : Result Job UsageFault). AnswersUsage reading Usage before before) (sym is) (inl refl, refl)
 
-pub unread_reads : (fault : WordFault) (read : Result Job WordFault) (before : Outside) → read ≡ Err fault → ReadsFor read Usage before before
-unread_reads fault read before is = subst (λ (reading : Result Job WordFault). ReadsFor reading Usage before before) (sym is) refl
+pub unread_reads : (fault : UsageFault) (read : Result Job UsageFault) (before : Outside) → read ≡ Err fault → ReadsFor read Usage before before
+unread_reads fault read before is = subst (λ (reading : Result Job UsageFault). ReadsFor reading Usage before before) (sym is) refl
 
 -- there was no memory to read the words, and nothing was touched
-pub unknown_usage : (read : Result Job WordFault) (before : Outside) → AnswersUsage read NoMemory before before
+pub unknown_usage : (read : Result Job UsageFault) (before : Outside) → AnswersUsage read NoMemory before before
 unknown_usage (Ok job) before = λ is. cc
 unknown_usage (Err fault) before = (inr refl, refl)
 
-pub unknown_reads : (read : Result Job WordFault) (before : Outside) → ReadsFor read NoMemory before before
+pub unknown_reads : (read : Result Job UsageFault) (before : Outside) → ReadsFor read NoMemory before before
 unknown_reads (Ok (SelfTest words)) before = ((λ is. cc), refl)
 unknown_reads (Ok (OnFile command)) before = none before.files
   where

@@ -15,3 +15,4 @@ pub mod LoadingLists
 pub mod LoadingPages
 pub mod Loading
 pub mod LoadingKeys
+pub mod Usages

@@ -23,7 +23,7 @@ closed_short text = elim (cases_lt 65536 (length text)) [
 ]
 
 line_short : (given : Given) (cpu : ℕ) (item : ItemData) → length (line given cpu item) ≤ 65537
-line_short given cpu item = by_choice (selected given item)
+line_short given cpu item = by_choice (selected given cpu item)
   where
     by_choice : (shown : Bool) → length (cond shown (closed (item_text given cpu item)) []) ≤ 65537
     by_choice true = closed_short (item_text given cpu item)

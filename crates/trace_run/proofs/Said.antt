@@ -3,7 +3,7 @@ use Rattle.std.proofs.Common.{◌≡◌, ℕ, List, [], ◌∷◌, ◌++◌, app
 use Rattle.trace_outside.specs.Causes.{HasCause}
 use Rattle.trace_outside.specs.Writing.{Gained, GainedPrefix}
 use Rattle.trace_outside.proofs.Gains.{prefix_whole}
-use Rattle.trace_args.specs.declared.fault.WordFault.{WordFault}
+use Rattle.trace_run.specs.declared.usage.UsageFault.{UsageFault}
 use Rattle.trace_run.specs.Job.{Job}
 use Rattle.trace_run.specs.declared.status.Status.TheVariants.{Usage, NoMemory}
 use Rattle.trace_run.specs.declared.status.Status.{Status}
@@ -22,21 +22,21 @@ says_of (Err error) line before now faults_before faults_now gained prefix cause
     record { prefix = prefix; whole = λ calm. absurd (calm cause.failed) }
 
 -- want of memory says the same, whatever the words are
-pub wanting : (read : Result Job WordFault) → line_read read NoMemory ≡ message [] NoMemory
+pub wanting : (read : Result Job UsageFault) → line_read read NoMemory ≡ message [] NoMemory
 wanting (Ok job) = refl
 wanting (Err fault) = refl
 
 -- what is said of words without a reading
-pub usage_said : (fault : WordFault) (read : Result Job WordFault) (before now : Option (List ℕ)) (faults_before faults_now : ℕ) → read ≡ Err fault
+pub usage_said : (fault : UsageFault) (read : Result Job UsageFault) (before now : Option (List ℕ)) (faults_before faults_now : ℕ) → read ≡ Err fault
     → Says (usage_line fault) before now faults_before faults_now → Says (line_read read Usage) before now faults_before faults_now
 usage_said fault read before now faults_before faults_now is says =
-    subst (λ (reading : Result Job WordFault). Says (line_read reading Usage) before now faults_before faults_now) (sym is) says
+    subst (λ (reading : Result Job UsageFault). Says (line_read reading Usage) before now faults_before faults_now) (sym is) says
 
 -- what is said of a job's input
-pub job_said : (job : Job) (read : Result Job WordFault) (input : List ℕ) (status : Status) (before now : Option (List ℕ)) (faults_before faults_now : ℕ)
+pub job_said : (job : Job) (read : Result Job UsageFault) (input : List ℕ) (status : Status) (before now : Option (List ℕ)) (faults_before faults_now : ℕ)
     → read ≡ Ok job → input ≡ job_input job → Says (message input status) before now faults_before faults_now → Says (line_read read status) before now faults_before faults_now
 job_said job read input status before now faults_before faults_now is named says =
-    subst (λ (reading : Result Job WordFault). Says (line_read reading status) before now faults_before faults_now) (sym is)
+    subst (λ (reading : Result Job UsageFault). Says (line_read reading status) before now faults_before faults_now) (sym is)
     (subst (λ (name : List ℕ). Says (message name status) before now faults_before faults_now) named says)
 
 -- a text that was pushed in four pieces

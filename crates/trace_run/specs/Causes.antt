@@ -4,14 +4,14 @@ use Rattle.trace_outside.specs.Causes.{Rose}
 use Rattle.dat_header.specs.Header.{IsRefusal}
 use Rattle.trace_run.specs.declared.status.Status.{Status}
 use Rattle.trace_run.specs.declared.status.Status.TheVariants.{Done, Usage, Refused, ReadFault, WriteFault, NoMemory}
-use Rattle.trace_args.specs.declared.fault.WordFault.{WordFault}
+use Rattle.trace_run.specs.declared.usage.UsageFault.{UsageFault}
 use Rattle.trace_run.specs.Job.{Job}
 use Rattle.trace_run.specs.Ending.{Outside, RunsJob, write_faults}
 use Rattle.trace_run.specs.Meaning.{Meaning, Target, on_out, job_target, meaning}
 use Rattle.trace_run.specs.Work.{IsOfFile}
 use Rattle.trace_run.specs.Counts.{ClosesAll, JobMisses, JobReads, OpensAtMostOne}
 
-abbrev pub target_read : Result Job WordFault → Target
+abbrev pub target_read : Result Job UsageFault → Target
 target_read (Ok job) = job_target job
 target_read (Err fault) = on_out
 
@@ -31,9 +31,9 @@ IsComplete m status before now = m.status ≡ Done → ¬ (Rose before.counts.re
 abbrev pub RunIsComplete : List (List ℕ) → Status → Outside → Outside → Type 0
 RunIsComplete words status before now = IfSome before.files (λ files. IsComplete (meaning words files) status before now)
 
--- Usage is answered just where the words have no reading, unless there is no memory to read them; nothing is touched
--- then
-abbrev pub AnswersUsage : Result Job WordFault → Status → Outside → Outside → Type 0
+-- Usage is answered just where the words or a filter of theirs have no reading, unless there is no memory to read
+-- them; nothing is touched then
+abbrev pub AnswersUsage : Result Job UsageFault → Status → Outside → Outside → Type 0
 AnswersUsage (Ok job) status before now = status ≢ Usage
 AnswersUsage (Err fault) status before now = ((status ≡ Usage) ⊎ (status ≡ NoMemory)) × (now ≡ before)
 

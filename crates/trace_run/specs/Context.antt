@@ -10,6 +10,7 @@ use Rattle.format_parse.specs.Table.{formats_in, with_formats}
 use Rattle.symbols.specs.Maps.{Maps, maps_of}
 use Rattle.report_print.specs.declared.show.Show.{Show}
 use Rattle.report_print.specs.Given.{Given}
+use Rattle.trace_run.specs.Usage.{uses_in}
 
 -- the formats of ftrace's own events, and behind them those of each system
 abbrev pub all_formats : Header → List EventFormat
@@ -36,4 +37,9 @@ show_of words layout = record {
 }
 
 abbrev pub context_of : ReportData → Header → Given
-context_of words header = record { formats = formats_of header; symbols = symbols_of header; show = show_of words header.layout }
+context_of words header = record {
+  formats = formats_of header;
+  symbols = symbols_of header;
+  filters = uses_in words.filters;
+  show = show_of words header.layout;
+}

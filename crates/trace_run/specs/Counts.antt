@@ -9,13 +9,14 @@ use Rattle.dat_header.specs.declared.header.Body.TheVariants.{Latency, Fly}
 use Rattle.dat_header.specs.Header.{header_of}
 use Rattle.trace_run.specs.declared.status.Status.{Status}
 use Rattle.trace_run.specs.declared.status.Status.TheVariants.{Done, Malformed, ReadFault, WriteFault}
-use Rattle.trace_args.specs.declared.fault.WordFault.{WordFault}
+use Rattle.trace_run.specs.declared.usage.UsageFault.{UsageFault}
 use Rattle.trace_args.specs.declared.listing.Listing.{Listing}
 use Rattle.trace_args.specs.declared.listing.Listing.TheVariants.{Nothing}
 use Rattle.trace_run.specs.Ending.{Outside}
-use Rattle.trace_run.specs.Job.{FileCommand, Report, Dump, Job, OnFile, SelfTest, job_of}
+use Rattle.trace_run.specs.Job.{FileCommand, Report, Dump, Job, OnFile, SelfTest}
 use Rattle.trace_run.specs.Meaning.{Meaning, input_of, meaning, job_meaning}
 use Rattle.trace_run.specs.Report.{selected}
+use Rattle.trace_run.specs.Usage.{asked}
 
 -- files were opened as often as closed, as far as the counts go
 abbrev pub ClosesAll : Counts → Counts → Type 0
@@ -68,10 +69,10 @@ abbrev pub JobReads : Job → Status → Outside → Outside → Type 0
 JobReads (OnFile command) status before now = CommandReads command status before now
 JobReads (SelfTest words) status before now = (status ≢ ReadFault) × (now.counts ≡ before.counts)
 
--- words without a reading read nothing
-abbrev pub ReadsFor : Result Job WordFault → Status → Outside → Outside → Type 0
+-- words without a reading, or with a filter without one, read nothing
+abbrev pub ReadsFor : Result Job UsageFault → Status → Outside → Outside → Type 0
 ReadsFor (Ok job) status before now = JobReads job status before now
 ReadsFor (Err fault) status before now = now.counts.bytes ≡ before.counts.bytes
 
 abbrev pub RunReads : List (List ℕ) → Status → Outside → Outside → Type 0
-RunReads words status before now = ReadsFor (job_of words) status before now
+RunReads words status before now = ReadsFor (asked words) status before now

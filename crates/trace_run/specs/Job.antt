@@ -1,6 +1,6 @@
 -- What the words of a command line ask a run for, by what it works on.
 -- Source: trace-cmd(1).
-use Rattle.std.specs.Prelude.{Result, Ok, Err, ◌≡◌, ◌≢◌, ◌==◌, Bool, true, false, List, ℕ, length, MatchResult}
+use Rattle.std.specs.Prelude.{Result, Ok, Err, ◌≡◌, ◌≢◌, List, ℕ, MatchResult}
 use Rattle.trace_args.specs.declared.fault.WordFault.{WordFault}
 use Rattle.trace_args.specs.declared.fault.WordKind.TheVariants as kind
 use Rattle.trace_args.specs.Command as asked
@@ -21,14 +21,9 @@ pub data Job : Type 0 where
   OnFile : FileCommand → Job
   SelfTest : SelfData → Job
 
--- a report, by whether it has no filters: one with filters is not done yet
-abbrev pub report_job : ReportData → Bool → Result Job WordFault
-report_job report true = Ok (OnFile (Report report))
-report_job report false = Err (fault 1 kind.Unknown)
-
 -- the job that a reading asks for; `split` is not done yet
 abbrev pub job_read : Result CommandData WordFault → Result Job WordFault
-job_read (Ok (asked.Report report)) = report_job report (length report.filters == 0)
+job_read (Ok (asked.Report report)) = Ok (OnFile (Report report))
 job_read (Ok (asked.Dump dump)) = Ok (OnFile (Dump dump))
 job_read (Ok (asked.SelfTest words)) = Ok (SelfTest words)
 job_read (Ok (asked.Split split)) = Err (fault 1 kind.Unknown)
@@ -45,9 +40,6 @@ command_view (code_command.Dump dump) = Dump (dump_view dump)
 abbrev pub job_view : CodeJob → Job
 job_view (code_job.OnFile command) = OnFile (command_view command)
 job_view (code_job.SelfTest words) = SelfTest (self_view words)
-
-abbrev pub IsJobRead : Result Job WordFault → Result CodeJob WordFault → Type 0
-IsJobRead read result = MatchResult result (λ job. read ≡ Ok (job_view job)) (λ wrong. read ≡ Err wrong)
 
 -- an answer is the job; the only other is that there was no memory
 abbrev pub IsJob : List (List ℕ) → Result CodeJob WordFault → Type 0

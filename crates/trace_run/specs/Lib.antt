@@ -2,6 +2,8 @@ pub mod Text
 pub mod Context
 pub mod Report
 pub mod Job
+pub mod Usage
+pub mod UsageView
 pub mod Selftest
 pub mod Meaning
 pub mod Ending

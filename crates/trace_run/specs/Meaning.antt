@@ -11,7 +11,8 @@ use Rattle.dat_header.specs.Header.{header_of}
 use Rattle.subpage.specs.Cut.{Cut, cut_of, reached_of}
 use Rattle.trace_run.specs.declared.status.Status.{Status}
 use Rattle.trace_run.specs.declared.status.Status.TheVariants.{Done, Usage, Refused, Malformed, ReadFault}
-use Rattle.trace_args.specs.declared.fault.WordFault.{WordFault}
+use Rattle.trace_run.specs.declared.usage.UsageFault.{UsageFault}
+use Rattle.trace_run.specs.Usage.{asked}
 use Rattle.trace_args.specs.Command.{ReportData, DumpData, SelfData}
 use Rattle.report_lists.specs.Lists.{names_list, formats_list, symbols_list, printk_list}
 use Rattle.format_parse.specs.declared.format.EventFormat.{EventFormat}
@@ -19,7 +20,7 @@ use Rattle.symbols.specs.Maps.{Maps}
 use Rattle.trace_args.specs.declared.listing.Listing.{Listing}
 use Rattle.trace_args.specs.declared.listing.Listing.TheVariants.{Nothing, Names, Formats, Symbols, Printk}
 use Rattle.trace_run.specs.Context.{context_of, formats_of, symbols_of}
-use Rattle.trace_run.specs.Job.{FileCommand, Report, Dump, Job, OnFile, SelfTest, job_of}
+use Rattle.trace_run.specs.Job.{FileCommand, Report, Dump, Job, OnFile, SelfTest}
 use Rattle.trace_run.specs.Report.{cpus_line, report_pieces, selected}
 use Rattle.trace_run.specs.Selftest.{self_test_line}
 use Rattle.dump_tool.specs.Dump.{dump_text}
@@ -141,9 +142,9 @@ abbrev pub job_input : Job → List ℕ
 job_input (OnFile command) = input_of command
 job_input (SelfTest words) = []
 
-abbrev pub meaning_of : Result Job WordFault → NamedFiles → Meaning
+abbrev pub meaning_of : Result Job UsageFault → NamedFiles → Meaning
 meaning_of (Ok job) files = job_meaning job files
 meaning_of (Err fault) files = only on_out Usage
 
 abbrev pub meaning : List (List ℕ) → NamedFiles → Meaning
-meaning words files = meaning_of (job_of words) files
+meaning words files = meaning_of (asked words) files

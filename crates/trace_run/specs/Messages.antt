@@ -8,9 +8,11 @@ use Rattle.trace_outside.specs.Writing.{Gained, GainedPrefix}
 use Rattle.trace_run.specs.declared.status.Status.{Status}
 use Rattle.trace_run.specs.declared.status.Status.TheVariants.{Done, Usage, Refused, Malformed, ReadFault, WriteFault, NoMemory}
 use Rattle.trace_run.specs.Text.{text}
-use Rattle.trace_args.specs.declared.fault.WordFault.{WordFault}
+use Rattle.trace_run.specs.declared.usage.UsageFault.{UsageFault}
+use Rattle.trace_run.specs.declared.usage.UsageFault.TheVariants.{Word, Filter}
+use Rattle.trace_run.specs.Usage.{asked}
 use Rattle.trace_args.specs.KindText.{kind_text}
-use Rattle.trace_run.specs.Job.{Job, job_of}
+use Rattle.trace_run.specs.Job.{Job}
 use Rattle.trace_run.specs.Meaning.{job_input}
 
 abbrev pub fault_text : OpenFault → List ℕ
@@ -41,9 +43,11 @@ fault_place (TooManyCpus place) = place
 fault_place Read = 0
 fault_place Memory = 0
 
--- the line for a fault of the words
-abbrev pub usage_line : WordFault → List ℕ
-usage_line fault = text (codes "trace-cmd: word " ∷ decimal fault.word ∷ codes ": " ∷ kind_text fault.kind ∷ codes "\n" ∷ [])
+-- the line for a fault of the words, or of a filter of theirs
+abbrev pub usage_line : UsageFault → List ℕ
+usage_line (Word fault) = text (codes "trace-cmd: word " ∷ decimal fault.word ∷ codes ": " ∷ kind_text fault.kind ∷ codes "\n" ∷ [])
+usage_line (Filter word place) =
+    text (codes "trace-cmd: word " ∷ decimal word ∷ codes ": bad filter at byte " ∷ decimal place ∷ codes "\n" ∷ [])
 
 -- what is wrong with an input, and where
 abbrev pub refused_text : OpenFault → List ℕ
@@ -63,14 +67,14 @@ message input WriteFault = codes "trace-cmd: write failed\n"
 message input NoMemory = codes "trace-cmd: out of memory\n"
 
 -- the line for this reading and this answer
-abbrev pub line_read : Result Job WordFault → Status → List ℕ
+abbrev pub line_read : Result Job UsageFault → Status → List ℕ
 line_read (Ok job) status = message (job_input job) status
 line_read (Err fault) Usage = usage_line fault
 line_read (Err fault) status = message [] status
 
 -- the line for these words and this answer
 abbrev pub line_of : List (List ℕ) → Status → List ℕ
-line_of words status = line_read (job_of words) status
+line_of words status = line_read (asked words) status
 
 -- the sink gained the line, or a prefix of it where its own count of faults rose
 pub record Says (line : List ℕ) (before now : Option (List ℕ)) (faults_before faults_now : ℕ) : Type 0 where

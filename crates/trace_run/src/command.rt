@@ -1,7 +1,7 @@
 // One job. Where it is a command on a file, that is opened, its header read, the work done, and the file closed. This
 // stands here once for all such commands.
 
-ghost use Rattle.std.specs.Prelude.{◌≡◌, ◌≤◌};
+ghost use Rattle.std.specs.Prelude.{◌≡◌, ◌≤◌, map};
 ghost use Rattle.trace_base.specs.Layout.{IsLayout};
 ghost use Rattle.trace_outside.specs.Causes.{raised};
 ghost use Rattle.dat_header.specs.Allowed.{IsBody};
@@ -11,7 +11,9 @@ ghost use Rattle.trace_run.specs.Ending.{beside, sink_seen};
 ghost use Rattle.trace_run.specs.Job.{OnFile, command_view, job_view};
 ghost use Rattle.trace_run.specs.Meaning as spec;
 ghost use Rattle.trace_run.specs.Meaning.{header_means, input_means, job_input};
+ghost use Rattle.trace_run.specs.Usage.{command_filters, job_filters, uses_in};
 ghost use Rattle.trace_run.specs.Work.{IsCaused, WritesFor};
+ghost use Rattle.filter_truth.specs.SelectionView.{use_of};
 
 use crate::dump::print_dump;
 use crate::job::{FileCommand, Job};
@@ -19,6 +21,7 @@ use crate::report::print_report;
 use crate::selftest::print_self_test;
 use crate::status::Status;
 use dat_header::{Header, OpenFault, read_header};
+use filter_truth::FilterUse;
 use std::alloc::Global;
 use trace_outside::{Failed, File, Folder, Sink};
 
@@ -42,19 +45,21 @@ fn input_of<'a>(command: &FileCommand<'a>) -> &'a str
     }
 }
 
-/// Does one job on the files of the folder.
+/// Does one job on the files of the folder. The filters are those of its words.
 pub(crate) fn run_job<F: Folder, O: Sink>(
     alloc: Global,
     job: &Job<'_>,
+    filters: Vec<FilterUse>,
     folder: &mut F,
     out: &mut O,
 ) -> Status
+    requires { uses_in (job_filters (job_view job.now)) ≡ map use_of filters.items }
     ensures { RanJob (job_view job.now) result
         (beside F.files F.counts folder.old (sink_seen O.written O.faults out.old))
         (beside F.files F.counts folder.new (sink_seen O.written O.faults out.new)) }
 {
     match job {
-        Job::OnFile(command) => run_command(alloc, command, folder, out),
+        Job::OnFile(command) => run_command(alloc, command, filters, folder, out),
         Job::SelfTest(words) => print_self_test(alloc, words, out),
     }
 }
@@ -63,9 +68,11 @@ pub(crate) fn run_job<F: Folder, O: Sink>(
 fn run_command<F: Folder, O: Sink>(
     alloc: Global,
     command: &FileCommand<'_>,
+    filters: Vec<FilterUse>,
     folder: &mut F,
     out: &mut O,
 ) -> Status
+    requires { uses_in (command_filters (command_view command.now)) ≡ map use_of filters.items }
     ensures { RanJob (OnFile (command_view command.now)) result
         (beside F.files F.counts folder.old (sink_seen O.written O.faults out.old))
         (beside F.files F.counts folder.new (sink_seen O.written O.faults out.new)) }
@@ -73,7 +80,7 @@ fn run_command<F: Folder, O: Sink>(
     match folder.open_file(input_of(command)) {
         Err(Failed) => Status::ReadFault,
         Ok(mut file) => {
-            let status = run_on_file(alloc, command, &mut file, out);
+            let status = run_on_file(alloc, command, filters, &mut file, out);
             folder.close_file(file);
             status
         }
@@ -84,15 +91,17 @@ fn run_command<F: Folder, O: Sink>(
 fn run_on_file<I: File, O: Sink>(
     alloc: Global,
     command: &FileCommand<'_>,
+    filters: Vec<FilterUse>,
     file: &mut I,
     out: &mut O,
 ) -> Status
+    requires { uses_in (command_filters (command_view command.now)) ≡ map use_of filters.items }
     ensures writes { WritesFor (input_means (command_view command.now)) (I.bytes file.old) result (O.written out.old) (O.written out.new) }
     ensures causes { IsCaused result (I.faults file.old) (I.faults file.new) (O.faults out.old) (O.faults out.new) }
     ensures reads { ReadsInput (command_view command.now) (I.bytes file.old) result (I.reads file.old) (I.reads file.new) }
 {
     match read_header(alloc, file) {
-        Ok(header) => run_on_header(alloc, command, &header, file, out),
+        Ok(header) => run_on_header(alloc, command, filters, &header, file, out),
         Err(OpenFault::Read) => Status::ReadFault,
         Err(OpenFault::Memory) => Status::NoMemory,
         Err(fault) => Status::Refused(fault),
@@ -103,10 +112,12 @@ fn run_on_file<I: File, O: Sink>(
 fn run_on_header<I: File, O: Sink>(
     alloc: Global,
     command: &FileCommand<'_>,
+    filters: Vec<FilterUse>,
     header: &Header,
     file: &mut I,
     out: &mut O,
 ) -> Status
+    requires filters { uses_in (command_filters (command_view command.now)) ≡ map use_of filters.items }
     requires allowed { IsLayout header.now.layout }
     requires inside { header.now.end ≤ I.size file.old }
     requires parts { IsBody header.now.cpus header.now.body }
@@ -116,7 +127,7 @@ fn run_on_header<I: File, O: Sink>(
     ensures reads { I.reads file.new ≤ raised (I.reads file.old) (share (command_view command.now) header.now (I.size file.old)) }
 {
     match command {
-        FileCommand::Report(words) => print_report(alloc, words, header, file, out),
+        FileCommand::Report(words) => print_report(alloc, words, filters, header, file, out),
         FileCommand::Dump(words) => print_dump(alloc, words, header, out),
     }
 }

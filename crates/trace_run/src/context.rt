@@ -5,8 +5,11 @@ ghost use Rattle.trace_base.specs.Layout.{IsLayout};
 ghost use Rattle.trace_args.specs.Command.{report_view};
 ghost use Rattle.trace_run.specs.Context as spec;
 ghost use Rattle.trace_run.specs.Context.{formats_of, show_of};
+ghost use Rattle.filter_truth.specs.SelectionView.{use_of};
+ghost use Rattle.trace_run.specs.Usage.{uses_in};
 
 use dat_header::Header;
+use filter_truth::FilterUse;
 use format_parse::FormatTable;
 use report_print::{Context, Show};
 use std::alloc::{AllocError, Global};
@@ -14,19 +17,21 @@ use symbols::Symbols;
 use trace_args::ReportWords;
 use trace_base::{ByteText, Layout, ListOf};
 
-/// The context of a report of a file with this header.
+/// The context of a report of a file with this header. The filters are those of the words.
 pub(crate) fn context_of(
     alloc: Global,
     words: &ReportWords<'_>,
+    filters: Vec<FilterUse>,
     header: &Header,
 ) -> Result<Context, AllocError>
-    requires { IsLayout header.now.layout }
+    requires allowed { IsLayout header.now.layout }
+    requires filters { uses_in (report_view words.now).filters ≡ map use_of filters.items }
     ensures { IfOk result (λ context. context ≡ spec.context_of (report_view words.now) header.now) }
 {
     let formats = read_formats(alloc, header)?;
     let symbols = read_symbols(alloc, header)?;
     let show = show_by(alloc, words, &header.layout)?;
-    Context::build(alloc, formats, symbols, show)
+    Context::build(alloc, formats, symbols, filters, show)
 }
 
 /// The formats of a file's events.

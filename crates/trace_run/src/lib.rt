@@ -17,6 +17,7 @@ mod status;
 #[cfg(test)]
 mod tests;
 mod top;
+mod usage;
 mod whole;
 
 pub use laws::selection_rises;

@@ -5,6 +5,7 @@ ghost use Rattle.trace_run.specs.Messages as spec;
 ghost use Rattle.trace_run.specs.Messages.{message, usage_line, fault_text, fault_place, Says};
 
 use crate::status::Status;
+use crate::usage::UsageFault;
 use arrayvec::ArrayString;
 use dat_header::OpenFault;
 use itoa::Buffer;
@@ -29,9 +30,18 @@ pub(crate) fn say<E: Sink>(input: &str, status: Status, err: &mut E)
     }
 }
 
-/// Says what is wrong with the words.
-pub(crate) fn say_usage<E: Sink>(fault: WordFault, err: &mut E)
+/// Says what is wrong with the words, or with a filter of theirs.
+pub(crate) fn say_usage<E: Sink>(fault: UsageFault, err: &mut E)
     ensures { Says (usage_line fault) (E.written err.old) (E.written err.new) (E.faults err.old) (E.faults err.new) }
+{
+    match fault {
+        UsageFault::Word(fault) => say_word(fault, err),
+        UsageFault::Filter { word, place } => say_filter(word, place, err),
+    }
+}
+
+fn say_word<E: Sink>(fault: WordFault, err: &mut E)
+    ensures { Says (usage_line (UsageFault.Word fault)) (E.written err.old) (E.written err.new) (E.faults err.old) (E.faults err.new) }
 {
     let mut digits = Buffer::new();
     let word = digits.format(fault.word).as_bytes();
@@ -41,6 +51,25 @@ pub(crate) fn say_usage<E: Sink>(fault: WordFault, err: &mut E)
             word,
             b": ",
             fault.kind.text().as_bytes(),
+            b"\n",
+        ],
+        err,
+    )
+}
+
+fn say_filter<E: Sink>(word: u64, place: u64, err: &mut E)
+    ensures { Says (usage_line (UsageFault.Filter word place)) (E.written err.old) (E.written err.new) (E.faults err.old) (E.faults err.new) }
+{
+    let mut word_digits = Buffer::new();
+    let mut place_digits = Buffer::new();
+    let word = word_digits.format(word).as_bytes();
+    let place = place_digits.format(place).as_bytes();
+    say_parts(
+        &[
+            b"trace-cmd: word ",
+            word,
+            b": bad filter at byte ",
+            place,
             b"\n",
         ],
         err,

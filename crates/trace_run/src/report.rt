@@ -11,6 +11,8 @@ ghost use Rattle.trace_run.specs.Report.{cpus_line, report_pieces, selected};
 ghost use Rattle.trace_run.specs.Work.{IsCaused, WritesFor};
 ghost use Rattle.trace_run.specs.LoadedView.{cut_view, entry_view};
 ghost use Rattle.trace_run.specs.Text.{text};
+ghost use Rattle.filter_truth.specs.SelectionView.{use_of};
+ghost use Rattle.trace_run.specs.Usage.{uses_in};
 
 use crate::context::context_of;
 use crate::lines::{line_room, put_cpus, put_lines};
@@ -20,6 +22,7 @@ use crate::select::select;
 use crate::status::Status;
 use crate::whole::{Cut, Entry, LoadFault, load, reach};
 use dat_header::{Body, Header};
+use filter_truth::FilterUse;
 use report_print::Context;
 use std::alloc::{AllocError, Global};
 use trace_args::{Listing, ReportWords};
@@ -30,10 +33,12 @@ use trace_outside::{Failed, File, Pending, Sink};
 pub(crate) fn print_report<I: File, O: Sink>(
     alloc: Global,
     words: &ReportWords<'_>,
+    filters: Vec<FilterUse>,
     header: &Header,
     file: &mut I,
     out: &mut O,
 ) -> Status
+    requires filters { uses_in (report_view words.now).filters ≡ map use_of filters.items }
     requires allowed { IsLayout header.now.layout }
     requires inside { header.now.end ≤ I.size file.old }
     requires parts { IsBody header.now.cpus header.now.body }
@@ -43,7 +48,7 @@ pub(crate) fn print_report<I: File, O: Sink>(
     ensures reads { I.reads file.new ≤ raised (I.reads file.old) (share (Report (report_view words.now)) header.now (I.size file.old)) }
 {
     match words.list {
-        Listing::Nothing => print_events(alloc, words, header, file, out),
+        Listing::Nothing => print_events(alloc, words, filters, header, file, out),
         Listing::Names => print_list(alloc, Listing::Names, header, out),
         Listing::Formats => print_list(alloc, Listing::Formats, header, out),
         Listing::Symbols => print_list(alloc, Listing::Symbols, header, out),
@@ -55,10 +60,12 @@ pub(crate) fn print_report<I: File, O: Sink>(
 fn print_events<I: File, O: Sink>(
     alloc: Global,
     words: &ReportWords<'_>,
+    filters: Vec<FilterUse>,
     header: &Header,
     file: &mut I,
     out: &mut O,
 ) -> Status
+    requires filters { uses_in (report_view words.now).filters ≡ map use_of filters.items }
     requires allowed { IsLayout header.now.layout }
     requires inside { header.now.end ≤ I.size file.old }
     requires parts { IsBody header.now.cpus header.now.body }
@@ -69,7 +76,9 @@ fn print_events<I: File, O: Sink>(
 {
     match &header.body {
         Body::Latency => print_latency(alloc, header.cpus, header.end, file, out),
-        Body::Fly(parts) => { print_parts(alloc, words, header, parts.as_slice(), file, out) }
+        Body::Fly(parts) => {
+            print_parts(alloc, words, filters, header, parts.as_slice(), file, out)
+        }
     }
 }
 
@@ -110,18 +119,20 @@ fn copy_buffer(alloc: Global) -> Result<Vec<u8>, AllocError>
 fn print_parts<I: File, O: Sink>(
     alloc: Global,
     words: &ReportWords<'_>,
+    filters: Vec<FilterUse>,
     header: &Header,
     parts: &[Part],
     file: &mut I,
     out: &mut O,
 ) -> Status
+    requires filters { uses_in (report_view words.now).filters ≡ map use_of filters.items }
     requires allowed { IsLayout header.now.layout }
     requires few { length parts.now ≤ 1024 }
     ensures writes { WritesFor (parts_report (report_view words.now) header.now parts.now) (I.bytes file.old) result (O.written out.old) (O.written out.new) }
     ensures causes { IsCaused result (I.faults file.old) (I.faults file.new) (O.faults out.old) (O.faults out.new) }
     ensures reads { I.reads file.new ≤ raised (I.reads file.old) (sum_by (λ part. part.1.size) (selected words.now.cpus parts.now)) }
 {
-    let Ok(context) = context_of(alloc, words, header) else {
+    let Ok(context) = context_of(alloc, words, filters, header) else {
         return Status::NoMemory;
     };
     let Ok(selected) = select(alloc, &words.cpus, parts) else {

@@ -53,7 +53,7 @@ fn report_generated(
     let Ok(header) = read_header(alloc, &mut file) else {
         return Err(AllocError);
     };
-    match print_report(alloc, &words, &header, &mut file, report) {
+    match print_report(alloc, &words, Vec::new(alloc), &header, &mut file, report) {
         Status::Done => Ok(()),
         // The file is sound, and its reads and the sink's writes fail only for want of memory.
         _ => Err(AllocError),

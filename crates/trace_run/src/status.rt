@@ -8,7 +8,7 @@ use dat_header::OpenFault;
 pub enum Status {
     /// All was done.
     Done,
-    /// The words have no reading.
+    /// The words, or a filter of theirs, have no reading.
     Usage,
     /// The input is no trace that can be read. The fault is never `Read` and never `Memory`.
     Refused(OpenFault),

@@ -1,6 +1,7 @@
 // Whole runs over objects in memory: the words, the file's sub-buffers, and what must come of them.
 
 mod disk;
+mod filters;
 mod known;
 mod selftests;
 

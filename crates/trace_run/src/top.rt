@@ -1,24 +1,24 @@
 ghost use Rattle.std.specs.Prelude.{◌≡◌};
-ghost use Rattle.trace_run.specs.Job.{job_of};
+ghost use Rattle.trace_run.specs.Usage.{asked};
 ghost use Rattle.trace_run.specs.Ending.{Runs, beside, sink_seen};
 ghost use Rattle.trace_run.specs.Causes.{AnswersUsage, HasRisen, RunIsComplete, target_read};
 ghost use Rattle.trace_run.specs.Counts.{ClosesAll, OpensAtMostOne, RunMisses, RunReads};
 ghost use Rattle.trace_run.specs.Messages.{line_of, Says};
 
 use crate::command::{job_input, run_job};
-use crate::job::read_job;
 use crate::messages::{say, say_usage};
 use crate::status::Status;
+use crate::usage::{AskFault, ask};
 use std::alloc::Global;
 use std::thread::Threads;
-use trace_args::WordKind;
 use trace_base::Words;
 use trace_outside::{Folder, Gate, Sink};
 
 /// Does what the words of the command line ask for, on the files of the folder.
 ///
-/// The output goes to `out`, and for every answer but `Done` one line of message to `err`. All memory is taken before the
-/// first byte of output.
+/// The words are read first, then their filters in their order, and only then a file is opened. The output goes to
+/// `out`, and for every answer but `Done` one line of message to `err`. All memory is taken before the first byte of
+/// output.
 pub fn run<R: Threads + Sync, F: Folder, O: Sink, E: Sink, G: Gate>(
     _rt: &R,
     alloc: Global,
@@ -31,7 +31,7 @@ pub fn run<R: Threads + Sync, F: Folder, O: Sink, E: Sink, G: Gate>(
     ensures ends { Runs words.now result
         (beside F.files F.counts folder.old (sink_seen O.written O.faults out.old))
         (beside F.files F.counts folder.new (sink_seen O.written O.faults out.new)) }
-    ensures causes { HasRisen (target_read (job_of words.now)) result
+    ensures causes { HasRisen (target_read (asked words.now)) result
         (beside F.files F.counts folder.old (sink_seen O.written O.faults out.old))
         (beside F.files F.counts folder.new (sink_seen O.written O.faults out.new)) }
     ensures complete { RunIsComplete words.now result
@@ -40,7 +40,7 @@ pub fn run<R: Threads + Sync, F: Folder, O: Sink, E: Sink, G: Gate>(
     ensures misses { RunMisses words.now
         (beside F.files F.counts folder.old (sink_seen O.written O.faults out.old))
         (beside F.files F.counts folder.new (sink_seen O.written O.faults out.new)) }
-    ensures usage { AnswersUsage (job_of words.now) result
+    ensures usage { AnswersUsage (asked words.now) result
         (beside F.files F.counts folder.old (sink_seen O.written O.faults out.old))
         (beside F.files F.counts folder.new (sink_seen O.written O.faults out.new)) }
     ensures closes { ClosesAll (F.counts folder.old) (F.counts folder.new) }
@@ -50,17 +50,17 @@ pub fn run<R: Threads + Sync, F: Folder, O: Sink, E: Sink, G: Gate>(
         (beside F.files F.counts folder.new (sink_seen O.written O.faults out.new)) }
     ensures says { Says (line_of words.now result) (E.written err.old) (E.written err.new) (E.faults err.old) (E.faults err.new) }
 {
-    match read_job(alloc, words) {
-        Ok(job) => {
-            let status = run_job(alloc, &job, folder, out);
+    match ask(alloc, words) {
+        Ok((job, filters)) => {
+            let status = run_job(alloc, &job, filters, folder, out);
             say(job_input(&job), status, err);
             status
         }
-        Err(fault) if fault.kind == WordKind::Memory => {
+        Err(AskFault::Memory) => {
             say("", Status::NoMemory, err);
             Status::NoMemory
         }
-        Err(fault) => {
+        Err(AskFault::Usage(fault)) => {
             say_usage(fault, err);
             Status::Usage
         }

@@ -1,4 +1,4 @@
 use Rattle.trace_run.proofs.messages.say_usage.Goals as goal
 
-pub returns : goal.returns
-returns g c = rw (← c.format.ensures.text, ← c.as_bytes-word.ensures.value, ← c.text.ensures, ← c.as_bytes.ensures.value) c.say_parts.ensures
+pub returns-in-Filter : goal.returns-in-Filter
+returns-in-Filter g c = rw c.in-Filter.is c.say_filter.ensures

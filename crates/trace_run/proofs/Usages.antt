@@ -1,0 +1,119 @@
+-- What words ask for, by what was read of them.
+use Rattle.std.proofs.Common.{◌≡◌, ℕ, zero, suc, ◌+◌, ◌-◌, ◌<◌, ◌≤◌, Bool, List, [], ◌∷◌, ◌++◌, map, length, drop, get_or, Result, Ok, Err, refl, ap, sym, subst, ◌∙◌, arith}
+use Rattle.std.proofs.lemmas.List.{append_assoc, append-nil, map-append, drop_all, length-drop}
+use Rattle.trace_args.specs.declared.fault.WordFault.{WordFault}
+use Rattle.trace_args.specs.declared.command.FilterWord.{FilterWord}
+use Rattle.trace_args.specs.Command.{ReportData, FilterData, filter_view}
+use Rattle.trace_run.specs.Job.{Job, job_of}
+use Rattle.std.specs.Result.{result_unwrap_or}
+use Rattle.filter_lang.specs.Filter as lang
+use Rattle.filter_lang.specs.Texts.{IsFilterText, RefusedText}
+use Rattle.filter_lang.proofs.Computed.{filter_read, refusal_read}
+use Rattle.filter_truth.specs.Selection.{UseData}
+use Rattle.filter_truth.specs.SelectionView.{use_of}
+use Rattle.filter_truth.specs.declared.select.FilterUse.{FilterUse}
+use Rattle.trace_run.specs.declared.usage.UsageFault.{UsageFault}
+use Rattle.trace_run.specs.declared.usage.UsageFault.TheVariants.{Word, Filter}
+use Rattle.trace_run.specs.declared.usage.AskFault.{AskFault}
+use Rattle.trace_run.specs.declared.usage.AskFault.TheVariants.{Usage, Memory}
+use Rattle.trace_run.specs.Usage.{use_by, use_read, before_others, filters_read, job_filters, with_filters, asked_by, asked, uses_in}
+use Rattle.trace_run.specs.UsageView.{IsFaultOf}
+use Rattle.trace_run.specs.Selftest.{plain_report}
+
+abbrev use' : Bool → lang.FilterData → UseData
+use' hide filter = record { hide = hide; filter = filter }
+
+abbrev no_use : ℕ → ℕ → Result UseData UsageFault
+no_use word place = Err (Filter word place)
+
+abbrev pub Filters : Type 0
+Filters = Result (List UseData) UsageFault
+
+-- filters that were read, and the others behind them
+abbrev pub behind : List UseData → Filters → Filters
+behind uses (Ok others) = Ok (uses ++ others)
+behind uses (Err fault) = Err fault
+
+pub none_behind : (others : Filters) → behind [] others ≡ others
+none_behind (Ok others) = refl
+none_behind (Err fault) = refl
+
+one_behind : (uses : List UseData) (one : UseData) (others : Filters) → behind (uses ++ one ∷ []) others ≡ behind uses (before_others (Ok one) others)
+one_behind uses one (Ok others) = ap Ok (append_assoc uses (one ∷ []) others)
+one_behind uses one (Err fault) = refl
+
+abbrev pub rest_read : List FilterWord → ℕ → Filters
+rest_read ws i = filters_read (map filter_view (drop i ws))
+
+there : (ws : List FilterWord) (i : ℕ) (w : FilterWord) → i < length ws → w ≡ get_or ws i w → rest_read ws i ≡ before_others (use_read (filter_view w)) (rest_read ws (suc i))
+there [] i w lt is = absurd (omega arith)
+there (v ∷ ws) zero w lt is = ap (λ (x : FilterWord). before_others (use_read (filter_view x)) (filters_read (map filter_view ws))) (sym is)
+there (v ∷ ws) (suc i) w lt is = there ws i w (omega arith) is
+
+pub next_there : (ws : List FilterWord) (i : ℕ) (w : FilterWord) → i < length ws → w ≡ get_or ws i w → rest_read ws i ≡ before_others (use_read (filter_view w)) (rest_read ws (i + 1))
+next_there ws i w lt is =
+    let next : suc i ≡ i + 1 = omega arith in there ws i w lt is ∙ ap (λ (n : ℕ). before_others (use_read (filter_view w)) (rest_read ws n)) next
+
+-- one more filter was read
+pub one_more : (ws : List FilterWord) (i : ℕ) (w : FilterWord) (done all : List FilterUse) (one : FilterUse) → i < length ws → w ≡ get_or ws i w → all ≡ done ++ one ∷ [] → use_read (filter_view w) ≡ Ok (use_of one)
+    → behind (map use_of done) (rest_read ws i) ≡ filters_read (map filter_view ws) → behind (map use_of all) (rest_read ws (i + 1)) ≡ filters_read (map filter_view ws)
+one_more ws i w done all one lt is pushed read so_far =
+    ap (λ (us : List FilterUse). behind (map use_of us) (rest_read ws (i + 1))) pushed
+    ∙ ap (λ (us : List UseData). behind us (rest_read ws (i + 1))) (map-append use_of done (one ∷ []))
+    ∙ one_behind (map use_of done) (use_of one) (rest_read ws (i + 1))
+    ∙ ap (λ (r : Result UseData UsageFault). behind (map use_of done) (before_others r (rest_read ws (i + 1)))) (sym read)
+    ∙ ap (behind (map use_of done)) (sym (next_there ws i w lt is)) ∙ so_far
+
+-- all were read
+pub all_read : (ws : List FilterWord) (i : ℕ) (done : List FilterUse) → length ws ≤ i → behind (map use_of done) (rest_read ws i) ≡ filters_read (map filter_view ws) → filters_read (map filter_view ws) ≡ Ok (map use_of done)
+all_read ws i done past so_far =
+    sym so_far ∙ ap (λ (us : List FilterWord). behind (map use_of done) (filters_read (map filter_view us))) (drop_all i ws past) ∙ ap Ok (append-nil (map use_of done))
+
+-- one was none
+fault_there : (uses : List UseData) (read : Result UseData UsageFault) (others : Filters) (why : AskFault) → IsFaultOf read why → IsFaultOf (behind uses (before_others read others)) why
+fault_there uses read others (Usage fault) is = ap (λ (r : Result UseData UsageFault). behind uses (before_others r others)) is
+fault_there uses read others Memory is = tt
+
+pub one_none : (ws : List FilterWord) (i : ℕ) (w : FilterWord) (done : List FilterUse) (why : AskFault) → i < length ws → w ≡ get_or ws i w → IsFaultOf (use_read (filter_view w)) why
+    → behind (map use_of done) (rest_read ws i) ≡ filters_read (map filter_view ws) → IsFaultOf (filters_read (map filter_view ws)) why
+one_none ws i w done why lt is fault so_far =
+    subst (λ (r : Filters). IsFaultOf r why) (ap (behind (map use_of done)) (sym (next_there ws i w lt is)) ∙ so_far) (fault_there (map use_of done) (use_read (filter_view w)) (rest_read ws (i + 1)) why fault)
+
+-- the words have a reading, and all filters have one
+pub all_asked : (words : List (List ℕ)) (job : Job) (uses : List UseData) → job_of words ≡ Ok job → filters_read (job_filters job) ≡ Ok uses → asked words ≡ Ok job
+unfolding asked
+all_asked words job uses read filters = ap asked_by read ∙ ap (with_filters job) filters
+
+-- a filter has none
+filter_fault : (job : Job) (read : Filters) (why : AskFault) → IsFaultOf read why → IsFaultOf (with_filters job read) why
+filter_fault job read (Usage fault) is = ap (with_filters job) is
+filter_fault job read Memory is = tt
+
+pub filter_asked : (words : List (List ℕ)) (job : Job) (why : AskFault) → job_of words ≡ Ok job → IsFaultOf (filters_read (job_filters job)) why → IsFaultOf (asked words) why
+unfolding asked
+filter_asked words job why read fault =
+    subst (λ (r : Result Job WordFault). IsFaultOf (asked_by r) why) (sym read) (filter_fault job (filters_read (job_filters job)) why fault)
+
+-- the words have none
+pub word_asked : (words : List (List ℕ)) (fault : WordFault) → job_of words ≡ Err fault → asked words ≡ Err (Word fault)
+unfolding asked
+word_asked words fault read = ap asked_by read
+
+-- what a filter's text gives
+pub text_read : (w : FilterData) (filter : lang.FilterData) → IsFilterText w.text filter → use_read w ≡ Ok (use' w.hide filter)
+text_read w filter is = ap (use_by w) (filter_read w.text filter is)
+
+pub text_refused : (w : FilterData) (place : ℕ) → RefusedText w.text (drop place w.text) → place ≤ length w.text → use_read w ≡ Err (Filter w.word place)
+text_refused w place refused within =
+    let long : length w.text - length (drop place w.text) ≡ place = omega (arith, length-drop place w.text) in
+    ap (use_by w) (refusal_read w.text (drop place w.text) refused) ∙ ap (no_use w.word) long
+
+-- the filters of words that were read
+pub uses_known : (ws : List FilterData) (uses : List UseData) → filters_read ws ≡ Ok uses → uses_in ws ≡ uses
+unfolding uses_in
+uses_known ws uses read = ap (λ (r : Filters). result_unwrap_or r []) read
+
+-- words without filters
+pub no_uses : (report : ReportData) (uses : List FilterUse) → report ≡ plain_report → uses ≡ [] → uses_in report.filters ≡ map use_of uses
+unfolding uses_in
+no_uses report uses plain none = ap (λ (r : ReportData). uses_in r.filters) plain ∙ sym (ap (map use_of) none)

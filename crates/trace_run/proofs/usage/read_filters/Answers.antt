@@ -1,0 +1,27 @@
+use Rattle.std.proofs.Common.{◌≡◌, ◌<◌, ◌≤◌, ◌∙◌, false, List, [], length, get_or, map, ap, rules}
+use Rattle.filter_truth.specs.SelectionView.{use_of}
+use Rattle.filter_truth.specs.declared.select.FilterUse.{FilterUse}
+use Rattle.trace_args.specs.declared.command.FilterWord.{FilterWord}
+use Rattle.trace_run.proofs.Usages.{behind, rest_read, none_behind, one_more, all_read}
+use Rattle.trace_run.proofs.usage.read_filters.Goals as goal
+
+pub loop-filter-init : goal.loop-filter-init
+loop-filter-init c =
+    let filters = c.args.filters.now in
+    ap (λ (uses : List FilterUse). behind (map use_of uses) (rest_read filters 0)) c.new-uses.ensures.items ∙ none_behind (rest_read filters 0)
+
+pub loop-filter-preserved : goal.loop-filter-preserved
+loop-filter-preserved c =
+    let l = c.loop-filter in
+    let filters = c.args.filters.now in
+    let inside : l.filter-index < length filters = search rules in
+    let none : FilterWord = record { word = 0; hide = false; text = record { ref_ptr = (0, 0); now = [] } } in
+    let w = get_or filters l.filter-index none in
+    let there : w ≡ get_or filters l.filter-index w = search rules in
+    one_more filters l.filter-index w l.uses.items c.push.new.self.items c.in_ok-read.read inside there c.in_ok-push.ensures.items c.in_ok-read.ensures.read l.invariant
+
+pub returns-clause-read : goal.returns-clause-read
+returns-clause-read c =
+    let l = c.loop-filter in
+    let past : length c.args.filters.now ≤ l.filter-index = search rules in
+    all_read c.args.filters.now l.filter-index l.uses.items past l.invariant
