@@ -1,16 +1,15 @@
 -- What is left of a lane while sub-buffers are loaded.
-use Rattle.std.proofs.Common.{◌≡◌, ℕ, ◌+◌, ◌-◌, ◌<◌, ◌≤◌, List, [], ◌∷◌, ◌++◌, Option, Some, None, refl, sym, ap, subst, ◌∙◌, arith}
+use Rattle.std.proofs.Common.{◌≡◌, ℕ, ◌+◌, ◌-◌, ◌<◌, ◌≤◌, List, [], ◌++◌, Option, Some, None, refl, sym, ap, ◌∙◌, arith}
 use Rattle.std.specs.Option.{is_none, IfSome}
 use Rattle.std.specs.List.{position_from}
 use Rattle.trace_base.specs.declared.layout.Layout.{Layout}
 use Rattle.trace_base.specs.declared.part.Part.{Part}
 use Rattle.subpage.specs.ItemData.{ItemData}
 use Rattle.subpage.specs.Processor.{items_at, page_count, pages_from, joined, list_of, bad_of}
-use Rattle.subpage.specs.Cut.{last_key}
 use Rattle.subpage.proofs.Joining.{one_more, stops}
 use Rattle.page_pool.specs.declared.lane.Lane.{Lane}
 use Rattle.page_pool.specs.declared.cursor.LaneState.TheVariants.{Fresh, Held, Ended, Malformed}
-use Rattle.event_cursor.specs.Standing.{held_left, pages_left, left_of, bad_left, OwnIfHeld, Stands}
+use Rattle.event_cursor.specs.Standing.{held_left, left_of, bad_left, OwnIfHeld, Stands}
 use Rattle.event_cursor.specs.declared.loading.Loaded.{Loaded}
 use Rattle.event_cursor.specs.declared.loading.Loaded.TheVariants as loaded
 use Rattle.event_cursor.specs.Loading.{KeepsLeft, KeepsPlace, IsState, IsAnswer}

@@ -1,14 +1,10 @@
 -- A lane stands where it stood, or one item on.
-use Rattle.std.proofs.Common.{◌≡◌, ℕ, ◌-◌, true, List, [], ◌∷◌, ◌++◌, Option, Some, None, refl, sym, ap, subst, ◌∙◌, append_assoc, arith}
-use Rattle.std.specs.Option.{unwrap_or}
+use Rattle.std.proofs.Common.{◌≡◌, ℕ, true, List, [], ◌∷◌, ◌++◌, Option, Some, refl, sym, ap, subst, ◌∙◌, append_assoc}
 use Rattle.trace_base.specs.declared.layout.Layout.{Layout}
 use Rattle.trace_base.specs.declared.part.Part.{Part}
 use Rattle.subpage.specs.ItemData.{ItemData}
-use Rattle.subpage.specs.Processor.{is_there, page_bytes, page_count, pages_from, joined, list_of, bad_of}
-use Rattle.subpage.specs.Cut.{last_key}
+use Rattle.subpage.specs.Processor.{is_there, page_bytes, list_of, bad_of}
 use Rattle.page_pool.specs.declared.lane.Lane.{Lane}
-use Rattle.page_pool.specs.declared.cursor.LaneState.{LaneState}
-use Rattle.page_pool.specs.declared.cursor.LaneState.TheVariants.{Ended, Malformed}
 use Rattle.event_cursor.specs.Stepping.{IsStepped}
 use Rattle.event_cursor.specs.Keys.{key_behind}
 use Rattle.event_cursor.specs.Standing.{held_left, left_of, bad_left, OwnIfHeld, Stands}

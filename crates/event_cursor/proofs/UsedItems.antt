@@ -1,5 +1,5 @@
 -- The used items of a lane that holds a sub-buffer: those of the sub-buffers before it, and so many of its own.
-use Rattle.std.proofs.Common.{◌≡◌, ℕ, zero, suc, ◌+◌, ◌-◌, ◌*◌, ◌/◌, ◌%◌, min, ◌<◌, ◌≤◌, true, ltb, leb, List, [], ◌∷◌, ◌++◌, length, map, take, drop, Option, Some, None, refl, sym, ap, subst, ◌∙◌, append_assoc, arith}
+use Rattle.std.proofs.Common.{◌≡◌, ℕ, zero, suc, ◌+◌, ◌-◌, ◌*◌, ◌/◌, ◌%◌, min, ◌<◌, ◌≤◌, true, List, [], ◌∷◌, ◌++◌, length, map, take, drop, Option, Some, None, refl, sym, ap, ◌∙◌, append_assoc, arith}
 use Rattle.std.specs.Option.{is_none, unwrap_or}
 use Rattle.std.specs.List.{position_from, range_with_len}
 use Rattle.std.proofs.lemmas.Bool.{leb-true, and_parts}
@@ -8,14 +8,13 @@ use Rattle.std.proofs.lemmas.List.FromFn.{length-map-range_with_len}
 use Rattle.std.proofs.Math.Nat.{le-div_iff_mul-le}
 use Rattle.trace_base.specs.declared.layout.Layout.{Layout}
 use Rattle.trace_base.specs.declared.part.Part.{Part}
-use Rattle.trace_base.specs.Layout.{IsLayout}
 use Rattle.subpage.specs.ItemData.{ItemData}
 use Rattle.subpage.specs.Processor.{is_there, items_at, page_count, pages_from, joined, list_of, bad_of}
 use Rattle.subpage.proofs.Joining.{joined-some, one_more}
 use Rattle.page_pool.specs.declared.lane.Lane.{Lane}
 use Rattle.page_pool.specs.declared.cursor.LaneState.TheVariants.{Held}
-use Rattle.event_cursor.specs.Standing.{IsInOrder, left_of, bad_left, Stands}
-use Rattle.event_cursor.proofs.Leaving.{left_is, left_at, bad_is, bad_at}
+use Rattle.event_cursor.specs.Standing.{IsInOrder, left_of, Stands}
+use Rattle.event_cursor.proofs.Leaving.{left_is, bad_is}
 use Rattle.event_cursor.proofs.Returning.{items_held}
 
 range_parts : (a k n : ℕ) → k ≤ n → range_with_len a n ≡ range_with_len a k ++ range_with_len (a + k) (n - k)

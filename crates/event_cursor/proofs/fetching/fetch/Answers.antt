@@ -1,4 +1,4 @@
-use Rattle.std.proofs.Common.{rules, arith, ◌≡◌, ℕ, List, length, Some, None, subst}
+use Rattle.std.proofs.Common.{rules, ◌≡◌, ℕ, List, Some, None, subst}
 use Rattle.std.specs.Option.{option_map}
 use Rattle.subpage.specs.Page.{items}
 use Rattle.subpage.specs.Marks.{items_from}

@@ -1,4 +1,4 @@
-use Rattle.std.proofs.Common.{rules, refl, arith, ◌≡◌, ◌≤◌, ℕ, List, Option, sym, ap, subst, ◌∙◌}
+use Rattle.std.proofs.Common.{rules, refl, arith, ◌≡◌, ◌≤◌, ℕ, List, Option, subst}
 use Rattle.std.specs.Option.{IfSome}
 use Rattle.subpage.specs.Processor.{page_count}
 use Rattle.event_cursor.specs.declared.loading.Loaded.TheVariants as loaded
@@ -6,7 +6,7 @@ use Rattle.page_pool.specs.declared.cursor.LaneState.TheVariants.{Held, Ended}
 use Rattle.event_cursor.specs.Standing.{OwnIfHeld}
 use Rattle.event_cursor.specs.Unread.{size_from}
 use Rattle.event_cursor.proofs.UnreadLaws.{open_le, asked_reads, asked_less}
-use Rattle.event_cursor.specs.Loading.{KeepsLeft, KeepsPlace, IsState, IsAnswer}
+use Rattle.event_cursor.specs.Loading.{KeepsLeft, IsAnswer}
 use Rattle.event_cursor.proofs.Told.{told_all, told_map}
 use Rattle.event_cursor.proofs.Leaving.{stays, at_end, keeps_trans, stands_answered}
 use Rattle.event_cursor.proofs.loading.load.Goals as goal

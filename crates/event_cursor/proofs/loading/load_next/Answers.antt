@@ -1,5 +1,4 @@
-use Rattle.std.proofs.Common.{rules, refl, arith, ◌≡◌, ◌<◌, [], sym, ◌∙◌}
-use Rattle.event_cursor.specs.Standing.{held_left}
+use Rattle.std.proofs.Common.{rules, refl, arith}
 use Rattle.event_cursor.proofs.Told.{told_all, told_map}
 use Rattle.event_cursor.proofs.Leaving.{stays, one_loaded, at_malformed}
 use Rattle.event_cursor.proofs.UnreadLaws.{one_less, one_less_fresh, one_open}
