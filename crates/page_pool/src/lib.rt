@@ -14,4 +14,4 @@ pub use buffer::ByteBuffer;
 pub use cursor::{Cursor, LaneState};
 pub use lane::Lane;
 pub use pool::Pool;
-pub use region::Region;
+pub use region::{Put, Region};
