@@ -20,4 +20,4 @@ pub use laws::used_items;
 pub use loading::{Loaded, load};
 pub use places::Place;
 pub use seeking::{Sought, place, seek};
-pub use stepping::{head, step};
+pub use stepping::{head, key_behind, step};

@@ -9,7 +9,7 @@ use subpage::{Item, first_at, settle};
 use trace_base::Layout;
 
 /// The key of an item behind those whose greatest time is `high`: the greatest time up to it, in nanoseconds.
-fn key_behind(high: Option<u64>, item: &Item<'_>) -> u64
+pub fn key_behind(high: Option<u64>, item: &Item<'_>) -> u64
     ensures { result ≡ key_behind high (item_view item.now) }
 {
     let time = match item {

@@ -16,6 +16,7 @@ mod ready;
 #[cfg(test)]
 mod tests;
 
+pub use best::better;
 pub use ending::End;
 pub use heads::least;
 pub use highs::horizon;

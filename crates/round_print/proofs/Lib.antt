@@ -1,0 +1,4 @@
+pub mod Printing
+pub mod PrintSteps
+pub mod Flushing
+pub mod FilledLanes

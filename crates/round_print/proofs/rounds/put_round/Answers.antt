@@ -1,0 +1,66 @@
+use Rattle.std.proofs.Common.{◌≡◌, ℕ, List, [], ◌++◌, get_or, sym, ap, subst, ◌∙◌, append_assoc, arith}
+use Rattle.std.proofs.lemmas.List.{append-nil}
+use Rattle.trace_outside.specs.Pending.{Holds}
+use Rattle.trace_outside.specs.Writing.{GainedPrefix}
+use Rattle.trace_outside.proofs.PendingLemmas.{prefix_longer}
+use Rattle.round_print.specs.Prints.{CpuLine, printed, text_of, first_text}
+use Rattle.round_print.specs.Rounds.{IsLineDropped}
+use Rattle.round_print.proofs.Printing.{print_none}
+use Rattle.round_print.proofs.PrintSteps.{IsStep, some_kept, is_step, printing_on, printed_all, dropped_at, text_on, starts_with, cut_text}
+use Rattle.round_print.proofs.rounds.put_round.Goals as goal
+
+pub print_first-requires : goal.print_first-requires
+print_first-requires g c = some_kept c.args.horizon.now c.loop-i.lanes c.in-Some.i c.index-lanes-i.result c.in-Some.ensures.inside c.index-lanes-i.is c.in-Some.ensures.least
+
+pub loop-i-smaller : goal.loop-i-smaller
+loop-i-smaller g c =
+    let dropped : IsLineDropped c.index-lanes-i.result c.print_first.new.lane = dropped_at c.loop-i.lanes c.in-Some.i c.index-lanes-i.result c.print_first.new.lane c.index-lanes-i.is c.in-Ok.ensures.dropped in
+    let step : IsStep c.args.horizon.now c.loop-i.lanes c.in-Some.i c.index-lanes-i.result c.print_first.new.lane =
+    is_step c.args.horizon.now c.loop-i.lanes c.in-Some.i c.index-lanes-i.result c.print_first.new.lane c.in-Some.ensures.inside c.index-lanes-i.is c.in-Some.ensures.least c.loop-i.invariant.rise c.loop-i.invariant.rises dropped in
+    omega (arith, step.fewer)
+
+pub loop-i-preserved : goal.loop-i-preserved
+loop-i-preserved g c =
+    let dropped : IsLineDropped c.index-lanes-i.result c.print_first.new.lane = dropped_at c.loop-i.lanes c.in-Some.i c.index-lanes-i.result c.print_first.new.lane c.index-lanes-i.is c.in-Ok.ensures.dropped in
+    let step : IsStep c.args.horizon.now c.loop-i.lanes c.in-Some.i c.index-lanes-i.result c.print_first.new.lane =
+    is_step c.args.horizon.now c.loop-i.lanes c.in-Some.i c.index-lanes-i.result c.print_first.new.lane c.in-Some.ensures.inside c.index-lanes-i.is c.in-Some.ensures.least c.loop-i.invariant.rise c.loop-i.invariant.rises dropped in
+    let done : List ℕ = c.loop-i.invariant.text.0 in
+    let line : List ℕ = first_text (get_or c.loop-i.lanes c.in-Some.i c.index-lanes-i.result).region.kept in
+    record {
+      text = (
+        done ++ line,
+        (
+          text_on c.args.horizon.now c.loop-i.lanes c.in-Some.i c.index-lanes-i.result c.print_first.new.lane done (text_of (printed c.args.horizon.now c.args.lanes.now)) c.index-lanes-i.is step c.loop-i.invariant.text.1.0,
+          λ before text held.
+              let P : List ℕ → Type 0 = λ t. Holds before (g.O.Sink.written c.print_first.new.out) c.print_first.new.pending t in
+              subst P (append_assoc text done line) (c.in-Ok.ensures.puts before (text ++ done) (c.loop-i.invariant.text.1.1 before text held)),
+        ),
+      );
+      name = c.in-Ok.ensures.name ∙ c.loop-i.invariant.name;
+      later = omega (arith, c.in-Ok.ensures.cause.later, c.loop-i.invariant.later);
+      rise = step.rise;
+      rises = step.rises;
+      lanes = printing_on c.args.horizon.now c.args.lanes.now c.loop-i.lanes c.in-Some.i c.index-lanes-i.result c.print_first.new.lane c.in-Some.ensures.inside c.index-lanes-i.is step dropped c.loop-i.auto.lanes c.loop-i.invariant.lanes;
+    }
+
+pub returns-in-Err-clause-puts : goal.returns-in-Err-clause-puts
+returns-in-Err-clause-puts g c = λ before text held.
+    let done : List ℕ = c.loop-i.invariant.text.0 in
+    let line : List ℕ = first_text (get_or c.loop-i.lanes c.in-Some.i c.index-lanes-i.result).region.kept in
+    let starts : (rest : List ℕ) × (text_of (printed c.args.horizon.now c.loop-i.lanes) ≡ line ++ rest) =
+    starts_with c.args.horizon.now c.loop-i.lanes c.in-Some.i c.index-lanes-i.result c.in-Some.ensures.inside c.index-lanes-i.is c.in-Some.ensures.least c.loop-i.invariant.rise c.loop-i.invariant.rises in
+    let P : List ℕ → Type 0 = λ t. GainedPrefix before (g.O.Sink.written c.print_first.new.out) t in
+    subst P (cut_text text done line starts.0 (text_of (printed c.args.horizon.now c.args.lanes.now)) (text_of (printed c.args.horizon.now c.loop-i.lanes)) c.loop-i.invariant.text.1.0 starts.1)
+    (prefix_longer before (g.O.Sink.written c.print_first.new.out) ((text ++ done) ++ line) starts.0
+    (c.in-Err.ensures.puts before (text ++ done) (c.loop-i.invariant.text.1.1 before text held)))
+
+pub returns-clause-puts : goal.returns-clause-puts
+returns-clause-puts g c = λ before text held.
+    let done : List ℕ = c.loop-i.invariant.text.0 in
+    let none : printed c.args.horizon.now c.loop-i.lanes ≡ [] = print_none c.args.horizon.now c.loop-i.lanes c.in_default.ensures.least in
+    let all : done ≡ text_of (printed c.args.horizon.now c.args.lanes.now) = sym (append-nil done) ∙ ap (λ (ps : List CpuLine). done ++ text_of ps) (sym none) ∙ c.loop-i.invariant.text.1.0 in
+    let P : List ℕ → Type 0 = λ t. Holds before (g.O.Sink.written c.loop-i.out) c.loop-i.pending (text ++ t) in
+    subst P all (c.loop-i.invariant.text.1.1 before text held)
+
+pub returns-clause-lanes : goal.returns-clause-lanes
+returns-clause-lanes g c = printed_all c.args.horizon.now c.args.lanes.now c.loop-i.lanes c.in_default.ensures.least c.loop-i.auto.lanes c.loop-i.invariant.lanes

@@ -1,0 +1,23 @@
+use Rattle.std.proofs.Common.{◌≡◌, ℕ, ◌<◌, ◌≤◌, List, ◌++◌, length, Option}
+use Rattle.std.specs.Prelude.{slice_index_or}
+use Rattle.std.specs.List.{All}
+use Rattle.trace_outside.specs.Pending.{Holds}
+use Rattle.subpage.specs.Arrangement.{CpusRise}
+use Rattle.page_pool.specs.declared.lane.Lane.{Lane}
+use Rattle.time_merge.specs.LaneRows.{parts_of}
+use Rattle.round_print.specs.Prints.{KeysRise, printed, text_of}
+use Rattle.round_print.specs.Rounds.{IsPrinting}
+use Rattle.round_print.proofs.rounds.put_round.Given as goal
+
+abbrev pub invariant-loop-i : goal.invariant-loop-i
+invariant-loop-i g l = record {
+  text : (done : List ℕ) × ((done ++ text_of (printed l.horizon l.lanes) ≡ text_of (printed l.horizon l.fn.lanes)) × ((before : Option (List ℕ)) → (text : List ℕ) → Holds before (g.O.Sink.written l.fn.out) l.fn.pending text → Holds before (g.O.Sink.written l.out) l.pending (text ++ done)));
+  name : g.O.Sink.name l.out ≡ g.O.Sink.name l.fn.out;
+  later : g.O.Sink.faults l.fn.out ≤ g.O.Sink.faults l.out;
+  rise : CpusRise (parts_of l.lanes);
+  rises : All KeysRise l.lanes;
+  lanes : (i : ℕ) → (d : Lane) → i < length l.fn.lanes → IsPrinting l.horizon (slice_index_or l.fn.lanes i d) (slice_index_or l.lanes i d);
+}
+
+abbrev pub decreases-loop-i : goal.decreases-loop-i
+decreases-loop-i g l = length (printed l.horizon l.lanes)

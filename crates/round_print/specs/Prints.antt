@@ -1,0 +1,87 @@
+-- The lines that a round prints: of each lane those that it keeps up to the horizon, all of them in one order.
+use Rattle.std.specs.Prelude.{◌≡◌, ◌≤◌, ℕ, Bool, true, false, if◌then◌else◌, List, [], ◌∷◌, length, drop, Option, Some, None}
+use Rattle.std.specs.List.{All, flat_map}
+use Rattle.subpage.specs.Arrangement.{IsRising, by_key}
+use Rattle.page_pool.specs.Lines.{Line, Lines}
+use Rattle.page_pool.specs.declared.lane.Lane.{Lane}
+use Rattle.time_merge.specs.declared.horizons.Horizon.{Horizon}
+use Rattle.time_merge.specs.declared.horizons.Horizon.TheVariants as code
+use Rattle.time_merge.specs.Rows.{up_to_key}
+
+-- a line of a processor
+pub record CpuLine : Type 0 where
+  pub key : ℕ
+  pub cpu : ℕ
+  pub text : List ℕ
+
+abbrev pub key_in : CpuLine → ℕ
+key_in line = line.key
+
+abbrev pub cpu_in : CpuLine → ℕ
+cpu_in line = line.cpu
+
+abbrev pub with_cpu : ℕ → Line → CpuLine
+with_cpu cpu line = record { key = line.key; cpu = cpu; text = line.text }
+
+-- whether a key and a processor stand at or before a horizon
+abbrev pub is_due : Horizon → ℕ → ℕ → Bool
+is_due code.All key cpu = true
+is_due (code.Start at) key cpu = false
+is_due (code.To k c) key cpu = up_to_key (Some k) c key cpu
+
+-- a processor's lines up to the first that is not due, and the others
+abbrev pub due_lines : Horizon → ℕ → List Line → List CpuLine
+due_lines h cpu [] = []
+due_lines h cpu (line ∷ lines) = if is_due h line.key cpu then with_cpu cpu line ∷ due_lines h cpu lines else []
+
+abbrev pub later_lines : Horizon → ℕ → List Line → List Line
+later_lines h cpu [] = []
+later_lines h cpu (line ∷ lines) = if is_due h line.key cpu then later_lines h cpu lines else line ∷ lines
+
+-- those of a lane
+abbrev pub due_of : Horizon → Lane → List CpuLine
+due_of h lane = due_lines h lane.cpu lane.region.kept
+
+abbrev pub later_of : Horizon → Lane → List Line
+later_of h lane = later_lines h lane.cpu lane.region.kept
+
+-- what a round prints: the lines that are due, by key, then processor, then position
+unfoldable pub printed : Horizon → List Lane → List CpuLine
+printed h lanes = by_key key_in (flat_map (due_of h) lanes)
+
+abbrev pub text_of : List CpuLine → List ℕ
+text_of lines = flat_map (λ line. line.text) lines
+
+-- the key of the first line, if there is one
+abbrev pub first_key : List CpuLine → Option (Option ℕ)
+first_key [] = None
+first_key (line ∷ lines) = Some (Some line.key)
+
+abbrev pub head_due : Horizon → Lane → Option (Option ℕ)
+head_due h lane = first_key (due_of h lane)
+
+abbrev pub line_key : Line → ℕ
+line_key line = line.key
+
+-- the keys of its kept lines do not fall
+abbrev pub KeysRise : Lane → Type 0
+KeysRise lane = IsRising line_key lane.region.kept
+
+-- no kept line has a later key
+abbrev pub KeysUpTo : ℕ → Lane → Type 0
+KeysUpTo last lane = All (λ line. line.key ≤ last) lane.region.kept
+
+-- A region that keeps no line has all bytes free, and as many lines can be put as at first.
+pub record IsTidy (lines : Lines) : Type 0 where
+  pub used : lines.kept ≡ [] → lines.used ≡ 0
+  pub free : lines.kept ≡ [] → length lines.free ≡ lines.room
+
+-- the first line is not kept any more, and the region is tidy
+pub record IsDropped (before now : Lines) : Type 0 where
+  pub kept : now.kept ≡ drop 1 before.kept
+  pub room : now.room ≡ before.room
+  pub tidy : IsTidy now
+
+abbrev pub first_text : List Line → List ℕ
+first_text [] = []
+first_text (line ∷ lines) = line.text

@@ -1,0 +1,59 @@
+ghost use Rattle.std.specs.Prelude.{◌≡◌, ◌<◌, length, map, IfSome};
+ghost use Rattle.time_merge.specs.Nexts.{IsLeastAt};
+ghost use Rattle.round_print.specs.Prints.{IsDropped, head_due, is_due};
+
+use page_pool::{Lane, Region};
+use time_merge::{Horizon, better};
+
+/// Whether a line with this key, of this processor, stands at or before a horizon.
+fn is_due(horizon: &Horizon, key: u64, cpu: u32) -> bool
+    ensures { result ≡ is_due horizon.now key cpu }
+{
+    match horizon {
+        Horizon::All => true,
+        Horizon::Start(_) => false,
+        Horizon::To(k, c) => key < *k || (key == *k && cpu <= *c),
+    }
+}
+
+/// The key of a lane's first line, where that line is due.
+fn head_due(horizon: &Horizon, lane: &Lane) -> Option<Option<u64>>
+    ensures { result ≡ head_due horizon.now lane.now }
+{
+    if lane.region.lines() == 0 {
+        return None;
+    }
+    let (_, key) = lane.region.line(0);
+    if is_due(horizon, key, lane.cpu) {
+        Some(Some(key))
+    } else {
+        None
+    }
+}
+
+/// The lane whose first line is due and has the least key, and the first of several such. `None` exactly where no line is
+/// due.
+pub(crate) fn least_due(horizon: &Horizon, lanes: &[Lane]) -> Option<usize>
+    ensures least { IsLeastAt (map (head_due horizon.now) lanes.now) result }
+    ensures inside { IfSome result (λ i. i < length lanes.now) }
+{
+    let mut best = None;
+    for i in 0..lanes.len() {
+        best = better(best, i, head_due(horizon, &lanes[i]));
+    }
+    match best {
+        Some((i, _)) => Some(i),
+        None => None,
+    }
+}
+
+/// Keeps a region's first line no longer. Behind the last one all its bytes are free again.
+pub(crate) fn drop_line(region: &mut Region)
+    requires { 0 < length region.old.kept }
+    ensures { IsDropped region.old region.new }
+{
+    region.drop_front(1);
+    if region.lines() == 0 {
+        region.clear();
+    }
+}

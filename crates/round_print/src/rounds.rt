@@ -1,0 +1,83 @@
+ghost use Rattle.std.specs.Prelude.{◌≡◌, ◌<◌, [], ℕ, All, length, slice_index_or, IfOk};
+ghost use Rattle.trace_outside.specs.Causes.{HasCause};
+ghost use Rattle.trace_outside.specs.Pending.{Puts};
+ghost use Rattle.subpage.specs.Arrangement.{CpusRise};
+ghost use Rattle.time_merge.specs.LaneRows.{parts_of};
+ghost use Rattle.round_print.specs.Prints.{KeysRise, first_text, printed, text_of};
+ghost use Rattle.round_print.specs.Rounds.{Gains, IsLineDropped, IsPrinted};
+
+use crate::heads::{drop_line, least_due};
+use page_pool::Lane;
+use time_merge::Horizon;
+use trace_outside::{Failed, Pending, Sink};
+
+/// Puts a lane's first line, and keeps it no longer.
+fn print_first<O: Sink>(lane: &mut Lane, pending: &mut Pending, out: &mut O) -> Result<(), Failed>
+    requires { 0 < length lane.old.region.kept }
+    ensures puts { Puts (first_text lane.old.region.kept) (O.written out.old) pending.old (O.written out.new)
+        pending.new result }
+    ensures name { O.name out.new ≡ O.name out.old }
+    ensures cause { HasCause (O.faults out.old) (O.faults out.new) result }
+    ensures dropped { IfOk result (λ _. IsLineDropped lane.old lane.new) }
+{
+    let (text, _) = lane.region.line(0);
+    pending.put(out, text)?;
+    drop_line(&mut lane.region);
+    Ok(())
+}
+
+/// Puts the lines that are due, by key, then processor, then position, and keeps them no longer.
+fn put_round<O: Sink>(
+    horizon: &Horizon,
+    lanes: &mut [Lane],
+    pending: &mut Pending,
+    out: &mut O,
+) -> Result<(), Failed>
+    requires rise { CpusRise (parts_of lanes.old) }
+    requires rises { All KeysRise lanes.old }
+    ensures puts { Puts (text_of (printed horizon.now lanes.old)) (O.written out.old) pending.old (O.written out.new)
+        pending.new result }
+    ensures name { O.name out.new ≡ O.name out.old }
+    ensures cause { HasCause (O.faults out.old) (O.faults out.new) result }
+    ensures lanes { IfOk result (λ _. (i : ℕ) (d : Lane) → i < length lanes.old
+        → IsPrinted horizon.now (slice_index_or lanes.old i d) (slice_index_or lanes.new i d)) }
+    ensures rise { IfOk result (λ _. CpusRise (parts_of lanes.new)) }
+    ensures rises { IfOk result (λ _. All KeysRise lanes.new) }
+{
+    while let Some(i) = least_due(horizon, lanes) {
+        match print_first(&mut lanes[i], pending, out) {
+            Ok(()) => {}
+            Err(failed) => return Err(failed),
+        }
+    }
+    Ok(())
+}
+
+/// Writes the lines that the lanes keep and that stand at or before the horizon, by key, then processor, then position,
+/// and keeps them no longer. A region that keeps no line any more has all its bytes free.
+///
+/// The lines go through `pending`, in which nothing waits before or behind: all of them are written when the call returns,
+/// in pieces as large as it has room for. After `Failed` the sink has a prefix of their text.
+pub fn print_round<O: Sink>(
+    horizon: &Horizon,
+    lanes: &mut [Lane],
+    pending: &mut Pending,
+    out: &mut O,
+) -> Result<(), Failed>
+    requires rise { CpusRise (parts_of lanes.old) }
+    requires rises { All KeysRise lanes.old }
+    requires empty { pending.old ≡ [] }
+    ensures written { Gains (O.written out.old) (O.written out.new) (text_of (printed horizon.now lanes.old)) result }
+    ensures name { O.name out.new ≡ O.name out.old }
+    ensures cause { HasCause (O.faults out.old) (O.faults out.new) result }
+    ensures empty { IfOk result (λ _. pending.new ≡ []) }
+    ensures lanes { IfOk result (λ _. (i : ℕ) (d : Lane) → i < length lanes.old
+        → IsPrinted horizon.now (slice_index_or lanes.old i d) (slice_index_or lanes.new i d)) }
+    ensures rise { IfOk result (λ _. CpusRise (parts_of lanes.new)) }
+    ensures rises { IfOk result (λ _. All KeysRise lanes.new) }
+{
+    match put_round(horizon, lanes, pending, out) {
+        Ok(()) => pending.flush(out),
+        Err(failed) => Err(failed),
+    }
+}
