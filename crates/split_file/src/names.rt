@@ -1,0 +1,23 @@
+// The names of new files.
+
+ghost use Rattle.std.specs.Prelude.{◌≡◌, ◌≤◌, length};
+ghost use Rattle.split_file.specs.Names.{file_name};
+
+use arrayvec::ArrayString;
+use itoa::Buffer;
+
+// A base has up to 4,096 bytes; behind it stand a point and a number of 64 bits.
+const LONGEST: usize = 4096 + 21;
+
+/// The name of a new file: the base, a point and its number in decimal (trace-cmd-split(1)).
+pub fn file_name(base: &str, number: u64) -> ArrayString<LONGEST>
+    requires { length base.now ≤ 4096 }
+    ensures { result.bytes ≡ file_name base.now number }
+{
+    let mut digits = Buffer::new();
+    let mut name = ArrayString::new();
+    name.push_str(base);
+    name.push_str(".");
+    name.push_str(digits.format(number));
+    name
+}

@@ -1,0 +1,97 @@
+//! Names, and fronts of files against headers that were written out.
+
+ghost use Rattle.std.specs.Prelude.{[], IfOk, None};
+ghost use Rattle.dat_header.specs.Allowed.{IsHeader};
+
+use crate::{data_place, file_name, write_front};
+use dat_header::{Body, Header, OpenFault, read_header};
+use std::alloc::Global;
+use std::test::Fail;
+use trace_base::ByteText;
+use trace_outside::{Failed, MemFile, MemSink, Sink};
+
+const LITTLE: &[u8] =
+    b"\x17\x08\x44tracing6\0\0\x08\0\x10\0\0header_page\0\0\0\0\0\0\0\0\0header_event\0\0\0\0\0\0\0\0\0\
+\0\0\0\0\0\0\0\0\0\0\0\0\0\0\0\0\0\0\0\0\0\0\0\0\0\0\0\0\x01\0\0\0flyrecord\0\0\x10\0\0\0\0\0\0\0\x20\0\0\0\0\0\0";
+
+const BIG: &[u8] =
+    b"\x17\x08\x44tracing6\0\x01\x04\0\x01\0\0header_page\0\0\0\0\0\0\0\0\0header_event\0\0\0\0\0\0\0\0\0\
+\0\0\0\0\0\0\0\0\0\0\0\0\0\0\0\0\0\0\0\0\0\0\0\0\0\0\0\0\0\0\0\0flyrecord\0";
+
+/// A sink that fails at its first byte.
+#[derive(Drop)]
+struct Full {
+    faults: u64,
+}
+
+impl Sink for Full {
+    ghost name = { λ sink. [] };
+
+    ghost written = { λ sink. None };
+
+    ghost faults = { λ sink. sink.faults };
+
+    fn write(&mut self, piece: &[u8]) -> Result<usize, Failed> {
+        if piece.is_empty() {
+            return Ok(0);
+        }
+        self.faults = self.faults.saturating_add(1);
+        Err(Failed)
+    }
+}
+
+fn open(alloc: Global, bytes: &[u8]) -> Result<Header, OpenFault>
+    ensures { IfOk result IsHeader }
+{
+    let Ok(bytes) = ByteText::copy(alloc, bytes) else {
+        return Err(OpenFault::Memory);
+    };
+    read_header(alloc, &mut MemFile::new(bytes))
+}
+
+// Writes the front of a file with this header, and tells where the sub-buffers stand.
+fn place_behind<O: Sink>(alloc: Global, bytes: &[u8], out: &mut O) -> Option<u64> {
+    let Ok(header) = open(alloc, bytes) else {
+        return None;
+    };
+    let Body::Fly(parts) = &header.body else {
+        return None;
+    };
+    match write_front(&header, parts.as_slice(), out) {
+        Ok(()) => Some(data_place(&header)),
+        Err(Failed) => None,
+    }
+}
+
+#[test]
+fn zero_bytes_stand_behind_the_header(rt: HostRuntime) -> Result<(), Fail> {
+    let alloc = rt.alloc();
+    for (bytes, page) in [(LITTLE, 4096), (BIG, 65_536)] {
+        let mut out = MemSink::new(alloc);
+        assert_eq!(rt; place_behind(alloc, bytes, &mut out), Some(page));
+        let front = out.bytes();
+        assert_eq!(rt; front.len() as u64, page);
+        assert!(rt; front.starts_with(bytes), "header");
+        assert!(rt;
+            front.iter().skip(bytes.len()).all(|byte| *byte == 0),
+            "zero bytes"
+        );
+    }
+    Ok(())
+}
+
+#[test]
+fn names_and_faults(rt: HostRuntime) -> Result<(), Fail> {
+    let alloc = rt.alloc();
+    for (base, number, name) in [
+        ("trace.dat", 1, "trace.dat.1"),
+        ("part", 10, "part.10"),
+        ("", u64::MAX, ".18446744073709551615"),
+    ] {
+        assert_eq!(rt; file_name(base, number).as_str(), name);
+    }
+    let mut out = Full { faults: 0 };
+    assert_eq!(rt; place_behind(alloc, BIG, &mut out), None);
+    assert_eq!(rt; out.faults, 1);
+    Ok(())
+}

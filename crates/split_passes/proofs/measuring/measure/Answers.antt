@@ -1,0 +1,80 @@
+use Rattle.std.proofs.Common.{refl, arith, ◌≡◌, ◌<◌, length, sym, ◌∙◌}
+use Rattle.std.proofs.lemmas.List.{length-set}
+use Rattle.std.proofs.lemmas.List.Elements.{All-set}
+use Rattle.event_cursor.specs.Standing.{IsInOrder}
+use Rattle.event_cursor.proofs.Told.{told_all, told_map}
+use Rattle.time_merge.specs.declared.next_lanes.Next.TheVariants as code
+use Rattle.time_merge.proofs.Going.{still_parts}
+use Rattle.split_passes.proofs.Running.{runs_none, runs_on, loaded, all_measured, past_measured, full_measured, same_length}
+use Rattle.split_passes.proofs.measuring.measure.Goals as goal
+
+pub loop-i-init : goal.loop-i-init
+loop-i-init g c = record {
+  in_order = c.requires.in_order;
+  parts = refl;
+  long = c.requires.long;
+  runs = told_all _ (g.F.File.bytes c.args.file.now) (λ file s t. runs_none c.args.layout.now file c.args.stop c.args.gauge.now c.args.lanes.now c.args.tallies.now s t);
+  bytes = refl;
+  size = refl;
+  later = omega arith;
+}
+
+pub loop-i-preserved : goal.loop-i-preserved
+loop-i-preserved g c =
+    let l = c.args.layout.now in
+    let lt : c.in-Lane.i < length c.next_lane.new.lanes = c.in-Lane.ensures.holds.0 in
+    let parts = c.next_lane.ensures.parts ∙ c.loop-i.invariant.parts in
+    let long0 : length c.loop-i.tallies ≡ length c.args.lanes.now = c.loop-i.invariant.long ∙ same_length c.loop-i.lanes c.args.lanes.now c.loop-i.invariant.parts in
+    let long1 : length c.next_lane.new.lanes ≡ length c.loop-i.lanes = same_length c.next_lane.new.lanes c.loop-i.lanes c.next_lane.ensures.parts in
+    record {
+      in_order = All-set (IsInOrder l) c.next_lane.new.lanes c.in-Lane.i c.step.new.lane c.step.ensures.in_order c.next_lane.ensures.in_order;
+      parts = still_parts l c.next_lane.new.lanes c.in-Lane.i c.index-lanes-i-in-Takes.result c.step.new.lane lt c.step.ensures.used ∙ parts;
+      long = length-set c.loop-i.tallies c.in-Lane.i c.choose.new.tally ∙ c.loop-i.invariant.long ∙ sym long1 ∙ sym (length-set c.next_lane.new.lanes c.in-Lane.i c.step.new.lane);
+      runs = told_map _ _ (g.F.File.bytes c.args.file.now) (λ file h s t.
+          let r = h s t in
+          runs_on l file c.args.stop c.args.gauge.now c.loop-i.gauge c.choose.new.gauge c.args.lanes.now c.next_lane.new.lanes c.loop-i.tallies c.in-Lane.i c.index-lanes-i-in-Takes.result c.index-lanes-i.result c.step.new.lane c.index-tallies-i.result c.choose.new.tally
+          c.requires.rise parts long0 lt r.1 c.step.ensures.used c.in-Takes.ensures r.0)
+          (loaded l (g.F.File.bytes c.args.file.now) (g.F.File.bytes c.loop-i.file) c.args.stop c.args.gauge.now c.loop-i.gauge c.args.lanes.now c.loop-i.lanes c.next_lane.new.lanes c.args.tallies.now c.loop-i.tallies (code.Lane c.in-Lane.i)
+          c.loop-i.invariant.bytes c.loop-i.invariant.parts c.next_lane.ensures.parts c.loop-i.invariant.runs c.next_lane.ensures.rows c.next_lane.ensures.stands c.in-Lane.ensures.next);
+      bytes = c.next_lane.ensures.bytes ∙ c.loop-i.invariant.bytes;
+      size = c.next_lane.ensures.size ∙ c.loop-i.invariant.size;
+      later = omega (arith, c.next_lane.ensures.later, c.loop-i.invariant.later);
+    }
+
+pub returns-in-Past-clause-measured : goal.returns-in-Past-clause-measured
+returns-in-Past-clause-measured g c =
+    let l = c.args.layout.now in
+    told_map _ _ (g.F.File.bytes c.args.file.now) (λ file h s t.
+    let r = h s t in
+    past_measured l file c.args.stop c.args.gauge.now c.loop-i.gauge c.args.lanes.now c.next_lane.new.lanes c.loop-i.tallies c.in-Lane.i c.index-lanes-i.result c.index-tallies-i.result c.choose.new.tally r.1 c.in-Past.ensures r.0)
+    (loaded l (g.F.File.bytes c.args.file.now) (g.F.File.bytes c.loop-i.file) c.args.stop c.args.gauge.now c.loop-i.gauge c.args.lanes.now c.loop-i.lanes c.next_lane.new.lanes c.args.tallies.now c.loop-i.tallies (code.Lane c.in-Lane.i)
+    c.loop-i.invariant.bytes c.loop-i.invariant.parts c.next_lane.ensures.parts c.loop-i.invariant.runs c.next_lane.ensures.rows c.next_lane.ensures.stands c.in-Lane.ensures.next)
+
+pub returns-in-Full-clause-measured : goal.returns-in-Full-clause-measured
+returns-in-Full-clause-measured g c =
+    let l = c.args.layout.now in
+    told_map _ _ (g.F.File.bytes c.args.file.now) (λ file h s t.
+    let r = h s t in
+    full_measured l file c.args.stop c.args.gauge.now c.loop-i.gauge c.args.lanes.now c.next_lane.new.lanes c.loop-i.tallies c.in-Lane.i c.index-lanes-i.result c.index-tallies-i.result c.choose.new.tally r.1 c.in-Full.ensures r.0)
+    (loaded l (g.F.File.bytes c.args.file.now) (g.F.File.bytes c.loop-i.file) c.args.stop c.args.gauge.now c.loop-i.gauge c.args.lanes.now c.loop-i.lanes c.next_lane.new.lanes c.args.tallies.now c.loop-i.tallies (code.Lane c.in-Lane.i)
+    c.loop-i.invariant.bytes c.loop-i.invariant.parts c.next_lane.ensures.parts c.loop-i.invariant.runs c.next_lane.ensures.rows c.next_lane.ensures.stands c.in-Lane.ensures.next)
+
+pub returns-in-Done-clause-measured : goal.returns-in-Done-clause-measured
+returns-in-Done-clause-measured g c =
+    let l = c.args.layout.now in
+    told_map _ _ (g.F.File.bytes c.args.file.now) (λ file h s t.
+    let r = h s t in
+    let m = all_measured l file c.args.stop c.args.gauge.now c.loop-i.gauge c.args.lanes.now c.next_lane.new.lanes c.loop-i.tallies r.1.0 r.0 in
+    (m.0, (r.1.0, m.1, r.1.1)))
+    (loaded l (g.F.File.bytes c.args.file.now) (g.F.File.bytes c.loop-i.file) c.args.stop c.args.gauge.now c.loop-i.gauge c.args.lanes.now c.loop-i.lanes c.next_lane.new.lanes c.args.tallies.now c.loop-i.tallies code.Done
+    c.loop-i.invariant.bytes c.loop-i.invariant.parts c.next_lane.ensures.parts c.loop-i.invariant.runs c.next_lane.ensures.rows c.next_lane.ensures.stands c.in-Done.ensures.next)
+
+pub returns-in-Malformed-clause-measured : goal.returns-in-Malformed-clause-measured
+returns-in-Malformed-clause-measured g c =
+    let l = c.args.layout.now in
+    told_map _ _ (g.F.File.bytes c.args.file.now) (λ file h s t.
+    let r = h s t in
+    let m = all_measured l file c.args.stop c.args.gauge.now c.loop-i.gauge c.args.lanes.now c.next_lane.new.lanes c.loop-i.tallies r.1.0 r.0 in
+    (m.0, (r.1.0, m.1, r.1.1)))
+    (loaded l (g.F.File.bytes c.args.file.now) (g.F.File.bytes c.loop-i.file) c.args.stop c.args.gauge.now c.loop-i.gauge c.args.lanes.now c.loop-i.lanes c.next_lane.new.lanes c.args.tallies.now c.loop-i.tallies (code.Malformed c.in-Malformed.cpu c.in-Malformed.page)
+    c.loop-i.invariant.bytes c.loop-i.invariant.parts c.next_lane.ensures.parts c.loop-i.invariant.runs c.next_lane.ensures.rows c.next_lane.ensures.stands c.in-Malformed.ensures.next)
