@@ -1,0 +1,154 @@
+-- A file has room for few items.
+use Rattle.std.proofs.Common.{◌≡◌, ℕ, zero, suc, ◌+◌, ◌*◌, ◌^◌, ◌≤◌, ◌⊎◌, Bool, true, false, ◌&&◌, leb, cond, max, List, [], ◌∷◌, ◌++◌, length, drop, Option, Some, None, refl, ap, ◌∙◌, inl, inr, arith, length-append, length-drop}
+use Rattle.std.specs.List.{filter}
+use Rattle.std.proofs.lemmas.Bool.{cases_Bool, leb-true}
+use Rattle.std.proofs.lemmas.List.{length-take}
+use Rattle.trace_base.specs.declared.order.Order.{Order}
+use Rattle.trace_base.specs.declared.layout.Layout.{Layout}
+use Rattle.trace_base.specs.declared.part.Part.{Part}
+use Rattle.subpage.specs.ItemData.{ItemData, told_by, events, item_time}
+use Rattle.subpage.specs.RunningTime.{time_after}
+use Rattle.subpage.specs.Element.{ElementData, Event, End, Discarded, Extend, Stamp, Row, short_event, long_event, end, discarded, extend, stamp, Spelled, nothing, begins_with}
+use Rattle.subpage.specs.Page.{items, committed, committed_size, commit_word, data_area, page_losses, losses, has_missed, timestamp, behind_committed}
+use Rattle.subpage.specs.Processor.{items_at, is_there, page_end, page_bytes, page_count, pages_from, joined, list_of}
+use Rattle.subpage.specs.Arrangement.{Keyed, keyed_from, all_keyed, by_key, put, key_of, arranged}
+use Rattle.subpage.specs.Cut.{lists_of, cut_of, is_up_to, reached_of}
+use Rattle.subpage.proofs.PageItems.{items_are}
+use Rattle.subpage.proofs.Joining.{joined-some, joined-none}
+
+-- AN ELEMENT TAKES FOUR BYTES
+
+row_long : (order : Order) (e : ElementData) (front : List ℕ) → Row order e front → 4 ≤ length front
+row_long order e front (short_event first payload kind delta f some few long) = omega (arith, length-append first payload, f.four)
+row_long order e front (long_event first next payload padding delta n f w some long whole) = omega (arith, length-append first (next ++ (payload ++ padding)), f.four)
+row_long order e front (end first padding f) = omega (arith, length-append first padding, f.four)
+row_long order e front (discarded first next content delta n f some w least long) = omega (arith, length-append first (next ++ content), f.four)
+row_long order e front (extend first next low high f w) = omega (arith, length-append first next, f.four)
+row_long order e front (stamp first next low high f w small) = omega (arith, length-append first next, f.four)
+
+spelled_long : (order : Order) (es : List ElementData) (bytes : List ℕ) → Spelled order es bytes → length es * 4 ≤ length bytes
+spelled_long order es bytes nothing = omega arith
+spelled_long order es bytes (begins_with e others front back row last behind) =
+    omega (arith, length-append front back, row_long order e front row, spelled_long order others back behind)
+
+one_told : (time : ℕ) (e : ElementData) → length (told_by time e) ≤ 1
+one_told time (Event delta payload) = omega arith
+one_told time End = omega arith
+one_told time (Discarded delta) = omega arith
+one_told time (Extend delta) = omega arith
+one_told time (Stamp to) = omega arith
+
+few_events : (time : ℕ) (es : List ElementData) → length (events time es) ≤ length es
+few_events time [] = omega arith
+few_events time (e ∷ es) =
+    let after = time_after time e in
+    omega (arith, length-append (told_by after e) (events after es), one_told after e, few_events after es)
+
+one_loss : (l : Layout) (word time : ℕ) (behind : List ℕ) → length (losses l word time behind) ≤ 1
+one_loss l word time behind = elim (cases_Bool (has_missed word)) [
+  | inl b ↦ rw b (omega arith)
+  | inr b ↦ rw b (omega arith)
+]
+
+few_on_page : (l : Layout) (page : List ℕ) (xs : List ItemData) → items l page ≡ Some xs → length xs * 4 ≤ length page + 4
+few_on_page l page xs e =
+    let a = items_are l page xs e in
+    let bytes = committed l page in
+    let whole : length xs ≡ length (page_losses l page ++ events (timestamp l page) a.elements) = ap length a.items_are in
+    omega (
+      arith,
+      whole,
+      length-append (page_losses l page) (events (timestamp l page) a.elements),
+      one_loss l (commit_word l page) (timestamp l page) (behind_committed l page),
+      few_events (timestamp l page) a.elements,
+      spelled_long l.order a.elements bytes a.spelled,
+      length-take (committed_size (commit_word l page)) (data_area l page),
+      length-drop l.data_at page,
+    )
+
+-- A PROCESSOR'S SUB-BUFFERS STAND IN THE FILE
+
+record Held (l : Layout) (file : List ℕ) (k : ℕ) (xs : List ItemData) : Type 0 where
+  there : (k + 1) * l.page ≤ length file
+  few : length xs * 4 ≤ l.page + 4
+
+held_at : (l : Layout) (file : List ℕ) (part : Part) (k : ℕ) (xs : List ItemData) → items_at l file part k ≡ Some xs → Held l file k xs
+unfolding items_at
+held_at l file part k xs e = by_there (is_there l file part k) refl e
+  where
+    by_there : (b : Bool) → is_there l file part k ≡ b → cond b (items l (page_bytes l file part k)) None ≡ Some xs → Held l file k xs
+    by_there false is e = absurd cc
+    by_there true is e =
+        let bytes = page_bytes l file part k in
+        record {
+          there = inside (leb ((k + 1) * l.page) part.size) (leb (page_end l part k) (2 ^ 64)) is;
+          few = omega (arith, few_on_page l bytes xs e, length-take l.page (drop (part.offset + k * l.page) file));
+        }
+      where
+        inside : (a c : Bool) → (a && leb (page_end l part k) (length file) && c) ≡ true → (k + 1) * l.page ≤ length file
+        inside false c is = absurd cc
+        inside true c is = by_leb (leb (page_end l part k) (length file)) refl c is
+          where
+            by_leb : (b : Bool) → leb (page_end l part k) (length file) ≡ b → (c : Bool) → (b && c) ≡ true → (k + 1) * l.page ≤ length file
+            by_leb false e c is = absurd cc
+            by_leb true e c is = let h = leb-true _ _ e in omega (arith, h)
+
+few_from : (l : Layout) (file : List ℕ) (part : Part) (k n : ℕ) → 4096 ≤ l.page → (length (joined (pages_from l file part k n)) + k * l.page ≤ length file) ⊎ (length (joined (pages_from l file part k n)) ≡ 0)
+few_from l file part k zero least = inr refl
+few_from l file part k (suc n) least = by_page (items_at l file part k) refl (few_from l file part (k + 1) n least)
+  where
+    by_page : (o : Option (List ItemData)) → items_at l file part k ≡ o
+        → (length (joined (pages_from l file part (k + 1) n)) + (k + 1) * l.page ≤ length file) ⊎ (length (joined (pages_from l file part (k + 1) n)) ≡ 0)
+        → (length (joined (o ∷ pages_from l file part (k + 1) n)) + k * l.page ≤ length file) ⊎ (length (joined (o ∷ pages_from l file part (k + 1) n)) ≡ 0)
+    by_page None e few = inr (ap length (joined-none (pages_from l file part (k + 1) n)))
+    by_page (Some xs) e few =
+        let h = held_at l file part k xs e in
+        let more = pages_from l file part (k + 1) n in
+        let long : length (joined (Some xs ∷ more)) ≡ length xs + length (joined more) = ap length (joined-some xs more) ∙ length-append xs (joined more) in
+        elim few [
+          | inl some ↦ inl (omega (arith, long, h.there, h.few, some, least))
+          | inr none ↦ inl (omega (arith, long, h.there, h.few, none, least))
+        ]
+
+pub few_in_list : (l : Layout) (file : List ℕ) (part : Part) → 4096 ≤ l.page → length (list_of l file part) ≤ length file
+unfolding list_of
+few_in_list l file part least = elim (few_from l file part 0 (page_count l part) least) [
+  | inl few ↦ omega (arith, few)
+  | inr none ↦ omega (arith, none)
+]
+
+-- SEVERAL PROCESSORS
+
+keyed_long : (cpu high : ℕ) (xs : List ItemData) → length (keyed_from cpu high xs) ≡ length xs
+keyed_long cpu high [] = refl
+keyed_long cpu high (x ∷ xs) = ap suc (keyed_long cpu (max high (item_time x)) xs)
+
+pub few_keyed : (l : Layout) (file : List ℕ) (parts : List (ℕ × Part)) → 4096 ≤ l.page → length (all_keyed (lists_of l file parts)) ≤ length parts * length file
+few_keyed l file [] least = omega arith
+few_keyed l file (p ∷ parts) least =
+    let mine = keyed_from p.0 0 (list_of l file p.1) in
+    omega (arith, length-append mine (all_keyed (lists_of l file parts)), keyed_long p.0 0 (list_of l file p.1), few_in_list l file p.1 least, few_keyed l file parts least)
+
+put_long : (x : Keyed) (xs : List Keyed) → length (put key_of x xs) ≡ suc (length xs)
+put_long x [] = refl
+put_long x (y ∷ ys) = elim (cases_Bool (leb x.key y.key)) [
+  | inl b ↦ rw b refl
+  | inr b ↦ rw b (ap suc (put_long x ys))
+]
+
+by_key_long : (xs : List Keyed) → length (by_key key_of xs) ≡ length xs
+by_key_long [] = refl
+by_key_long (x ∷ xs) = put_long x (by_key key_of xs) ∙ ap suc (by_key_long xs)
+
+pub filter_few : (p : Keyed → Bool) (xs : List Keyed) → length (filter p xs) ≤ length xs
+filter_few p [] = omega arith
+filter_few p (x ∷ xs) = elim (cases_Bool (p x)) [
+  | inl b ↦ let h = filter_few p xs in rw b (omega (arith, h))
+  | inr b ↦ let h = filter_few p xs in rw b (omega (arith, h))
+]
+
+pub few_reached : (l : Layout) (file : List ℕ) (parts : List (ℕ × Part)) → 4096 ≤ l.page → length (reached_of l file parts) ≤ length parts * length file
+unfolding reached_of arranged
+few_reached l file parts least =
+    let all = all_keyed (lists_of l file parts) in
+    omega (arith, filter_few (is_up_to (cut_of l file parts)) (by_key key_of all), by_key_long all, few_keyed l file parts least)

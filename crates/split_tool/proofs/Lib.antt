@@ -1,0 +1,12 @@
+pub mod FileAfterFile
+pub mod Storing
+pub mod FewItems
+pub mod Starting
+pub mod Owning
+pub mod Tables
+pub mod Beginning
+pub mod OneByOne
+pub mod Passing
+pub mod Measuring
+pub mod Preparing
+pub mod Making

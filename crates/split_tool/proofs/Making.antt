@@ -1,0 +1,255 @@
+-- One file more in the folder, and the end of a split.
+use Rattle.std.proofs.Common.{◌≡◌, ℕ, zero, suc, ◌+◌, ◌-◌, ◌*◌, ◌^◌, ◌<◌, ◌≤◌, Bool, true, false, ◌&&◌, not, if◌then◌else◌, List, [], ◌∷◌, ◌++◌, length, drop, map, Option, Some, None, Err, refl, sym, ap, subst, ◌∙◌, arith}
+use Rattle.std.specs.Option.{IfSome}
+use Rattle.std.specs.List.{All}
+use Rattle.std.specs.FinMap.{insert}
+use Rattle.std.specs.Io.KnownBytes.{append_known}
+use Rattle.std.proofs.lemmas.Bool.{and_parts}
+use Rattle.std.proofs.Math.Nat.{mul-le-mul}
+use Rattle.std.proofs.lemmas.List.{length-append, length-map}
+use Rattle.std.proofs.lemmas.List.Elements.{All-nil, All-cons, All-head, All-tail, All-weaker}
+use Rattle.trace_base.specs.declared.layout.Layout.{Layout}
+use Rattle.trace_base.specs.declared.part.Part.{Part}
+use Rattle.trace_outside.specs.Causes.{raised}
+use Rattle.trace_outside.specs.Names.{NamedFiles, stored}
+use Rattle.trace_outside.specs.Folders.{IsEmptySink, Stores}
+use Rattle.trace_outside.specs.Writing.{Gained}
+use Rattle.dat_header.specs.declared.header.Header.{Header}
+use Rattle.dat_header.specs.Allowed.{IsHeader}
+use Rattle.dat_header.proofs.Headers.{header_layout}
+use Rattle.subpage.specs.Arrangement.{Keyed, CpusRise, all_keyed}
+use Rattle.subpage.specs.Cut.{reached_of, lists_of as lists_in}
+use Rattle.page_pool.specs.Fresh.{IsFresh}
+use Rattle.page_pool.specs.declared.lane.Lane.{Lane}
+use Rattle.page_write.specs.Placed.{data_of}
+use Rattle.event_cursor.specs.Standing.{Stands}
+use Rattle.event_cursor.specs.declared.places.Place.{Place}
+use Rattle.time_merge.specs.Rows.{Each}
+use Rattle.time_merge.specs.LaneRows.{parts_of}
+use Rattle.time_merge.proofs.Starting.{fresh_stands}
+use Rattle.time_merge.specs.declared.ending.End.{End}
+use Rattle.time_merge.specs.declared.ending.End.TheVariants as code
+use Rattle.trace_args.specs.Command.{SplitData}
+use Rattle.split_pieces.specs.declared.moment.Moment.{Moment}
+use Rattle.split_pieces.specs.declared.rules.Rules.{Rules}
+use Rattle.split_pieces.specs.Moments.{is_past, is_before}
+use Rattle.split_pieces.specs.Cuts.{is_apart, own_list, lists_to_cut, bad_reached, file_items}
+use Rattle.split_pieces.specs.Pieces.{IsUnit, is_some_left, joined_lists, behind_file, from_start, up_to_end, left_in, front_where}
+use Rattle.split_pieces.proofs.Cutting.{front_whole}
+use Rattle.split_passes.specs.AllAgain.{owns}
+use Rattle.split_passes.specs.declared.tally.Tally.{Tally}
+use Rattle.split_file.specs.Names.{file_name}
+use Rattle.split_file.specs.NewFile.{file_text, front_text, table_of}
+use Rattle.split_tool.specs.declared.lists.Ends.{Ends}
+use Rattle.split_tool.specs.Counted.{lists_of}
+use Rattle.split_tool.specs.Lists.{files_of, files_behind, lists_left, bad_left}
+use Rattle.split_tool.specs.Made.{next_text, Prepared, Written, Made, IsMade}
+use Rattle.split_tool.specs.Measured.{taken_of}
+use Rattle.split_tool.specs.NewFiles.{Creates, files_from, new_files, end_by, IsSplit}
+use Rattle.split_tool.specs.Rules.{rules_of}
+use Rattle.split_tool.specs.Started.{Started}
+use Rattle.split_tool.specs.Stored.{NewFile, FilesStored}
+use Rattle.split_tool.proofs.Beginning.{started_lists, started_bad}
+use Rattle.split_tool.proofs.FewItems.{few_keyed, few_reached, filter_few}
+use Rattle.split_tool.proofs.FileAfterFile.{goes_on, ends as no_files, fewer_left, some_length}
+use Rattle.split_tool.proofs.Owning.{tail_rises, above, each_as}
+use Rattle.split_tool.proofs.Preparing.{left_still, first_cpu, other_parts}
+use Rattle.split_tool.proofs.Storing.{Stages, stages_none, stages_more, all_stored, some_stored, first_stored}
+
+-- A FILE WAS FINISHED
+
+stored_is : (old1 old new : Option NamedFiles) (w0 w : Option (List ℕ)) (name name1 content : List ℕ) → old1 ≡ old → name1 ≡ name → IsEmptySink old w0 → Gained w0 w content → Stores old1 new name1 w → IfSome old (λ files. new ≡ Some (insert files name content))
+stored_is old1 None new w0 w name name1 content e n empty gained stores = tt
+stored_is old1 (Some files) new w0 w name name1 content e n empty gained stores =
+    let is : w ≡ Some content = gained ∙ ap (λ (o : Option (List ℕ)). append_known o content) empty in
+    let s : new ≡ stored old1 name1 content = subst (λ (o : Option (List ℕ)). IfSome o (λ bytes. new ≡ stored old1 name1 bytes)) is stores in
+    s ∙ ap (λ (o : Option NamedFiles). stored o name1 content) e ∙ ap (λ (m : List ℕ). stored (Some files) m content) n
+
+pub finished : (header : Header) (file : List ℕ) (rules : Rules) (name name1 : List ℕ) (first mid now : List Lane) (fronts : List Place) (tallies : List Tally) (table : List Part) (old old1 new : Option NamedFiles) (w0 w : Option (List ℕ)) (ends : Ends)
+    → old1 ≡ old → name1 ≡ name → IsEmptySink old w0 → Stores old1 new name1 w → Prepared header file rules first mid fronts tallies table ends
+    → Written header file table (owns first (taken_of header.layout file rules first)) mid now w0 w → Made header file rules name first now old new ends
+unfolding file_text
+finished header file rules name name1 first mid now fronts tallies table old old1 new w0 w ends e n empty stores p written =
+    let lists = lists_of header.cpus (taken_of header.layout file rules first) in
+    let content : front_text header table ++ data_of header.layout (owns first (taken_of header.layout file rules first)) ≡ front_text header (table_of header lists) ++ data_of header.layout lists =
+    ap (λ (bytes : List ℕ). front_text header table ++ bytes) p.bytes ∙ ap (λ (ps : List Part). front_text header ps ++ data_of header.layout lists) p.table_is in
+    record {
+      left = left_still header.layout file rules first first mid now ends refl written.rows written.stands p.left;
+      stored = stored_is old1 old new w0 w name name1 _ e n empty (subst (Gained w0 w) content written.gained) stores;
+    }
+
+-- THE NUMBER OF ITEMS
+
+up_few : (stop : Option Moment) (xs : List Keyed) → length (up_to_end stop xs) ≤ length xs
+up_few None xs = omega arith
+up_few (Some m) xs =
+    let p = λ (x : Keyed). not (is_past m x.key) in
+    let parts : length (front_where p xs ++ drop (length (front_where p xs)) xs) ≡ length xs = ap length (front_whole p xs) in
+    omega (arith, parts, length-append (front_where p xs) (drop (length (front_where p xs)) xs))
+
+start_few : (start : Option Moment) (xs : List Keyed) → length (from_start start xs) ≤ length xs
+start_few None xs = omega arith
+start_few (Some m) xs = filter_few (λ x. not (is_before m x.key)) xs
+
+left_few : (rules : Rules) (lists : List (List Keyed)) → length (joined_lists (map (left_in rules) lists)) ≤ length (joined_lists lists)
+left_few rules [] = omega arith
+left_few rules (xs ∷ lists) =
+    omega (arith, length-append (left_in rules xs) (joined_lists (map (left_in rules) lists)), length-append xs (joined_lists lists), up_few rules.stop (from_start rules.start xs), start_few rules.start xs, left_few rules lists)
+
+own_joined : (l : Layout) (file : List ℕ) (parts : List (ℕ × Part)) → joined_lists (map (own_list l file) parts) ≡ all_keyed (lists_in l file parts)
+own_joined l file [] = refl
+own_joined l file (p ∷ parts) = ap (λ (xs : List Keyed). own_list l file p ++ xs) (own_joined l file parts)
+
+cut_few : (l : Layout) (file : List ℕ) (rules : Rules) (parts : List (ℕ × Part)) → 4096 ≤ l.page → length (joined_lists (lists_to_cut rules l file parts)) ≤ length parts * length file
+cut_few l file rules parts least = by_apart (is_apart rules)
+  where
+    by_apart : (b : Bool) → length (joined_lists (if b then map (own_list l file) parts else reached_of l file parts ∷ [])) ≤ length parts * length file
+    by_apart true = let e : length (joined_lists (map (own_list l file) parts)) ≡ length (all_keyed (lists_in l file parts)) = ap length (own_joined l file parts) in omega (arith, e, few_keyed l file parts least)
+    by_apart false = omega (arith, length-append (reached_of l file parts) [], few_reached l file parts least)
+
+lanes_few : (n k : ℕ) (lanes : List Lane) → CpusRise (parts_of lanes) → Each (λ (a : Lane). k ≤ a.cpu) lanes → All (λ (a : Lane). a.cpu < k + n) lanes → length lanes ≤ n
+lanes_few n k [] rise least most = omega arith
+lanes_few zero k (a ∷ lanes) rise least most = let lt : a.cpu < k + 0 = All-head (λ (x : Lane). x.cpu < k + 0) a lanes most in absurd (omega (arith, lt, least.0))
+lanes_few (suc n) k (a ∷ lanes) rise least most =
+    let lt : a.cpu < k + suc n = All-head (λ (x : Lane). x.cpu < k + suc n) a lanes most in
+    let later : Each (λ (x : Lane). k + 1 ≤ x.cpu) lanes = each_as (λ (x : Lane). a.cpu < x.cpu) (λ (x : Lane). k + 1 ≤ x.cpu) (λ x h. omega (arith, h, least.0)) lanes (above a lanes rise) in
+    let more : All (λ (x : Lane). x.cpu < k + 1 + n) lanes = All-weaker (λ (x : Lane). x.cpu < k + suc n) (λ (x : Lane). x.cpu < k + 1 + n) (λ x h. omega (arith, h)) lanes (All-tail (λ (x : Lane). x.cpu < k + suc n) a lanes most) in
+    omega (arith, lanes_few n (k + 1) lanes (tail_rises a lanes rise) later more)
+
+-- FILE AFTER FILE
+
+pub record Progress (header : Header) (base : List ℕ) (file : List ℕ) (rules : Rules) (news : List NewFile) (bad : Option (ℕ × ℕ)) (number : ℕ) (now : List Lane) (old new : Option NamedFiles) : Type 0 where
+  pub stands : All (Stands header.layout file) now
+  pub stage : Stages news (files_from header base number (files_of rules (lists_left header.layout file rules now))) old new
+  pub short : All (λ (f : NewFile). length f.content < 2 ^ 64) (files_from header base number (files_of rules (lists_left header.layout file rules now)))
+  pub bad_is : bad_left header.layout file rules now ≡ bad
+  pub counted : length news + 1 ≡ number + length (files_from header base number (files_of rules (lists_left header.layout file rules now)))
+  pub few : number + length (joined_lists (lists_left header.layout file rules now)) ≤ 2 ^ 62
+
+pub progress_none : (header : Header) (words : SplitData) (rules : Rules) (file : List ℕ) (first now : List Lane) (old : Option NamedFiles) → IsHeader header → rules ≡ rules_of words → CpusRise (parts_of first) → All (λ (a : Lane). a.cpu < header.cpus) first
+    → All (λ (a : Lane). IsFresh a.cursor) first → parts_of now ≡ parts_of first → length file ≤ 2 ^ 39 → All (λ (f : NewFile). length f.content < 2 ^ 64) (new_files words header file (parts_of first)) → Started header.layout file rules first now
+    → Progress header words.base file rules (new_files words header file (parts_of first)) (bad_reached (rules_of words) header.layout file (parts_of first)) 1 now old old
+progress_none header words rules file first now old allowed is rise cpus fresh parts small short s =
+    let l = header.layout in
+    let lists : lists_left l file rules now ≡ map (left_in rules) (lists_to_cut rules l file (parts_of first)) = started_lists l file rules first now fresh s in
+    let items : files_of rules (lists_left l file rules now) ≡ file_items (rules_of words) l file (parts_of first) =
+    ap (files_of rules) lists ∙ ap (λ (r : Rules). file_items r l file (parts_of first)) is in
+    let news : new_files words header file (parts_of first) ≡ files_from header words.base 1 (files_of rules (lists_left l file rules now)) = ap (files_from header words.base 1) (sym items) in
+    let layout = header_layout header allowed in
+    let lanes : length first ≤ header.cpus = lanes_few header.cpus 0 first rise (each_zero first) (All-weaker (λ (a : Lane). a.cpu < header.cpus) (λ (a : Lane). a.cpu < 0 + header.cpus) (λ a lt. omega (arith, lt)) first cpus) in
+    let few : length (joined_lists (lists_left l file rules now)) ≤ length first * length file =
+    let cut = cut_few l file rules (parts_of first) layout.page_least in
+    let some : length (joined_lists (lists_left l file rules now)) ≡ length (joined_lists (map (left_in rules) (lists_to_cut rules l file (parts_of first)))) = ap (λ (xss : List (List Keyed)). length (joined_lists xss)) lists in
+    let long : length (parts_of first) * length file ≡ length first * length file = ap (λ (n : ℕ). n * length file) (length-map first (λ (a : Lane). (a.cpu, a.part))) in
+    omega (arith, some, left_few rules (lists_to_cut rules l file (parts_of first)), cut, long) in
+    let most_lanes : length first ≤ 1024 = omega (arith, lanes, allowed.cpus) in
+    let most : length first * length file ≤ 1024 * 2 ^ 39 = mul-le-mul most_lanes small in
+    record {
+      stands = s.stands;
+      stage = subst (λ (more : List NewFile). Stages (new_files words header file (parts_of first)) more old old) news (stages_none (new_files words header file (parts_of first)) old);
+      short = subst (All (λ (f : NewFile). length f.content < 2 ^ 64)) news short;
+      counted = omega (arith, ap (λ (fs : List NewFile). length fs) news);
+      bad_is = started_bad l file rules first now fresh parts s ∙ ap (λ (r : Rules). bad_reached r l file (parts_of first)) is;
+      few = omega (arith, few, most);
+    }
+  where
+    each_zero : (lanes : List Lane) → Each (λ (a : Lane). 0 ≤ a.cpu) lanes
+    each_zero [] = tt
+    each_zero (a ∷ lanes) = (omega arith, each_zero lanes)
+
+module _ (header : Header) (base : List ℕ) (file : List ℕ) (rules : Rules) (news : List NewFile) (bad : Option (ℕ × ℕ)) (number : ℕ) (now later : List Lane) (old mid new : Option NamedFiles) where
+  -- the next file is short, and there are few items
+  pub next_short : Progress header base file rules news bad number now old mid → length (next_text header file rules now) < 2 ^ 64
+  next_short p = All-head (λ (f : NewFile). length f.content < 2 ^ 64) _ _ p.short
+
+  pub next_few : Progress header base file rules news bad number now old mid → length (joined_lists (lists_left header.layout file rules now)) < 2 ^ 63
+  next_few p = omega (arith, p.few)
+
+  pub progress_more : (ends : Ends) → IsUnit rules.unit → (ends.more && rules.repeat) ≡ true → Made header file rules (file_name base number) now later mid new ends
+      → Progress header base file rules news bad number now old mid → Progress header base file rules news bad (number + 1) later old new
+  progress_more ends unit more m p =
+      let l = header.layout in
+      let lists = lists_left l file rules now in
+      let both = and_parts ends.more rules.repeat more in
+      let some : is_some_left (joined_lists (behind_file rules.unit lists)) ≡ true = ap (λ (xss : List (List Keyed)). is_some_left (joined_lists xss)) (sym m.left.left) ∙ sym m.left.more ∙ both.0 in
+      let rest : files_behind rules lists ≡ files_of rules (lists_left l file rules later) = goes_on rules lists unit both.1 some ∙ ap (files_of rules) (sym m.left.left) in
+      let fewer : length (joined_lists (behind_file rules.unit lists)) < length (joined_lists lists) = fewer_left rules.unit lists unit (some_length _ some) in
+      let long : length (joined_lists (lists_left l file rules later)) ≡ length (joined_lists (behind_file rules.unit lists)) = ap (λ (xss : List (List Keyed)). length (joined_lists xss)) m.left.left in
+      record {
+        stands = m.left.stands;
+        stage = subst (λ (fs : List (List Keyed)). Stages news (files_from header base (number + 1) fs) old new) rest (stages_more news _ _ old mid new m.stored p.stage);
+        short = subst (λ (fs : List (List Keyed)). All (λ (f : NewFile). length f.content < 2 ^ 64) (files_from header base (number + 1) fs)) rest (All-tail (λ (f : NewFile). length f.content < 2 ^ 64) _ _ p.short);
+        counted = subst (λ (fs : List (List Keyed)). length news + 1 ≡ number + 1 + length (files_from header base (number + 1) fs)) rest (omega (arith, p.counted));
+        bad_is = m.left.bad both.1 ∙ p.bad_is;
+        few = omega (arith, p.few, fewer, long);
+      }
+
+  pub progress_last : (ends : Ends) (result : End) → (ends.more && rules.repeat) ≡ false → result ≡ end_by ends.bad → Made header file rules (file_name base number) now later mid new ends
+      → Progress header base file rules news bad number now old mid → IsSplit news (end_by bad) old new result
+  progress_last ends result more is m p =
+      let l = header.layout in
+      let lists = lists_left l file rules now in
+      let none : (is_some_left (joined_lists (behind_file rules.unit lists)) && rules.repeat) ≡ false =
+      ap (λ (xss : List (List Keyed)). is_some_left (joined_lists xss) && rules.repeat) (sym m.left.left) ∙ ap (λ (b : Bool). b && rules.repeat) (sym m.left.more) ∙ more in
+      let stored : Stages news [] old new = subst (λ (fs : List (List Keyed)). Stages news (files_from header base (number + 1) fs) old new) (no_files rules lists none) (stages_more news _ _ old mid new m.stored p.stage) in
+      ended_by ends.bad bad result is (m.left.bad_ends more ∙ p.bad_is) (all_stored news old new stored)
+    where
+      ended_by : (o b : Option (ℕ × ℕ)) (result : End) → result ≡ end_by o → o ≡ b → FilesStored news old new → IsSplit news (end_by b) old new result
+      ended_by None b result is same s = subst (λ (e : End). IsSplit news (end_by b) old new e) (sym is) (ap end_by same, s)
+      ended_by (Some place) b result is same s = subst (λ (e : End). IsSplit news (end_by b) old new e) (sym is) (ap end_by same, s)
+
+  none_behind : (ends : Ends) → (ends.more && rules.repeat) ≡ false → Made header file rules (file_name base number) now later mid new ends
+      → files_behind rules (lists_left header.layout file rules now) ≡ []
+  none_behind ends more m =
+      no_files rules (lists_left header.layout file rules now)
+      (ap (λ (xss : List (List Keyed)). is_some_left (joined_lists xss) && rules.repeat) (sym m.left.left) ∙ ap (λ (b : Bool). b && rules.repeat) (sym m.left.more) ∙ more)
+
+  -- the last file is that of this number
+  last_counted : (ends : Ends) → (ends.more && rules.repeat) ≡ false → Made header file rules (file_name base number) now later mid new ends
+      → Progress header base file rules news bad number now old mid → length news ≡ number
+  last_counted ends more m p =
+      let none : length (files_from header base (number + 1) (files_behind rules (lists_left header.layout file rules now))) ≡ 0 =
+      ap (λ (fs : List (List Keyed)). length (files_from header base (number + 1) fs)) (none_behind ends more m) in
+      omega (arith, p.counted, none)
+
+  -- there are at least as many files
+  some_counted : Progress header base file rules news bad number now old mid → number ≤ length news
+  some_counted p = omega (arith, p.counted)
+
+  pub created_last : (ends : Ends) (result : End) (first before after : ℕ) → (ends.more && rules.repeat) ≡ false → result ≡ end_by ends.bad → Made header file rules (file_name base number) now later mid new ends
+      → 1 ≤ number → before ≡ raised first (number - 1) → after ≡ raised before 1
+      → Progress header base file rules news bad number now old mid → Creates (length news) first after result
+  created_last ends result first before after more is m least so_far one p = by_bad ends.bad result is (omega (arith, last_counted ends more m p, least, so_far, one))
+    where
+      by_bad : (o : Option (ℕ × ℕ)) (result : End) → result ≡ end_by o → after ≡ raised first (length news) → Creates (length news) first after result
+      by_bad None result is e = subst (λ (r : End). Creates (length news) first after r) (sym is) e
+      by_bad (Some place) result is e = subst (λ (r : End). Creates (length news) first after r) (sym is) e
+
+  pub created_stops : (end result : End) (first before after : ℕ) → result ≡ end → IsMade header file rules (file_name base number) now later mid new (Err end)
+      → 1 ≤ number → before ≡ raised first (number - 1) → after ≤ raised before 1
+      → Progress header base file rules news bad number now old mid → Creates (length news) first after result
+  created_stops code.Done result first before after is m least so_far one p = absurd m
+  created_stops (code.Malformed cpu page) result first before after is m least so_far one p = absurd m
+  created_stops code.Read result first before after is m least so_far one p = subst (λ (r : End). Creates (length news) first after r) (sym is) (omega (arith, some_counted p, least, so_far, one))
+  created_stops code.Write result first before after is m least so_far one p = subst (λ (r : End). Creates (length news) first after r) (sym is) (omega (arith, some_counted p, least, so_far, one))
+
+  pub progress_stops : (end result : End) → result ≡ end → IsMade header file rules (file_name base number) now later mid new (Err end)
+      → Progress header base file rules news bad number now old mid → IsSplit news (end_by bad) old new result
+  progress_stops code.Done result is m p = absurd m
+  progress_stops (code.Malformed cpu page) result is m p = absurd m
+  progress_stops code.Read result is m p = subst (λ (e : End). IsSplit news (end_by bad) old new e) (sym is) (some_stored news _ old mid new m p.stage)
+  progress_stops code.Write result is m p = subst (λ (e : End). IsSplit news (end_by bad) old new e) (sym is) (first_stored news _ _ old mid new m p.stage)
+
+-- lanes of the same processors
+pub same_cpus : (n : ℕ) (first now : List Lane) → parts_of now ≡ parts_of first → All (λ (a : Lane). a.cpu < n) first → All (λ (a : Lane). a.cpu < n) now
+same_cpus n [] [] e a = All-nil (λ (x : Lane). x.cpu < n)
+same_cpus n [] (b ∷ now) e a = absurd cc
+same_cpus n (f ∷ first) [] e a = absurd cc
+same_cpus n (f ∷ first) (b ∷ now) e a =
+    let cpu : b.cpu ≡ f.cpu = ap first_cpu e in
+    let more : parts_of now ≡ parts_of first = ap other_parts e in
+    let lt : f.cpu < n = All-head (λ (x : Lane). x.cpu < n) f first a in
+    All-cons (λ (x : Lane). x.cpu < n) b now (omega (arith, cpu, lt)) (same_cpus n first now more (All-tail (λ (x : Lane). x.cpu < n) f first a))
+
+pub fresh_stand : (l : Layout) (file : List ℕ) (lanes : List Lane) → All (λ (a : Lane). IsFresh a.cursor) lanes → All (Stands l file) lanes
+fresh_stand l file lanes f = All-weaker (λ (a : Lane). IsFresh a.cursor) (Stands l file) (λ a fresh. fresh_stands l file a fresh) lanes f

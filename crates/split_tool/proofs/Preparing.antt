@@ -1,0 +1,255 @@
+-- A file between its two passes.
+use Rattle.std.proofs.Common.{◌≡◌, ℕ, ◌+◌, ◌^◌, ◌<◌, ◌≤◌, eqb, List, [], ◌∷◌, ◌++◌, length, get_or, map, Option, Some, None, refl, sym, ap, subst, ◌∙◌, arith}
+use Rattle.std.specs.Option.{IfSome}
+use Rattle.std.specs.List.{All, filter_map}
+use Rattle.std.proofs.lemmas.List.{length-append, length-map, get_or-map}
+use Rattle.std.proofs.lemmas.List.Elements.{All-get_or, All-head, All-tail}
+use Rattle.std.proofs.lemmas.List.FromFn.{length-map-range_with_len}
+use Rattle.trace_base.specs.declared.layout.Layout.{Layout}
+use Rattle.trace_base.specs.declared.part.Part.{Part}
+use Rattle.trace_outside.specs.Writing.{Gained}
+use Rattle.trace_outside.proofs.Gains.{gained_both}
+use Rattle.dat_header.specs.declared.header.Header.{Header}
+use Rattle.dat_header.specs.Allowed.{IsHeader}
+use Rattle.subpage.specs.ItemData.{ItemData}
+use Rattle.subpage.specs.Arrangement.{Keyed, CpusRise, cpu_of, with_key}
+use Rattle.subpage.specs.Marks.{items_from}
+use Rattle.page_pool.specs.declared.lane.Lane.{Lane}
+use Rattle.page_pool.specs.declared.cursor.LaneState.{LaneState}
+use Rattle.page_pool.specs.declared.cursor.LaneState.TheVariants.{Fresh, Held, Ended, Malformed}
+use Rattle.page_write.specs.Placed.{parts_from, data_of}
+use Rattle.event_cursor.specs.Standing.{IsInOrder, Stands, if_held, left_of}
+use Rattle.event_cursor.specs.Places.{IsPlace, place_in, left_behind}
+use Rattle.event_cursor.specs.declared.places.Place.{Place}
+use Rattle.event_cursor.proofs.Returning.{is_place, left_is_behind}
+use Rattle.time_merge.specs.Rows.{Row, Each}
+use Rattle.time_merge.specs.LaneRows.{parts_of, rows_of, IsReady, IsReadyIn}
+use Rattle.time_merge.specs.declared.ending.End.{End}
+use Rattle.time_merge.specs.declared.ending.End.TheVariants as code
+use Rattle.split_pieces.specs.declared.rules.Rules.{Rules}
+use Rattle.split_pieces.specs.Cuts.{items_of_cpu, first_of_all}
+use Rattle.split_pieces.specs.Pieces.{is_some_left, joined_lists, next_file, behind_file}
+use Rattle.split_passes.specs.declared.tally.Tally.{Tally}
+use Rattle.split_passes.specs.Tallies.{IsTally}
+use Rattle.split_passes.specs.Measures.{Tallied}
+use Rattle.split_passes.specs.Again.{IsFront}
+use Rattle.split_passes.specs.AllAgain.{AreFronts, owns, IsPackedAll}
+use Rattle.split_passes.proofs.Running.{same_length, same_cpu}
+use Rattle.split_file.specs.NewFile.{front_len, front_text, table_of, file_text}
+use Rattle.split_file.proofs.Laid.{length-front, length-table}
+use Rattle.split_tool.specs.declared.lists.Ends.{Ends}
+use Rattle.split_tool.specs.Counted.{lists_of, AreCounted}
+use Rattle.split_tool.specs.Lists.{groups, left_in_rows, bad_in_rows, lists_left, bad_left}
+use Rattle.split_tool.specs.Measured.{taken_of, FileMeasured, IsFileMeasured}
+use Rattle.split_tool.specs.Made.{next_text, FileLeft, Prepared, IsPrepared, IsWritten}
+use Rattle.split_tool.proofs.FileAfterFile.{len_parts}
+use Rattle.split_tool.proofs.FewItems.{filter_few}
+use Rattle.split_tool.proofs.Owning.{IsNotLane, none_else}
+use Rattle.split_tool.proofs.Tables.{same_data}
+
+-- FRONTS
+
+own_fewer : (cpu : ℕ) (taken : List Keyed) → length (items_of_cpu cpu taken) ≤ length taken
+own_fewer cpu taken = omega (arith, length-map (with_key cpu_of cpu taken) (λ (x : Keyed). x.item), filter_few (λ (y : Keyed). eqb y.cpu cpu) taken)
+
+same_part : (ks bs : List Lane) (i : ℕ) (d : Lane) → i < length ks → i < length bs → parts_of ks ≡ parts_of bs → (get_or ks i d).part ≡ (get_or bs i d).part
+same_part ks bs i d lt lt2 e =
+    ap (λ (p : ℕ × Part). p.1) (sym (get_or-map (λ (a : Lane). (a.cpu, a.part)) ks i d (d.cpu, d.part) lt) ∙ ap (λ (ps : List (ℕ × Part)). get_or ps i (d.cpu, d.part)) e ∙ get_or-map (λ (a : Lane). (a.cpu, a.part)) bs i d (d.cpu, d.part) lt2)
+
+-- a lane that is ready and has an item left holds a sub-buffer
+holds_some : (l : Layout) (file : List ℕ) (a : Lane) (xs ys : List ItemData) → IsReady l a → Stands l file a → left_of l file a ≡ xs ++ ys → 0 < length xs → a.cursor.state ≡ Held
+holds_some l file a xs ys ready s left some = by_state a.cursor.state refl
+  where
+    not_empty : left_of l file a ≡ [] → ⊥
+    not_empty none =
+        let long : length (xs ++ ys) ≡ 0 = ap length (sym left ∙ none) in
+        omega (arith, long, length-append xs ys, some)
+
+    by_state : (t : LaneState) → a.cursor.state ≡ t → a.cursor.state ≡ Held
+    by_state Fresh e = absurd (subst (λ (t : LaneState). IsReadyIn t (if_held t (items_from l a.page a.cursor.mark))) e ready)
+    by_state Held e = e
+    by_state Ended e = absurd (not_empty (s.ended e).0)
+    by_state Malformed e = absurd (not_empty (s.malformed e).0)
+
+fronts_all : (l : Layout) (file : List ℕ) (first now : List Lane) (fronts : List Place) (tallies : List Tally) (taken : List Keyed) → All (IsInOrder l) first → All (IsReady l) first → All (Stands l file) first
+    → parts_of now ≡ parts_of first → ((i : ℕ) (d : Lane) (p : Place) → i < length first → get_or fronts i p ≡ place_in (get_or first i d))
+    → ((i : ℕ) (d : Lane) → i < length first → left_of l file (get_or first i d) ≡ items_of_cpu (get_or first i d).cpu taken ++ left_of l file (get_or now i d))
+    → Tallied l first taken tallies → length taken < 2 ^ 63 → AreFronts l file now fronts tallies (owns first taken)
+fronts_all l file first now fronts tallies taken order ready stands parts noted lefts tallied few =
+    let same : length now ≡ length first = same_length now first parts in
+    record {
+      long = length-map first (λ (a : Lane). items_of_cpu a.cpu taken) ∙ sym same;
+      each = λ i d p t lt0.
+          let lt : i < length first = omega (arith, same, lt0) in
+          let a = get_or first i d in
+          let b = get_or now i d in
+          let list : get_or (owns first taken) i [] ≡ items_of_cpu a.cpu taken = get_or-map (λ (x : Lane). items_of_cpu x.cpu taken) first i d [] lt in
+          let count : (get_or tallies i t).items ≡ length (items_of_cpu a.cpu taken) = (tallied i d t lt (omega (arith, own_fewer a.cpu taken, few))).count in
+          let part : b.part ≡ a.part = same_part now first i d lt0 lt parts in
+          let s = All-get_or (Stands l file) first i d lt stands in
+          let o = All-get_or (IsInOrder l) first i d lt order in
+          let left : left_of l file a ≡ items_of_cpu a.cpu taken ++ left_of l file b = lefts i d lt in
+          let held : 0 < (get_or tallies i t).items → a.cursor.state ≡ Held = λ some. holds_some l file a (items_of_cpu a.cpu taken) (left_of l file b) (All-get_or (IsReady l) first i d lt ready) s left (omega (arith, count, some)) in
+          let front : IsFront l file b (place_in a) (get_or tallies i t).items (items_of_cpu a.cpu taken) = record {
+            long = sym count;
+            place = λ some. subst (λ (q : Part). IsPlace l file q (place_in a)) (sym part) (is_place l file a o s (held some));
+            left = λ some. ap (λ (q : Part). left_behind l file q (place_in a)) part ∙ sym (left_is_behind l file a o s (held some)) ∙ left;
+          } in
+          subst (λ (xs : List ItemData). IsFront l file b (get_or fronts i p) (get_or tallies i t).items xs) (sym list)
+          (subst (λ (x : Place). IsFront l file b x (get_or tallies i t).items (items_of_cpu a.cpu taken)) (sym (noted i d p lt)) front);
+    }
+
+-- COUNTS
+
+abbrev pub first_cpu : List (ℕ × Part) → ℕ
+first_cpu [] = 0
+first_cpu (p ∷ parts) = p.0
+
+abbrev pub other_parts : List (ℕ × Part) → List (ℕ × Part)
+other_parts [] = []
+other_parts (p ∷ parts) = parts
+
+other_lanes : (c : ℕ) (now first : List Lane) → parts_of now ≡ parts_of first → Each (IsNotLane c) now → Each (IsNotLane c) first
+other_lanes c [] [] e a = tt
+other_lanes c [] (b ∷ first) e a = absurd cc
+other_lanes c (b ∷ now) [] e a = absurd cc
+other_lanes c (b ∷ now) (f ∷ first) e a =
+    let cpu : b.cpu ≡ f.cpu = ap first_cpu e in
+    let more : parts_of now ≡ parts_of first = ap other_parts e in
+    ((λ same. a.0 (cpu ∙ same)), other_lanes c now first more a.1)
+
+counted : (l : Layout) (file : List ℕ) (rules : Rules) (first now : List Lane) (tallies : List Tally) → parts_of now ≡ parts_of first → Tallied l first (taken_of l file rules first) tallies → length (taken_of l file rules first) < 2 ^ 63
+    → AreCounted l now tallies (taken_of l file rules first)
+counted l file rules first now tallies parts tallied few =
+    let taken = taken_of l file rules first in
+    record {
+      tallied = λ i d t lt.
+          let same : length now ≡ length first = same_length now first parts in
+          let lt2 : i < length first = omega (arith, same, lt) in
+          let cpu : (get_or now i d).cpu ≡ (get_or first i d).cpu = same_cpu now first i d lt lt2 parts in
+          let short : length (items_of_cpu (get_or first i d).cpu taken) < 2 ^ 63 = omega (arith, own_fewer (get_or first i d).cpu taken, few) in
+          subst (λ (c : ℕ). (length (items_of_cpu c taken) < 2 ^ 63) × IsTally l (get_or tallies i t) (items_of_cpu c taken)) (sym cpu) (short, tallied i d t lt2);
+      none_else = λ c others. none_else l file rules first c (other_lanes c now first parts others);
+    }
+
+-- THE WHOLE
+
+by_parts : (lanes : List Lane) (taken : List Keyed) → owns lanes taken ≡ map (λ (p : ℕ × Part). items_of_cpu p.0 taken) (parts_of lanes)
+by_parts [] taken = refl
+by_parts (a ∷ lanes) taken = ap (λ (t : List (List ItemData)). items_of_cpu a.cpu taken ∷ t) (by_parts lanes taken)
+
+same_owns : (ks bs : List Lane) (taken : List Keyed) → parts_of ks ≡ parts_of bs → owns ks taken ≡ owns bs taken
+same_owns ks bs taken e = by_parts ks taken ∙ ap (map (λ (p : ℕ × Part). items_of_cpu p.0 taken)) e ∙ sym (by_parts bs taken)
+
+pub same_lists : (l : Layout) (file : List ℕ) (rules : Rules) (ks bs : List Lane) → rows_of l file ks ≡ rows_of l file bs → lists_left l file rules ks ≡ lists_left l file rules bs
+same_lists l file rules ks bs e = ap (λ (rows : List (Row Keyed)). map (left_in_rows rules.stop) (groups rules rows)) e
+
+pub same_bad : (l : Layout) (file : List ℕ) (rules : Rules) (ks bs : List Lane) → rows_of l file ks ≡ rows_of l file bs → bad_left l file rules ks ≡ bad_left l file rules bs
+same_bad l file rules ks bs e = ap (λ (rows : List (Row Keyed)). first_of_all (filter_map (bad_in_rows rules) (groups rules rows))) e
+
+-- lanes that have the same left
+pub left_still : (l : Layout) (file : List ℕ) (rules : Rules) (first first1 now now1 : List Lane) (ends : Ends) → rows_of l file first1 ≡ rows_of l file first → rows_of l file now1 ≡ rows_of l file now → All (Stands l file) now1
+    → FileLeft l file rules first1 now ends → FileLeft l file rules first now1 ends
+left_still l file rules first first1 now now1 ends same same1 stands f = record {
+  stands = stands;
+  left = same_lists l file rules now1 now same1 ∙ f.left ∙ ap (behind_file rules.unit) (same_lists l file rules first1 first same);
+  more = f.more ∙ ap (λ (xss : List (List Keyed)). is_some_left (joined_lists xss)) (sym (same_lists l file rules now1 now same1));
+  bad_ends = λ last. f.bad_ends last ∙ same_bad l file rules first1 first same;
+  bad = λ again. same_bad l file rules now1 now same1 ∙ f.bad again ∙ same_bad l file rules first1 first same;
+}
+
+cpus_below : (n : ℕ) (lanes : List Lane) → All (λ (a : Lane). a.cpu < n) lanes → Each (λ (a : Lane). a.cpu < 0 + n) lanes
+cpus_below n [] a = tt
+cpus_below n (x ∷ lanes) a =
+    let lt : x.cpu < n = All-head (λ (y : Lane). y.cpu < n) x lanes a in
+    (omega (arith, lt), cpus_below n lanes (All-tail (λ (y : Lane). y.cpu < n) x lanes a))
+
+cpus_from : (lanes : List Lane) → Each (λ (a : Lane). 0 ≤ a.cpu) lanes
+cpus_from [] = tt
+cpus_from (x ∷ lanes) = (omega arith, cpus_from lanes)
+
+data_all : (l : Layout) (file : List ℕ) (rules : Rules) (lanes : List Lane) (cpus : ℕ) → CpusRise (parts_of lanes) → All (λ (a : Lane). a.cpu < cpus) lanes
+    → data_of l (owns lanes (taken_of l file rules lanes)) ≡ data_of l (lists_of cpus (taken_of l file rules lanes))
+unfolding data_of
+data_all l file rules lanes cpus rise below = same_data l (taken_of l file rules lanes) cpus 0 lanes rise (cpus_from lanes) (cpus_below cpus lanes below) (λ c le others. none_else l file rules lanes c others)
+
+record Fits (header : Header) (file : List ℕ) (rules : Rules) (lanes : List Lane) : Type 0 where
+  front : front_len header < 2 ^ 64
+  whole : front_len header + length (data_of header.layout (lists_of header.cpus (taken_of header.layout file rules lanes))) < 2 ^ 64
+
+fits_in : (header : Header) (file : List ℕ) (rules : Rules) (lanes : List Lane) → IsHeader header → length (next_text header file rules lanes) < 2 ^ 64 → Fits header file rules lanes
+unfolding file_text
+fits_in header file rules lanes allowed short =
+    let lists = lists_of header.cpus (taken_of header.layout file rules lanes) in
+    let parts = table_of header lists in
+    let many : length parts ≡ header.cpus = length-table header lists ∙ length-map-range_with_len (λ cpu. items_of_cpu cpu (taken_of header.layout file rules lanes)) 0 header.cpus in
+    let front = length-front header parts allowed many in
+    let both = length-append (front_text header parts) (data_of header.layout lists) in
+    record { front = omega (arith, front, both, short); whole = omega (arith, front, both, short) }
+
+pub prepared : (header : Header) (file : List ℕ) (rules : Rules) (first ready now : List Lane) (fronts : List Place) (tallies : List Tally) (table0 table : List Part) (at : ℕ) (result : Option Ends)
+    → IsHeader header → CpusRise (parts_of first) → All (λ (a : Lane). a.cpu < header.cpus) first → rows_of header.layout file ready ≡ rows_of header.layout file first → parts_of ready ≡ parts_of first → parts_of now ≡ parts_of ready
+    → All (IsInOrder header.layout) ready → All (IsReady header.layout) ready → All (Stands header.layout file) ready
+    → ((i : ℕ) (d : Lane) (p : Place) → i < length ready → get_or fronts i p ≡ place_in (get_or ready i d))
+    → (front_len header < 2 ^ 64 → at ≡ front_len header) → length table0 ≡ header.cpus
+    → ((xs : List Keyed) → AreCounted header.layout now tallies xs → at + length (data_of header.layout (lists_of (length table0) xs)) < 2 ^ 64 → table ≡ parts_from header.layout at (lists_of (length table0) xs))
+    → length (joined_lists (lists_left header.layout file rules first)) < 2 ^ 63 → length (next_text header file rules first) < 2 ^ 64
+    → IsFileMeasured header.layout file rules ready now tallies result → IsPrepared header file rules first now fronts tallies table result
+unfolding table_of
+prepared header file rules first ready now fronts tallies table0 table at None allowed rise below rows parts later order are_ready stands noted place cpus filled few short m = tt
+prepared header file rules first ready now fronts tallies table0 table at (Some ends) allowed rise below rows parts later order are_ready stands noted place cpus filled few short m =
+    let l = header.layout in
+    let taken1 = taken_of l file rules ready in
+    let taken = taken_of l file rules first in
+    let same : taken1 ≡ taken = ap (next_file rules.unit) (same_lists l file rules ready first rows) in
+    let some : length taken < 2 ^ 63 = omega (arith, few, len_parts rules.unit (lists_left l file rules first)) in
+    let some1 : length taken1 < 2 ^ 63 = subst (λ (xs : List Keyed). length xs < 2 ^ 63) (sym same) some in
+    let fits = fits_in header file rules first allowed short in
+    let at_is : at ≡ front_len header = place fits.front in
+    let count : AreCounted l now tallies taken = subst (AreCounted l now tallies) same (counted l file rules ready now tallies later m.tallied some1) in
+    let size : length (data_of l (lists_of (length table0) taken)) ≡ length (data_of l (lists_of header.cpus taken)) = ap (λ (n : ℕ). length (data_of l (lists_of n taken))) cpus in
+    let room : at + length (data_of l (lists_of (length table0) taken)) < 2 ^ 64 = omega (arith, at_is, size, fits.whole) in
+    record {
+      left = left_still l file rules first ready now now ends rows refl m.stands (record { stands = m.stands; left = m.left; more = m.more; bad_ends = m.bad_ends; bad = m.bad });
+      fronts_are = subst (AreFronts l file now fronts tallies) (ap (owns ready) same ∙ same_owns ready first taken parts)
+          (fronts_all l file ready now fronts tallies taken1 order are_ready stands later noted m.lefts m.tallied some1);
+      table_is = filled taken count room ∙ ap (λ (n : ℕ). parts_from l at (lists_of n taken)) cpus ∙ ap (λ (n : ℕ). parts_from l n (lists_of header.cpus taken)) at_is;
+      bytes = data_all l file rules first header.cpus rise below;
+    }
+
+pub prepared_told : (header : Header) (rules : Rules) (first ready now : List Lane) (fronts : List Place) (tallies0 tallies : List Tally) (table0 table : List Part) (at : ℕ) (ends : Ends) (told now_told : Option (List ℕ)) → now_told ≡ told
+    → IsHeader header → CpusRise (parts_of first) → All (λ (a : Lane). a.cpu < header.cpus) first → parts_of ready ≡ parts_of first → parts_of now ≡ parts_of ready
+    → All (IsInOrder header.layout) ready → All (IsReady header.layout) ready
+    → ((i : ℕ) (d : Lane) (p : Place) → i < length ready → get_or fronts i p ≡ place_in (get_or ready i d))
+    → (front_len header < 2 ^ 64 → at ≡ front_len header) → length table0 ≡ header.cpus
+    → ((xs : List Keyed) → AreCounted header.layout now tallies xs → at + length (data_of header.layout (lists_of (length table0) xs)) < 2 ^ 64 → table ≡ parts_from header.layout at (lists_of (length table0) xs))
+    → ((i : ℕ) (t : Tally) → i < length tallies0 → IsTally header.layout (get_or tallies0 i t) [])
+    → IfSome told (λ file. rows_of header.layout file ready ≡ rows_of header.layout file first)
+    → IfSome told (λ file. All (Stands header.layout file) first → All (Stands header.layout file) ready)
+    → IfSome now_told (λ file. All (Stands header.layout file) ready → ((i : ℕ) (t : Tally) → i < length tallies0 → IsTally header.layout (get_or tallies0 i t) []) → FileMeasured header.layout file rules ready now tallies ends)
+    → IfSome told (λ file. All (Stands header.layout file) first → length (joined_lists (lists_left header.layout file rules first)) < 2 ^ 63 → length (next_text header file rules first) < 2 ^ 64
+    → Prepared header file rules first now fronts tallies table ends)
+prepared_told header rules first ready now fronts tallies0 tallies table0 table at ends None now_told e allowed rise below parts later order are_ready noted place cpus filled clear rows stands m = tt
+prepared_told header rules first ready now fronts tallies0 tallies table0 table at ends (Some file) now_told e allowed rise below parts later order are_ready noted place cpus filled clear rows stands m = λ s few short.
+    let Measures : List ℕ → Type 0 = λ file. All (Stands header.layout file) ready → ((i : ℕ) (t : Tally) → i < length tallies0 → IsTally header.layout (get_or tallies0 i t) []) → FileMeasured header.layout file rules ready now tallies ends in
+    let measured : Measures file = subst (λ (o : Option (List ℕ)). IfSome o Measures) e m in
+    prepared header file rules first ready now fronts tallies table0 table at (Some ends) allowed rise below rows parts later order are_ready (stands s) noted place cpus filled few short (measured (stands s) clear)
+
+-- the lists as they were written back
+pub prepared_back : (header : Header) (rules : Rules) (first now : List Lane) (fronts fronts1 : List Place) (tallies tallies1 : List Tally) (table table1 : List Part) (ends : Ends) (told : Option (List ℕ)) → fronts1 ≡ fronts → tallies1 ≡ tallies → table1 ≡ table
+    → IfSome told (λ file. All (Stands header.layout file) first → length (joined_lists (lists_left header.layout file rules first)) < 2 ^ 63 → length (next_text header file rules first) < 2 ^ 64 → Prepared header file rules first now fronts tallies table ends)
+    → IfSome told (λ file. All (Stands header.layout file) first → length (joined_lists (lists_left header.layout file rules first)) < 2 ^ 63 → length (next_text header file rules first) < 2 ^ 64 → Prepared header file rules first now fronts1 tallies1 table1 ends)
+prepared_back header rules first now fronts fronts1 tallies tallies1 table table1 ends told a b c p =
+    let Goal : List Place → List Tally → List Part → Type 0 = λ fs ts ps. IfSome told (λ file. All (Stands header.layout file) first → length (joined_lists (lists_left header.layout file rules first)) < 2 ^ 63 → length (next_text header file rules first) < 2 ^ 64
+    → Prepared header file rules first now fs ts ps ends) in
+    subst (λ (fs : List Place). Goal fs tallies1 table1) (sym a) (subst (λ (ts : List Tally). Goal fronts ts table1) (sym b) (subst (λ (ps : List Part). Goal fronts tallies ps) (sym c) p))
+
+-- WRITING
+
+pub written_all : (header : Header) (file : List ℕ) (table : List Part) (lists : List (List ItemData)) (before now : List Lane) (old mid new : Option (List ℕ)) (end : End) → Gained old mid (front_text header table)
+    → IsPackedAll header.layout file lists before now mid new end → IsWritten header file table lists before now old new end
+written_all header file table lists before now old mid new code.Done front p =
+    record { stands = p.stands; rows = p.rows; gained = gained_both old mid new (front_text header table) (data_of header.layout lists) front p.gained }
+written_all header file table lists before now old mid new (code.Malformed cpu page) front p = p
+written_all header file table lists before now old mid new code.Read front p = tt
+written_all header file table lists before now old mid new code.Write front p = tt

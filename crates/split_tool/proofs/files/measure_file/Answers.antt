@@ -1,0 +1,44 @@
+use Rattle.std.proofs.Common.{List, [], ◌≡◌, length, arith, get_or, ap, sym, subst, ◌∙◌, refl}
+use Rattle.std.proofs.lemmas.List.{take_at}
+use Rattle.dat_header.proofs.Headers.{header_layout}
+use Rattle.split_passes.proofs.Running.{same_length}
+use Rattle.split_passes.specs.declared.tally.Tally.{Tally}
+use Rattle.split_passes.specs.Tallies.{IsTally}
+use Rattle.split_tool.specs.Counted.{AreCounted}
+use Rattle.split_tool.proofs.Preparing.{prepared_told, prepared_back}
+use Rattle.split_tool.proofs.files.measure_file.Goals as goal
+
+pub make_all_ready-requires-clause-allowed : goal.make_all_ready-requires-clause-allowed
+make_all_ready-requires-clause-allowed g c = header_layout c.args.plan.now.header.now c.requires.allowed
+
+pub measure_lists-requires-clause-allowed : goal.measure_lists-requires-clause-allowed
+measure_lists-requires-clause-allowed g c = header_layout c.args.plan.now.header.now c.requires.allowed
+
+pub fill_table-requires-clause-allowed : goal.fill_table-requires-clause-allowed
+fill_table-requires-clause-allowed g c = header_layout c.args.plan.now.header.now c.requires.allowed
+
+pub returns-clause-told : goal.returns-clause-told
+returns-clause-told g c =
+    let header = c.args.plan.now.header.now in
+    let l = header.layout in
+    let work = c.args.work.now in
+    let lanes : length c.make_all_ready.new.lanes ≡ length c.args.lanes.now = same_length c.make_all_ready.new.lanes c.args.lanes.now c.make_all_ready.ensures.parts in
+    let later : length c.measure_lists.new.lanes ≡ length c.make_all_ready.new.lanes = same_length c.measure_lists.new.lanes c.make_all_ready.new.lanes c.measure_lists.ensures.parts in
+    let front_room : length work.fronts.items ≡ work.fronts.len = ap length (sym c.as_mut_slice.ensures.value) ∙ c.as_mut_slice.ensures.len in
+    let tally_room : length work.tallies.items ≡ work.tallies.len = ap length (sym c.as_mut_slice-2.ensures.value) ∙ c.as_mut_slice-2.ensures.len in
+    let fronts_long : length c.note_fronts.new.fronts ≡ work.fronts.len = c.note_fronts.ensures.long ∙ lanes ∙ sym c.requires.work.fronts ∙ front_room in
+    let cleared_long : length c.clear.new.tallies ≡ work.tallies.len = c.clear.ensures.long ∙ c.as_mut_slice-2.ensures.len in
+    let tallies_long : length c.measure_lists.new.tallies ≡ work.tallies.len = c.measure_lists.ensures.long ∙ later ∙ lanes ∙ sym c.requires.work.tallies ∙ tally_room in
+    let table_is : c.as_mut_slice-4.result.now ≡ work.table.items = c.as_mut_slice-4.ensures.value in
+    let table_long : length c.fill_table.new.table ≡ work.table.len = omega (arith, c.as_mut_slice-4.ensures.len, c.fill_table.auto.table) in
+    let cleared : c.as_mut_slice-3.result.now ≡ c.clear.new.tallies = c.as_mut_slice-3.ensures.value ∙ take_at c.clear.new.tallies _ work.tallies.len cleared_long in
+    let counted : c.as_slice.result.now ≡ c.measure_lists.new.tallies = c.as_slice.ensures.value ∙ take_at c.measure_lists.new.tallies _ work.tallies.len tallies_long in
+    prepared_back header c.args.rules.now c.args.lanes.now c.measure_lists.new.lanes c.note_fronts.new.fronts _ c.measure_lists.new.tallies _ c.fill_table.new.table _ c.in_ok-ends.ends (g.F.File.bytes c.args.file.now)
+    (take_at c.note_fronts.new.fronts _ work.fronts.len fronts_long) (take_at c.measure_lists.new.tallies _ work.tallies.len tallies_long) (take_at c.fill_table.new.table _ work.table.len table_long)
+    (prepared_told header c.args.rules.now c.args.lanes.now c.make_all_ready.new.lanes c.measure_lists.new.lanes c.note_fronts.new.fronts c.as_mut_slice-3.result.now c.measure_lists.new.tallies c.as_mut_slice-4.result.now c.fill_table.new.table
+    c.data_place-at.result c.in_ok-ends.ends (g.F.File.bytes c.args.file.now) (g.F.File.bytes c.make_all_ready.new.file) c.make_all_ready.ensures.bytes
+    c.requires.allowed c.requires.rise c.requires.cpus c.make_all_ready.ensures.parts c.measure_lists.ensures.parts c.make_all_ready.ensures.in_order (c.if-not-make_all_ready.ensures.ready refl)
+    c.note_fronts.ensures.noted c.data_place-at.ensures (ap length table_is ∙ c.requires.work.table)
+    (λ xs are short. c.fill_table.ensures xs (subst (λ (ts : List Tally). AreCounted l c.measure_lists.new.lanes ts xs) (sym counted) are) short)
+    (λ i t lt. subst (λ (ts : List Tally). IsTally l (get_or ts i t) []) (sym cleared) (c.clear.ensures.none l i t (omega (arith, lt, ap length cleared, c.clear.ensures.long))))
+    c.make_all_ready.ensures.rows c.make_all_ready.ensures.stands c.in_ok-ends.ensures.told)

@@ -1,0 +1,27 @@
+use Rattle.std.proofs.Common.{List, sym, subst}
+use Rattle.trace_base.specs.declared.part.Part.{Part}
+use Rattle.trace_outside.specs.Writing.{Gained}
+use Rattle.dat_header.proofs.Headers.{header_layout}
+use Rattle.event_cursor.specs.declared.places.Place.{Place}
+use Rattle.event_cursor.proofs.Told.{told_map}
+use Rattle.split_passes.specs.AllAgain.{AreFronts}
+use Rattle.split_passes.specs.declared.tally.Tally.{Tally}
+use Rattle.split_file.specs.NewFile.{front_text}
+use Rattle.split_tool.proofs.Preparing.{written_all}
+use Rattle.split_tool.proofs.files.write_file.Goals as goal
+
+pub pack_all-requires-clause-allowed : goal.pack_all-requires-clause-allowed
+pack_all-requires-clause-allowed g c = header_layout c.args.plan.now.header.now c.requires.allowed
+
+pub returns-clause-told : goal.returns-clause-told
+returns-clause-told g c =
+    let header = c.args.plan.now.header.now in
+    let work = c.args.work.now in
+    let old = g.O.Sink.written c.args.out.now in
+    let mid = g.O.Sink.written c.write_front.new.out in
+    let front = subst (λ (ps : List Part). Gained old mid (front_text header ps)) c.as_slice.ensures.value c.in-Ok.ensures.gained in
+    told_map _ _ (g.F.File.bytes c.args.file.now) (λ file p s lists f.
+    let by_fronts = subst (λ (ps : List Place). AreFronts header.layout file c.args.lanes.now ps work.tallies.items lists) (sym c.as_slice-2.ensures.value) f in
+    let by_tallies = subst (λ (ts : List Tally). AreFronts header.layout file c.args.lanes.now c.as_slice-2.result.now ts lists) (sym c.as_slice-3.ensures.value) by_fronts in
+    written_all header file work.table.items lists c.args.lanes.now c.pack_all.new.lanes old mid (g.O.Sink.written c.pack_all.new.out) c.pack_all.result front (p s lists by_tallies))
+    c.pack_all.ensures.told

@@ -1,0 +1,22 @@
+use Rattle.std.proofs.Common.{◌≡◌, ◌<◌, ◌≤◌, ℕ, [], length, get_or}
+use Rattle.std.specs.Option.{IfSome}
+use Rattle.std.specs.List.{All}
+use Rattle.event_cursor.specs.Standing.{IsInOrder, Stands}
+use Rattle.time_merge.specs.LaneRows.{parts_of}
+use Rattle.split_passes.specs.declared.tally.Tally.{Tally}
+use Rattle.split_passes.specs.Tallies.{IsTally}
+use Rattle.split_tool.proofs.Measuring.{MeasuredTo}
+use Rattle.split_tool.proofs.lists.measure_lists.Given as goal
+
+abbrev pub invariant-loop-i : goal.invariant-loop-i
+invariant-loop-i g l = record {
+  in_order : All (IsInOrder l.layout) l.lanes;
+  parts : parts_of l.lanes ≡ parts_of l.fn.lanes;
+  long : length l.tallies ≡ length l.lanes;
+  measured : IfSome (g.F.File.bytes l.fn.file) (λ file. All (Stands l.layout file) l.fn.lanes
+      → ((i : ℕ) (t : Tally) → i < length l.fn.tallies → IsTally l.layout (get_or l.fn.tallies i t) [])
+      → MeasuredTo l.layout file l.rules l.i l.fn.lanes l.lanes l.fn.tallies l.tallies l.ends);
+  bytes : g.F.File.bytes l.file ≡ g.F.File.bytes l.fn.file;
+  size : g.F.File.size l.file ≡ g.F.File.size l.fn.file;
+  later : g.F.File.faults l.fn.file ≤ g.F.File.faults l.file;
+}

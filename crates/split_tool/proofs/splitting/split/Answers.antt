@@ -1,0 +1,170 @@
+use Rattle.std.proofs.Common.{refl, arith, sym, subst, ◌∙◌}
+use Rattle.subpage.specs.Arrangement.{CpusRise}
+use Rattle.dat_header.proofs.Headers.{header_layout}
+use Rattle.event_cursor.proofs.Told.{told_all, told_map, told_again}
+use Rattle.trace_args.specs.Command.{split_view}
+use Rattle.split_pieces.specs.declared.rules.Rules.{Rules}
+use Rattle.split_pieces.specs.Cuts.{bad_reached}
+use Rattle.split_pieces.specs.Pieces.{IsUnit}
+use Rattle.split_tool.specs.NewFiles.{new_files}
+use Rattle.split_passes.proofs.Running.{same_length}
+use Rattle.split_tool.specs.Rules.{rules_of}
+use Rattle.split_tool.specs.Work.{IsWorkFor}
+use Rattle.time_merge.specs.LaneRows.{parts_of}
+use Rattle.split_tool.proofs.Making.{created_last, created_stops, progress_none, progress_more, progress_last, progress_stops, next_short, next_few, same_cpus, fresh_stand}
+use Rattle.split_tool.proofs.Storing.{kept_twice, some_stored, stages_none}
+use Rattle.split_tool.proofs.splitting.split.Goals as goal
+
+pub returns-then-not-pass_start-clause-told : goal.returns-then-not-pass_start-clause-told
+returns-then-not-pass_start-clause-told g c =
+    let old = g.D.Folder.files c.args.folder.now in
+    told_all _ (g.F.File.bytes c.args.file.now) (λ file small short.
+    let news = new_files (split_view c.args.plan.now.words.now) c.args.plan.now.header.now file (parts_of c.args.lanes.now) in
+    some_stored news news old old old refl (stages_none news old))
+
+pub loop-number-init : goal.loop-number-init
+loop-number-init g c = record {
+  in_order = c.pass_start.ensures.in_order;
+  parts = c.pass_start.ensures.parts;
+  work = subst (λ n. IsWorkFor c.args.plan.now.header.now n c.args.work.now) (sym (same_length c.pass_start.new.lanes c.args.lanes.now c.pass_start.ensures.parts)) c.requires.work;
+  progress = told_map _ _ (g.F.File.bytes c.args.file.now) (λ file started small short.
+      progress_none c.args.plan.now.header.now (split_view c.args.plan.now.words.now) c.rules_of-rules.result file c.args.lanes.now c.pass_start.new.lanes (g.D.Folder.files c.args.folder.now) c.requires.allowed c.rules_of-rules.ensures c.requires.rise c.requires.cpus
+      c.requires.fresh c.pass_start.ensures.parts small short (started (fresh_stand c.args.plan.now.header.now.layout file c.args.lanes.now c.requires.fresh) c.if-not-pass_start.false))
+      c.pass_start.ensures.told;
+  bytes = c.pass_start.ensures.bytes;
+  size = c.pass_start.ensures.size;
+  later = c.pass_start.ensures.later;
+  counts = record { reading = omega arith; writing = omega arith; misses = refl; opened = refl; closed = refl; bytes = refl };
+  created = omega arith;
+  least = omega arith;
+}
+
+pub make_file-requires-clause-rise : goal.make_file-requires-clause-rise
+make_file-requires-clause-rise g c = subst CpusRise (sym c.loop-number.invariant.parts) c.requires.rise
+
+pub make_file-requires-clause-cpus : goal.make_file-requires-clause-cpus
+make_file-requires-clause-cpus g c = same_cpus c.args.plan.now.header.now.cpus c.args.lanes.now c.loop-number.lanes c.loop-number.invariant.parts c.requires.cpus
+
+pub returns-then-not-goes_on-clause-told : goal.returns-then-not-goes_on-clause-told
+returns-then-not-goes_on-clause-told g c =
+    let header = c.args.plan.now.header.now in
+    let words = split_view c.args.plan.now.words.now in
+    let old = g.D.Folder.files c.args.folder.now in
+    let mid = g.D.Folder.files c.loop-number.folder in
+    let new = g.D.Folder.files c.make_file.new.folder in
+    told_again _ _ _ (g.F.File.bytes c.args.file.now) (g.F.File.bytes c.loop-number.file) c.loop-number.invariant.bytes (λ file p m small short.
+    let q = p small short in
+    let news = new_files words header file (parts_of c.args.lanes.now) in
+    let bad = bad_reached (rules_of words) header.layout file (parts_of c.args.lanes.now) in
+    progress_last header words.base file c.rules_of-rules.result news bad c.loop-number.number c.loop-number.lanes c.make_file.new.lanes old mid new c.in-Ok.ends c.end_by.result (sym c.goes_on.ensures ∙ c.if-not-goes_on.true) c.end_by.ensures
+    (m q.stands (next_few header words.base file c.rules_of-rules.result news bad c.loop-number.number c.loop-number.lanes c.make_file.new.lanes old mid new q) (next_short header words.base file c.rules_of-rules.result news bad c.loop-number.number c.loop-number.lanes c.make_file.new.lanes old mid new q)) q)
+    c.loop-number.invariant.progress c.in-Ok.ensures.told
+
+pub loop-number-preserved : goal.loop-number-preserved
+loop-number-preserved g c =
+    let header = c.args.plan.now.header.now in
+    let words = split_view c.args.plan.now.words.now in
+    let old = g.D.Folder.files c.args.folder.now in
+    let mid = g.D.Folder.files c.loop-number.folder in
+    let new = g.D.Folder.files c.make_file.new.folder in
+    let unit = subst (λ (r : Rules). IsUnit r.unit) (sym c.rules_of-rules.ensures) c.requires.unit in
+    record {
+      in_order = c.make_file.ensures.in_order;
+      parts = c.make_file.ensures.parts ∙ c.loop-number.invariant.parts;
+      work = c.make_file.ensures.work;
+      progress = told_again _ _ _ (g.F.File.bytes c.args.file.now) (g.F.File.bytes c.loop-number.file) c.loop-number.invariant.bytes (λ file p m small short.
+          let q = p small short in
+          let news = new_files words header file (parts_of c.args.lanes.now) in
+          let bad = bad_reached (rules_of words) header.layout file (parts_of c.args.lanes.now) in
+          progress_more header words.base file c.rules_of-rules.result news bad c.loop-number.number c.loop-number.lanes c.make_file.new.lanes old mid new c.in-Ok.ends unit (sym c.goes_on.ensures ∙ c.if-not-goes_on.false)
+          (m q.stands (next_few header words.base file c.rules_of-rules.result news bad c.loop-number.number c.loop-number.lanes c.make_file.new.lanes old mid new q) (next_short header words.base file c.rules_of-rules.result news bad c.loop-number.number c.loop-number.lanes c.make_file.new.lanes old mid new q)) q)
+          c.loop-number.invariant.progress c.in-Ok.ensures.told;
+      bytes = c.make_file.ensures.bytes ∙ c.loop-number.invariant.bytes;
+      size = c.make_file.ensures.size ∙ c.loop-number.invariant.size;
+      later = omega (arith, c.make_file.ensures.later, c.loop-number.invariant.later);
+      counts = kept_twice _ _ _ c.loop-number.invariant.counts c.make_file.ensures.counts;
+      created = omega (arith, c.loop-number.invariant.created, c.in-Ok.ensures.created, c.loop-number.invariant.least);
+      least = omega (arith, c.loop-number.invariant.least);
+    }
+
+pub returns-in-Err-clause-told : goal.returns-in-Err-clause-told
+returns-in-Err-clause-told g c =
+    let header = c.args.plan.now.header.now in
+    let words = split_view c.args.plan.now.words.now in
+    let old = g.D.Folder.files c.args.folder.now in
+    let mid = g.D.Folder.files c.loop-number.folder in
+    let new = g.D.Folder.files c.make_file.new.folder in
+    told_again _ _ _ (g.F.File.bytes c.args.file.now) (g.F.File.bytes c.loop-number.file) c.loop-number.invariant.bytes (λ file p m small short.
+    let q = p small short in
+    let news = new_files words header file (parts_of c.args.lanes.now) in
+    let bad = bad_reached (rules_of words) header.layout file (parts_of c.args.lanes.now) in
+    progress_stops header words.base file c.rules_of-rules.result news bad c.loop-number.number c.loop-number.lanes c.make_file.new.lanes old mid new c.in-Err.end c.in-Err.end refl
+    (m q.stands (next_few header words.base file c.rules_of-rules.result news bad c.loop-number.number c.loop-number.lanes c.make_file.new.lanes old mid new q) (next_short header words.base file c.rules_of-rules.result news bad c.loop-number.number c.loop-number.lanes c.make_file.new.lanes old mid new q)) q)
+    c.loop-number.invariant.progress c.in-Err.ensures.told
+
+pub returns-in-Err-clause-read : goal.returns-in-Err-clause-read
+returns-in-Err-clause-read g c = λ is. let rose = c.in-Err.ensures.read is in omega (arith, rose, c.loop-number.invariant.later)
+
+pub returns-in-Err-clause-write : goal.returns-in-Err-clause-write
+returns-in-Err-clause-write g c = λ is. let rose = c.in-Err.ensures.write is in omega (arith, rose, c.loop-number.invariant.counts.writing)
+
+pub returns-clause-told : goal.returns-clause-told
+returns-clause-told g c =
+    told_map _ _ (g.F.File.bytes c.args.file.now) (λ file p small short.
+    let q = p small short in
+    absurd (omega (arith, q.few)))
+    c.loop-number.invariant.progress
+
+pub pass_start-requires-clause-allowed : goal.pass_start-requires-clause-allowed
+pass_start-requires-clause-allowed g c = header_layout c.args.plan.now.header.now c.requires.allowed
+
+pub returns-then-not-pass_start-clause-created : goal.returns-then-not-pass_start-clause-created
+returns-then-not-pass_start-clause-created g c = told_all _ (g.F.File.bytes c.args.file.now) (λ file small short. omega arith)
+
+pub returns-then-not-goes_on-clause-created : goal.returns-then-not-goes_on-clause-created
+returns-then-not-goes_on-clause-created g c =
+    let header = c.args.plan.now.header.now in
+    let words = split_view c.args.plan.now.words.now in
+    let old = g.D.Folder.files c.args.folder.now in
+    let mid = g.D.Folder.files c.loop-number.folder in
+    let new = g.D.Folder.files c.make_file.new.folder in
+    told_again _ _ _ (g.F.File.bytes c.args.file.now) (g.F.File.bytes c.loop-number.file) c.loop-number.invariant.bytes (λ file p m small short.
+    let q = p small short in
+    let news = new_files words header file (parts_of c.args.lanes.now) in
+    let bad = bad_reached (rules_of words) header.layout file (parts_of c.args.lanes.now) in
+    created_last header words.base file c.rules_of-rules.result news bad c.loop-number.number c.loop-number.lanes c.make_file.new.lanes old mid new c.in-Ok.ends c.end_by.result
+    (g.D.Folder.counts c.args.folder.now).created (g.D.Folder.counts c.loop-number.folder).created (g.D.Folder.counts c.make_file.new.folder).created
+    (sym c.goes_on.ensures ∙ c.if-not-goes_on.true) c.end_by.ensures
+    (m q.stands (next_few header words.base file c.rules_of-rules.result news bad c.loop-number.number c.loop-number.lanes c.make_file.new.lanes old mid new q) (next_short header words.base file c.rules_of-rules.result news bad c.loop-number.number c.loop-number.lanes c.make_file.new.lanes old mid new q))
+    c.loop-number.invariant.least c.loop-number.invariant.created c.in-Ok.ensures.created q)
+    c.loop-number.invariant.progress c.in-Ok.ensures.told
+
+pub returns-in-Err-clause-created : goal.returns-in-Err-clause-created
+returns-in-Err-clause-created g c =
+    let header = c.args.plan.now.header.now in
+    let words = split_view c.args.plan.now.words.now in
+    let old = g.D.Folder.files c.args.folder.now in
+    let mid = g.D.Folder.files c.loop-number.folder in
+    let new = g.D.Folder.files c.make_file.new.folder in
+    told_again _ _ _ (g.F.File.bytes c.args.file.now) (g.F.File.bytes c.loop-number.file) c.loop-number.invariant.bytes (λ file p m small short.
+    let q = p small short in
+    let news = new_files words header file (parts_of c.args.lanes.now) in
+    let bad = bad_reached (rules_of words) header.layout file (parts_of c.args.lanes.now) in
+    created_stops header words.base file c.rules_of-rules.result news bad c.loop-number.number c.loop-number.lanes c.make_file.new.lanes old mid new c.in-Err.end c.in-Err.end
+    (g.D.Folder.counts c.args.folder.now).created (g.D.Folder.counts c.loop-number.folder).created (g.D.Folder.counts c.make_file.new.folder).created refl
+    (m q.stands (next_few header words.base file c.rules_of-rules.result news bad c.loop-number.number c.loop-number.lanes c.make_file.new.lanes old mid new q) (next_short header words.base file c.rules_of-rules.result news bad c.loop-number.number c.loop-number.lanes c.make_file.new.lanes old mid new q))
+    c.loop-number.invariant.least c.loop-number.invariant.created c.in-Err.ensures.created q)
+    c.loop-number.invariant.progress c.in-Err.ensures.told
+
+pub returns-clause-created : goal.returns-clause-created
+returns-clause-created g c =
+    told_map _ _ (g.F.File.bytes c.args.file.now) (λ file p small short.
+    let q = p small short in
+    absurd (omega (arith, q.few)))
+    c.loop-number.invariant.progress
+
+pub returns-in-Err-clause-counts : goal.returns-in-Err-clause-counts
+returns-in-Err-clause-counts g c = kept_twice _ _ _ c.loop-number.invariant.counts c.make_file.ensures.counts
+
+pub returns-then-not-goes_on-clause-counts : goal.returns-then-not-goes_on-clause-counts
+returns-then-not-goes_on-clause-counts g c = kept_twice _ _ _ c.loop-number.invariant.counts c.make_file.ensures.counts

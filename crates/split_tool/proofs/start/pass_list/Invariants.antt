@@ -1,0 +1,20 @@
+use Rattle.std.proofs.Common.{◌≡◌, ◌≤◌, Some, sum_by}
+use Rattle.std.specs.Option.{IfSome}
+use Rattle.std.specs.List.{All}
+use Rattle.event_cursor.specs.Standing.{IsInOrder, Stands, most_left}
+use Rattle.time_merge.specs.LaneRows.{parts_of}
+use Rattle.split_tool.proofs.Passing.{Passing}
+use Rattle.split_tool.proofs.start.pass_list.Given as goal
+
+abbrev pub invariant-loop-i : goal.invariant-loop-i
+invariant-loop-i g l = record {
+  in_order : All (IsInOrder l.layout) l.lanes;
+  parts : parts_of l.lanes ≡ parts_of l.fn.lanes;
+  passing : IfSome (g.F.File.bytes l.fn.file) (λ file. All (Stands l.layout file) l.fn.lanes → Passing l.layout file (Some l.start) l.fn.lanes l.lanes);
+  bytes : g.F.File.bytes l.file ≡ g.F.File.bytes l.fn.file;
+  size : g.F.File.size l.file ≡ g.F.File.size l.fn.file;
+  later : g.F.File.faults l.fn.file ≤ g.F.File.faults l.file;
+}
+
+abbrev pub decreases-loop-i : goal.decreases-loop-i
+decreases-loop-i g l = sum_by (most_left l.layout) l.lanes

@@ -1,0 +1,9 @@
+pub mod Counted
+pub mod Lists
+pub mod Made
+pub mod Measured
+pub mod NewFiles
+pub mod Rules
+pub mod Started
+pub mod Stored
+pub mod Work

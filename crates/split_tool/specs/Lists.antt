@@ -1,0 +1,51 @@
+-- The lists that a split cuts, as rows of lanes have them left.
+use Rattle.std.specs.Prelude.{ℕ, Bool, ◌&&◌, ◌||◌, not, if◌then◌else◌, List, [], ◌∷◌, map, filter_map, Option, None, option_map}
+use Rattle.trace_base.specs.declared.layout.Layout.{Layout}
+use Rattle.subpage.specs.Arrangement.{Keyed, key_of, cpu_of}
+use Rattle.page_pool.specs.declared.lane.Lane.{Lane}
+use Rattle.time_merge.specs.Rows.{Row, coming, least_cut}
+use Rattle.time_merge.specs.LaneRows.{rows_of}
+use Rattle.split_pieces.specs.declared.moment.Moment.{Moment}
+use Rattle.split_pieces.specs.declared.rules.Rules.{Rules}
+use Rattle.split_pieces.specs.Cuts.{is_apart, first_of_all}
+use Rattle.split_pieces.specs.Pieces.{up_to_end, has_end, unit_closes, next_file, behind_file, files_left}
+
+-- FILES OF LISTS THAT ARE LEFT
+
+-- the files behind the next one
+abbrev pub files_behind : Rules → List (List Keyed) → List (List Keyed)
+files_behind rules lists = if rules.repeat then files_left rules.unit (behind_file rules.unit lists) else []
+
+-- those of lists without what start and end leave out
+abbrev pub files_of : Rules → List (List Keyed) → List (List Keyed)
+files_of rules lists = next_file rules.unit lists ∷ files_behind rules lists
+
+-- LISTS OF ROWS
+
+-- all as one list, or each as one by itself
+abbrev pub groups : {X : Type 0} → Rules → List X → List (List X)
+groups rules xs = if is_apart rules then map (λ x. x ∷ []) xs else xs ∷ []
+
+-- what rows have to come, and what the end leaves of it
+abbrev pub come_of : List (Row Keyed) → List Keyed
+come_of rows = coming key_of cpu_of rows
+
+abbrev pub left_in_rows : Option Moment → List (Row Keyed) → List Keyed
+left_in_rows stop rows = up_to_end stop (come_of rows)
+
+-- the malformed sub-buffer that a list of rows leads to, since nothing closes the list before
+abbrev pub closes_rows : Rules → List (Row Keyed) → Bool
+closes_rows rules rows =
+    has_end rules.stop (come_of rows) || (not rules.repeat && unit_closes rules.unit (left_in_rows rules.stop rows))
+
+abbrev pub bad_in_rows : Rules → List (Row Keyed) → Option (ℕ × ℕ)
+bad_in_rows rules rows =
+    if closes_rows rules rows then None else option_map (λ cut. (cut.cpu, cut.page)) (least_cut rows)
+
+-- what each list of lanes has left
+abbrev pub lists_left : Layout → List ℕ → Rules → List Lane → List (List Keyed)
+lists_left layout file rules lanes = map (left_in_rows rules.stop) (groups rules (rows_of layout file lanes))
+
+-- and the first malformed sub-buffer that one of them leads to
+abbrev pub bad_left : Layout → List ℕ → Rules → List Lane → Option (ℕ × ℕ)
+bad_left layout file rules lanes = first_of_all (filter_map (bad_in_rows rules) (groups rules (rows_of layout file lanes)))

@@ -1,0 +1,72 @@
+-- The pieces of a file that were gone through.
+use Rattle.std.specs.Prelude.{◌≡◌, ℕ, ◌<◌, Bool, true, false, ◌&&◌, ◌||◌, List, ◌++◌, length, slice_index_or, Option, Some, None}
+use Rattle.std.specs.Option.{option_or}
+use Rattle.std.specs.List.{All}
+use Rattle.trace_base.specs.declared.layout.Layout.{Layout}
+use Rattle.subpage.specs.Arrangement.{Keyed}
+use Rattle.page_pool.specs.declared.lane.Lane.{Lane}
+use Rattle.event_cursor.specs.Standing.{Stands, left_of}
+use Rattle.time_merge.specs.LaneRows.{rows_of}
+use Rattle.split_pieces.specs.declared.rules.Rules.{Rules}
+use Rattle.split_pieces.specs.Cuts.{items_of_cpu}
+use Rattle.split_pieces.specs.Pieces.{piece, rest, is_some_left, joined_lists, next_file, behind_file}
+use Rattle.split_passes.specs.declared.tally.Tally.{Tally}
+use Rattle.split_passes.specs.declared.measuring.PieceEnd.{PieceEnd}
+use Rattle.split_passes.specs.declared.measuring.PieceEnd.TheVariants as code
+use Rattle.split_passes.specs.Measures.{Passed, Tallied}
+use Rattle.split_tool.specs.declared.lists.Ends.{Ends}
+use Rattle.split_tool.specs.Lists.{left_in_rows, bad_in_rows, lists_left, bad_left}
+
+abbrev pub is_full : PieceEnd → Bool
+is_full code.Full = true
+is_full code.Past = false
+is_full code.Done = false
+is_full (code.Malformed cpu page) = false
+is_full code.Read = false
+
+abbrev pub bad_of_end : PieceEnd → Bool → Option (ℕ × ℕ)
+bad_of_end (code.Malformed cpu page) false = Some (cpu, page)
+bad_of_end (code.Malformed cpu page) true = None
+bad_of_end code.Full closed = None
+bad_of_end code.Past closed = None
+bad_of_end code.Done closed = None
+bad_of_end code.Read closed = None
+
+-- the piece of one list was taken
+pub record PieceTaken (layout : Layout) (file : List ℕ) (rules : Rules) (first now : List Lane) (tallies : List Tally) : Type 0 where
+  pub taken : List Keyed
+  pub passed : Passed layout file first now taken
+  pub tallied : Tallied layout first taken tallies
+  pub piece : taken ≡ piece rules.unit (left_in_rows rules.stop (rows_of layout file first))
+  pub left : left_in_rows rules.stop (rows_of layout file now) ≡ rest rules.unit (left_in_rows rules.stop (rows_of layout file first))
+  pub bad : rules.repeat ≡ true → bad_in_rows rules (rows_of layout file now) ≡ bad_in_rows rules (rows_of layout file first)
+
+-- with the lists before it. Where a list goes on nothing is said of a malformed sub-buffer.
+pub record ListMeasured (layout : Layout) (file : List ℕ) (rules : Rules) (first now : List Lane) (tallies : List Tally) (before ends : Ends) : Type 0 where
+  pub taken : PieceTaken layout file rules first now tallies
+  pub more : ends.more ≡ (before.more || is_some_left (left_in_rows rules.stop (rows_of layout file now)))
+  pub bad : (ends.more && rules.repeat) ≡ false → ends.bad ≡ option_or before.bad (bad_in_rows rules (rows_of layout file first))
+
+abbrev pub IsListMeasured : Layout → List ℕ → Rules → List Lane → List Lane → List Tally → Ends → Option Ends → Type 0
+IsListMeasured layout file rules first now tallies before None = Unit {0}
+IsListMeasured layout file rules first now tallies before (Some ends) = ListMeasured layout file rules first now tallies before ends
+
+-- what a file takes of lanes
+abbrev pub taken_of : Layout → List ℕ → Rules → List Lane → List Keyed
+taken_of layout file rules lanes = next_file rules.unit (lists_left layout file rules lanes)
+
+-- the pieces of all lists were taken
+pub record FileMeasured (layout : Layout) (file : List ℕ) (rules : Rules) (first now : List Lane) (tallies : List Tally) (ends : Ends) : Type 0 where
+  pub stands : All (Stands layout file) now
+  pub lefts : (i : ℕ) (d : Lane) → i < length first
+      → left_of layout file (slice_index_or first i d)
+      ≡ items_of_cpu (slice_index_or first i d).cpu (taken_of layout file rules first) ++ left_of layout file (slice_index_or now i d)
+  pub tallied : Tallied layout first (taken_of layout file rules first) tallies
+  pub left : lists_left layout file rules now ≡ behind_file rules.unit (lists_left layout file rules first)
+  pub more : ends.more ≡ is_some_left (joined_lists (lists_left layout file rules now))
+  pub bad_ends : (ends.more && rules.repeat) ≡ false → ends.bad ≡ bad_left layout file rules first
+  pub bad : rules.repeat ≡ true → bad_left layout file rules now ≡ bad_left layout file rules first
+
+abbrev pub IsFileMeasured : Layout → List ℕ → Rules → List Lane → List Lane → List Tally → Option Ends → Type 0
+IsFileMeasured layout file rules first now tallies None = Unit {0}
+IsFileMeasured layout file rules first now tallies (Some ends) = FileMeasured layout file rules first now tallies ends

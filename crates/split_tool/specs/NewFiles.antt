@@ -1,0 +1,48 @@
+-- The new files of a split, and how it ends.
+-- Source: trace-cmd-split(1).
+use Rattle.std.specs.Prelude.{◌≡◌, ◌≤◌, ℕ, ◌+◌, List, [], ◌∷◌, take, Option, Some, None}
+use Rattle.trace_base.specs.declared.part.Part.{Part}
+use Rattle.trace_outside.specs.Names.{NamedFiles}
+use Rattle.trace_outside.specs.Causes.{raised}
+use Rattle.trace_args.specs.Command.{SplitData}
+use Rattle.dat_header.specs.declared.header.Header.{Header}
+use Rattle.subpage.specs.Arrangement.{Keyed}
+use Rattle.time_merge.specs.declared.ending.End.{End}
+use Rattle.time_merge.specs.declared.ending.End.TheVariants as code
+use Rattle.split_pieces.specs.Cuts.{bad_reached, file_items}
+use Rattle.split_file.specs.Names.{file_name}
+use Rattle.split_file.specs.NewFile.{file_text}
+use Rattle.split_tool.specs.Counted.{lists_of}
+use Rattle.split_tool.specs.Rules.{rules_of}
+use Rattle.split_tool.specs.Stored.{NewFile, FilesStored, FirstFilesStored}
+
+-- the files of these items, numbered from n on
+abbrev pub files_from : Header → List ℕ → ℕ → List (List Keyed) → List NewFile
+files_from header base n [] = []
+files_from header base n (xs ∷ more) =
+    record { name = file_name base n; content = file_text header (lists_of header.cpus xs) } ∷ files_from header base (n + 1) more
+
+-- the files that a split makes of the selected processors' parts
+abbrev pub new_files : SplitData → Header → List ℕ → List (ℕ × Part) → List NewFile
+new_files words header bytes parts =
+    files_from header words.base 1 (file_items (rules_of words) header.layout bytes parts)
+
+abbrev pub end_by : Option (ℕ × ℕ) → End
+end_by None = code.Done
+end_by (Some bad) = code.Malformed bad.0 bad.1
+
+-- and how it ends
+abbrev pub end_of : SplitData → Header → List ℕ → List (ℕ × Part) → End
+end_of words header bytes parts = end_by (bad_reached (rules_of words) header.layout bytes parts)
+
+-- what a split that was to make these files and end so did to a folder, by its answer
+abbrev pub IsSplit : List NewFile → End → Option NamedFiles → Option NamedFiles → End → Type 0
+IsSplit news end before now code.Read = (count : ℕ) × FilesStored (take count news) before now
+IsSplit news end before now code.Write = FirstFilesStored news before now
+IsSplit news end before now answer = (answer ≡ end) × FilesStored news before now
+
+-- a file is created for each new one, after a fault for at most so many
+abbrev pub Creates : ℕ → ℕ → ℕ → End → Type 0
+Creates count before now code.Read = now ≤ raised before count
+Creates count before now code.Write = now ≤ raised before count
+Creates count before now answer = now ≡ raised before count

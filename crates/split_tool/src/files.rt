@@ -1,0 +1,171 @@
+// One new file.
+
+ghost use Rattle.std.specs.Prelude.{◌≡◌, ◌<◌, ◌≤◌, ◌^◌, All, IfErr, IfSome, List, MatchResult, None, length};
+ghost use Rattle.trace_outside.specs.Causes.{Rose, raised};
+ghost use Rattle.dat_header.specs.Allowed.{IsHeader};
+ghost use Rattle.subpage.specs.Arrangement.{CpusRise};
+ghost use Rattle.subpage.specs.ItemData.{ItemData};
+ghost use Rattle.event_cursor.specs.Standing.{IsInOrder, Stands};
+ghost use Rattle.time_merge.specs.LaneRows.{parts_of};
+ghost use Rattle.split_pieces.specs.Pieces.{joined_lists};
+ghost use Rattle.split_passes.specs.AllAgain.{AreFronts};
+ghost use Rattle.split_file.specs.Names.{file_name};
+ghost use Rattle.split_tool.specs.Lists.{lists_left};
+ghost use Rattle.split_tool.specs.Made.{IsMade, IsPrepared, IsWritten, next_text};
+ghost use Rattle.split_tool.specs.Stored.{KeepsCounts};
+ghost use Rattle.split_tool.specs.Work.{IsWorkFor};
+
+use crate::lists::{Ends, measure_lists};
+use crate::splitting::SplitPlan;
+use crate::table::fill_table;
+use crate::work::SplitWork;
+use page_pool::Lane;
+use split_file::{data_place, file_name, write_front};
+use split_passes::{clear, note_fronts, pack_all};
+use split_pieces::Rules;
+use time_merge::{End, make_all_ready};
+use trace_outside::{Failed, File, Folder, Sink};
+
+// Goes through the file's pieces, and leaves what the second pass needs in the work. None: a read failed.
+fn measure_file<F: File>(
+    plan: &SplitPlan<'_>,
+    rules: &Rules,
+    file: &mut F,
+    lanes: &mut [Lane],
+    work: &mut SplitWork,
+) -> Option<Ends>
+    requires allowed { IsHeader plan.now.header.now }
+    requires in_order { All (IsInOrder plan.now.header.now.layout) lanes.old }
+    requires rise { CpusRise (parts_of lanes.old) }
+    requires cpus { All (λ lane. lane.cpu < plan.now.header.now.cpus) lanes.old }
+    requires work { IsWorkFor plan.now.header.now (length lanes.old) work.old }
+    ensures in_order { All (IsInOrder plan.now.header.now.layout) lanes.new }
+    ensures parts { parts_of lanes.new ≡ parts_of lanes.old }
+    ensures work { IsWorkFor plan.now.header.now (length lanes.new) work.new }
+    ensures told { IfSome (F.bytes file.old) (λ bytes. All (Stands plan.now.header.now.layout bytes) lanes.old
+        → length (joined_lists (lists_left plan.now.header.now.layout bytes rules.now lanes.old)) < 2 ^ 63
+        → length (next_text plan.now.header.now bytes rules.now lanes.old) < 2 ^ 64
+        → IsPrepared plan.now.header.now bytes rules.now lanes.old lanes.new work.new.fronts.items work.new.tallies.items work.new.table.items result) }
+    ensures read { result ≡ None → Rose (F.faults file.old) (F.faults file.new) }
+    ensures later { F.faults file.old ≤ F.faults file.new }
+    ensures bytes { F.bytes file.new ≡ F.bytes file.old }
+    ensures size { F.size file.new ≡ F.size file.old }
+{
+    let layout = &plan.header.layout;
+    if !make_all_ready(layout, file, lanes) {
+        return None;
+    }
+    note_fronts(lanes, work.fronts.as_mut_slice());
+    clear(work.tallies.as_mut_slice());
+    let ends = measure_lists(layout, file, lanes, rules, work.tallies.as_mut_slice())?;
+    let at = data_place(plan.header);
+    fill_table(
+        layout,
+        at,
+        lanes,
+        work.tallies.as_slice(),
+        work.table.as_mut_slice(),
+    );
+    Some(ends)
+}
+
+// Writes the whole file.
+fn write_file<F: File, O: Sink>(
+    plan: &SplitPlan<'_>,
+    file: &mut F,
+    lanes: &mut [Lane],
+    work: &mut SplitWork,
+    out: &mut O,
+) -> End
+    requires allowed { IsHeader plan.now.header.now }
+    requires in_order { All (IsInOrder plan.now.header.now.layout) lanes.old }
+    requires work { IsWorkFor plan.now.header.now (length lanes.old) work.old }
+    ensures in_order { All (IsInOrder plan.now.header.now.layout) lanes.new }
+    ensures parts { parts_of lanes.new ≡ parts_of lanes.old }
+    ensures work { IsWorkFor plan.now.header.now (length lanes.new) work.new }
+    ensures told { IfSome (F.bytes file.old) (λ bytes. All (Stands plan.now.header.now.layout bytes) lanes.old
+        → (lists : List (List ItemData)) → AreFronts plan.now.header.now.layout bytes lanes.old work.old.fronts.items work.old.tallies.items lists
+        → IsWritten plan.now.header.now bytes work.old.table.items lists lanes.old lanes.new (O.written out.old) (O.written out.new) result) }
+    ensures name { O.name out.new ≡ O.name out.old }
+    ensures read { result ≡ End.Read → Rose (F.faults file.old) (F.faults file.new) }
+    ensures write { result ≡ End.Write → Rose (O.faults out.old) (O.faults out.new) }
+    ensures later { F.faults file.old ≤ F.faults file.new }
+    ensures bytes { F.bytes file.new ≡ F.bytes file.old }
+    ensures size { F.size file.new ≡ F.size file.old }
+{
+    match write_front(plan.header, work.table.as_slice(), out) {
+        Ok(()) => {}
+        Err(Failed) => return End::Write,
+    }
+    pack_all(
+        &plan.header.layout,
+        file,
+        lanes,
+        work.fronts.as_slice(),
+        work.tallies.as_slice(),
+        work.page.as_mut_slice(),
+        out,
+    )
+}
+
+/// Makes the file of this number, and tells what is left behind it.
+///
+/// # Errors
+/// Why the split ends here: the file has no name then, unless finishing it failed.
+pub(crate) fn make_file<F: File, D: Folder>(
+    plan: &SplitPlan<'_>,
+    rules: &Rules,
+    number: u64,
+    file: &mut F,
+    lanes: &mut [Lane],
+    work: &mut SplitWork,
+    folder: &mut D,
+) -> Result<Ends, End>
+    requires allowed { IsHeader plan.now.header.now }
+    requires base { length plan.now.words.now.base.now ≤ 4096 }
+    requires in_order { All (IsInOrder plan.now.header.now.layout) lanes.old }
+    requires rise { CpusRise (parts_of lanes.old) }
+    requires cpus { All (λ lane. lane.cpu < plan.now.header.now.cpus) lanes.old }
+    requires work { IsWorkFor plan.now.header.now (length lanes.old) work.old }
+    ensures in_order { All (IsInOrder plan.now.header.now.layout) lanes.new }
+    ensures parts { parts_of lanes.new ≡ parts_of lanes.old }
+    ensures work { IsWorkFor plan.now.header.now (length lanes.new) work.new }
+    ensures told { IfSome (F.bytes file.old) (λ bytes. All (Stands plan.now.header.now.layout bytes) lanes.old
+        → length (joined_lists (lists_left plan.now.header.now.layout bytes rules.now lanes.old)) < 2 ^ 63
+        → length (next_text plan.now.header.now bytes rules.now lanes.old) < 2 ^ 64
+        → IsMade plan.now.header.now bytes rules.now (file_name plan.now.words.now.base.now number) lanes.old lanes.new (D.files folder.old) (D.files folder.new) result) }
+    ensures read { IfErr result (λ end. end ≡ End.Read → Rose (F.faults file.old) (F.faults file.new)) }
+    ensures write { IfErr result (λ end. end ≡ End.Write → Rose (D.counts folder.old).writing (D.counts folder.new).writing) }
+    ensures later { F.faults file.old ≤ F.faults file.new }
+    ensures counts { KeepsCounts (D.counts folder.old) (D.counts folder.new) }
+    ensures created { MatchResult result (λ _. (D.counts folder.new).created ≡ raised (D.counts folder.old).created 1)
+        (λ _. (D.counts folder.new).created ≤ raised (D.counts folder.old).created 1) }
+    ensures bytes { F.bytes file.new ≡ F.bytes file.old }
+    ensures size { F.size file.new ≡ F.size file.old }
+{
+    let Some(ends) = measure_file(plan, rules, file, lanes, work) else {
+        return Err(End::Read);
+    };
+    let name = file_name(plan.words.base, number);
+    let Ok(mut out) = folder.create_file(name.as_str()) else {
+        return Err(End::Write);
+    };
+    match write_file(plan, file, lanes, work, &mut out) {
+        End::Done => match folder.finish_file(out) {
+            Ok(()) => Ok(ends),
+            Err(Failed) => Err(End::Write),
+        },
+        End::Malformed { cpu, page } => {
+            folder.drop_file(out);
+            Err(End::Malformed { cpu, page })
+        }
+        End::Read => {
+            folder.drop_file(out);
+            Err(End::Read)
+        }
+        End::Write => {
+            folder.drop_file(out);
+            Err(End::Write)
+        }
+    }
+}

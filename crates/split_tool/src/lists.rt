@@ -1,0 +1,177 @@
+// The lists that one file takes its pieces of.
+
+ghost use Rattle.std.specs.Prelude.{◌≡◌, ◌<◌, ◌≤◌, ◌&&◌, ◌||◌, ℕ, Bool, IsTrue, false, not, [], All, IfSome, None, length, slice_index_or};
+ghost use Rattle.std.specs.Option.{option_or};
+ghost use Rattle.trace_base.specs.Layout.{IsLayout};
+ghost use Rattle.trace_outside.specs.Causes.{Rose};
+ghost use Rattle.subpage.specs.Arrangement.{CpusRise};
+ghost use Rattle.event_cursor.specs.Standing.{IsInOrder, Stands};
+ghost use Rattle.time_merge.specs.LaneRows.{parts_of};
+ghost use Rattle.split_pieces.specs.Gauging.{closes_by};
+ghost use Rattle.split_passes.specs.Measures.{Tallied};
+ghost use Rattle.split_passes.specs.Tallies.{IsTally};
+ghost use Rattle.split_passes.specs.declared.tally.Tally.{Tally};
+ghost use Rattle.split_tool.specs.Measured.{IsFileMeasured, IsListMeasured, bad_of_end, is_full};
+
+use page_pool::Lane;
+use split_passes::{PieceEnd, Tally, measure};
+use split_pieces::{Gauge, Rules};
+use trace_base::Layout;
+use trace_outside::File;
+
+/// What is left behind a file's pieces.
+#[derive(Clone, Copy, Debug, PartialEq, Eq)]
+pub(crate) struct Ends {
+    /// A list has an item left that its unit leaves to the next file.
+    pub(crate) more: bool,
+    /// The first list that nothing closed ends before this malformed sub-buffer, told by its processor and number.
+    pub(crate) bad: Option<(u32, u64)>,
+}
+
+impl Ends {
+    // Of no list.
+    fn none() -> Ends
+        ensures more { result.more ≡ false }
+        ensures bad { result.bad ≡ None }
+    {
+        Ends {
+            more: false,
+            bad: None,
+        }
+    }
+
+    // With the piece of a further list.
+    fn and(self, end: PieceEnd, closed: bool) -> Ends
+        ensures more { result.more ≡ (self.more || is_full end) }
+        ensures bad { result.bad ≡ option_or self.bad (bad_of_end end closed) }
+    {
+        Ends {
+            more: self.more || is_full(end),
+            bad: self.bad.or(bad_of_end(end, closed)),
+        }
+    }
+}
+
+fn is_full(end: PieceEnd) -> bool
+    ensures { result ≡ is_full end }
+{
+    match end {
+        PieceEnd::Full => true,
+        PieceEnd::Past => false,
+        PieceEnd::Done => false,
+        PieceEnd::Malformed { .. } => false,
+        PieceEnd::Read => false,
+    }
+}
+
+fn is_read(end: PieceEnd) -> bool
+    ensures yes { IsTrue result → end ≡ PieceEnd.Read }
+    ensures never { result ≡ false → end ≡ PieceEnd.Read → ⊥ }
+{
+    match end {
+        PieceEnd::Read => true,
+        PieceEnd::Full | PieceEnd::Past | PieceEnd::Done | PieceEnd::Malformed { .. } => false,
+    }
+}
+
+// The malformed sub-buffer behind a list, unless something closed it.
+fn bad_of_end(end: PieceEnd, closed: bool) -> Option<(u32, u64)>
+    ensures { result ≡ bad_of_end end closed }
+{
+    match end {
+        PieceEnd::Malformed { cpu, page } => {
+            if closed {
+                return None;
+            }
+            Some((cpu, page))
+        }
+        PieceEnd::Full => None,
+        PieceEnd::Past => None,
+        PieceEnd::Done => None,
+        PieceEnd::Read => None,
+    }
+}
+
+// Whether the unit of the one file closes its list, though nothing follows.
+fn is_closed(repeat: bool, gauge: &Gauge) -> bool
+    ensures { result ≡ (not repeat && closes_by gauge.now []) }
+{
+    !repeat && gauge.is_full()
+}
+
+// Measures the piece of one list. None: a read failed.
+fn measure_list<F: File>(
+    layout: &Layout,
+    file: &mut F,
+    lanes: &mut [Lane],
+    rules: &Rules,
+    tallies: &mut [Tally],
+    before: Ends,
+) -> Option<Ends>
+    requires allowed { IsLayout layout.now }
+    requires in_order { All (IsInOrder layout.now) lanes.old }
+    requires rise { CpusRise (parts_of lanes.old) }
+    requires long { length tallies.old ≡ length lanes.old }
+    ensures in_order { All (IsInOrder layout.now) lanes.new }
+    ensures parts { parts_of lanes.new ≡ parts_of lanes.old }
+    ensures long { length tallies.new ≡ length lanes.new }
+    ensures told { IfSome (F.bytes file.old) (λ bytes. All (Stands layout.now bytes) lanes.old
+        → Tallied layout.now lanes.old [] tallies.old
+        → IsListMeasured layout.now bytes rules.now lanes.old lanes.new tallies.new before result) }
+    ensures read { result ≡ None → Rose (F.faults file.old) (F.faults file.new) }
+    ensures later { F.faults file.old ≤ F.faults file.new }
+    ensures bytes { F.bytes file.new ≡ F.bytes file.old }
+    ensures size { F.size file.new ≡ F.size file.old }
+{
+    let mut gauge = Gauge::new(rules.unit);
+    let end = measure(layout, file, lanes, rules.stop, &mut gauge, tallies);
+    if is_read(end) {
+        return None;
+    }
+    let closed = is_closed(rules.repeat, &gauge);
+    Some(before.and(end, closed))
+}
+
+/// Measures the pieces of a file: of all lanes as one list, or of each by itself. None: a read failed.
+pub(crate) fn measure_lists<F: File>(
+    layout: &Layout,
+    file: &mut F,
+    lanes: &mut [Lane],
+    rules: &Rules,
+    tallies: &mut [Tally],
+) -> Option<Ends>
+    requires allowed { IsLayout layout.now }
+    requires in_order { All (IsInOrder layout.now) lanes.old }
+    requires rise { CpusRise (parts_of lanes.old) }
+    requires long { length tallies.old ≡ length lanes.old }
+    ensures in_order { All (IsInOrder layout.now) lanes.new }
+    ensures parts { parts_of lanes.new ≡ parts_of lanes.old }
+    ensures long { length tallies.new ≡ length lanes.new }
+    ensures told { IfSome (F.bytes file.old) (λ bytes. All (Stands layout.now bytes) lanes.old
+        → ((i : ℕ) (t : Tally) → i < length tallies.old → IsTally layout.now (slice_index_or tallies.old i t) [])
+        → IsFileMeasured layout.now bytes rules.now lanes.old lanes.new tallies.new result) }
+    ensures read { result ≡ None → Rose (F.faults file.old) (F.faults file.new) }
+    ensures later { F.faults file.old ≤ F.faults file.new }
+    ensures bytes { F.bytes file.new ≡ F.bytes file.old }
+    ensures size { F.size file.new ≡ F.size file.old }
+{
+    if !rules.is_apart() {
+        return measure_list(layout, file, lanes, rules, tallies, Ends::none());
+    }
+    let mut ends = Ends::none();
+    for i in 0..lanes.len() {
+        let list = measure_list(
+            layout,
+            file,
+            &mut lanes[i..i + 1],
+            rules,
+            &mut tallies[i..i + 1],
+            ends,
+        );
+        let Some(more) = list else {
+            return None;
+        };
+        ends = more;
+    }
+    Some(ends)
+}

@@ -1,0 +1,105 @@
+ghost use Rattle.std.specs.Prelude.{◌≡◌, ◌<◌, ◌≤◌, ◌^◌, ◌&&◌, All, IfSome, List, length};
+ghost use Rattle.trace_base.specs.declared.part.Part.{Part};
+ghost use Rattle.trace_outside.specs.Causes.{Rose};
+ghost use Rattle.dat_header.specs.Allowed.{IsHeader};
+ghost use Rattle.subpage.specs.Arrangement.{CpusRise};
+ghost use Rattle.page_pool.specs.Fresh.{IsFresh};
+ghost use Rattle.event_cursor.specs.Standing.{IsInOrder};
+ghost use Rattle.time_merge.specs.LaneRows.{parts_of};
+ghost use Rattle.split_pieces.specs.Pieces.{IsUnit};
+ghost use Rattle.split_file.specs.NewFile.{file_text};
+ghost use Rattle.trace_args.specs.Command.{split_view};
+ghost use Rattle.split_tool.specs.Stored.{KeepsCounts};
+ghost use Rattle.split_tool.specs.NewFiles.{Creates, IsSplit, end_by, end_of, new_files};
+ghost use Rattle.split_tool.specs.Rules.{unit_of};
+ghost use Rattle.split_tool.specs.Work.{IsWorkFor};
+
+use crate::files::make_file;
+use crate::lists::Ends;
+use crate::rules::rules_of;
+use crate::start::pass_start;
+use crate::work::SplitWork;
+use dat_header::Header;
+use page_pool::Lane;
+use split_pieces::Rules;
+use time_merge::End;
+use trace_args::SplitWords;
+use trace_outside::{File, Folder};
+
+/// What is to be split, and how.
+#[derive(Clone, Copy)]
+pub struct SplitPlan<'a> {
+    pub words: &'a SplitWords<'a>,
+    /// The input's header, without the options of instances.
+    pub header: &'a Header,
+}
+
+// Whether a further file is made.
+fn goes_on(rules: &Rules, ends: Ends) -> bool
+    ensures { result ≡ (ends.more && rules.now.repeat) }
+{
+    ends.more && rules.repeat
+}
+
+// How a split ends behind its last file.
+fn end_by(ends: Ends) -> End
+    ensures { result ≡ end_by ends.bad }
+{
+    match ends.bad {
+        Some((cpu, page)) => End::Malformed { cpu, page },
+        None => End::Done,
+    }
+}
+
+/// Cuts a trace into new files (trace-cmd-split(1)).
+///
+/// There is always a first file. `Malformed` exactly where a list that nothing closed ends before a malformed sub-buffer;
+/// the last file is finished then. After `Read` and `Write` the finished files are the first few, and the file in work has
+/// no name, unless finishing it failed. Nothing here takes memory.
+pub fn split<F: File, D: Folder>(
+    plan: &SplitPlan<'_>,
+    file: &mut F,
+    lanes: &mut [Lane],
+    work: &mut SplitWork,
+    folder: &mut D,
+) -> End
+    requires allowed { IsHeader plan.now.header.now }
+    requires unit { IsUnit (unit_of plan.now.words.now.unit) }
+    requires base { length plan.now.words.now.base.now ≤ 4096 }
+    requires fresh { All (λ lane. IsFresh lane.cursor) lanes.old }
+    requires in_order { All (IsInOrder plan.now.header.now.layout) lanes.old }
+    requires rise { CpusRise (parts_of lanes.old) }
+    requires cpus { All (λ lane. lane.cpu < plan.now.header.now.cpus) lanes.old }
+    requires work { IsWorkFor plan.now.header.now (length lanes.old) work.old }
+    // Past these sizes the numbers of a table are told modulo 2^64.
+    ensures told { IfSome (F.bytes file.old) (λ bytes. length bytes ≤ 2 ^ 39
+        → All (λ new. length new.content < 2 ^ 64) (new_files (split_view plan.now.words.now) plan.now.header.now bytes (parts_of lanes.old))
+        → IsSplit (new_files (split_view plan.now.words.now) plan.now.header.now bytes (parts_of lanes.old))
+        (end_of (split_view plan.now.words.now) plan.now.header.now bytes (parts_of lanes.old))
+        (D.files folder.old) (D.files folder.new) result) }
+    ensures created { IfSome (F.bytes file.old) (λ bytes. length bytes ≤ 2 ^ 39
+        → All (λ new. length new.content < 2 ^ 64) (new_files (split_view plan.now.words.now) plan.now.header.now bytes (parts_of lanes.old))
+        → Creates (length (new_files (split_view plan.now.words.now) plan.now.header.now bytes (parts_of lanes.old)))
+        (D.counts folder.old).created (D.counts folder.new).created result) }
+    ensures counts { KeepsCounts (D.counts folder.old) (D.counts folder.new) }
+    ensures later { F.faults file.old ≤ F.faults file.new }
+    ensures bytes { F.bytes file.new ≡ F.bytes file.old }
+    ensures read { result ≡ End.Read → Rose (F.faults file.old) (F.faults file.new) }
+    ensures write { result ≡ End.Write → Rose (D.counts folder.old).writing (D.counts folder.new).writing }
+{
+    let rules = rules_of(plan.words);
+    if !pass_start(&plan.header.layout, file, lanes, &rules) {
+        return End::Read;
+    }
+    for number in 1..u64::MAX {
+        match make_file(plan, &rules, number, file, lanes, work, folder) {
+            Ok(ends) => {
+                if !goes_on(&rules, ends) {
+                    return end_by(ends);
+                }
+            }
+            Err(end) => return end,
+        }
+    }
+    End::Done
+}

@@ -1,0 +1,91 @@
+// The items before the start.
+
+ghost use Rattle.std.specs.Prelude.{◌≡◌, ◌≤◌, All, IfSome, IsTrue, Some, false};
+ghost use Rattle.trace_base.specs.Layout.{IsLayout};
+ghost use Rattle.trace_outside.specs.Causes.{Rose};
+ghost use Rattle.subpage.specs.Arrangement.{CpusRise, Keyed};
+ghost use Rattle.event_cursor.specs.Keys.{first_of};
+ghost use Rattle.event_cursor.specs.Standing.{IsInOrder, Stands, keyed_held};
+ghost use Rattle.time_merge.specs.LaneRows.{parts_of};
+ghost use Rattle.split_pieces.specs.Moments.{is_before};
+ghost use Rattle.split_tool.specs.Started.{ListStarted, Started};
+
+use event_cursor::{head, step};
+use page_pool::Lane;
+use split_pieces::{Moment, Rules};
+use time_merge::{Next, next_lane};
+use trace_base::Layout;
+use trace_outside::File;
+
+// Whether a lane's first item stands before the start.
+fn is_before(layout: &Layout, lane: &Lane, start: Moment) -> bool
+    requires { IsInOrder layout.now lane.now }
+    ensures { (x : Keyed) → first_of (keyed_held layout.now lane.now) ≡ Some x → result ≡ is_before start x.key }
+{
+    match head(layout, lane) {
+        Some((key, _)) => start.is_after(key),
+        None => false,
+    }
+}
+
+// Passes over the items of a list of lanes that stand before the start. False: a read failed.
+fn pass_list<F: File>(layout: &Layout, file: &mut F, lanes: &mut [Lane], start: Moment) -> bool
+    requires allowed { IsLayout layout.now }
+    requires in_order { All (IsInOrder layout.now) lanes.old }
+    requires rise { CpusRise (parts_of lanes.old) }
+    ensures in_order { All (IsInOrder layout.now) lanes.new }
+    ensures parts { parts_of lanes.new ≡ parts_of lanes.old }
+    ensures told { IfSome (F.bytes file.old) (λ bytes. All (Stands layout.now bytes) lanes.old → IsTrue result
+        → ListStarted layout.now bytes (Some start) lanes.old lanes.new) }
+    ensures read { result ≡ false → Rose (F.faults file.old) (F.faults file.new) }
+    ensures later { F.faults file.old ≤ F.faults file.new }
+    ensures bytes { F.bytes file.new ≡ F.bytes file.old }
+    ensures size { F.size file.new ≡ F.size file.old }
+{
+    loop {
+        match next_lane(layout, file, lanes) {
+            Next::Lane(i) => {
+                if !is_before(layout, &lanes[i], start) {
+                    return true;
+                }
+                step(layout, &mut lanes[i]);
+            }
+            Next::Done => return true,
+            Next::Malformed { .. } => return true,
+            Next::Read => return false,
+        }
+    }
+}
+
+/// Passes over the items before the start, in each lane by itself or in all together. False: a read failed.
+pub(crate) fn pass_start<F: File>(
+    layout: &Layout,
+    file: &mut F,
+    lanes: &mut [Lane],
+    rules: &Rules,
+) -> bool
+    requires allowed { IsLayout layout.now }
+    requires in_order { All (IsInOrder layout.now) lanes.old }
+    requires rise { CpusRise (parts_of lanes.old) }
+    ensures in_order { All (IsInOrder layout.now) lanes.new }
+    ensures parts { parts_of lanes.new ≡ parts_of lanes.old }
+    ensures told { IfSome (F.bytes file.old) (λ bytes. All (Stands layout.now bytes) lanes.old → IsTrue result
+        → Started layout.now bytes rules.now lanes.old lanes.new) }
+    ensures read { result ≡ false → Rose (F.faults file.old) (F.faults file.new) }
+    ensures later { F.faults file.old ≤ F.faults file.new }
+    ensures bytes { F.bytes file.new ≡ F.bytes file.old }
+    ensures size { F.size file.new ≡ F.size file.old }
+{
+    let Some(start) = rules.start else {
+        return true;
+    };
+    if !rules.is_apart() {
+        return pass_list(layout, file, lanes, start);
+    }
+    for i in 0..lanes.len() {
+        if !pass_list(layout, file, &mut lanes[i..i + 1], start) {
+            return false;
+        }
+    }
+    true
+}

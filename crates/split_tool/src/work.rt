@@ -1,0 +1,41 @@
+ghost use Rattle.std.specs.Prelude.{◌≡◌, length, IfOk};
+ghost use Rattle.split_tool.specs.Work.{IsWorkFor};
+
+use dat_header::Header;
+use event_cursor::Place;
+use split_passes::Tally;
+use std::alloc::{AllocError, Global};
+use trace_base::Part;
+
+/// What a split is lent: the places and numbers of its lanes, a table and one sub-buffer.
+#[derive(Drop)]
+pub struct SplitWork {
+    pub(crate) fronts: Vec<Place>,
+    pub(crate) tallies: Vec<Tally>,
+    pub(crate) table: Vec<Part>,
+    pub(crate) page: Vec<u8>,
+}
+
+impl SplitWork {
+    /// For so many lanes of a file with this header. No call takes memory afterwards.
+    pub fn new(alloc: Global, header: &Header, lanes: u32) -> Result<SplitWork, AllocError>
+        ensures { IfOk result (λ work. IsWorkFor header.now lanes work) }
+    {
+        let mut fronts = Vec::with_capacity(alloc, lanes as usize)?;
+        let mut tallies = Vec::with_capacity(alloc, lanes as usize)?;
+        for _ in 0..lanes {
+            fronts.push(Place {
+                page: 0,
+                at: 0,
+                high: None,
+            })?;
+            tallies.push(Tally::new())?;
+        }
+        Ok(SplitWork {
+            fronts,
+            tallies,
+            table: vec![in alloc; Part { offset: 0, size: 0 }; header.cpus as usize]?,
+            page: vec![in alloc; 0; header.layout.page as usize]?,
+        })
+    }
+}
