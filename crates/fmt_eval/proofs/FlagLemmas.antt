@@ -1,14 +1,13 @@
 -- The pieces of flags.
-use Rattle.std.proofs.Common.{◌≡◌, ℕ, ◌<◌, ◌+◌, Bool, true, false, List, [], ◌∷◌, ◌++◌, length, map, drop, get_or, sym, ap, ◌∙◌, arith}
+use Rattle.std.proofs.Common.{◌≡◌, ℕ, ◌<◌, Bool, true, false, List, [], ◌∷◌, ◌++◌, sym, ap, ◌∙◌, arith}
 use Rattle.std.specs.Prelude.{◌==◌, if◌then◌else◌, bit_and}
 use Rattle.std.specs.Int.{w64, bit_not}
 use Rattle.std.proofs.lemmas.Bool.{ne_eqb}
-use Rattle.std.proofs.lemmas.List.{append-nil, drop_more}
+use Rattle.std.proofs.lemmas.List.{append-nil}
 use Rattle.trace_base.specs.Kept.{Kept, put}
 use Rattle.trace_base.proofs.TailJoins.{put_put, put_nothing}
 use Rattle.trace_base.specs.TailView.{kept}
 use Rattle.trace_base.specs.declared.tail.Tail.{Tail}
-use Rattle.fmt_expr.specs.declared.expr.Entry.{Entry}
 use Rattle.fmt_eval.specs.Flags.{Row, flag_pieces, is_flag, flags_from}
 use Rattle.fmt_eval.specs.Pieces.{join_behind, hexadecimal}
 use Rattle.fmt_eval.proofs.PieceLemmas.{behind, piece_first}

@@ -1,8 +1,10 @@
 -- What a kind leaves of an exact number, and its bits.
-use Rattle.std.proofs.Common.{◌≡◌, ℕ, ◌^◌, ◌<◌, ◌-◌, ◌%◌, refl, inl, inr, ap, ◌∙◌, arith}
-use Rattle.std.specs.Prelude.{ℤ, pos, negsuc, unsigned_abs}
+use Rattle.std.proofs.Common.{◌≡◌, ℕ, ◌^◌, ◌<◌, ◌-◌, ◌%◌, refl, inl, inr, ap, sym, ◌∙◌, arith}
+use Rattle.std.specs.Prelude.{ℤ, pos, negsuc, ◌-ℤ◌, unsigned_abs}
 use Rattle.std.specs.Int.{w8, w16, w32, w64, w128, cast_signed, int_rem_euclid, int_wrap}
 use Rattle.std.proofs.lemmas.Bool.{cases_lt, lt-ltb, le-ltb}
+use Rattle.std.proofs.lemmas.Int.{ints, int_rem_euclid_is}
+use Rattle.trace_base.specs.Fields.{signed_of}
 use Rattle.fmt_literal.specs.declared.ckind.CKind.{CKind}
 use Rattle.fmt_literal.specs.declared.ckind.CKind.TheVariants.{I32, U32, I64, U64}
 use Rattle.fmt_eval.specs.Numbers.{reduced, pattern}
@@ -76,3 +78,37 @@ pattern_signed bits small = elim (cases_lt bits (2 ^ 63)) as (λ _. bits ≡ pat
 
 pub pattern_unsigned : (bits : ℕ) → bits < 2 ^ 64 → bits ≡ pattern (pos bits)
 pattern_unsigned bits small = omega arith
+
+-- ---- fields of four and eight bytes
+
+low_of_signed : (n : ℕ) → int_rem_euclid (signed_of 4 n) (pos (2 ^ 32)) ≡ pos (n % 2 ^ 32)
+unfolding signed_of
+low_of_signed n = elim (cases_lt n (2 ^ 31)) as (λ _. int_rem_euclid (signed_of 4 n) (pos (2 ^ 32)) ≡ pos (n % 2 ^ 32)) [
+  | inl less ↦ rw (lt-ltb n (2 ^ 31) less) refl
+  | inr more ↦ rw (le-ltb n (2 ^ 31) more) (int_rem_euclid_is (pos n -ℤ pos (2 ^ 32)) (pos (2 ^ 32)) (2 ^ 32) 1 n (omega arith) refl (omega (arith, ints)))
+]
+
+whole_of_signed : (n : ℕ) → int_rem_euclid (signed_of 8 n) (pos (2 ^ 64)) ≡ pos (n % 2 ^ 64)
+unfolding signed_of
+whole_of_signed n = elim (cases_lt n (2 ^ 63)) as (λ _. int_rem_euclid (signed_of 8 n) (pos (2 ^ 64)) ≡ pos (n % 2 ^ 64)) [
+  | inl less ↦ rw (lt-ltb n (2 ^ 63) less) refl
+  | inr more ↦ rw (le-ltb n (2 ^ 63) more) (int_rem_euclid_is (pos n -ℤ pos (2 ^ 64)) (pos (2 ^ 64)) (2 ^ 64) 1 n (omega arith) refl (omega (arith, ints)))
+]
+
+pub signed_half : (bytes half bits : ℕ) → half ≡ bytes % 2 ^ 32 → cast_signed w64 bits ≡ cast_signed w32 half → cast_signed w64 bits ≡ reduced I32 (signed_of 4 bytes)
+unfolding reduced int_wrap
+signed_half bytes half bits is_half is_bits = is_bits ∙ ap (cast_signed w32) (is_half ∙ ap unsigned_abs (sym (low_of_signed bytes)))
+
+pub unsigned_half : (bytes half : ℕ) → half ≡ bytes % 2 ^ 32 → pos half ≡ reduced U32 (pos bytes)
+unfolding reduced
+unsigned_half bytes half is_half = ap pos is_half
+
+pub signed_whole : (bytes : ℕ) → bytes < 2 ^ 64 → cast_signed w64 bytes ≡ reduced I64 (signed_of 8 bytes)
+unfolding reduced int_wrap
+signed_whole bytes small =
+    let is : bytes ≡ bytes % 2 ^ 64 = omega arith in
+    ap (cast_signed w64) (is ∙ ap unsigned_abs (sym (whole_of_signed bytes)))
+
+pub unsigned_whole : (bytes : ℕ) → bytes < 2 ^ 64 → pos bytes ≡ reduced U64 (pos bytes)
+unfolding reduced
+unsigned_whole bytes small = ap pos (omega arith)

@@ -1,12 +1,14 @@
 //! The numbers of trees.
 
-ghost use Rattle.std.specs.Prelude.{◌≡◌};
+ghost use Rattle.std.specs.Prelude.{◌≡◌, IfSome};
+ghost use Rattle.trace_base.specs.Fields.{sized};
+ghost use Rattle.fmt_eval.specs.Numbers.{number, reduced};
 ghost use Rattle.fmt_expr.specs.TreeView.{tree_of, operands_of};
 ghost use Rattle.fmt_eval.specs.NumView.{num_view};
 ghost use Rattle.fmt_eval.specs.Values.{given, sized_kind, nothing, field_number, element_at, element, length_of, chosen, number_of, folded};
 
 use crate::cast::cast;
-use crate::num::Num;
+use crate::num::{Num, sign_extended};
 use crate::operators::{applied, common, prefixed};
 use fmt_expr::{CKind, Expr, Operand};
 use trace_base::{Field, FieldKind, Rec, bytes_of, number_of, sized, unsigned_at};
@@ -36,11 +38,53 @@ fn sized_kind(signed: bool, size: u32) -> CKind
     }
 }
 
+/// The number of a field of four bytes, from those bytes.
+#[tactic(auto, using(crate::proofs::Reductions::signed_half, crate::proofs::Reductions::unsigned_half))]
+fn half_number(signed: bool, bytes: u64) -> Num
+    ensures { num_view result ≡ number (sized_kind signed 4) (reduced (sized_kind signed 4) (sized signed 4 bytes)) }
+{
+    let half = (bytes % 4_294_967_296) as u32;
+    if signed {
+        Num {
+            bits: sign_extended(half),
+            kind: CKind::I32,
+        }
+    } else {
+        Num {
+            bits: half as u64,
+            kind: CKind::U32,
+        }
+    }
+}
+
+/// The number of a field of eight bytes, from those bytes.
+#[tactic(auto, using(crate::proofs::Reductions::signed_whole, crate::proofs::Reductions::unsigned_whole))]
+fn whole_number(signed: bool, bytes: u64) -> Num
+    ensures { num_view result ≡ number (sized_kind signed 8) (reduced (sized_kind signed 8) (sized signed 8 bytes)) }
+{
+    Num {
+        bits: bytes,
+        kind: if signed { CKind::I64 } else { CKind::U64 },
+    }
+}
+
+/// The number of a field. Most have four or eight bytes, and these need no wider numbers.
+#[inline(always)]
+#[tactic(auto, unfolding(trace_base::specs::Fields::number_in))]
 fn field_number(rec: &Rec<'_>, field: &Field) -> Num
     ensures { num_view result ≡ field_number (given rec.now) field.now }
 {
     let signed = field.kind == FieldKind::Number && field.signed;
-    Num::reduced(sized_kind(signed, field.size), number_of(rec, field))
+    let at = field.offset as usize;
+    match (field.kind, field.size) {
+        (FieldKind::Number | FieldKind::Pointer, 4) => {
+            half_number(signed, unsigned_at(rec.order, rec.payload, at, 4))
+        }
+        (FieldKind::Number | FieldKind::Pointer, 8) => {
+            whole_number(signed, unsigned_at(rec.order, rec.payload, at, 8))
+        }
+        _ => Num::reduced(sized_kind(signed, field.size), number_of(rec, field)),
+    }
 }
 
 #[tactic(auto, using(crate::proofs::Elements::past_element, crate::proofs::Elements::past_index))]
@@ -88,10 +132,36 @@ fn chosen(holds: bool, a: Num, b: Num) -> Num
     Num::reduced(common(a.kind, b.kind), exact)
 }
 
+/// The number of a tree without operands, which most are.
+#[inline(always)]
+fn at_once(expr: &Expr, rec: &Rec<'_>) -> Option<Num>
+    ensures { IfSome result (λ n. num_view n ≡ number_of (given rec.now) (tree_of expr.now)) }
+{
+    match expr {
+        Expr::Number { bits, kind } => Some(Num {
+            bits: *bits,
+            kind: *kind,
+        }),
+        Expr::FieldNumber { field } => Some(field_number(rec, field)),
+        _ => None,
+    }
+}
+
 /// The number that a tree is over a record; 0 of kind I32 where it is a text or bytes.
+#[inline(always)]
+pub fn number(expr: &Expr, rec: &Rec<'_>) -> Num
+    ensures { num_view result ≡ number_of (given rec.now) (tree_of expr.now) }
+{
+    match at_once(expr, rec) {
+        Some(number) => number,
+        None => walked(expr, rec),
+    }
+}
+
+/// The same, by way of its operands.
 #[cycle(walk)]
 #[tactic(auto, using(crate::proofs::Rows::operands_row))]
-pub fn number(expr: &Expr, rec: &Rec<'_>) -> Num
+fn walked(expr: &Expr, rec: &Rec<'_>) -> Num
     ensures { num_view result ≡ number_of (given rec.now) (tree_of expr.now) }
 {
     match expr {
@@ -100,15 +170,15 @@ pub fn number(expr: &Expr, rec: &Rec<'_>) -> Num
             kind: *kind,
         },
         Expr::FieldNumber { field } => field_number(rec, field),
-        Expr::Element { field, index } => element(rec, field, number(index, rec).exact()),
+        Expr::Element { field, index } => element(rec, field, walked(index, rec).exact()),
         Expr::Length { field } => length_of(rec, field),
-        Expr::Prefix { op, of } => prefixed(*op, number(of, rec)),
-        Expr::Cast { to, of } => cast(*to, number(of, rec)),
-        Expr::Chain { first, rest } => folded(number(first, rec), rest.as_slice(), rec),
+        Expr::Prefix { op, of } => prefixed(*op, walked(of, rec)),
+        Expr::Cast { to, of } => cast(*to, walked(of, rec)),
+        Expr::Chain { first, rest } => folded(walked(first, rec), rest.as_slice(), rec),
         // The kind is that of both arms, so both have their values; neither has an effect.
         Expr::Choice { test, yes, no } => {
-            let holds = number(test, rec).is_true();
-            chosen(holds, number(yes, rec), number(no, rec))
+            let holds = walked(test, rec).is_true();
+            chosen(holds, walked(yes, rec), walked(no, rec))
         }
         Expr::Literal { .. }
         | Expr::FieldText { .. }
@@ -126,7 +196,11 @@ fn folded(first: Num, rest: &[Operand], rec: &Rec<'_>) -> Num
 {
     let mut total = first;
     for operand in rest {
-        total = applied(operand.op, total, number(&operand.value, rec));
+        let value = match at_once(&operand.value, rec) {
+            Some(number) => number,
+            None => walked(&operand.value, rec),
+        };
+        total = applied(operand.op, total, value);
     }
     total
 }

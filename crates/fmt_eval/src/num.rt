@@ -75,7 +75,8 @@ fn reduced_bits(kind: CKind, exact: i128) -> u64
     }
 }
 
-fn sign_extended(low: u32) -> u64
+/// The 64 bits of a number of 32 with a sign.
+pub(crate) fn sign_extended(low: u32) -> u64
     ensures { cast_signed w64 result ≡ cast_signed w32 low }
 {
     (low.cast_signed() as i64).cast_unsigned()

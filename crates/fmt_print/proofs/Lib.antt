@@ -7,3 +7,4 @@ pub mod PutLemmas
 pub mod ArgumentLemmas
 pub mod PrintLemmas
 pub mod SameLemmas
+pub mod PlainLemmas

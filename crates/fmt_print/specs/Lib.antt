@@ -1,5 +1,6 @@
 pub mod Fills
 pub mod Integers
+pub mod Plain
 pub mod Strings
 pub mod Addresses
 pub mod Arguments

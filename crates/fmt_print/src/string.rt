@@ -46,12 +46,18 @@ fn cut_to(precision: Option<u32>, text: &[u8]) -> &[u8]
     }
 }
 
-/// Puts a text in its width, as much of it as a precision shows.
+/// Puts a text in its width, as much of it as a precision shows. Most have no width.
+#[tactic(auto, using(crate::proofs::PlainLemmas::padded_bare))]
 pub fn put_bytes(form: &Form, text: &[u8], into: &mut Tail<'_>)
     ensures same_slice { lent into.new ≡ lent into.old }
     ensures value { kept into.new ≡ put (kept into.old) (padded form.now.left form.now.width (cut_to form.now.precision text.now)) }
 {
-    put_alone(form.left, form.width, cut_to(form.precision, text), into);
+    let shown = cut_to(form.precision, text);
+    if form.width == 0 {
+        into.put(shown);
+    } else {
+        put_alone(form.left, form.width, shown, into);
+    }
 }
 
 /// Puts an address as `0x` and its digits in its width, as much of it as a precision shows.
@@ -93,12 +99,29 @@ fn text_in<'a>(expr: &'a Expr, rec: &Rec<'a>) -> Option<&'a [u8]>
     }
 }
 
+/// The text of a tree without operands, where it lies in memory, perhaps with a NUL and more behind it.
+#[inline(always)]
+#[tactic(auto, using(crate::proofs::TextLemmas::nul_once))]
+fn text_at_once<'a>(expr: &'a Expr, rec: &Rec<'a>) -> Option<&'a [u8]>
+    ensures { IfSome result (λ text. up_to_nul text.now ≡ up_to_nul (text_of (given rec.now) (tree_of expr.now))) }
+{
+    match expr {
+        Expr::Literal { text } => Some(text.as_bytes()),
+        Expr::FieldText { field } => Some(bytes_of(rec, field)),
+        _ => None,
+    }
+}
+
 /// Puts the text of a tree in its width: up to its first NUL, as far as the precision shows it.
 #[tactic(auto, using(trace_base::proofs::TailJoins::held_put))]
 fn put_text_of(form: &Form, expr: &Expr, rec: &Rec<'_>, into: &mut Tail<'_>)
     ensures same_slice { lent into.new ≡ lent into.old }
     ensures value { held into.new ≡ put_held (held into.old) (padded form.now.left form.now.width (cut_to form.now.precision (up_to_nul (text_of (given rec.now) (tree_of expr.now))))) }
 {
+    if let Some(text) = text_at_once(expr, rec) {
+        put_bytes(form, up_to_nul(text), into);
+        return;
+    }
     match text_in(expr, rec) {
         Some(text) => put_bytes(form, up_to_nul(text), into),
         None => put_flow(form, expr, rec, into),
