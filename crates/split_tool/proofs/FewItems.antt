@@ -1,11 +1,12 @@
--- A file has room for few items.
-use Rattle.std.proofs.Common.{◌≡◌, ℕ, zero, suc, ◌+◌, ◌*◌, ◌^◌, ◌≤◌, ◌⊎◌, Bool, true, false, ◌&&◌, leb, cond, max, List, [], ◌∷◌, ◌++◌, length, drop, Option, Some, None, refl, ap, ◌∙◌, inl, inr, arith, length-append, length-drop}
+-- A file has room for few items: each takes four bytes of its sub-buffer.
+use Rattle.std.proofs.Common.{◌≡◌, ℕ, zero, suc, ◌+◌, ◌-◌, ◌*◌, ◌^◌, ◌≤◌, ◌⊎◌, Bool, true, false, ◌&&◌, leb, cond, max, List, [], ◌∷◌, ◌++◌, length, drop, Option, Some, None, refl, ap, ◌∙◌, inl, inr, arith, length-append, length-drop}
 use Rattle.std.specs.List.{filter}
 use Rattle.std.proofs.lemmas.Bool.{cases_Bool, leb-true}
 use Rattle.std.proofs.lemmas.List.{length-take}
 use Rattle.trace_base.specs.declared.order.Order.{Order}
 use Rattle.trace_base.specs.declared.layout.Layout.{Layout}
 use Rattle.trace_base.specs.declared.part.Part.{Part}
+use Rattle.trace_base.specs.Layout.{IsLayout}
 use Rattle.subpage.specs.ItemData.{ItemData, told_by, events, item_time}
 use Rattle.subpage.specs.RunningTime.{time_after}
 use Rattle.subpage.specs.Element.{ElementData, Event, End, Discarded, Extend, Stamp, Row, short_event, long_event, end, discarded, extend, stamp, Spelled, nothing, begins_with}
@@ -50,7 +51,7 @@ one_loss l word time behind = elim (cases_Bool (has_missed word)) [
   | inr b ↦ rw b (omega arith)
 ]
 
-few_on_page : (l : Layout) (page : List ℕ) (xs : List ItemData) → items l page ≡ Some xs → length xs * 4 ≤ length page + 4
+few_on_page : (l : Layout) (page : List ℕ) (xs : List ItemData) → items l page ≡ Some xs → length xs * 4 ≤ length page - l.data_at + 4
 few_on_page l page xs e =
     let a = items_are l page xs e in
     let bytes = committed l page in
@@ -70,11 +71,11 @@ few_on_page l page xs e =
 
 record Held (l : Layout) (file : List ℕ) (k : ℕ) (xs : List ItemData) : Type 0 where
   there : (k + 1) * l.page ≤ length file
-  few : length xs * 4 ≤ l.page + 4
+  few : length xs * 4 ≤ l.page
 
-held_at : (l : Layout) (file : List ℕ) (part : Part) (k : ℕ) (xs : List ItemData) → items_at l file part k ≡ Some xs → Held l file k xs
+held_at : (l : Layout) (file : List ℕ) (part : Part) (k : ℕ) (xs : List ItemData) → IsLayout l → items_at l file part k ≡ Some xs → Held l file k xs
 unfolding items_at
-held_at l file part k xs e = by_there (is_there l file part k) refl e
+held_at l file part k xs allowed e = by_there (is_there l file part k) refl e
   where
     by_there : (b : Bool) → is_there l file part k ≡ b → cond b (items l (page_bytes l file part k)) None ≡ Some xs → Held l file k xs
     by_there false is e = absurd cc
@@ -82,7 +83,14 @@ held_at l file part k xs e = by_there (is_there l file part k) refl e
         let bytes = page_bytes l file part k in
         record {
           there = inside (leb ((k + 1) * l.page) part.size) (leb (page_end l part k) (2 ^ 64)) is;
-          few = omega (arith, few_on_page l bytes xs e, length-take l.page (drop (part.offset + k * l.page) file));
+          few = omega (
+            arith,
+            few_on_page l bytes xs e,
+            length-take l.page (drop (part.offset + k * l.page) file),
+            allowed.time_before_data,
+            allowed.data_in_front,
+            allowed.page_least,
+          );
         }
       where
         inside : (a c : Bool) → (a && leb (page_end l part k) (length file) && c) ≡ true → (k + 1) * l.page ≤ length file
@@ -93,26 +101,26 @@ held_at l file part k xs e = by_there (is_there l file part k) refl e
             by_leb false e c is = absurd cc
             by_leb true e c is = let h = leb-true _ _ e in omega (arith, h)
 
-few_from : (l : Layout) (file : List ℕ) (part : Part) (k n : ℕ) → 4096 ≤ l.page → (length (joined (pages_from l file part k n)) + k * l.page ≤ length file) ⊎ (length (joined (pages_from l file part k n)) ≡ 0)
-few_from l file part k zero least = inr refl
-few_from l file part k (suc n) least = by_page (items_at l file part k) refl (few_from l file part (k + 1) n least)
+few_from : (l : Layout) (file : List ℕ) (part : Part) (k n : ℕ) → IsLayout l → (length (joined (pages_from l file part k n)) * 4 + k * l.page ≤ length file) ⊎ (length (joined (pages_from l file part k n)) ≡ 0)
+few_from l file part k zero allowed = inr refl
+few_from l file part k (suc n) allowed = by_page (items_at l file part k) refl (few_from l file part (k + 1) n allowed)
   where
     by_page : (o : Option (List ItemData)) → items_at l file part k ≡ o
-        → (length (joined (pages_from l file part (k + 1) n)) + (k + 1) * l.page ≤ length file) ⊎ (length (joined (pages_from l file part (k + 1) n)) ≡ 0)
-        → (length (joined (o ∷ pages_from l file part (k + 1) n)) + k * l.page ≤ length file) ⊎ (length (joined (o ∷ pages_from l file part (k + 1) n)) ≡ 0)
+        → (length (joined (pages_from l file part (k + 1) n)) * 4 + (k + 1) * l.page ≤ length file) ⊎ (length (joined (pages_from l file part (k + 1) n)) ≡ 0)
+        → (length (joined (o ∷ pages_from l file part (k + 1) n)) * 4 + k * l.page ≤ length file) ⊎ (length (joined (o ∷ pages_from l file part (k + 1) n)) ≡ 0)
     by_page None e few = inr (ap length (joined-none (pages_from l file part (k + 1) n)))
     by_page (Some xs) e few =
-        let h = held_at l file part k xs e in
+        let h = held_at l file part k xs allowed e in
         let more = pages_from l file part (k + 1) n in
         let long : length (joined (Some xs ∷ more)) ≡ length xs + length (joined more) = ap length (joined-some xs more) ∙ length-append xs (joined more) in
         elim few [
-          | inl some ↦ inl (omega (arith, long, h.there, h.few, some, least))
-          | inr none ↦ inl (omega (arith, long, h.there, h.few, none, least))
+          | inl some ↦ inl (omega (arith, long, h.there, h.few, some))
+          | inr none ↦ inl (omega (arith, long, h.there, h.few, none, allowed.page_least))
         ]
 
-pub few_in_list : (l : Layout) (file : List ℕ) (part : Part) → 4096 ≤ l.page → length (list_of l file part) ≤ length file
+pub few_in_list : (l : Layout) (file : List ℕ) (part : Part) → IsLayout l → length (list_of l file part) * 4 ≤ length file
 unfolding list_of
-few_in_list l file part least = elim (few_from l file part 0 (page_count l part) least) [
+few_in_list l file part allowed = elim (few_from l file part 0 (page_count l part) allowed) [
   | inl few ↦ omega (arith, few)
   | inr none ↦ omega (arith, none)
 ]
@@ -123,11 +131,11 @@ keyed_long : (cpu high : ℕ) (xs : List ItemData) → length (keyed_from cpu hi
 keyed_long cpu high [] = refl
 keyed_long cpu high (x ∷ xs) = ap suc (keyed_long cpu (max high (item_time x)) xs)
 
-pub few_keyed : (l : Layout) (file : List ℕ) (parts : List (ℕ × Part)) → 4096 ≤ l.page → length (all_keyed (lists_of l file parts)) ≤ length parts * length file
-few_keyed l file [] least = omega arith
-few_keyed l file (p ∷ parts) least =
+pub few_keyed : (l : Layout) (file : List ℕ) (parts : List (ℕ × Part)) → IsLayout l → length (all_keyed (lists_of l file parts)) * 4 ≤ length parts * length file
+few_keyed l file [] allowed = omega arith
+few_keyed l file (p ∷ parts) allowed =
     let mine = keyed_from p.0 0 (list_of l file p.1) in
-    omega (arith, length-append mine (all_keyed (lists_of l file parts)), keyed_long p.0 0 (list_of l file p.1), few_in_list l file p.1 least, few_keyed l file parts least)
+    omega (arith, length-append mine (all_keyed (lists_of l file parts)), keyed_long p.0 0 (list_of l file p.1), few_in_list l file p.1 allowed, few_keyed l file parts allowed)
 
 put_long : (x : Keyed) (xs : List Keyed) → length (put key_of x xs) ≡ suc (length xs)
 put_long x [] = refl
@@ -147,8 +155,8 @@ filter_few p (x ∷ xs) = elim (cases_Bool (p x)) [
   | inr b ↦ let h = filter_few p xs in rw b (omega (arith, h))
 ]
 
-pub few_reached : (l : Layout) (file : List ℕ) (parts : List (ℕ × Part)) → 4096 ≤ l.page → length (reached_of l file parts) ≤ length parts * length file
+pub few_reached : (l : Layout) (file : List ℕ) (parts : List (ℕ × Part)) → IsLayout l → length (reached_of l file parts) * 4 ≤ length parts * length file
 unfolding reached_of arranged
-few_reached l file parts least =
+few_reached l file parts allowed =
     let all = all_keyed (lists_of l file parts) in
-    omega (arith, filter_few (is_up_to (cut_of l file parts)) (by_key key_of all), by_key_long all, few_keyed l file parts least)
+    omega (arith, filter_few (is_up_to (cut_of l file parts)) (by_key key_of all), by_key_long all, few_keyed l file parts allowed)

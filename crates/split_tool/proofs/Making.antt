@@ -10,6 +10,7 @@ use Rattle.std.proofs.lemmas.List.{length-append, length-map}
 use Rattle.std.proofs.lemmas.List.Elements.{All-nil, All-cons, All-head, All-tail, All-weaker}
 use Rattle.trace_base.specs.declared.layout.Layout.{Layout}
 use Rattle.trace_base.specs.declared.part.Part.{Part}
+use Rattle.trace_base.specs.Layout.{IsLayout}
 use Rattle.trace_outside.specs.Causes.{raised}
 use Rattle.trace_outside.specs.Names.{NamedFiles, stored}
 use Rattle.trace_outside.specs.Folders.{IsEmptySink, Stores}
@@ -91,7 +92,7 @@ start_few : (start : Option Moment) (xs : List Keyed) → length (from_start sta
 start_few None xs = omega arith
 start_few (Some m) xs = filter_few (λ x. not (is_before m x.key)) xs
 
-left_few : (rules : Rules) (lists : List (List Keyed)) → length (joined_lists (map (left_in rules) lists)) ≤ length (joined_lists lists)
+pub left_few : (rules : Rules) (lists : List (List Keyed)) → length (joined_lists (map (left_in rules) lists)) ≤ length (joined_lists lists)
 left_few rules [] = omega arith
 left_few rules (xs ∷ lists) =
     omega (arith, length-append (left_in rules xs) (joined_lists (map (left_in rules) lists)), length-append xs (joined_lists lists), up_few rules.stop (from_start rules.start xs), start_few rules.start xs, left_few rules lists)
@@ -100,14 +101,14 @@ own_joined : (l : Layout) (file : List ℕ) (parts : List (ℕ × Part)) → joi
 own_joined l file [] = refl
 own_joined l file (p ∷ parts) = ap (λ (xs : List Keyed). own_list l file p ++ xs) (own_joined l file parts)
 
-cut_few : (l : Layout) (file : List ℕ) (rules : Rules) (parts : List (ℕ × Part)) → 4096 ≤ l.page → length (joined_lists (lists_to_cut rules l file parts)) ≤ length parts * length file
-cut_few l file rules parts least = by_apart (is_apart rules)
+pub cut_few : (l : Layout) (file : List ℕ) (rules : Rules) (parts : List (ℕ × Part)) → IsLayout l → length (joined_lists (lists_to_cut rules l file parts)) * 4 ≤ length parts * length file
+cut_few l file rules parts allowed = by_apart (is_apart rules)
   where
-    by_apart : (b : Bool) → length (joined_lists (if b then map (own_list l file) parts else reached_of l file parts ∷ [])) ≤ length parts * length file
-    by_apart true = let e : length (joined_lists (map (own_list l file) parts)) ≡ length (all_keyed (lists_in l file parts)) = ap length (own_joined l file parts) in omega (arith, e, few_keyed l file parts least)
-    by_apart false = omega (arith, length-append (reached_of l file parts) [], few_reached l file parts least)
+    by_apart : (b : Bool) → length (joined_lists (if b then map (own_list l file) parts else reached_of l file parts ∷ [])) * 4 ≤ length parts * length file
+    by_apart true = let e : length (joined_lists (map (own_list l file) parts)) ≡ length (all_keyed (lists_in l file parts)) = ap length (own_joined l file parts) in omega (arith, e, few_keyed l file parts allowed)
+    by_apart false = omega (arith, length-append (reached_of l file parts) [], few_reached l file parts allowed)
 
-lanes_few : (n k : ℕ) (lanes : List Lane) → CpusRise (parts_of lanes) → Each (λ (a : Lane). k ≤ a.cpu) lanes → All (λ (a : Lane). a.cpu < k + n) lanes → length lanes ≤ n
+pub lanes_few : (n k : ℕ) (lanes : List Lane) → CpusRise (parts_of lanes) → Each (λ (a : Lane). k ≤ a.cpu) lanes → All (λ (a : Lane). a.cpu < k + n) lanes → length lanes ≤ n
 lanes_few n k [] rise least most = omega arith
 lanes_few zero k (a ∷ lanes) rise least most = let lt : a.cpu < k + 0 = All-head (λ (x : Lane). x.cpu < k + 0) a lanes most in absurd (omega (arith, lt, least.0))
 lanes_few (suc n) k (a ∷ lanes) rise least most =
@@ -138,7 +139,7 @@ progress_none header words rules file first now old allowed is rise cpus fresh p
     let layout = header_layout header allowed in
     let lanes : length first ≤ header.cpus = lanes_few header.cpus 0 first rise (each_zero first) (All-weaker (λ (a : Lane). a.cpu < header.cpus) (λ (a : Lane). a.cpu < 0 + header.cpus) (λ a lt. omega (arith, lt)) first cpus) in
     let few : length (joined_lists (lists_left l file rules now)) ≤ length first * length file =
-    let cut = cut_few l file rules (parts_of first) layout.page_least in
+    let cut = cut_few l file rules (parts_of first) layout in
     let some : length (joined_lists (lists_left l file rules now)) ≡ length (joined_lists (map (left_in rules) (lists_to_cut rules l file (parts_of first)))) = ap (λ (xss : List (List Keyed)). length (joined_lists xss)) lists in
     let long : length (parts_of first) * length file ≡ length first * length file = ap (λ (n : ℕ). n * length file) (length-map first (λ (a : Lane). (a.cpu, a.part))) in
     omega (arith, some, left_few rules (lists_to_cut rules l file (parts_of first)), cut, long) in
