@@ -3,6 +3,7 @@ pub mod Storing
 pub mod FewItems
 pub mod Starting
 pub mod Owning
+pub mod Alone
 pub mod Tables
 pub mod Beginning
 pub mod OneByOne
@@ -10,3 +11,4 @@ pub mod Passing
 pub mod Measuring
 pub mod Preparing
 pub mod Making
+pub mod FewBytes

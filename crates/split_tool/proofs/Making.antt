@@ -108,7 +108,7 @@ cut_few l file rules parts allowed = by_apart (is_apart rules)
     by_apart true = let e : length (joined_lists (map (own_list l file) parts)) ≡ length (all_keyed (lists_in l file parts)) = ap length (own_joined l file parts) in omega (arith, e, few_keyed l file parts allowed)
     by_apart false = omega (arith, length-append (reached_of l file parts) [], few_reached l file parts allowed)
 
-pub lanes_few : (n k : ℕ) (lanes : List Lane) → CpusRise (parts_of lanes) → Each (λ (a : Lane). k ≤ a.cpu) lanes → All (λ (a : Lane). a.cpu < k + n) lanes → length lanes ≤ n
+lanes_few : (n k : ℕ) (lanes : List Lane) → CpusRise (parts_of lanes) → Each (λ (a : Lane). k ≤ a.cpu) lanes → All (λ (a : Lane). a.cpu < k + n) lanes → length lanes ≤ n
 lanes_few n k [] rise least most = omega arith
 lanes_few zero k (a ∷ lanes) rise least most = let lt : a.cpu < k + 0 = All-head (λ (x : Lane). x.cpu < k + 0) a lanes most in absurd (omega (arith, lt, least.0))
 lanes_few (suc n) k (a ∷ lanes) rise least most =
@@ -116,6 +116,14 @@ lanes_few (suc n) k (a ∷ lanes) rise least most =
     let later : Each (λ (x : Lane). k + 1 ≤ x.cpu) lanes = each_as (λ (x : Lane). a.cpu < x.cpu) (λ (x : Lane). k + 1 ≤ x.cpu) (λ x h. omega (arith, h, least.0)) lanes (above a lanes rise) in
     let more : All (λ (x : Lane). x.cpu < k + 1 + n) lanes = All-weaker (λ (x : Lane). x.cpu < k + suc n) (λ (x : Lane). x.cpu < k + 1 + n) (λ x h. omega (arith, h)) lanes (All-tail (λ (x : Lane). x.cpu < k + suc n) a lanes most) in
     omega (arith, lanes_few n (k + 1) lanes (tail_rises a lanes rise) later more)
+
+pub few_lanes : (cpus : ℕ) (lanes : List Lane) → CpusRise (parts_of lanes) → All (λ (a : Lane). a.cpu < cpus) lanes → length lanes ≤ cpus
+few_lanes cpus lanes rise below =
+    lanes_few cpus 0 lanes rise (each_zero lanes) (All-weaker (λ (a : Lane). a.cpu < cpus) (λ (a : Lane). a.cpu < 0 + cpus) (λ a lt. omega (arith, lt)) lanes below)
+  where
+    each_zero : (rows : List Lane) → Each (λ (a : Lane). 0 ≤ a.cpu) rows
+    each_zero [] = tt
+    each_zero (a ∷ rows) = (omega arith, each_zero rows)
 
 -- FILE AFTER FILE
 
@@ -137,7 +145,7 @@ progress_none header words rules file first now old allowed is rise cpus fresh p
     ap (files_of rules) lists ∙ ap (λ (r : Rules). file_items r l file (parts_of first)) is in
     let news : new_files words header file (parts_of first) ≡ files_from header words.base 1 (files_of rules (lists_left l file rules now)) = ap (files_from header words.base 1) (sym items) in
     let layout = header_layout header allowed in
-    let lanes : length first ≤ header.cpus = lanes_few header.cpus 0 first rise (each_zero first) (All-weaker (λ (a : Lane). a.cpu < header.cpus) (λ (a : Lane). a.cpu < 0 + header.cpus) (λ a lt. omega (arith, lt)) first cpus) in
+    let lanes : length first ≤ header.cpus = few_lanes header.cpus first rise cpus in
     let few : length (joined_lists (lists_left l file rules now)) ≤ length first * length file =
     let cut = cut_few l file rules (parts_of first) layout in
     let some : length (joined_lists (lists_left l file rules now)) ≡ length (joined_lists (map (left_in rules) (lists_to_cut rules l file (parts_of first)))) = ap (λ (xss : List (List Keyed)). length (joined_lists xss)) lists in
@@ -153,10 +161,6 @@ progress_none header words rules file first now old allowed is rise cpus fresh p
       bad_is = started_bad l file rules first now fresh parts s ∙ ap (λ (r : Rules). bad_reached r l file (parts_of first)) is;
       few = omega (arith, few, most);
     }
-  where
-    each_zero : (lanes : List Lane) → Each (λ (a : Lane). 0 ≤ a.cpu) lanes
-    each_zero [] = tt
-    each_zero (a ∷ lanes) = (omega arith, each_zero lanes)
 
 module _ (header : Header) (base : List ℕ) (file : List ℕ) (rules : Rules) (news : List NewFile) (bad : Option (ℕ × ℕ)) (number : ℕ) (now later : List Lane) (old mid new : Option NamedFiles) where
   -- the next file is short, and there are few items

@@ -66,7 +66,7 @@ module _ (P : Keyed → Type 0) where
     | inr b ↦ rw b (a.0, each_put x ys p a.1)
   ]
 
-  each_by_key : (xs : List Keyed) → Each P xs → Each P (by_key key_of xs)
+  pub each_by_key : (xs : List Keyed) → Each P xs → Each P (by_key key_of xs)
   each_by_key [] a = tt
   each_by_key (x ∷ xs) a = each_put x (by_key key_of xs) a.0 (each_by_key xs a.1)
 

@@ -6,6 +6,7 @@
 #![tactic(auto)]
 
 mod files;
+pub mod laws;
 mod lists;
 mod rules;
 mod splitting;

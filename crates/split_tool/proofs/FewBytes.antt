@@ -1,0 +1,247 @@
+-- A new file is short: each item of it stands in a sub-buffer at most, and the input has room for few items.
+use Rattle.std.proofs.Common.{◌≡◌, ℕ, zero, suc, ◌+◌, ◌*◌, ◌^◌, ◌<◌, ◌≤◌, Bool, true, false, eqb, leb, max, not, if◌then◌else◌, List, [], ◌∷◌, ◌++◌, length, drop, map, Option, Some, None, refl, ap, ◌∙◌, arith}
+use Rattle.std.specs.List.{All, filter, flat_map, range_with_len}
+use Rattle.std.proofs.lemmas.Bool.{eqb-true, leb-true, leb-false}
+use Rattle.std.proofs.lemmas.List.{length-append, length-map}
+use Rattle.std.proofs.lemmas.List.Elements.{All-nil, All-cons}
+use Rattle.std.proofs.lemmas.Grind.{div_ceil_times}
+use Rattle.std.proofs.Math.Nat.{mul-le-mul}
+use Rattle.std.proofs.Math.Pow.{pow_mono}
+use Rattle.std.proofs.lemmas.List.FromFn.{length-range_with_len}
+use Rattle.trace_base.specs.declared.layout.Layout.{Layout}
+use Rattle.trace_base.specs.declared.part.Part.{Part}
+use Rattle.trace_base.specs.Layout.{IsLayout}
+use Rattle.dat_header.specs.declared.header.Header.{Header}
+use Rattle.dat_header.specs.Allowed.{IsHeader, IsPageSize}
+use Rattle.dat_header.specs.Written.{header_text}
+use Rattle.dat_header.proofs.Headers.{header_layout}
+use Rattle.subpage.specs.ItemData.{ItemData, item_time}
+use Rattle.subpage.specs.Processor.{list_of}
+use Rattle.subpage.specs.Arrangement.{Keyed, CpusRise, cpu_of, with_key, key_of, by_key, keyed_from, all_keyed, arranged}
+use Rattle.subpage.specs.Cut.{cut_of, is_up_to, reached_of, lists_of as lists_in}
+use Rattle.page_pool.specs.declared.lane.Lane.{Lane}
+use Rattle.page_write.specs.Pack.{pack}
+use Rattle.page_write.specs.Placed.{data_of}
+use Rattle.time_merge.specs.Rows.{Each}
+use Rattle.time_merge.specs.LaneRows.{parts_of}
+use Rattle.trace_args.specs.Command.{SplitData}
+use Rattle.split_pieces.specs.declared.moment.Moment.{Moment}
+use Rattle.split_pieces.specs.declared.rules.PieceUnit.{PieceUnit}
+use Rattle.split_pieces.specs.declared.rules.Rules.{Rules}
+use Rattle.split_pieces.specs.Moments.{is_before}
+use Rattle.split_pieces.specs.Cuts.{is_apart, items_of_cpu, own_list, lists_to_cut, file_items}
+use Rattle.split_pieces.specs.Pieces.{piece, joined_lists, next_file, behind_file, files_when, files_within, files_left, files, from_start, left_in}
+use Rattle.split_file.specs.NewFile.{blank, front_len, front_text, table_of, file_text}
+use Rattle.split_file.proofs.Laid.{length-front, length-table}
+use Rattle.split_file.proofs.Placing.{page_some}
+use Rattle.split_tool.specs.Counted.{lists_of}
+use Rattle.split_tool.specs.NewFiles.{files_from, new_files}
+use Rattle.split_tool.specs.Rules.{rules_of}
+use Rattle.split_tool.specs.Stored.{NewFile}
+use Rattle.split_tool.proofs.Alone.{Alone, list_alone, pack_most}
+use Rattle.split_tool.proofs.FewItems.{filter_few}
+use Rattle.split_tool.proofs.FileAfterFile.{len_parts}
+use Rattle.split_tool.proofs.Making.{cut_few, left_few, few_lanes}
+use Rattle.split_tool.proofs.Owning.{each_append, each_filter, each_piece, each_up, each_by_key}
+use Rattle.split_tool.proofs.Tables.{lists_more}
+
+abbrev Told : Layout → Keyed → Type 0
+Told l x = Alone l x.item
+
+-- EACH ITEM IS ONE PROCESSOR'S
+
+abbrev items_in : List (List ItemData) → ℕ
+items_in [] = 0
+items_in (xs ∷ lists) = length xs + items_in lists
+
+items_push : (lists : List (List ItemData)) (xs : List ItemData) → items_in (lists ++ xs ∷ []) ≡ items_in lists + length xs
+items_push [] xs = omega arith
+items_push (ys ∷ lists) xs = omega (arith, items_push lists xs)
+
+abbrev from_cpu : ℕ → List Keyed → List Keyed
+from_cpu n xs = filter (λ x. leb n x.cpu) xs
+
+one_more : (n : ℕ) (xs : List Keyed) → length (with_key cpu_of n xs) + length (from_cpu (n + 1) xs) ≤ length (from_cpu n xs)
+one_more n [] = omega arith
+one_more n (x ∷ xs) = by_case (eqb x.cpu n) (leb (n + 1) x.cpu) (leb n x.cpu) refl refl refl (one_more n xs)
+  where
+    by_case : (own above least : Bool) → eqb x.cpu n ≡ own → leb (n + 1) x.cpu ≡ above → leb n x.cpu ≡ least
+        → length (with_key cpu_of n xs) + length (from_cpu (n + 1) xs) ≤ length (from_cpu n xs)
+        → length (with_key cpu_of n (x ∷ xs)) + length (from_cpu (n + 1) (x ∷ xs)) ≤ length (from_cpu n (x ∷ xs))
+    by_case true true least o a e h = absurd (omega (arith, eqb-true x.cpu n o, leb-true (n + 1) x.cpu a))
+    by_case true false true o a e h = rw (o, a, e) (omega (arith, h))
+    by_case true false false o a e h = absurd (omega (arith, eqb-true x.cpu n o, leb-false n x.cpu e))
+    by_case false true true o a e h = rw (o, a, e) (omega (arith, h))
+    by_case false true false o a e h = absurd (omega (arith, leb-true (n + 1) x.cpu a, leb-false n x.cpu e))
+    by_case false false true o a e h = rw (o, a, e) (omega (arith, h))
+    by_case false false false o a e h = rw (o, a, e) h
+
+owned_few : (n : ℕ) (xs : List Keyed) → items_in (lists_of n xs) + length (from_cpu n xs) ≤ length xs
+owned_few zero xs = omega (arith, filter_few (λ x. leb 0 x.cpu) xs)
+owned_few (suc n) xs =
+    let next : suc n ≡ n + 1 = omega arith in
+    let more : items_in (lists_of (suc n) xs) ≡ items_in (lists_of n xs ++ items_of_cpu n xs ∷ []) = ap (λ (k : ℕ). items_in (lists_of k xs)) next ∙ ap items_in (lists_more n xs) in
+    let above : length (from_cpu (suc n) xs) ≡ length (from_cpu (n + 1) xs) = ap (λ (k : ℕ). length (from_cpu k xs)) next in
+    omega (arith, more, above, items_push (lists_of n xs) (items_of_cpu n xs), length-map (with_key cpu_of n xs) (λ (x : Keyed). x.item), one_more n xs, owned_few n xs)
+
+-- A FILE'S BYTES
+
+data_most : (l : Layout) (lists : List (List ItemData)) → IsLayout l → Each (Each (Alone l)) lists → length (data_of l lists) ≤ items_in lists * l.page
+unfolding data_of
+data_most l [] allowed a = omega arith
+data_most l (xs ∷ lists) allowed a = grind (arith, length-append (pack l xs) (flat_map (pack l) lists), pack_most l xs allowed a.0, data_most l lists allowed a.1)
+
+each_item : (P : ItemData → Type 0) (xs : List Keyed) → Each (λ x. P x.item) xs → Each P (map (λ x. x.item) xs)
+each_item P [] a = tt
+each_item P (x ∷ xs) a = (a.0, each_item P xs a.1)
+
+owned_told : (l : Layout) (from n : ℕ) (xs : List Keyed) → Each (Told l) xs → Each (Each (Alone l)) (map (λ cpu. items_of_cpu cpu xs) (range_with_len from n))
+owned_told l from zero xs a = tt
+owned_told l from (suc n) xs a = (each_item (Alone l) (with_key cpu_of from xs) (each_filter (Told l) (λ x. eqb x.cpu from) xs a), owned_told l (from + 1) n xs a)
+
+page_most : (page : ℕ) → IsPageSize page → page ≤ 65536
+page_most page p = omega (arith, p.3, pow_mono p.2)
+
+front_most : (header : Header) → IsHeader header → front_len header ≤ length (header_text header (blank header.cpus)) + 65536
+unfolding front_len
+front_most header allowed =
+    let long = length (header_text header (blank header.cpus)) in
+    omega (arith, (div_ceil_times long header.page (page_some header.page allowed.page)).1, page_most header.page allowed.page)
+
+text_most : (header : Header) (xs : List Keyed) (n : ℕ) → IsHeader header → Each (Told header.layout) xs → length xs ≤ n
+    → length (file_text header (lists_of header.cpus xs)) ≤ length (header_text header (blank header.cpus)) + 65536 + n * 65536
+unfolding file_text
+text_most header xs n allowed told few =
+    let l = header.layout in
+    let layout = header_layout header allowed in
+    let lists = lists_of header.cpus xs in
+    let table = table_of header lists in
+    let owned : items_in lists ≤ n = omega (arith, owned_few header.cpus xs, few) in
+    let most : items_in lists * l.page ≤ n * 65536 = mul-le-mul owned layout.page_most in
+    let many : length table ≡ header.cpus = length-table header lists ∙ lists_long header.cpus in
+    omega (
+      arith,
+      length-append (front_text header table) (data_of l lists),
+      length-front header table allowed many,
+      front_most header allowed,
+      data_most l lists layout (owned_told l 0 header.cpus xs told),
+      most,
+    )
+  where
+    lists_long : (cpus : ℕ) → length (lists_of cpus xs) ≡ cpus
+    lists_long cpus = length-map (range_with_len 0 cpus) (λ cpu. items_of_cpu cpu xs) ∙ length-range_with_len 0 cpus
+
+-- WHAT A FILE TAKES
+
+record Fits (l : Layout) (most : ℕ) (xs : List Keyed) : Type 0 where
+  few : length xs * 4 ≤ most
+  told : Each (Told l) xs
+
+each_drop : {X : Type 0} (P : X → Type 0) (n : ℕ) (xs : List X) → Each P xs → Each P (drop n xs)
+each_drop P zero xs a = a
+each_drop P (suc n) [] a = tt
+each_drop P (suc n) (x ∷ xs) a = each_drop P n xs a.1
+
+module _ (P : Keyed → Type 0) where
+  each_next : (unit : PieceUnit) (lists : List (List Keyed)) → Each (Each P) lists → Each P (next_file unit lists)
+  each_next unit [] a = tt
+  each_next unit (xs ∷ lists) a = each_append P (piece unit xs) (next_file unit lists) (each_piece P unit xs a.0) (each_next unit lists a.1)
+
+  each_behind : (unit : PieceUnit) (lists : List (List Keyed)) → Each (Each P) lists → Each (Each P) (behind_file unit lists)
+  each_behind unit [] a = tt
+  each_behind unit (xs ∷ lists) a = (each_drop P (length (piece unit xs)) xs a.0, each_behind unit lists a.1)
+
+  each_start : (start : Option Moment) (xs : List Keyed) → Each P xs → Each P (from_start start xs)
+  each_start None xs a = a
+  each_start (Some m) xs a = each_filter P (λ x. not (is_before m x.key)) xs a
+
+  each_left : (rules : Rules) (lists : List (List Keyed)) → Each (Each P) lists → Each (Each P) (map (left_in rules) lists)
+  each_left rules [] a = tt
+  each_left rules (xs ∷ lists) a = (each_up P rules.stop (from_start rules.start xs) (each_start rules.start xs a.0), each_left rules lists a.1)
+
+each_when : (Q : List Keyed → Type 0) (all : List Keyed) (more : List (List Keyed)) → Each Q more → Each Q (files_when all more)
+each_when Q [] more a = tt
+each_when Q (x ∷ xs) more a = a
+
+next_fits : (l : Layout) (most : ℕ) (unit : PieceUnit) (lists : List (List Keyed)) → Each (Each (Told l)) lists → length (joined_lists lists) * 4 ≤ most → Fits l most (next_file unit lists)
+next_fits l most unit lists told few = record { few = omega (arith, len_parts unit lists, few); told = each_next (Told l) unit lists told }
+
+within_fit : (l : Layout) (most : ℕ) (unit : PieceUnit) (n : ℕ) (lists : List (List Keyed)) → Each (Each (Told l)) lists → length (joined_lists lists) * 4 ≤ most → Each (Fits l most) (files_within unit n lists)
+within_fit l most unit zero lists told few = tt
+within_fit l most unit (suc n) lists told few =
+    let behind = behind_file unit lists in
+    each_when (Fits l most) (joined_lists lists) (next_file unit lists ∷ files_within unit n behind)
+    (next_fits l most unit lists told few, within_fit l most unit n behind (each_behind (Told l) unit lists told) (omega (arith, len_parts unit lists, few)))
+
+files_fit : (l : Layout) (most : ℕ) (rules : Rules) (lists : List (List Keyed)) → Each (Each (Told l)) lists → length (joined_lists lists) * 4 ≤ most → Each (Fits l most) (files rules lists)
+files_fit l most rules lists told few =
+    let left = map (left_in rules) lists in
+    let left_told = each_left (Told l) rules lists told in
+    let fewer : length (joined_lists left) * 4 ≤ most = omega (arith, left_few rules lists, few) in
+    let behind = behind_file rules.unit left in
+    let more : Each (Fits l most) (files_left rules.unit behind) =
+    within_fit l most rules.unit (length (joined_lists behind)) behind (each_behind (Told l) rules.unit left left_told) (omega (arith, len_parts rules.unit left, fewer)) in
+    (next_fits l most rules.unit left left_told fewer, by_repeat rules.repeat (files_left rules.unit behind) more)
+  where
+    by_repeat : (b : Bool) (more : List (List Keyed)) → Each (Fits l most) more → Each (Fits l most) (if b then more else [])
+    by_repeat true more a = a
+    by_repeat false more a = tt
+
+-- WHAT THE INPUT TELLS
+
+keyed_told : (l : Layout) (cpu high : ℕ) (xs : List ItemData) → Each (Alone l) xs → Each (Told l) (keyed_from cpu high xs)
+keyed_told l cpu high [] a = tt
+keyed_told l cpu high (x ∷ xs) a = (a.0, keyed_told l cpu (max high (item_time x)) xs a.1)
+
+all_told : (l : Layout) (file : List ℕ) (parts : List (ℕ × Part)) → IsLayout l → Each (Told l) (all_keyed (lists_in l file parts))
+all_told l file [] allowed = tt
+all_told l file (p ∷ parts) allowed =
+    each_append (Told l) (own_list l file p) (all_keyed (lists_in l file parts)) (keyed_told l p.0 0 (list_of l file p.1) (list_alone l file p.1 allowed)) (all_told l file parts allowed)
+
+reached_told : (l : Layout) (file : List ℕ) (parts : List (ℕ × Part)) → IsLayout l → Each (Told l) (reached_of l file parts)
+unfolding reached_of arranged
+reached_told l file parts allowed =
+    let all = all_keyed (lists_in l file parts) in
+    each_filter (Told l) (is_up_to (cut_of l file parts)) (by_key key_of all) (each_by_key (Told l) all (all_told l file parts allowed))
+
+cut_told : (l : Layout) (file : List ℕ) (rules : Rules) (parts : List (ℕ × Part)) → IsLayout l → Each (Each (Told l)) (lists_to_cut rules l file parts)
+cut_told l file rules parts allowed = by_apart (is_apart rules)
+  where
+    owns_told : (ps : List (ℕ × Part)) → Each (Each (Told l)) (map (own_list l file) ps)
+    owns_told [] = tt
+    owns_told (p ∷ ps) = (keyed_told l p.0 0 (list_of l file p.1) (list_alone l file p.1 allowed), owns_told ps)
+
+    by_apart : (b : Bool) → Each (Each (Told l)) (if b then map (own_list l file) parts else reached_of l file parts ∷ [])
+    by_apart true = owns_told parts
+    by_apart false = (reached_told l file parts allowed, tt)
+
+-- ALL NEW FILES
+
+abbrev pub IsShort : NewFile → Type 0
+IsShort new = length new.content < 2 ^ 64
+
+named_short : (header : Header) (base : List ℕ) (number most : ℕ) (lists : List (List Keyed)) → IsHeader header → length (header_text header (blank header.cpus)) ≤ 2 ^ 41 → most ≤ 1024 * 2 ^ 39
+    → Each (Fits header.layout most) lists → All IsShort (files_from header base number lists)
+named_short header base number most [] allowed text few fit = All-nil IsShort
+named_short header base number most (xs ∷ lists) allowed text few fit =
+    let items : length xs ≤ 2 ^ 47 = omega (arith, fit.0.few, few) in
+    All-cons IsShort _ (files_from header base (number + 1) lists)
+    (omega (arith, text_most header xs (2 ^ 47) allowed fit.0.told items, text))
+    (named_short header base (number + 1) most lists allowed text few fit.1)
+
+pub short_parts : (words : SplitData) (header : Header) (bytes : List ℕ) (parts : List (ℕ × Part)) → IsHeader header → length (header_text header (blank header.cpus)) ≤ 2 ^ 41
+    → length parts ≤ 1024 → length bytes ≤ 2 ^ 39 → All IsShort (new_files words header bytes parts)
+short_parts words header bytes parts allowed text some small =
+    let l = header.layout in
+    let layout = header_layout header allowed in
+    let rules = rules_of words in
+    let lists = lists_to_cut rules l bytes parts in
+    let most = length parts * length bytes in
+    named_short header words.base 1 most (file_items rules l bytes parts) allowed text (mul-le-mul some small)
+    (files_fit l most rules lists (cut_told l bytes rules parts layout) (cut_few l bytes rules parts layout))
+
+pub short_lanes : (words : SplitData) (header : Header) (bytes : List ℕ) (lanes : List Lane) → IsHeader header → length (header_text header (blank header.cpus)) ≤ 2 ^ 41
+    → CpusRise (parts_of lanes) → All (λ lane. lane.cpu < header.cpus) lanes → length bytes ≤ 2 ^ 39 → All IsShort (new_files words header bytes (parts_of lanes))
+short_lanes words header bytes lanes allowed text rise cpus small =
+    let long : length (parts_of lanes) ≡ length lanes = length-map lanes (λ (a : Lane). (a.cpu, a.part)) in
+    short_parts words header bytes (parts_of lanes) allowed text (omega (arith, long, few_lanes header.cpus lanes rise cpus, allowed.cpus)) small
