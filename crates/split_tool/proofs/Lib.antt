@@ -12,3 +12,4 @@ pub mod Measuring
 pub mod Preparing
 pub mod Making
 pub mod FewBytes
+pub mod LanesInRow

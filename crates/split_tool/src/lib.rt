@@ -12,6 +12,8 @@ mod rules;
 mod splitting;
 mod start;
 mod table;
+#[cfg(test)]
+mod tests;
 mod work;
 
 pub use splitting::{SplitPlan, split};
