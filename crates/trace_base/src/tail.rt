@@ -39,9 +39,9 @@ impl<'a> Tail<'a> {
     {
         let at = self.total.min(self.into.len() as u64) as usize;
         fill(&mut self.into[at..], piece);
-        self.nul = first_nul(self.watches, self.nul, self.total, piece);
+        note_nul(self.watches, &mut self.nul, self.total, piece);
         self.total = self.total.saturating_add(piece.len() as u64);
-        self.last = last_byte(self.last, piece);
+        note_last(&mut self.last, piece);
     }
 
     /// The true length of what was put. It stays at the greatest number of 64 bits.
@@ -99,24 +99,27 @@ impl<'a> Tail<'a> {
     }
 }
 
-// The first of the piece, as many as there is room for.
+// The first of the piece, as many as there is room for. A piece that fits is copied whole, so that one of a length known at
+// compile time needs no call.
 #[inline(always)]
 fn fill(into: &mut [u8], piece: &[u8])
     ensures { into.new ≡ take (length into.old) (piece.now ++ drop (length piece.now) into.old) }
 {
-    let count = into.len().min(piece.len());
-    into[..count].copy_from_slice(&piece[..count]);
+    if piece.len() <= into.len() {
+        into[..piece.len()].copy_from_slice(piece);
+    } else {
+        into.copy_from_slice(&piece[..into.len()]);
+    }
 }
 
 // The last byte of the piece, or else the one before.
 #[inline(always)]
 #[tactic(auto, using(crate::proofs::TailFills::last_some, crate::proofs::TailFills::last_none))]
-fn last_byte(before: Option<u8>, piece: &[u8]) -> Option<u8>
-    ensures { result ≡ last_or before piece.now }
+fn note_last(last: &mut Option<u8>, piece: &[u8])
+    ensures { last.new ≡ last_or last.old piece.now }
 {
-    match piece.last() {
-        Some(last) => Some(*last),
-        None => before,
+    if let Some(byte) = piece.last() {
+        *last = Some(*byte);
     }
 }
 
@@ -135,19 +138,16 @@ pub fn text_len(bytes: &[u8]) -> usize
     bytes.iter().take_while(|byte| is_letter(**byte)).count()
 }
 
-// The place of the first NUL, with a piece that is put behind so many bytes.
+// The place of the first NUL, with a piece that is put behind so many bytes. A text that is not watched pays for one branch.
 #[inline(always)]
-fn first_nul(watches: bool, before: Option<u64>, total: u64, piece: &[u8]) -> Option<u64>
-    ensures { result ≡ nul_after watches before total piece.now }
+fn note_nul(watches: bool, nul: &mut Option<u64>, total: u64, piece: &[u8])
+    ensures { nul.new ≡ nul_after watches nul.old total piece.now }
 {
-    if !watches || before.is_some() {
-        return before;
-    }
-    let len = text_len(piece);
-    if len < piece.len() {
-        Some(total.saturating_add(len as u64))
-    } else {
-        None
+    if watches && nul.is_none() {
+        let len = text_len(piece);
+        if len < piece.len() {
+            *nul = Some(total.saturating_add(len as u64));
+        }
     }
 }
 
