@@ -1,0 +1,13 @@
+pub mod Shown
+pub mod Pairs
+pub mod LineRows
+pub mod RoundsPrinted
+pub mod Horizons
+pub mod Ending
+pub mod Between
+pub mod Progress
+pub mod Reading
+pub mod Turning
+pub mod Reporting
+pub mod Starting
+pub mod OpenLanes

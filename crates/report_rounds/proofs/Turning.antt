@@ -1,0 +1,286 @@
+-- One round, step by step: lanes are loaded, formatted and printed.
+use Rattle.std.proofs.Common.{◌≡◌, ◌≢◌, ℕ, ◌+◌, ◌<◌, ◌≤◌, List, [], ◌∷◌, ◌++◌, length, map, get_or, take, drop, Option, Some, None, refl, sym, ap, subst, ◌∙◌, arith}
+use Rattle.std.specs.List.{All}
+use Rattle.std.specs.Option.{IfSome, IfNone}
+use Rattle.std.proofs.lemmas.List.{append-nil}
+use Rattle.std.proofs.lemmas.List.Concat.{flat_map-append}
+use Rattle.std.proofs.lemmas.List.Elements.{All-get_or, All-weaker}
+use Rattle.trace_base.specs.declared.layout.Layout.{Layout}
+use Rattle.trace_base.specs.declared.part.Part.{Part}
+use Rattle.trace_outside.specs.Writing.{Gained, GainedPrefix}
+use Rattle.trace_outside.proofs.PendingLemmas.{prefix_longer}
+use Rattle.subpage.specs.ItemData.{ItemData}
+use Rattle.subpage.specs.Arrangement.{Keyed, CpusRise}
+use Rattle.subpage.specs.Cut.{Cut, cut_of}
+use Rattle.page_pool.specs.Lines.{Lines}
+use Rattle.page_pool.specs.declared.cursor.Cursor.{Cursor}
+use Rattle.page_pool.specs.declared.cursor.LaneState.{LaneState}
+use Rattle.page_pool.specs.declared.cursor.LaneState.TheVariants.{Fresh, Held, Ended, Malformed}
+use Rattle.page_pool.specs.declared.lane.Lane.{Lane}
+use Rattle.event_cursor.specs.Loading.{KeepsLeft, KeepsPlace}
+use Rattle.event_cursor.specs.Standing.{Stands, held_left}
+use Rattle.time_merge.specs.declared.ending.End.{End}
+use Rattle.time_merge.specs.declared.ending.End.TheVariants as ends
+use Rattle.time_merge.specs.declared.horizons.Horizon.{Horizon}
+use Rattle.time_merge.specs.declared.horizons.Horizon.TheVariants as code
+use Rattle.time_merge.specs.Horizons.{IsHorizon, IsLeastLane, high_in}
+use Rattle.time_merge.specs.LaneRows.{IsReadyIn, parts_of, row_of}
+use Rattle.time_merge.specs.Rows.{Each, Row, coming}
+use Rattle.time_merge.specs.Rounds.{row_in}
+use Rattle.time_merge.proofs.Choosing.{each_of_all}
+use Rattle.time_merge.proofs.LaneLaws.{same_row}
+use Rattle.cpu_workers.specs.Formats.{IsFormatted, IsSorted}
+use Rattle.cpu_workers.proofs.Placing.{stands_region}
+use Rattle.round_print.specs.Prints.{CpuLine, KeysRise, key_in, cpu_in, printed, text_of}
+use Rattle.round_print.specs.Rounds.{IsPrinted}
+use Rattle.report_rounds.specs.Between.{IsBetween, IsLoaded, all_work, work_of}
+use Rattle.report_rounds.specs.Ends.{IsEnd, IsStop, StandsBefore}
+use Rattle.report_rounds.specs.Lines.{waiting_of, waiting_row, waiting_rows, left_lines}
+use Rattle.report_rounds.specs.Turns.{IsFurther, IsTurned}
+use Rattle.report_rounds.proofs.Between.{loaded_between, formatted_between, printed_between}
+use Rattle.report_rounds.proofs.Ending.{IsHorizonAt, at_start, at_key, cut_of_waiting, none_later, stopped}
+use Rattle.report_rounds.proofs.Horizons.{IsAround, around_least, ended_cuts, none_after, parted, place_is}
+use Rattle.report_rounds.proofs.LineRows.{formatted_row}
+use Rattle.report_rounds.proofs.Pairs.{Related, all_on, map_on, parts_on, related_on, sum_less, sum_on}
+use Rattle.report_rounds.proofs.Progress.{work_formatted, work_less, work_loaded, work_printed}
+use Rattle.report_rounds.proofs.RoundsPrinted.{after, left_after, printed_left, same_lane, wait_with}
+
+-- Lanes that were made ready, and then formatted.
+pub record IsFormed (text : ℕ → ItemData → List ℕ) (l : Layout) (told : Option (List ℕ)) (first loaded formed : List Lane) : Type 0 where
+  pub long_loaded : length loaded ≡ length first
+  pub long_formed : length formed ≡ length loaded
+  pub load : Related (IsLoaded l told) first loaded
+  pub format : Related (IsFormatted text l) loaded formed
+
+module _ (text : ℕ → ItemData → List ℕ) (l : Layout) (told : Option (List ℕ)) (first loaded formed : List Lane) (f : IsFormed text l told first loaded formed) where
+  loaded_all : All (IsBetween text l) first → All (IsBetween text l) loaded
+  loaded_all all = all_on (IsLoaded l told) (IsBetween text l) (IsBetween text l) first loaded f.long_loaded f.load (loaded_between text l told) all
+
+  pub formed_all : All (IsBetween text l) first → All (IsBetween text l) formed
+  formed_all all = all_on (IsFormatted text l) (IsBetween text l) (IsBetween text l) loaded formed f.long_formed f.format (formatted_between text l) (loaded_all all)
+
+  pub formed_rises : All (IsBetween text l) first → All KeysRise formed
+  formed_rises all = All-weaker (IsBetween text l) KeysRise (λ a b. b.sorted.rises) formed (formed_all all)
+
+  pub formed_parts : parts_of formed ≡ parts_of first
+  formed_parts =
+      parts_on (IsFormatted text l) loaded formed f.long_formed f.format (λ a b g. g.keeps.cpu) (λ a b g. g.keeps.part)
+      ∙ parts_on (IsLoaded l told) first loaded f.long_loaded f.load (λ a b g. g.place.cpu) (λ a b g. g.place.part)
+
+  pub formed_rise : CpusRise (parts_of first) → CpusRise (parts_of formed)
+  formed_rise rise = subst (λ (ps : List (ℕ × Part)). CpusRise ps) (sym formed_parts) rise
+
+  module _ (h : Horizon) (now : List Lane) (long : length now ≡ length formed) (print : Related (IsPrinted h) formed now) where
+    pub now_all : All (IsBetween text l) first → All (IsBetween text l) now
+    now_all all = all_on (IsPrinted h) (IsBetween text l) (IsBetween text l) formed now long print (printed_between text l h) (formed_all all)
+
+    pub now_parts : parts_of now ≡ parts_of first
+    now_parts = parts_on (IsPrinted h) formed now long print (λ a b p. p.keeps.cpu) (λ a b p. p.keeps.part) ∙ formed_parts
+
+    -- formatted and then printed
+    abbrev IsDone : Lane → Lane → Type 0
+    IsDone a c = (b : Lane) × (IsFormatted text l a b × IsPrinted h b c)
+
+    done : Related IsDone loaded now
+    done = related_on (IsFormatted text l) (IsPrinted h) IsDone loaded formed now f.long_formed f.format print (λ a b c g p. (b, (g, p)))
+
+    work_done : (a c : Lane) → IsDone a c → work_of l c ≤ work_of l a
+    work_done a c d = omega (arith, work_formatted text l a d.0 d.1.0, work_printed text l h d.0 c d.1.1)
+
+    loaded_less : all_work l loaded ≤ all_work l first
+    loaded_less = sum_on (IsLoaded l told) (work_of l) first loaded f.long_loaded f.load (work_loaded text l told)
+
+    -- of the horizon's lane, where it does not stand before a malformed sub-buffer
+    module _ (high : Option ℕ) (cpu : ℕ) (at : IsHorizonAt h high cpu) (least : IsLeastLane formed high cpu) (rise : CpusRise (parts_of formed)) (all : All (IsBetween text l) first)
+        (sound : All (λ lane. lane.cpu ≡ cpu → lane.cursor.state ≢ Malformed) now) where
+      inside : least.i < length loaded
+      inside = omega (arith, least.inside, f.long_formed)
+
+      some_held : (d : Lane) (s : LaneState) → (get_or loaded least.i d).cursor.state ≡ s → 0 < length (held_left l (get_or loaded least.i d))
+      some_held d s e = of_state s (subst (λ (t : LaneState). IsReadyIn t (held_left l a)) e (f.load least.i d (omega (arith, inside, f.long_loaded))).ready)
+          (subst (λ (t : LaneState). high_in t b.cursor.high ≡ Some high) (format.keeps.state ∙ e) there.here)
+          (λ bad. sound least.i d (omega (arith, least.inside, long)) (print_i.keeps.cpu ∙ there.own) (ap (λ (c : Cursor). c.state) print_i.keeps.cursor ∙ format.keeps.state ∙ e ∙ bad))
+        where
+          a : Lane
+          a = get_or loaded least.i d
+
+          b : Lane
+          b = get_or formed least.i d
+
+          format : IsFormatted text l a b
+          format = f.format least.i d inside
+
+          print_i : IsPrinted h b (get_or now least.i d)
+          print_i = print least.i d least.inside
+
+          there : IsAround formed high cpu least.i (take least.i formed) b (drop (least.i + 1) formed)
+          there = around_least formed d high cpu least rise
+
+          of_state : (s : LaneState) → IsReadyIn s (held_left l a) → high_in s b.cursor.high ≡ Some high → (s ≡ Malformed → ⊥) → 0 < length (held_left l a)
+          of_state Fresh ready here sound = absurd ready
+          of_state Held ready here sound = ready
+          of_state Ended ready here sound = absurd cc
+          of_state Malformed ready here sound = absurd (sound refl)
+
+      one_less : (d : Lane) → work_of l (get_or now least.i d) < work_of l (get_or loaded least.i d)
+      one_less d =
+          let a : Lane = get_or loaded least.i d in
+          let b : Lane = get_or formed least.i d in
+          let there = around_least formed d high cpu least rise in
+          let between : IsBetween text l a = All-get_or (IsBetween text l) loaded least.i d inside (loaded_all all) in
+          let formed_here : IsBetween text l b = All-get_or (IsBetween text l) formed least.i d least.inside (formed_all all) in
+          work_less text l h a b (get_or now least.i d) between (some_held d a.cursor.state refl) (f.format least.i d inside) (print least.i d least.inside)
+          (none_later h high cpu b at formed_here.sorted there.own there.here)
+
+      less_at : all_work l now < all_work l first
+      less_at =
+          let less : all_work l now < all_work l loaded = sum_less IsDone (work_of l) loaded now least.i (long ∙ f.long_formed) done work_done inside one_less in
+          omega (arith, less, loaded_less)
+
+  -- items were used up or lines were printed, unless the rounds end
+  pub now_less : (h : Horizon) (now : List Lane) (long : length now ≡ length formed) → Related (IsPrinted h) formed now → (end : Option End) → IsHorizon formed h → IsEnd now h end
+      → CpusRise (parts_of first) → All (IsBetween text l) first → IfNone end (all_work l now < all_work l first)
+  now_less h now long print (Some end) is stop rise all = tt
+  now_less code.All now long print None is stop rise all = absurd cc
+  now_less (code.Start c) now long print None is stop rise all = less_at (code.Start c) now long print None c (at_start c) is (formed_rise rise) all stop
+  now_less (code.To k c) now long print None is stop rise all = less_at (code.To k c) now long print (Some k) c (at_key k c) is (formed_rise rise) all stop
+
+-- a list with a place has a lane
+some_lane : (lanes : List Lane) (i : ℕ) → i < length lanes → Lane
+some_lane [] i lt = absurd (omega (arith, lt))
+some_lane (a ∷ lanes) i lt = a
+
+abbrev cut_made : Option ℕ → ℕ → ℕ → Cut
+cut_made key cpu page = record { key = key; cpu = cpu; page = page }
+
+-- over a file that tells its bytes
+module _ (text : ℕ → ItemData → List ℕ) (l : Layout) (file : List ℕ) where
+  rows_are : (lanes : List Lane) → waiting_rows text l file lanes ≡ map (waiting_row text l file) lanes
+  rows_are [] = refl
+  rows_are (a ∷ lanes) = ap (λ (rs : List (Row CpuLine)). waiting_row text l file a ∷ rs) (rows_are lanes)
+
+  left_on : (xs ys : List Lane) → map (waiting_row text l file) ys ≡ map (waiting_row text l file) xs → left_lines text l file ys ≡ left_lines text l file xs
+  unfolding left_lines
+  left_on xs ys e = ap (coming key_in cpu_in) (rows_are ys ∙ e ∙ sym (rows_are xs))
+
+  loaded_row : (a b : Lane) → KeepsPlace a b → KeepsLeft l file a b → waiting_row text l file b ≡ waiting_row text l file a
+  loaded_row a b p k =
+      ap (λ (r : Row Keyed). row_in (wait_with text b.cpu b.region.kept r)) (same_row l file a b p k)
+      ∙ ap (λ (c : ℕ). row_in (wait_with text c b.region.kept (row_of l file a))) p.cpu
+      ∙ ap (λ (r : Lines). row_in (wait_with text a.cpu r.kept (row_of l file a))) p.region
+
+  module _ (first loaded formed : List Lane) (f : IsFormed text l (Some file) first loaded formed) (stands : All (Stands l file) first) where
+    formed_left : left_lines text l file formed ≡ left_lines text l file first
+    formed_left =
+        left_on loaded formed (map_on (IsFormatted text l) (waiting_row text l file) (waiting_row text l file) loaded formed f.long_formed f.format (λ a b g. formatted_row text l file a b g))
+        ∙ left_on first loaded (map_on (IsLoaded l (Some file)) (waiting_row text l file) (waiting_row text l file) first loaded f.long_loaded f.load (λ a b g. loaded_row a b g.place g.left))
+
+    formed_stands : All (Stands l file) formed
+    formed_stands =
+        all_on (IsFormatted text l) (Stands l file) (Stands l file) loaded formed f.long_formed f.format (λ a b g s. g.stands file s)
+        (all_on (IsLoaded l (Some file)) (Stands l file) (Stands l file) first loaded f.long_loaded f.load (λ a b g s. g.stands s) stands)
+
+    pub now_stands : (h : Horizon) (now : List Lane) → length now ≡ length formed → Related (IsPrinted h) formed now → All (Stands l file) now
+    now_stands h now long print =
+        all_on (IsPrinted h) (Stands l file) (Stands l file) formed now long print (λ a b p s. subst (Stands l file) (sym (same_lane a b p.keeps)) (stands_region l file a b.region s)) formed_stands
+
+    module _ (h : Horizon) (is : IsHorizon formed h) (rise : CpusRise (parts_of first)) (all : All (IsBetween text l) first) where
+      formed_parted : left_lines text l file first ≡ printed h formed ++ left_after text l file h formed
+      formed_parted = sym formed_left
+          ∙ parted l file text h formed is (formed_rise text l (Some file) first loaded formed f rise) formed_stands (each_of_all KeysRise formed (formed_rises text l (Some file) first loaded formed f all))
+
+      -- a write failed
+      pub turned_failed : (old new : Option (List ℕ)) → GainedPrefix old new (text_of (printed h formed)) → GainedPrefix old new (text_of (left_lines text l file first))
+      turned_failed old new gained =
+          subst (λ (xs : List CpuLine). GainedPrefix old new (text_of xs)) (sym formed_parted)
+          (subst (λ (xs : List ℕ). GainedPrefix old new xs) (sym (flat_map-append (λ (line : CpuLine). line.text) (printed h formed) (left_after text l file h formed)))
+          (prefix_longer old new (text_of (printed h formed)) (text_of (left_after text l file h formed)) gained))
+
+      all_printed : left_after text l file h formed ≡ [] → (old new : Option (List ℕ)) → Gained old new (text_of (printed h formed)) → Gained old new (text_of (left_lines text l file first))
+      all_printed none old new gained =
+          let whole : left_lines text l file first ≡ printed h formed = formed_parted ∙ ap (λ (xs : List CpuLine). printed h formed ++ xs) none ∙ append-nil (printed h formed) in
+          subst (λ (xs : List CpuLine). Gained old new (text_of xs)) (sym whole) gained
+
+      module _ (now : List Lane) (long : length now ≡ length formed) (print : Related (IsPrinted h) formed now) where
+        turned_further : (old new : Option (List ℕ)) → Gained old new (text_of (printed h formed)) → IsFurther text l file first now old new
+        turned_further old new gained = record {
+          done = printed h formed;
+          parted = formed_parted ∙ ap (λ (xs : List CpuLine). printed h formed ++ xs) (sym (printed_left text l file h formed now long print));
+          gained = gained;
+        }
+
+        -- at the malformed sub-buffer before which the horizon's lane stands
+        turned_stop : (high : Option ℕ) (cpu page : ℕ) → IsHorizonAt h high cpu → (least : IsLeastLane formed high cpu)
+            → (i : ℕ) × ((i < length now) × ((d : Lane) → StandsBefore cpu page (get_or now i d))) → Lane → (old new : Option (List ℕ)) → Gained old new (text_of (printed h formed))
+            → Gained old new (text_of (left_lines text l file first)) × ((key : Option ℕ) × (cut_of l file (parts_of first) ≡ Some (record { key = key; cpu = cpu; page = page })))
+        turned_stop high cpu page at least stop d old new gained =
+            let i : ℕ = stop.0 in
+            let rise_formed : CpusRise (parts_of formed) = formed_rise text l (Some file) first loaded formed f rise in
+            let there = around_least formed d high cpu least rise_formed in
+            let inside : i < length formed = omega (arith, stop.1.0, long) in
+            let p : IsPrinted h (get_or formed i d) (get_or now i d) = print i d inside in
+            let before : StandsBefore cpu page (get_or now i d) = stop.1.1 d in
+            let place : i ≡ least.i = place_is formed high cpu least.i (get_or formed least.i d) there least.inside i d inside (sym p.keeps.cpu ∙ before.own) in
+            let lane : Lane = get_or formed least.i d in
+            let same : get_or formed i d ≡ lane = ap (λ (n : ℕ). get_or formed n d) place in
+            let state : lane.cursor.state ≡ Malformed = ap (λ (a : Lane). a.cursor.state) (sym same) ∙ ap (λ (c : Cursor). c.state) (sym p.keeps.cursor) ∙ before.state in
+            let next : lane.cursor.next ≡ page = ap (λ (a : Lane). a.cursor.next) (sym same) ∙ ap (λ (c : Cursor). c.next) (sym p.keeps.cursor) ∙ before.next in
+            let each_stands : Each (Stands l file) formed = each_of_all (Stands l file) formed formed_stands in
+            let sorted : All IsSorted formed = All-weaker (IsBetween text l) IsSorted (λ a b. b.sorted) formed (formed_all text l (Some file) first loaded formed f all) in
+            let law = stopped text l file h high cpu at formed least.i (take least.i formed) lane (drop (least.i + 1) formed) there rise_formed
+            (subst (λ (ls : List Lane). Each (Stands l file) ls) there.split each_stands) (subst (λ (ls : List Lane). Each IsSorted ls) there.split (each_of_all IsSorted formed sorted)) state in
+            let cut : cut_of l file (parts_of first) ≡ Some (record { key = high; cpu = cpu; page = page }) =
+            ap (cut_of l file) (sym (formed_parts text l (Some file) first loaded formed f)) ∙ sym (cut_of_waiting l file (after text l file h) (λ a. refl) formed) ∙ law.0
+            ∙ ap (λ (n : ℕ). Some (cut_made high cpu n)) next in
+            (all_printed law.1 old new gained, (high, cut))
+
+        turned_at : (high : Option ℕ) (cpu : ℕ) → IsHorizonAt h high cpu → IsLeastLane formed high cpu → (end : Option End) → IsStop now cpu end → (old new : Option (List ℕ)) → Gained old new (text_of (printed h formed))
+            → IsTurned text l file first now old new end
+        turned_at high cpu at least None stop old new gained = turned_further old new gained
+        turned_at high cpu at least (Some ends.Done) stop old new gained = absurd stop
+        turned_at high cpu at least (Some (ends.Malformed c page)) stop old new gained =
+            let ending = turned_stop high cpu page at least stop.1 (some_lane now stop.1.0 stop.1.1.0) old new gained in
+            (ending.0, (ending.1.0, ending.1.1 ∙ ap (λ (n : ℕ). Some (cut_made ending.1.0 n page)) (sym stop.0)))
+        turned_at high cpu at least (Some ends.Read) stop old new gained = absurd stop
+        turned_at high cpu at least (Some ends.Write) stop old new gained = absurd stop
+
+  cut_none : (first loaded formed : List Lane) → IsFormed text l (Some file) first loaded formed → All (Stands l file) first → IsHorizon formed code.All → cut_of l file (parts_of first) ≡ None
+  cut_none first loaded formed f stands is =
+      ap (cut_of l file) (sym (formed_parts text l (Some file) first loaded formed f)) ∙ sym (cut_of_waiting l file (waiting_of text l file) (λ a. refl) formed)
+      ∙ ended_cuts l file text formed (each_of_all (Stands l file) formed (formed_stands first loaded formed f stands)) is
+
+  -- what a round did whose lines were all written
+  pub turned_ok : (first loaded formed : List Lane) → IsFormed text l (Some file) first loaded formed → (h : Horizon) (now : List Lane) → length now ≡ length formed → Related (IsPrinted h) formed now → (end : Option End)
+      → IsHorizon formed h → IsEnd now h end → CpusRise (parts_of first) → All (IsBetween text l) first → All (Stands l file) first → (old new : Option (List ℕ)) → Gained old new (text_of (printed h formed))
+      → IsTurned text l file first now old new end
+  turned_ok first loaded formed f code.All now long print end is stop rise all stands old new gained =
+      let none : left_after text l file code.All formed ≡ [] = none_after l file text formed (each_of_all (Stands l file) formed (formed_stands first loaded formed f stands)) is in
+      subst (λ (e : Option End). IsTurned text l file first now old new e) (sym stop)
+      (all_printed first loaded formed f stands code.All is rise all none old new gained, cut_none first loaded formed f stands is)
+  turned_ok first loaded formed f (code.Start c) now long print end is stop rise all stands old new gained =
+      turned_at first loaded formed f stands (code.Start c) is rise all now long print None c (at_start c) is end stop old new gained
+  turned_ok first loaded formed f (code.To k c) now long print end is stop rise all stands old new gained =
+      turned_at first loaded formed f stands (code.To k c) is rise all now long print (Some k) c (at_key k c) is end stop old new gained
+
+-- where there is no end
+pub if_none : {A : Type 0} (o : Option A) (P : Type 0) → P → IfNone o P
+if_none None P p = p
+if_none (Some x) P p = tt
+
+module _ (text : ℕ → ItemData → List ℕ) (l : Layout) where
+  pub now_stands_told : (told : Option (List ℕ)) (first loaded formed : List Lane) → IsFormed text l told first loaded formed → (h : Horizon) (now : List Lane) → length now ≡ length formed → Related (IsPrinted h) formed now
+      → IfSome told (λ file. All (Stands l file) first → All (Stands l file) now)
+  now_stands_told None first loaded formed f h now long print = tt
+  now_stands_told (Some file) first loaded formed f h now long print = λ stands. now_stands text l file first loaded formed f stands h now long print
+
+  pub turned_told : (told : Option (List ℕ)) (first loaded formed : List Lane) → IsFormed text l told first loaded formed → (h : Horizon) (now : List Lane) → length now ≡ length formed → Related (IsPrinted h) formed now
+      → (end : Option End) → IsHorizon formed h → IsEnd now h end → CpusRise (parts_of first) → All (IsBetween text l) first → (old new : Option (List ℕ)) → Gained old new (text_of (printed h formed))
+      → IfSome told (λ file. All (Stands l file) first → IsTurned text l file first now old new end)
+  turned_told None first loaded formed f h now long print end is stop rise all old new gained = tt
+  turned_told (Some file) first loaded formed f h now long print end is stop rise all old new gained = λ stands.
+      turned_ok text l file first loaded formed f h now long print end is stop rise all stands old new gained
+
+  pub failed_told : (told : Option (List ℕ)) (first loaded formed : List Lane) → IsFormed text l told first loaded formed → (h : Horizon) → IsHorizon formed h → CpusRise (parts_of first) → All (IsBetween text l) first
+      → (old new : Option (List ℕ)) → GainedPrefix old new (text_of (printed h formed)) → IfSome told (λ file. All (Stands l file) first → GainedPrefix old new (text_of (left_lines text l file first)))
+  failed_told None first loaded formed f h is rise all old new gained = tt
+  failed_told (Some file) first loaded formed f h is rise all old new gained = λ stands. turned_failed text l file first loaded formed f stands h is rise all old new gained

@@ -1,0 +1,52 @@
+use Rattle.std.proofs.Common.{◌∙◌, refl, arith}
+use Rattle.report_rounds.proofs.Reading.{less_further, reads_ended, reads_further}
+use Rattle.report_rounds.proofs.Reporting.{going_ended, going_on, going_start}
+use Rattle.report_rounds.proofs.Starting.{start_between}
+use Rattle.report_rounds.proofs.reports.report_rounds.Goals as goal
+
+pub loop-end-init : goal.loop-end-init
+loop-end-init g c = record {
+  between = start_between (g.L.Form.text c.args.form.now) c.args.layout.now c.args.lanes.now c.requires.start c.requires.room;
+  parts = refl;
+  empty = c.requires.empty;
+  going = going_start (g.L.Form.text c.args.form.now) c.args.layout.now (g.F.File.bytes c.args.file.now) c.args.lanes.now (g.O.Sink.written c.args.out.now) c.requires.start;
+  later = omega arith;
+  out_later = omega arith;
+  reads = omega arith;
+  unread = omega arith;
+  bytes = refl;
+  size = refl;
+  name = refl;
+}
+
+pub loop-end-preserved : goal.loop-end-preserved
+loop-end-preserved g c =
+    let before = c.loop-end.invariant in
+    let more = c.in_default.ensures in
+    record {
+      between = more.between;
+      parts = more.parts ∙ before.parts;
+      empty = more.empty;
+      going = going_on (g.L.Form.text c.args.form.now) c.args.layout.now (g.F.File.bytes c.args.file.now) (g.F.File.bytes c.loop-end.file) c.args.lanes.now c.loop-end.lanes c.turn.new.lanes
+          (g.O.Sink.written c.args.out.now) (g.O.Sink.written c.loop-end.out) (g.O.Sink.written c.turn.new.out) before.bytes before.going more.stands more.turned;
+      later = omega (arith, before.later, more.later);
+      out_later = omega (arith, before.out_later, more.out_later);
+      reads = reads_further c.args.layout.now (g.F.File.size c.args.file.now) (g.F.File.size c.loop-end.file) _ _ _ c.args.lanes.now c.loop-end.lanes before.size before.reads before.unread
+          c.turn.new.lanes more.unread more.reads;
+      unread = less_further c.args.layout.now (g.F.File.size c.args.file.now) (g.F.File.size c.loop-end.file) _ _ 0 c.args.lanes.now c.loop-end.lanes before.size before.reads before.unread
+          c.turn.new.lanes more.unread;
+      bytes = more.bytes ∙ before.bytes;
+      size = more.size ∙ before.size;
+      name = more.name ∙ before.name;
+    }
+
+pub returns-in-Some-clause-reads : goal.returns-in-Some-clause-reads
+returns-in-Some-clause-reads g c =
+    reads_ended c.args.layout.now (g.F.File.size c.args.file.now) (g.F.File.size c.loop-end.file) _ _ _ c.args.lanes.now c.loop-end.lanes c.loop-end.invariant.size c.loop-end.invariant.reads c.loop-end.invariant.unread
+    c.turn.ensures.all
+
+pub returns-in-Some-clause-report : goal.returns-in-Some-clause-report
+returns-in-Some-clause-report g c =
+    going_ended (g.L.Form.text c.args.form.now) c.args.layout.now (g.F.File.bytes c.args.file.now) (g.F.File.bytes c.loop-end.file) c.args.lanes.now c.loop-end.lanes c.turn.new.lanes
+    (g.O.Sink.written c.args.out.now) (g.O.Sink.written c.loop-end.out) (g.O.Sink.written c.turn.new.out) c.in-Some.end c.loop-end.invariant.bytes c.requires.start c.loop-end.invariant.parts
+    c.loop-end.invariant.going c.in-Some.ensures.turned

@@ -1,0 +1,34 @@
+-- What one round prints of the lines to come, and how the rounds end.
+use Rattle.std.specs.Prelude.{◌≡◌, ℕ, List, ◌++◌, Option, Some, None}
+use Rattle.trace_base.specs.declared.layout.Layout.{Layout}
+use Rattle.trace_outside.specs.Writing.{Gained, GainedPrefix}
+use Rattle.subpage.specs.ItemData.{ItemData}
+use Rattle.subpage.specs.Cut.{cut_of}
+use Rattle.page_pool.specs.declared.lane.Lane.{Lane}
+use Rattle.time_merge.specs.LaneRows.{parts_of}
+use Rattle.time_merge.specs.declared.ending.End.{End}
+use Rattle.time_merge.specs.declared.ending.End.TheVariants as code
+use Rattle.round_print.specs.Prints.{CpuLine, text_of}
+use Rattle.report_rounds.specs.Lines.{left_lines}
+
+-- the sink gained the first of the lines that were to come, and the others are to come
+pub record IsFurther (text : ℕ → ItemData → List ℕ) (layout : Layout) (file : List ℕ) (before now : List Lane) (old new : Option (List ℕ)) : Type 0 where
+  pub done : List CpuLine
+  pub parted : left_lines text layout file before ≡ done ++ left_lines text layout file now
+  pub gained : Gained old new (text_of done)
+
+-- The lines that were to come end so: all of them were written, up to the least cut, if there is one; or none, where a
+-- read failed; or a prefix of their text.
+abbrev pub IsEnding : (ℕ → ItemData → List ℕ) → Layout → List ℕ → List Lane → Option (List ℕ) → Option (List ℕ) → End → Type 0
+IsEnding text layout file lanes old new code.Done =
+    Gained old new (text_of (left_lines text layout file lanes)) × (cut_of layout file (parts_of lanes) ≡ None)
+IsEnding text layout file lanes old new (code.Malformed cpu page) =
+    Gained old new (text_of (left_lines text layout file lanes))
+    × ((key : Option ℕ) × (cut_of layout file (parts_of lanes) ≡ Some (record { key = key; cpu = cpu; page = page })))
+IsEnding text layout file lanes old new code.Read = new ≡ old
+IsEnding text layout file lanes old new code.Write = GainedPrefix old new (text_of (left_lines text layout file lanes))
+
+-- What a round did.
+abbrev pub IsTurned : (ℕ → ItemData → List ℕ) → Layout → List ℕ → List Lane → List Lane → Option (List ℕ) → Option (List ℕ) → Option End → Type 0
+IsTurned text layout file before now old new None = IsFurther text layout file before now old new
+IsTurned text layout file before now old new (Some end) = IsEnding text layout file before old new end

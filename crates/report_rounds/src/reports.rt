@@ -1,0 +1,57 @@
+ghost use Rattle.std.specs.Prelude.{◌≡◌, ◌≤◌, [], All, IfSome, sum_by};
+ghost use Rattle.trace_base.specs.Layout.{IsLayout};
+ghost use Rattle.trace_outside.specs.Causes.{Rose, raised};
+ghost use Rattle.subpage.specs.Arrangement.{CpusRise};
+ghost use Rattle.time_merge.specs.LaneRows.{parts_of};
+ghost use Rattle.report_rounds.specs.Between.{HasRoom, IsAtStart};
+ghost use Rattle.report_rounds.specs.Reports.{IsReport};
+
+use crate::turns::turn;
+use cpu_workers::Form;
+use page_pool::Lane;
+use std::thread::Threads;
+use time_merge::End;
+use trace_base::Layout;
+use trace_outside::{File, Gate, Pending, Sink};
+
+/// Writes the lines of the reached items of the lanes' processors, by key, then processor, then position: all items up to
+/// the first malformed sub-buffer in that order. `Malformed` tells that sub-buffer, `Done` that there is none.
+///
+/// The lanes stand before their first items and keep no line, and each region has room for any line. Lines are formed on
+/// at most `workers` threads, with the same bytes for any number of them. After `Read` the lines of the first reached
+/// items are written, after `Write` a prefix of the text. Each sub-buffer is read at most once.
+pub fn report_rounds<R: Threads + Sync, F: File, L: Form, G: Gate, O: Sink>(
+    rt: &R,
+    form: &L,
+    layout: &Layout,
+    file: &mut F,
+    lanes: &mut [Lane],
+    workers: u32,
+    gate: &G,
+    pending: &mut Pending,
+    out: &mut O,
+) -> End
+    requires allowed { IsLayout layout.now }
+    requires workers { (1 ≤ workers) × (workers ≤ 64) }
+    requires start { All (IsAtStart layout.now) lanes.old }
+    requires room { All (HasRoom (L.text form.now)) lanes.old }
+    requires rise { CpusRise (parts_of lanes.old) }
+    requires empty { pending.old ≡ [] }
+    ensures report { IfSome (F.bytes file.old) (λ bytes. IsReport (L.text form.now) layout.now bytes (parts_of lanes.old)
+        (O.written out.old) (O.written out.new) result) }
+    ensures read { result ≡ End.Read → Rose (F.faults file.old) (F.faults file.new) }
+    ensures write { result ≡ End.Write → Rose (O.faults out.old) (O.faults out.new) }
+    ensures later { F.faults file.old ≤ F.faults file.new }
+    ensures out_later { O.faults out.old ≤ O.faults out.new }
+    ensures reads { F.reads file.new
+        ≤ raised (F.reads file.old) (sum_by (λ part. part.1.size) (parts_of lanes.old)) }
+    ensures bytes { F.bytes file.new ≡ F.bytes file.old }
+    ensures size { F.size file.new ≡ F.size file.old }
+    ensures name { O.name out.new ≡ O.name out.old }
+{
+    loop {
+        if let Some(end) = turn(rt, form, layout, file, lanes, workers, gate, pending, out) {
+            return end;
+        }
+    }
+}

@@ -1,0 +1,344 @@
+//! Reports of processors in memory: their order, their ends, and what is written before a fault.
+
+mod disk;
+mod marks;
+mod pages;
+mod paper;
+
+use crate::reports::report_rounds;
+use End::{Done, Malformed, Read, Write};
+use disk::Disk;
+use marks::{Marks, len_of, mark};
+use page_pool::Pool;
+use pages::{Page, bytes_of, layout, open_lanes};
+use paper::Paper;
+use std::alloc::{AllocError, Global};
+use std::test::Fail;
+use std::thread::Threads;
+use time_merge::End;
+use trace_base::ByteText;
+use trace_outside::{File, MemFile, MemSink, NoGate, Pending, Sink};
+
+// Reports processors from number 3 on, each with so many of the file's sub-buffers, in regions of `room` bytes. `None`:
+// there is no such call.
+fn report<R: Threads + Sync, F: File, O: Sink>(
+    rt: &R,
+    alloc: Global,
+    counts: &[u32],
+    room: u32,
+    workers: u32,
+    file: &mut F,
+    out: &mut O,
+) -> Result<Option<End>, AllocError> {
+    if counts.len() > 1024 || room < 2 || workers < 1 || workers > 64 {
+        return Ok(None);
+    }
+    let layout = layout();
+    let mut pool = Pool::new(alloc, counts.len() as u32, 4096, room)?;
+    let lanes = pool.lanes();
+    open_lanes(&layout, lanes, counts, room);
+    let mut pending = Pending::new(alloc)?;
+    Ok(Some(report_rounds(
+        rt,
+        &Marks,
+        &layout,
+        file,
+        lanes,
+        workers,
+        &NoGate,
+        &mut pending,
+        out,
+    )))
+}
+
+// Whether a report has this text and this end.
+fn reports<R: Threads + Sync>(
+    rt: &R,
+    alloc: Global,
+    counts: &[u32],
+    pages: &[Page],
+    room: u32,
+    workers: u32,
+    text: &[u8],
+    end: End,
+) -> Result<bool, AllocError> {
+    let bytes = bytes_of(alloc, pages)?;
+    let mut file = MemFile::new(ByteText::copy(alloc, bytes.as_slice())?);
+    let mut out = MemSink::new(alloc);
+    let found = report(rt, alloc, counts, room, workers, &mut file, &mut out)?;
+    Ok(found == Some(end) && out.bytes() == text)
+}
+
+fn events(time: u64, count: u32, step: u32) -> Page {
+    Page::Events { time, count, step }
+}
+
+#[test]
+fn items_come_by_key_up_to_the_least_cut(rt: HostRuntime) -> Result<(), Fail> {
+    let bad = Page::Malformed;
+    let one = events(10, 1, 0);
+    // Each row has the sub-buffers of processors 3 and 4 one behind another, and how many of them are of each.
+    for (counts, pages, text, end) in [
+        // Ties, first by processor and then by position.
+        (
+            [2, 2],
+            [
+                events(10, 4, 1),
+                events(30, 2, 15),
+                events(11, 3, 0),
+                events(44, 1, 0),
+            ],
+            "d0d1e1e1e1d2d3d0e4d5",
+            Done,
+        ),
+        // Items at 17 have no line.
+        (
+            [1, 3],
+            [
+                events(15, 4, 1),
+                events(17, 1, 0),
+                events(17, 0, 0),
+                events(27, 2, 1),
+            ],
+            "d5d6d8e8",
+            Done,
+        ),
+        // The key of the item at 15 is 20.
+        (
+            [2, 2],
+            [
+                events(20, 1, 0),
+                events(15, 1, 0),
+                events(18, 1, 0),
+                events(19, 0, 0),
+            ],
+            "e8d0d5",
+            Done,
+        ),
+        // A processor without sub-buffers.
+        (
+            [0, 4],
+            [one, events(12, 1, 0), events(13, 1, 0), events(14, 1, 0)],
+            "e0e2e3e4",
+            Done,
+        ),
+        // A cut at the very start, of the first processor and of the second.
+        (
+            [1, 3],
+            [bad, one, one, one],
+            "",
+            Malformed { cpu: 3, page: 0 },
+        ),
+        (
+            [3, 1],
+            [one, one, one, bad],
+            "",
+            Malformed { cpu: 4, page: 0 },
+        ),
+        // Two cuts: (30, processor 3), which an item at 30 of processor 4 is behind; then (20, processor 4).
+        (
+            [2, 2],
+            [events(10, 3, 10), bad, events(20, 2, 10), bad],
+            "d0d0e0d0",
+            Malformed { cpu: 3, page: 1 },
+        ),
+        (
+            [2, 2],
+            [events(10, 3, 10), bad, events(20, 1, 0), bad],
+            "d0d0e0",
+            Malformed { cpu: 4, page: 1 },
+        ),
+        // A malformed sub-buffer behind one without items.
+        (
+            [3, 1],
+            [one, events(15, 0, 0), bad, events(12, 1, 0)],
+            "d0",
+            Malformed { cpu: 3, page: 2 },
+        ),
+    ] {
+        for room in [2, 5, 65_537] {
+            for workers in [1, 3, 64] {
+                assert!(rt;
+                    reports(
+                        &rt,
+                        rt.alloc(),
+                        &counts,
+                        &pages,
+                        room,
+                        workers,
+                        text.as_bytes(),
+                        end
+                    )?,
+                    "{text}: {room} bytes, {workers} workers"
+                );
+            }
+        }
+    }
+    Ok(())
+}
+
+fn put_mark(text: &mut Vec<u8>, cpu: u32, time: u64) -> Result<(), AllocError> {
+    let bytes = mark(cpu, time);
+    text.extend_from_slice(&bytes[..len_of(time) as usize])
+}
+
+// Sub-buffers with the 3,000 events of a processor, a nanosecond apart.
+fn put_many(pages: &mut Vec<Page>, first: u64) -> Result<(), AllocError> {
+    for i in 0..9_u64 {
+        let count = if i == 8 { 280 } else { 340 };
+        pages.push(events(first.saturating_add(340 * i), count, 1))?;
+    }
+    Ok(())
+}
+
+#[test]
+fn many_events_of_one_processor_against_two_of_another(rt: HostRuntime) -> Result<(), Fail> {
+    let mut pages = Vec::new(rt.alloc());
+    put_many(&mut pages, 1)?;
+    pages.push(events(2, 2, 4999))?;
+    let mut text = Vec::new(rt.alloc());
+    put_mark(&mut text, 3, 1)?;
+    put_mark(&mut text, 3, 2)?;
+    put_mark(&mut text, 4, 2)?;
+    for time in 3..=3000 {
+        put_mark(&mut text, 3, time)?;
+    }
+    put_mark(&mut text, 4, 5001)?;
+    for (room, workers) in [(2, 1), (9, 3), (65_537, 64)] {
+        assert!(rt;
+            reports(
+                &rt,
+                rt.alloc(),
+                &[9, 1],
+                pages.as_slice(),
+                room,
+                workers,
+                text.as_slice(),
+                Done
+            )?,
+            "{room}"
+        );
+    }
+    Ok(())
+}
+
+#[test]
+fn more_lines_wait_than_a_region_keeps(rt: HostRuntime) -> Result<(), Fail> {
+    let mut pages = Vec::new(rt.alloc());
+    put_many(&mut pages, 10_000)?;
+    let mut text = Vec::new(rt.alloc());
+    for time in 1..=20_u64 {
+        pages.push(events(time, 1, 0))?;
+        put_mark(&mut text, 4, time)?;
+    }
+    pages.push(events(20_000, 1, 0))?;
+    for time in 10_000..13_000 {
+        put_mark(&mut text, 3, time)?;
+    }
+    put_mark(&mut text, 4, 20_000)?;
+    for workers in [1, 3, 64] {
+        assert!(rt;
+            reports(
+                &rt,
+                rt.alloc(),
+                &[9, 21],
+                pages.as_slice(),
+                65_537,
+                workers,
+                text.as_slice(),
+                Done
+            )?,
+            "{workers}"
+        );
+    }
+    Ok(())
+}
+
+#[test]
+fn many_processors_with_an_event_each(rt: HostRuntime) -> Result<(), Fail> {
+    let mut pages = Vec::new(rt.alloc());
+    let mut text = Vec::new(rt.alloc());
+    for i in 0..1024_u32 {
+        pages.push(events(u64::from(5000 - i), 1, 0))?;
+        put_mark(&mut text, 1026 - i, u64::from(3977 + i))?;
+    }
+    let counts = vec![in rt.alloc(); 1_u32; 1024]?;
+    assert!(rt;
+        reports(
+            &rt,
+            rt.alloc(),
+            counts.as_slice(),
+            pages.as_slice(),
+            2,
+            64,
+            text.as_slice(),
+            Done
+        )?
+    );
+    Ok(())
+}
+
+// The report of which reads or writes fail: "d0d1e1e1e1d2d3d0e4d5".
+const FAILING: [Page; 4] = [
+    Page::Events {
+        time: 10,
+        count: 4,
+        step: 1,
+    },
+    Page::Events {
+        time: 30,
+        count: 2,
+        step: 15,
+    },
+    Page::Events {
+        time: 11,
+        count: 3,
+        step: 0,
+    },
+    Page::Events {
+        time: 44,
+        count: 1,
+        step: 0,
+    },
+];
+
+#[test]
+fn lines_are_whole_before_a_failed_read(rt: HostRuntime) -> Result<(), Fail> {
+    let all = "d0d1e1e1e1d2d3d0e4d5";
+    for (from, room, text, end, reads) in [
+        (0, 2, "", Read, 0),
+        (4096, 2, "", Read, 4096),
+        // The last sub-buffer is read before the second one where that is far from being needed.
+        (12_288, 2, "d0d1e1e1e1", Read, 8192),
+        (12_288, 65_537, "d0d1e1e1e1", Read, 12_288),
+        (16_384, 2, all, Done, 16_384),
+        (16_384, 65_537, all, Done, 16_384),
+    ] {
+        let mut file = Disk::new(bytes_of(rt.alloc(), &FAILING)?, from);
+        let mut out = MemSink::new(rt.alloc());
+        let found = report(&rt, rt.alloc(), &[2, 2], room, 2, &mut file, &mut out)?;
+        assert!(rt; found == Some(end) && file.reads == reads, "{from}: {room}");
+        assert!(rt; out.bytes() == text.as_bytes(), "{from}: {room}");
+        assert!(rt; file.faults == u64::from(end == Read), "{from}: {room}");
+    }
+    Ok(())
+}
+
+#[test]
+fn a_prefix_is_written_before_a_failed_write(rt: HostRuntime) -> Result<(), Fail> {
+    for (room, text, end) in [
+        (0, "", Write),
+        (3, "d0d", Write),
+        (19, "d0d1e1e1e1d2d3d0e4d", Write),
+        (20, "d0d1e1e1e1d2d3d0e4d5", Done),
+    ] {
+        let bytes = bytes_of(rt.alloc(), &FAILING)?;
+        let mut file = MemFile::new(ByteText::copy(rt.alloc(), bytes.as_slice())?);
+        let mut out = Paper::new(rt.alloc(), room)?;
+        let found = report(&rt, rt.alloc(), &[2, 2], 65_537, 2, &mut file, &mut out)?;
+        assert!(rt; found == Some(end), "{room}");
+        assert!(rt; out.bytes() == text.as_bytes(), "{room}");
+        assert!(rt; out.faults == u64::from(end == Write), "{room}");
+    }
+    Ok(())
+}
