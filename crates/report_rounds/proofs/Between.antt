@@ -1,20 +1,20 @@
 -- What holds of lanes between rounds is kept by each step of a round.
-use Rattle.std.proofs.Common.{◌≡◌, ℕ, ◌+◌, ◌≤◌, Bool, true, false, List, [], ◌∷◌, ◌++◌, length, Option, refl, sym, ap, subst, ◌∙◌, ◌⊎◌, inl, inr, arith}
+use Rattle.std.proofs.Common.{◌≡◌, ℕ, ◌+◌, ◌<◌, ◌≤◌, Bool, true, false, List, [], ◌∷◌, ◌++◌, length, Option, refl, sym, ap, subst, ◌∙◌, ◌⊎◌, inl, inr, arith}
 use Rattle.std.specs.Prelude.{if◌then◌else◌, ◌==◌, nat_lt, nat_le, unwrap_or}
 use Rattle.std.specs.List.{All}
-use Rattle.std.proofs.lemmas.Bool.{cases_Bool, le-ltb, lt-leb}
+use Rattle.std.proofs.lemmas.Bool.{cases_Bool, cases_lt, le-ltb, le-leb, lt-leb}
 use Rattle.std.proofs.lemmas.List.{length-append}
 use Rattle.std.proofs.lemmas.List.Elements.{All-tail}
 use Rattle.trace_base.specs.declared.layout.Layout.{Layout}
 use Rattle.subpage.specs.ItemData.{ItemData}
 use Rattle.subpage.specs.Arrangement.{Keyed, IsRising}
-use Rattle.page_pool.specs.Lines.{Line, Lines, line_of}
+use Rattle.page_pool.specs.Lines.{Line, Lines, line_of, most_lines}
 use Rattle.page_pool.specs.declared.lane.Lane.{Lane}
 use Rattle.event_cursor.specs.Standing.{IsInOrder, HoldsPage, keyed_held}
 use Rattle.time_merge.specs.declared.horizons.Horizon.{Horizon}
 use Rattle.cpu_workers.specs.Spaces.{Space, space_of, has_no_room, with_line, fill}
 use Rattle.cpu_workers.specs.Formats.{IsFormatted, IsSorted, line_key}
-use Rattle.round_print.specs.Prints.{IsTidy, is_due, later_lines}
+use Rattle.round_print.specs.Prints.{IsFew, IsTidy, is_due, later_lines}
 use Rattle.round_print.specs.Rounds.{IsPrinted}
 use Rattle.report_rounds.specs.Between.{IsBetween, IsLoaded}
 use Rattle.report_rounds.proofs.RoundsPrinted.{with_region, same_lane}
@@ -32,12 +32,26 @@ tidy_line text key s = record { used = λ e. absurd (never s.kept e); free = λ 
     never [] e = cc
     never (line ∷ lines) e = cc
 
+-- and it keeps no more lines than it has marks for
+record IsFewSpace (space : Space) : Type 0 where
+  kept : length space.kept ≤ space.used
+  used : space.used ≤ most_lines
+
+has_mark : (s : Space) (len : ℕ) → has_no_room s len ≡ false → s.used < most_lines
+has_mark s len e = elim (cases_lt s.used most_lines) as (λ _. s.used < most_lines) [
+  | inl lt ↦ lt
+  | inr le ↦ absurd (grind (arith, e, le-leb most_lines s.used le))
+]
+
+few_line : (text : List ℕ) (key : ℕ) (s : Space) → s.used < most_lines → IsFewSpace s → IsFewSpace (with_line text key s)
+few_line text key s lt f = record { kept = omega (arith, f.kept, length-append s.kept (line_of key text ∷ [])); used = omega (arith, lt) }
+
 module _ (text : ℕ → ItemData → List ℕ) where
   -- an item has no line, or its line has no room, or it is kept
   pub fill_cases : (s : Space) (x : Keyed) (xs : List Keyed) →
       (fill text s (x ∷ xs) ≡ fill text s xs)
       ⊎ (((fill text s (x ∷ xs) ≡ (s, x ∷ xs)) × (has_no_room s (length (text x.cpu x.item)) ≡ true))
-      ⊎ (fill text s (x ∷ xs) ≡ fill text (with_line (text x.cpu x.item) x.key s) xs))
+      ⊎ ((fill text s (x ∷ xs) ≡ fill text (with_line (text x.cpu x.item) x.key s) xs) × (has_no_room s (length (text x.cpu x.item)) ≡ false)))
   fill_cases s x xs =
       let len : ℕ = length (text x.cpu x.item) in
       let kept : Space × List Keyed = fill text (with_line (text x.cpu x.item) x.key s) xs in
@@ -48,7 +62,7 @@ module _ (text : ℕ → ItemData → List ℕ) where
             ap (λ (b : Bool). if b then fill text s xs else if has_no_room s len then (s, x ∷ xs) else kept) some in
             elim (cases_Bool (has_no_room s len)) [
               | inl full ↦ inr (inl (here ∙ ap (λ (b : Bool). if b then (s, x ∷ xs) else kept) full, full))
-              | inr fits ↦ inr (inr (here ∙ ap (λ (b : Bool). if b then (s, x ∷ xs) else kept) fits))
+              | inr fits ↦ inr (inr (here ∙ ap (λ (b : Bool). if b then (s, x ∷ xs) else kept) fits, fits))
             ]
       ]
 
@@ -59,7 +73,20 @@ module _ (text : ℕ → ItemData → List ℕ) where
     | inl none ↦ subst (λ (r : Space × List Keyed). IsTidySpace r.0) (sym none) (fill_tidy s xs t)
     | inr o ↦ elim o [
       | inl full ↦ subst (λ (r : Space × List Keyed). IsTidySpace r.0) (sym full.0) t
-      | inr kept ↦ subst (λ (r : Space × List Keyed). IsTidySpace r.0) (sym kept) (fill_tidy (with_line (text x.cpu x.item) x.key s) xs (tidy_line (text x.cpu x.item) x.key s))
+      | inr kept ↦ subst (λ (r : Space × List Keyed). IsTidySpace r.0) (sym kept.0) (fill_tidy (with_line (text x.cpu x.item) x.key s) xs (tidy_line (text x.cpu x.item) x.key s))
+    ]
+  ]
+
+  fill_few : (s : Space) (xs : List Keyed) → IsFewSpace s → IsFewSpace (fill text s xs).0
+  fill_few s [] f = f
+  fill_few s (x ∷ xs) f = elim (fill_cases s x xs) [
+    | inl none ↦ subst (λ (r : Space × List Keyed). IsFewSpace r.0) (sym none) (fill_few s xs f)
+    | inr o ↦ elim o [
+      | inl full ↦ subst (λ (r : Space × List Keyed). IsFewSpace r.0) (sym full.0) f
+      | inr kept ↦
+          let t : List ℕ = text x.cpu x.item in
+          let more : IsFewSpace (with_line t x.key s) = few_line t x.key s (has_mark s (length t) kept.1) f in
+          subst (λ (r : Space × List Keyed). IsFewSpace r.0) (sym kept.0) (fill_few (with_line t x.key s) xs more)
     ]
   ]
 
@@ -69,7 +96,7 @@ module _ (text : ℕ → ItemData → List ℕ) where
     | inl none ↦ ap (λ (r : Space × List Keyed). r.0.room) none ∙ fill_room s xs
     | inr o ↦ elim o [
       | inl full ↦ ap (λ (r : Space × List Keyed). r.0.room) full.0
-      | inr kept ↦ ap (λ (r : Space × List Keyed). r.0.room) kept ∙ fill_room (with_line (text x.cpu x.item) x.key s) xs
+      | inr kept ↦ ap (λ (r : Space × List Keyed). r.0.room) kept.0 ∙ fill_room (with_line (text x.cpu x.item) x.key s) xs
     ]
   ]
 
@@ -91,7 +118,7 @@ module _ (text : ℕ → ItemData → List ℕ) where
           let t : List ℕ = text x.cpu x.item in
           let rest : IsFill (with_line t x.key s) xs (fill text (with_line t x.key s) xs) = fill_counts (with_line t x.key s) xs in
           let one : length (s.kept ++ line_of x.key t ∷ []) ≡ length s.kept + 1 = length-append s.kept (line_of x.key t ∷ []) in
-          subst (λ (r : Space × List Keyed). IsFill s (x ∷ xs) r) (sym kept) (record { fewer = omega (arith, rest.fewer); more = omega (arith, rest.more, one); count = omega (arith, rest.count, one) })
+          subst (λ (r : Space × List Keyed). IsFill s (x ∷ xs) r) (sym kept.0) (record { fewer = omega (arith, rest.fewer); more = omega (arith, rest.more, one); count = omega (arith, rest.count, one) })
     ]
   ]
 
@@ -107,7 +134,7 @@ module _ (text : ℕ → ItemData → List ℕ) where
     | inl empty ↦ subst (λ (r : Space × List Keyed). length r.1 ≤ length xs) (sym empty) (fill_counts s xs).fewer
     | inr o ↦ elim o [
       | inl full ↦ absurd (not_both (sym (has_room s (length (text x.cpu x.item)) t none le) ∙ full.1))
-      | inr kept ↦ subst (λ (r : Space × List Keyed). length r.1 ≤ length xs) (sym kept) (fill_counts (with_line (text x.cpu x.item) x.key s) xs).fewer
+      | inr kept ↦ subst (λ (r : Space × List Keyed). length r.1 ≤ length xs) (sym kept.0) (fill_counts (with_line (text x.cpu x.item) x.key s) xs).fewer
     ]
   ]
     where
@@ -119,6 +146,12 @@ tidy_space r t = record { used = t.used; free = t.free }
 
 space_tidy : (r : Lines) → IsTidySpace (space_of r) → IsTidy r
 space_tidy r t = record { used = t.used; free = t.free }
+
+few_space : (r : Lines) → IsFew r → IsFewSpace (space_of r)
+few_space r f = record { kept = f.kept; used = f.used }
+
+space_few : (r : Lines) → IsFewSpace (space_of r) → IsFew r
+space_few r f = record { kept = f.kept; used = f.used }
 
 later_all : (P : Line → Type 0) (h : Horizon) (cpu : ℕ) (lines : List Line) → All P lines → All P (later_lines h cpu lines)
 later_all P h cpu [] all = all
@@ -141,6 +174,7 @@ module _ (text : ℕ → ItemData → List ℕ) (l : Layout) where
     in_order = loaded.in_order;
     sorted = sorted_loaded a b loaded.place.region loaded.place.high s.sorted;
     tidy = subst IsTidy (sym loaded.place.region) s.tidy;
+    few = subst IsFew (sym loaded.place.region) s.few;
     room = λ cpu item. subst (λ (r : Lines). length (text cpu item) ≤ r.room) (sym loaded.place.region) (s.room cpu item);
   }
 
@@ -154,6 +188,7 @@ module _ (text : ℕ → ItemData → List ℕ) (l : Layout) where
         in_order = f.in_order;
         sorted = f.sorted s.sorted;
         tidy = space_tidy b.region (subst IsTidySpace (formatted_space a b f) (fill_tidy text (space_of a.region) (keyed_held l a) (tidy_space a.region s.tidy)));
+        few = space_few b.region (subst IsFewSpace (formatted_space a b f) (fill_few text (space_of a.region) (keyed_held l a) (few_space a.region s.few)));
         room = λ cpu item. omega (arith, room, s.room cpu item);
       }
 
@@ -168,6 +203,7 @@ module _ (text : ℕ → ItemData → List ℕ) (l : Layout) where
     in_order = subst (IsInOrder l) (sym (same_lane a b p.keeps)) (ordered_region a b.region s.in_order);
     sorted = subst IsSorted (sym (same_lane a b p.keeps)) (sorted_region a b.region p.kept s.sorted);
     tidy = p.keeps.tidy s.tidy;
+    few = p.keeps.few s.few;
     room = λ cpu item. omega (arith, p.keeps.room, s.room cpu item);
   }
     where

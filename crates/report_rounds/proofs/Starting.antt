@@ -1,5 +1,5 @@
 -- Lanes before their first items have the lines of all reached items to come.
-use Rattle.std.proofs.Common.{◌≡◌, ℕ, ◌≤◌, List, [], ◌∷◌, ◌++◌, map, Option, filter, refl, sym, ap, subst, ◌∙◌}
+use Rattle.std.proofs.Common.{◌≡◌, ℕ, ◌≤◌, List, [], ◌∷◌, ◌++◌, length, get_or, map, Option, filter, refl, sym, ap, subst, ◌∙◌, arith}
 use Rattle.std.specs.Prelude.{unwrap_or}
 use Rattle.std.specs.List.{All}
 use Rattle.std.proofs.lemmas.List.Elements.{All-head, All-nil, All-tail, All-weaker}
@@ -15,7 +15,7 @@ use Rattle.time_merge.specs.LaneRows.{parts_of, row_of, rows_of}
 use Rattle.time_merge.specs.Rows.{together, up_to}
 use Rattle.time_merge.proofs.Starting.{cut_of_rows, fresh_come, fresh_in_order, fresh_stands}
 use Rattle.cpu_workers.specs.Formats.{IsSorted, line_key}
-use Rattle.round_print.specs.Prints.{CpuLine, cpu_in, key_in, with_cpu}
+use Rattle.round_print.specs.Prints.{CpuLine, IsFew, IsTidy, cpu_in, key_in, with_cpu}
 use Rattle.report_rounds.specs.Between.{HasRoom, IsAtStart, IsBetween}
 use Rattle.report_rounds.specs.Lines.{left_lines, shown_lines, waiting_of, waiting_rows}
 use Rattle.report_rounds.proofs.Ending.{cut_of_waiting}
@@ -28,10 +28,20 @@ start_sorted a none = record {
   started = λ high. none;
 }
 
+start_few : (a : Lane) → a.region.kept ≡ [] → IsTidy a.region → IsFew a.region
+start_few a none tidy = record { kept = omega (arith, ap (λ (lines : List Line). length lines) none); used = omega (arith, tidy.used none) }
+
 pub start_between : (text : ℕ → ItemData → List ℕ) (l : Layout) (lanes : List Lane) → All (IsAtStart l) lanes → All (HasRoom text) lanes → All (IsBetween text l) lanes
 start_between text l lanes start room = λ k d lt.
-    let s = start k d lt in
-    record { in_order = fresh_in_order l _ s.cursor s.long; sorted = start_sorted _ s.kept; tidy = s.tidy; room = room k d lt }
+    let a : Lane = get_or lanes k d in
+    let s : IsAtStart l a = start k d lt in
+    record {
+      in_order = fresh_in_order l a s.cursor s.long;
+      sorted = start_sorted a s.kept;
+      tidy = s.tidy;
+      few = start_few a s.kept s.tidy;
+      room = room k d lt;
+    }
 
 pub start_stands : (l : Layout) (file : List ℕ) (lanes : List Lane) → All (IsAtStart l) lanes → All (Stands l file) lanes
 start_stands l file lanes start = All-weaker (IsAtStart l) (Stands l file) (λ a s. fresh_stands l file a s.cursor) lanes start

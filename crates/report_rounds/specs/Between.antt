@@ -8,7 +8,7 @@ use Rattle.event_cursor.specs.Loading.{KeepsLeft, KeepsPlace}
 use Rattle.event_cursor.specs.Standing.{IsInOrder, Stands, most_left}
 use Rattle.time_merge.specs.LaneRows.{IsReady}
 use Rattle.cpu_workers.specs.Formats.{IsSorted}
-use Rattle.round_print.specs.Prints.{IsTidy}
+use Rattle.round_print.specs.Prints.{IsFew, IsTidy}
 
 -- A lane before its first item, with a buffer as long as a sub-buffer, and without lines.
 pub record IsAtStart (layout : Layout) (lane : Lane) : Type 0 where
@@ -26,6 +26,7 @@ pub record IsBetween (text : ℕ → ItemData → List ℕ) (layout : Layout) (l
   pub in_order : IsInOrder layout lane
   pub sorted : IsSorted lane
   pub tidy : IsTidy lane.region
+  pub few : IsFew lane.region
   pub room : HasRoom text lane
 
 -- The lane is ready. It keeps the lines that it kept, and what was left of it is left.

@@ -17,9 +17,10 @@ use trace_outside::{File, Gate, Pending, Sink};
 /// Writes the lines of the reached items of the lanes' processors, by key, then processor, then position: all items up to
 /// the first malformed sub-buffer in that order. `Malformed` tells that sub-buffer, `Done` that there is none.
 ///
-/// The lanes stand before their first items and keep no line, and each region has room for any line. Lines are formed on
-/// at most `workers` threads, with the same bytes for any number of them. After `Read` the lines of the first reached
-/// items are written, after `Write` a prefix of the text. Each sub-buffer is read at most once.
+/// The lanes stand before their first items and keep no line, each region has room for any line, and nothing waits in
+/// `pending`. Lines are formed on at most `workers` threads, with the same bytes for any number of them. After `Read` the
+/// lines of the first few reached items are written, after `Write` a prefix of the text. No more bytes are read than the
+/// parts of the processors have. It takes no memory.
 pub fn report_rounds<R: Threads + Sync, F: File, L: Form, G: Gate, O: Sink>(
     rt: &R,
     form: &L,

@@ -2,7 +2,7 @@
 use Rattle.std.specs.Prelude.{◌≡◌, ◌≤◌, ℕ, Bool, true, false, if◌then◌else◌, List, [], ◌∷◌, length, drop, Option, Some, None}
 use Rattle.std.specs.List.{All, flat_map}
 use Rattle.subpage.specs.Arrangement.{IsRising, by_key}
-use Rattle.page_pool.specs.Lines.{Line, Lines}
+use Rattle.page_pool.specs.Lines.{Line, Lines, most_lines}
 use Rattle.page_pool.specs.declared.lane.Lane.{Lane}
 use Rattle.time_merge.specs.declared.horizons.Horizon.{Horizon}
 use Rattle.time_merge.specs.declared.horizons.Horizon.TheVariants as code
@@ -76,11 +76,17 @@ pub record IsTidy (lines : Lines) : Type 0 where
   pub used : lines.kept ≡ [] → lines.used ≡ 0
   pub free : lines.kept ≡ [] → length lines.free ≡ lines.room
 
+-- A region keeps no more lines than were put since all bytes were free, and these are not too many.
+pub record IsFew (lines : Lines) : Type 0 where
+  pub kept : length lines.kept ≤ lines.used
+  pub used : lines.used ≤ most_lines
+
 -- the first line is not kept any more, and the region is tidy
 pub record IsDropped (before now : Lines) : Type 0 where
   pub kept : now.kept ≡ drop 1 before.kept
   pub room : now.room ≡ before.room
   pub tidy : IsTidy now
+  pub few : IsFew before → IsFew now
 
 abbrev pub first_text : List Line → List ℕ
 first_text [] = []
