@@ -2,7 +2,7 @@
 //!
 //! `specs/` says it of whole lists: what a file takes of a list and what it leaves ([`laws`] tells what these definitions
 //! come to), which lists a split cuts, and when a malformed sub-buffer is still reached (`Cuts.antt`). The code decides
-//! the same item by item: [`Moment`] for start and end, [`Gauge`] for a piece. Nothing here takes memory.
+//! the same item by item: [`is_before`] and [`is_past`] for start and end, [`Gauge`] for a piece. Nothing here takes memory.
 #![tactic(auto)]
 
 mod gauge;
@@ -13,5 +13,5 @@ mod rules;
 mod tests;
 
 pub use gauge::Gauge;
-pub use moment::Moment;
-pub use rules::{PieceUnit, Rules};
+pub use moment::{is_before, is_past};
+pub use rules::Rules;

@@ -1,22 +1,13 @@
 ghost use Rattle.std.specs.Prelude.{◌≡◌};
 ghost use Rattle.split_pieces.specs.Cuts.{is_apart};
 
-use crate::moment::Moment;
-
-/// How much of a list one file takes (trace-cmd-split(1)).
-#[derive(Clone, Copy, Debug, PartialEq, Eq)]
-pub enum PieceUnit {
-    /// Everything.
-    All,
-    /// The items with a key below that of the first one and so many nanoseconds.
-    Nanos(u64),
-    /// The items up to and including so many events; losses do not count.
-    Events(u64),
-}
+use trace_args::{Moment, PieceUnit};
 
 /// What a split does with its lists.
 #[derive(Clone, Copy, Debug, PartialEq, Eq)]
 pub struct Rules {
+    /// How much of a list one file takes: everything, the items with a key below that of the first one and so many
+    /// nanoseconds, or the items up to and including so many events; losses do not count.
     pub unit: PieceUnit,
     /// Files are made while an item is left.
     pub repeat: bool,

@@ -1,8 +1,9 @@
 //! Lists cut into pieces, as a split cuts them.
 
-use crate::{Gauge, Moment, PieceUnit, Rules};
+use crate::{Gauge, Rules, is_before, is_past};
 use PieceUnit::{All, Events, Nanos};
 use std::test::Fail;
+use trace_args::{Moment, PieceUnit};
 
 /// An item of a list: the time of an event, or of a loss.
 #[derive(Clone, Copy)]
@@ -94,7 +95,7 @@ const LATE: &[Entry] = &[
 // The items in front of the first that is to be left, and that one with those behind it.
 fn before_start(list: &[Entry], start: Option<Moment>) -> &[Entry] {
     for (i, entry) in list.iter().enumerate() {
-        if !start.is_some_and(|start| start.is_after(entry.key())) {
+        if !start.is_some_and(|start| is_before(start, entry.key())) {
             let (_, rest) = list.split_at(i);
             return rest;
         }
@@ -105,7 +106,7 @@ fn before_start(list: &[Entry], start: Option<Moment>) -> &[Entry] {
 // The items up to the end, and whether there is one past it.
 fn up_to_end(list: &[Entry], stop: Option<Moment>) -> (&[Entry], bool) {
     for (i, entry) in list.iter().enumerate() {
-        if stop.is_some_and(|stop| stop.is_passed_by(entry.key())) {
+        if stop.is_some_and(|stop| is_past(stop, entry.key())) {
             let (front, _) = list.split_at(i);
             return (front, true);
         }
