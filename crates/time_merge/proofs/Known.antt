@@ -1,18 +1,17 @@
 -- Nothing that is left of a lane stands before its greatest time so far.
-use Rattle.std.proofs.Common.{◌≡◌, ℕ, true, ◌+◌, ◌<◌, ◌≤◌, max, List, [], ◌∷◌, ◌++◌, map, Option, Some, None, refl, sym, ap, subst, ◌∙◌, arith}
+use Rattle.std.proofs.Common.{◌≡◌, ℕ, true, ◌+◌, ◌<◌, ◌≤◌, max, List, [], ◌∷◌, ◌++◌, map, Option, Some, None, sym, ap, subst, arith}
 use Rattle.std.specs.Option.{IfSome, unwrap_or, option_map}
 use Rattle.std.specs.List.{fold}
 use Rattle.std.proofs.lemmas.List.{append-nil}
 use Rattle.trace_base.specs.declared.layout.Layout.{Layout}
 use Rattle.subpage.specs.ItemData.{ItemData, item_time}
 use Rattle.subpage.specs.Processor.{list_of, bad_of}
-use Rattle.subpage.specs.Arrangement.{Keyed, key_of, cpu_of, keyed_from}
+use Rattle.subpage.specs.Arrangement.{key_of, cpu_of, keyed_from}
 use Rattle.subpage.specs.Cut.{Cut, last_key}
 use Rattle.page_pool.specs.declared.lane.Lane.{Lane}
-use Rattle.event_cursor.specs.Keys.{keyed_behind}
 use Rattle.event_cursor.specs.Standing.{left_of, Stands}
 use Rattle.event_cursor.proofs.KeyLaws.{last_key-append}
-use Rattle.time_merge.specs.Rows.{Each, Row, IsFrom, rank, up_to}
+use Rattle.time_merge.specs.Rows.{Each, IsFrom, rank, up_to}
 use Rattle.time_merge.specs.LaneRows.{row_of}
 use Rattle.time_merge.specs.Known.{IsKnownTo}
 use Rattle.time_merge.proofs.RowLaws.{From, parts_later, parts_sooner, cut_reached, cut_reached_sooner}

@@ -1,5 +1,5 @@
 -- What lanes have left are rows, and what comes next of a ready lane is what comes next of its row.
-use Rattle.std.proofs.Common.{◌≡◌, ℕ, suc, ◌+◌, ◌<◌, ◌≤◌, max, List, [], ◌∷◌, ◌++◌, length, map, Option, Some, None, refl, sym, ap, subst, ◌∙◌, ◌⊎◌, inl, inr, arith}
+use Rattle.std.proofs.Common.{◌≡◌, ℕ, ◌+◌, ◌<◌, ◌≤◌, max, List, [], ◌∷◌, ◌++◌, length, map, Option, Some, None, refl, sym, ap, subst, ◌∙◌, ◌⊎◌, inl, inr, arith}
 use Rattle.std.specs.Option.{IfSome, unwrap_or, option_map}
 use Rattle.std.specs.List.{fold}
 use Rattle.std.proofs.lemmas.List.{append-nil}
@@ -14,10 +14,10 @@ use Rattle.page_pool.specs.declared.cursor.LaneState.{LaneState}
 use Rattle.page_pool.specs.declared.cursor.LaneState.TheVariants.{Fresh, Held, Ended, Malformed}
 use Rattle.event_cursor.specs.Keys.{keyed_behind, key_behind}
 use Rattle.event_cursor.specs.Stepping.{IsStepped}
-use Rattle.event_cursor.specs.Standing.{held_left, keyed_held, left_of, bad_left, pages_left, Stands}
+use Rattle.event_cursor.specs.Standing.{held_left, keyed_held, left_of, pages_left, Stands}
 use Rattle.event_cursor.specs.Loading.{KeepsLeft, KeepsPlace}
 use Rattle.event_cursor.proofs.KeyLaws.{last_key-append}
-use Rattle.event_cursor.proofs.Leaving.{left_is, left_at}
+use Rattle.event_cursor.proofs.Leaving.{left_is}
 use Rattle.event_cursor.proofs.Standing.{left_stepped}
 use Rattle.time_merge.specs.Rows.{Each, Row, rank, IsRow, bound, bound_of, cpus, Rise}
 use Rattle.time_merge.specs.LaneRows.{parts_of, row_of, rows_of, IsReady, IsReadyIn, next_of, next_in}

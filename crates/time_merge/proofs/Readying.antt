@@ -1,20 +1,21 @@
 -- One lane more that is ready.
 use Rattle.std.proofs.Common.{◌≡◌, ℕ, ◌<◌, List, [], ◌∷◌, length, get_or, set, map, Option, Some, None, refl, sym, ap, subst, ◌∙◌, arith}
-use Rattle.std.specs.Option.{IfSome, option_map}
+use Rattle.std.specs.Option.{IfSome}
 use Rattle.std.specs.List.{All}
 use Rattle.std.proofs.lemmas.List.{map-set, set-get_or, get_or-map}
 use Rattle.std.proofs.lemmas.List.Elements.{All-set, All-get_or}
 use Rattle.trace_base.specs.declared.layout.Layout.{Layout}
 use Rattle.trace_base.specs.declared.part.Part.{Part}
-use Rattle.subpage.specs.declared.item.Item.{Item}
 use Rattle.subpage.specs.ItemData.{ItemData}
+use Rattle.subpage.specs.Marks.{items_from}
 use Rattle.subpage.specs.Arrangement.{Keyed}
 use Rattle.page_pool.specs.declared.lane.Lane.{Lane}
-use Rattle.event_cursor.specs.Stepping.{head_view}
+use Rattle.page_pool.specs.declared.cursor.LaneState.{LaneState}
+use Rattle.page_pool.specs.declared.cursor.LaneState.TheVariants.{Fresh, Held, Ended, Malformed}
 use Rattle.event_cursor.specs.Keys.{first_of, keyed_behind}
-use Rattle.event_cursor.specs.Standing.{Stands}
+use Rattle.event_cursor.specs.Standing.{Stands, if_held, held_left}
 use Rattle.event_cursor.specs.Loading.{KeepsLeft, KeepsPlace}
-use Rattle.time_merge.specs.LaneRows.{parts_of, row_of, rows_of}
+use Rattle.time_merge.specs.LaneRows.{IsReady, IsReadyIn, parts_of, row_of, rows_of}
 use Rattle.time_merge.proofs.LaneLaws.{same_row}
 
 pub same_map : {X Y : Type 0} (f : X → Y) (xs : List X) (i : ℕ) (d now : X) → i < length xs → f now ≡ f (get_or xs i d) → map f (set xs i now) ≡ map f xs
@@ -53,3 +54,13 @@ none_held cpu high (x ∷ xs) e = absurd cc
 pub some_held : (cpu : ℕ) (high : Option ℕ) (xs : List ItemData) (y : Keyed) → Some y ≡ first_of (keyed_behind cpu high xs) → 0 < length xs
 some_held cpu high [] y e = absurd cc
 some_held cpu high (x ∷ xs) y e = omega arith
+
+-- a lane that holds a used up sub-buffer is not ready
+pub never_ready : (l : Layout) (a : Lane) → a.cursor.state ≡ Held → held_left l a ≡ [] → IsReady l a → ⊥
+never_ready l a held none ready = by_state a.cursor.state (items_from l a.page a.cursor.mark) held none ready
+  where
+    by_state : (s : LaneState) (xs : List ItemData) → s ≡ Held → if_held s xs ≡ [] → IsReadyIn s (if_held s xs) → ⊥
+    by_state Fresh xs e none ready = absurd cc
+    by_state Held xs e none ready = let zero : length xs ≡ 0 = ap length none in omega (arith, zero, ready)
+    by_state Ended xs e none ready = absurd cc
+    by_state Malformed xs e none ready = absurd cc

@@ -1,8 +1,7 @@
 -- Which lane is next.
-use Rattle.std.specs.Prelude.{◌≡◌, ℕ, ◌+◌, ◌<◌, ◌≤◌, List, [], ◌∷◌, ◌++◌, length, slice_set, slice_index_or, map, Option, Some, None}
+use Rattle.std.specs.Prelude.{◌≡◌, ℕ, ◌+◌, ◌<◌, List, [], ◌∷◌, ◌++◌, length, slice_set, slice_index_or, Option, Some, None}
 use Rattle.trace_base.specs.declared.layout.Layout.{Layout}
-use Rattle.subpage.specs.Arrangement.{Keyed, key_of, cpu_of}
-use Rattle.subpage.specs.Cut.{Cut}
+use Rattle.subpage.specs.Arrangement.{Keyed}
 use Rattle.page_pool.specs.declared.lane.Lane.{Lane}
 use Rattle.page_pool.specs.declared.cursor.LaneState.TheVariants.{Held}
 use Rattle.event_cursor.specs.Stepping.{IsStepped}

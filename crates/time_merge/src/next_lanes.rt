@@ -1,9 +1,11 @@
-ghost use Rattle.std.specs.Prelude.{◌≡◌, ◌+◌, ◌-◌, ◌<◌, ◌≤◌, length, map, All, IfSome, IsTrue, false, sum_by};
+ghost use Rattle.std.specs.Prelude.{◌≡◌, ◌≢◌, ◌+◌, ◌-◌, ◌<◌, ◌≤◌, ℕ, length, map, slice_index_or, All, IfSome, IsTrue, false, sum_by};
 ghost use Rattle.trace_base.specs.Layout.{IsLayout};
 ghost use Rattle.trace_outside.specs.Causes.{Rose, raised};
 ghost use Rattle.subpage.specs.Arrangement.{CpusRise};
+ghost use Rattle.page_pool.specs.declared.lane.Lane.{Lane};
 ghost use Rattle.event_cursor.specs.Standing.{IsInOrder, Stands, most_left};
-ghost use Rattle.time_merge.specs.LaneRows.{next_of, parts_of, rows_of};
+ghost use Rattle.time_merge.specs.Advancing.{Advances};
+ghost use Rattle.time_merge.specs.LaneRows.{IsReady, next_of, parts_of, rows_of};
 ghost use Rattle.time_merge.specs.Nexts.{HoldsNext, IsBest, IsLeastAt, IsNext};
 ghost use Rattle.time_merge.specs.Reads.{all_reading, all_unread};
 
@@ -81,6 +83,9 @@ pub fn next_lane<F: File>(layout: &Layout, file: &mut F, lanes: &mut [Lane]) -> 
     ensures in_order { All (IsInOrder layout.now) lanes.new }
     ensures parts { parts_of lanes.new ≡ parts_of lanes.old }
     ensures holds { HoldsNext layout.now lanes.new result }
+    ensures ready { result ≢ Next.Read → All (IsReady layout.now) lanes.new }
+    ensures advance { (i : ℕ) (d : Lane) → i < length lanes.old
+        → Advances (slice_index_or lanes.old i d) (slice_index_or lanes.new i d) }
     ensures rows { IfSome (F.bytes file.old) (λ bytes.
         rows_of layout.now bytes lanes.new ≡ rows_of layout.now bytes lanes.old) }
     ensures stands { IfSome (F.bytes file.old) (λ bytes.

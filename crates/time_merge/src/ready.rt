@@ -1,9 +1,11 @@
-ghost use Rattle.std.specs.Prelude.{◌≡◌, ◌≢◌, ◌+◌, ◌-◌, ◌≤◌, [], All, IfSome, IsTrue, false, sum_by};
+ghost use Rattle.std.specs.Prelude.{◌≡◌, ◌≢◌, ◌+◌, ◌-◌, ◌<◌, ◌≤◌, ℕ, [], All, IfSome, IsTrue, false, length, slice_index_or, sum_by};
 ghost use Rattle.trace_base.specs.Layout.{IsLayout};
 ghost use Rattle.trace_outside.specs.Causes.{Rose, raised};
+ghost use Rattle.page_pool.specs.declared.lane.Lane.{Lane};
 ghost use Rattle.event_cursor.specs.Standing.{IsInOrder, Stands, held_left, most_left};
 ghost use Rattle.event_cursor.specs.Loading.{KeepsLeft, KeepsPlace};
 ghost use Rattle.event_cursor.specs.Unread.{reading, unread};
+ghost use Rattle.time_merge.specs.Advancing.{Advances};
 ghost use Rattle.time_merge.specs.LaneRows.{IsReady, parts_of, rows_of};
 ghost use Rattle.time_merge.specs.Reads.{all_reading, all_unread};
 
@@ -18,6 +20,7 @@ fn wants_load(layout: &Layout, lane: &Lane) -> bool
     ensures wants { IsTrue result → held_left layout.now lane.now ≡ [] }
     ensures sound { IsTrue result → lane.now.cursor.state ≢ LaneState.Malformed }
     ensures ready { result ≡ false → IsReady layout.now lane.now }
+    ensures never { IsTrue result → IsReady layout.now lane.now → ⊥ }
 {
     match lane.cursor.state {
         LaneState::Fresh => true,
@@ -37,6 +40,7 @@ pub fn make_ready<F: File>(layout: &Layout, file: &mut F, lane: &mut Lane) -> bo
     ensures in_order { IsInOrder layout.now lane.new }
     ensures place { KeepsPlace lane.old lane.new }
     ensures ready { IsTrue result → IsReady layout.now lane.new }
+    ensures kept { IsReady layout.now lane.old → lane.new ≡ lane.old }
     ensures left { IfSome (F.bytes file.old) (λ bytes. KeepsLeft layout.now bytes lane.old lane.new) }
     ensures stands { IfSome (F.bytes file.old) (λ bytes.
         Stands layout.now bytes lane.old → Stands layout.now bytes lane.new) }
@@ -66,6 +70,8 @@ pub fn make_all_ready<F: File>(layout: &Layout, file: &mut F, lanes: &mut [Lane]
     ensures in_order { All (IsInOrder layout.now) lanes.new }
     ensures parts { parts_of lanes.new ≡ parts_of lanes.old }
     ensures ready { IsTrue result → All (IsReady layout.now) lanes.new }
+    ensures advance { (i : ℕ) (d : Lane) → i < length lanes.old
+        → Advances (slice_index_or lanes.old i d) (slice_index_or lanes.new i d) }
     ensures rows { IfSome (F.bytes file.old) (λ bytes.
         rows_of layout.now bytes lanes.new ≡ rows_of layout.now bytes lanes.old) }
     ensures stands { IfSome (F.bytes file.old) (λ bytes.

@@ -1,13 +1,8 @@
-use Rattle.std.proofs.Common.{rules, refl, arith, ◌≡◌, ◌<◌, List, ℕ, Option, length, get_or, sym, ap, subst, ◌∙◌}
-use Rattle.std.specs.Option.{IfSome}
-use Rattle.std.specs.List.{All}
+use Rattle.std.proofs.Common.{refl, List, ℕ, sym, subst}
 use Rattle.trace_base.specs.declared.part.Part.{Part}
 use Rattle.subpage.specs.Arrangement.{CpusRise}
-use Rattle.page_pool.specs.declared.lane.Lane.{Lane}
-use Rattle.page_pool.specs.declared.cursor.LaneState.TheVariants.{Malformed}
-use Rattle.event_cursor.specs.Standing.{Stands}
 use Rattle.event_cursor.proofs.Told.{told_map}
-use Rattle.time_merge.specs.LaneRows.{IsReady, parts_of}
+use Rattle.time_merge.specs.LaneRows.{parts_of}
 use Rattle.time_merge.proofs.Choosing.{none_next, cut_next_at, lane_next_at, holds_next}
 use Rattle.time_merge.proofs.next_lanes.next_lane.Goals as goal
 

@@ -1,9 +1,9 @@
-use Rattle.std.proofs.Common.{rules, refl, arith, ◌≡◌, ◌∙◌, ◌<◌, length}
-use Rattle.std.specs.List.{All}
+use Rattle.std.proofs.Common.{rules, refl, arith, ◌∙◌, ◌<◌, length, get_or}
 use Rattle.std.proofs.lemmas.List.Elements.{All-set, AllWithin-more_set}
 use Rattle.std.proofs.lemmas.List.Sums.{sum_by-set}
 use Rattle.event_cursor.specs.Standing.{IsInOrder, most_left}
 use Rattle.time_merge.specs.LaneRows.{IsReady}
+use Rattle.time_merge.proofs.Advancing.{advances_one, advances_more, same_length}
 use Rattle.time_merge.proofs.LaneReads.{ready_reads, less_unread, one_read, one_read_ready}
 use Rattle.time_merge.proofs.Readying.{same_parts, same_rows, stand_still}
 use Rattle.time_merge.proofs.ready.make_all_ready.Goals as goal
@@ -55,6 +55,8 @@ loop-i-preserved g c =
       parts = same_parts c.loop-i.lanes c.loop-i.i c.index-lanes-i.result now lt done.place ∙ c.loop-i.invariant.parts;
       most = omega (arith, sum_by-set (most_left l) c.loop-i.lanes c.loop-i.i now c.index-lanes-i.result lt, done.most, c.loop-i.invariant.most);
       ready = AllWithin-more_set c.loop-i.lanes c.loop-i.i now lt (IsReady l) c.loop-i.invariant.ready ready;
+      advance = advances_more c.args.lanes.now c.loop-i.lanes c.loop-i.i c.index-lanes-i.result now (same_length c.loop-i.lanes c.args.lanes.now c.loop-i.invariant.parts) lt
+          (advances_one l (get_or c.loop-i.lanes c.loop-i.i c.index-lanes-i.result) now done.place done.kept) c.loop-i.invariant.advance;
       rows = same_rows l (g.F.File.bytes c.args.file.now) (g.F.File.bytes c.loop-i.file) c.args.lanes.now c.loop-i.lanes c.loop-i.i c.index-lanes-i.result now
           c.loop-i.invariant.bytes lt done.place c.loop-i.invariant.rows done.left;
       stands = stand_still l (g.F.File.bytes c.args.file.now) (g.F.File.bytes c.loop-i.file) c.args.lanes.now c.loop-i.lanes c.loop-i.i c.index-lanes-i.result now
@@ -70,3 +72,9 @@ loop-i-preserved g c =
 pub returns-then-not-make_ready-clause-in_order : goal.returns-then-not-make_ready-clause-in_order
 returns-then-not-make_ready-clause-in_order g c =
     All-set (IsInOrder c.args.layout.now) c.loop-i.lanes c.loop-i.i c.make_ready.new.lane c.make_ready.ensures.in_order c.loop-i.invariant.in_order
+
+pub returns-then-not-make_ready-clause-advance : goal.returns-then-not-make_ready-clause-advance
+returns-then-not-make_ready-clause-advance g c =
+    let lt : c.loop-i.i < length c.loop-i.lanes = search rules in
+    advances_more c.args.lanes.now c.loop-i.lanes c.loop-i.i c.index-lanes-i.result c.make_ready.new.lane (same_length c.loop-i.lanes c.args.lanes.now c.loop-i.invariant.parts) lt
+    (advances_one c.args.layout.now (get_or c.loop-i.lanes c.loop-i.i c.index-lanes-i.result) c.make_ready.new.lane c.make_ready.ensures.place c.make_ready.ensures.kept) c.loop-i.invariant.advance
