@@ -3,7 +3,7 @@ use Rattle.std.proofs.Common.{◌≡◌, ◌≢◌, ℕ, zero, suc, ◌<◌, tru
 use Rattle.std.specs.Option.{IfSome}
 use Rattle.std.specs.List.{All}
 use Rattle.std.proofs.lemmas.Bool.{cases_Bool, eqb-true, eq-eqb, ne_eqb, cases_order}
-use Rattle.std.proofs.lemmas.List.{map-append, get_or-map, length-map, get_or-set_same, get_or-set_other, set-get_or}
+use Rattle.std.proofs.lemmas.List.{map-append, get_or-map, get_or-set_same, get_or-set_other, set-get_or}
 use Rattle.std.proofs.lemmas.List.Elements.{All-set, All-get_or, filter-append}
 use Rattle.trace_base.specs.declared.layout.Layout.{Layout}
 use Rattle.trace_base.specs.declared.part.Part.{Part}
@@ -19,7 +19,8 @@ use Rattle.time_merge.specs.Rows.{Row, coming}
 use Rattle.time_merge.specs.LaneRows.{parts_of, row_of, rows_of, to_come}
 use Rattle.time_merge.specs.Nexts.{IsNextLane, IsNext}
 use Rattle.time_merge.specs.declared.next_lanes.Next.{Next}
-use Rattle.split_pieces.specs.declared.moment.Moment.{Moment}
+use Rattle.time_merge.proofs.Advancing.{same_length}
+use Rattle.trace_args.specs.declared.moment.Moment.{Moment}
 use Rattle.split_pieces.specs.declared.gauge.Gauge.{Gauge}
 use Rattle.split_pieces.specs.declared.gauge.Gauge.TheVariants as gauges
 use Rattle.split_pieces.specs.Pieces.{up_to_end, has_end}
@@ -45,9 +46,6 @@ pub same_lefts : (l : Layout) (file : List ℕ) (ks bs : List Lane) (i : ℕ) (d
 same_lefts l file ks bs i d lt lt2 same =
     sym (left_in_row l file (get_or ks i d)) ∙ ap items_in (sym (get_or-map (row_of l file) ks i d (row_of l file d) lt) ∙ ap (λ (rs : List (Row Keyed)). get_or rs i (row_of l file d)) same ∙ get_or-map (row_of l file) bs i d (row_of l file d) lt2)
     ∙ left_in_row l file (get_or bs i d)
-
-pub same_length : (ks bs : List Lane) → parts_of ks ≡ parts_of bs → length ks ≡ length bs
-same_length ks bs e = sym (length-map ks (λ (a : Lane). (a.cpu, a.part))) ∙ ap length e ∙ length-map bs (λ (a : Lane). (a.cpu, a.part))
 
 abbrev fst : ℕ × Part → ℕ
 fst p = p.0

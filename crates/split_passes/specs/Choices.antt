@@ -3,7 +3,7 @@ use Rattle.std.specs.Prelude.{◌≡◌, ℕ, Bool, true, false, List, [], ◌�
 use Rattle.trace_base.specs.declared.layout.Layout.{Layout}
 use Rattle.subpage.specs.ItemData.{ItemData}
 use Rattle.subpage.specs.Arrangement.{Keyed}
-use Rattle.split_pieces.specs.declared.moment.Moment.{Moment}
+use Rattle.trace_args.specs.declared.moment.Moment.{Moment}
 use Rattle.split_pieces.specs.declared.gauge.Gauge.{Gauge}
 use Rattle.split_pieces.specs.Moments.{is_past}
 use Rattle.split_pieces.specs.Gauging.{piece_by, closes_by}

@@ -7,7 +7,7 @@ use Rattle.page_pool.specs.declared.lane.Lane.{Lane}
 use Rattle.event_cursor.specs.Standing.{Stands, left_of}
 use Rattle.time_merge.specs.LaneRows.{rows_of, to_come}
 use Rattle.time_merge.specs.Rows.{least_cut}
-use Rattle.split_pieces.specs.declared.moment.Moment.{Moment}
+use Rattle.trace_args.specs.declared.moment.Moment.{Moment}
 use Rattle.split_pieces.specs.declared.gauge.Gauge.{Gauge}
 use Rattle.split_pieces.specs.Cuts.{items_of_cpu}
 use Rattle.split_pieces.specs.Pieces.{up_to_end, has_end}

@@ -10,8 +10,9 @@ ghost use Rattle.split_passes.specs.Choices.{IsChoice, past_key};
 use crate::heads::packable_head;
 use crate::tally::Tally;
 use page_pool::{Lane, LaneState};
-use split_pieces::{Gauge, Moment};
+use split_pieces::{Gauge, is_past};
 use subpage::Item;
+use trace_args::Moment;
 use trace_base::Layout;
 
 /// What becomes of the next item.
@@ -38,7 +39,7 @@ fn stands_past(stop: Option<Moment>, key: u64) -> bool
     ensures { result ≡ past_key stop key }
 {
     match stop {
-        Some(moment) => moment.is_passed_by(key),
+        Some(moment) => is_past(moment, key),
         None => false,
     }
 }

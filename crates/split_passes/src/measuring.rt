@@ -1,17 +1,22 @@
-ghost use Rattle.std.specs.Prelude.{◌≡◌, ◌≤◌, [], All, length, IfSome};
-ghost use Rattle.trace_outside.specs.Causes.{Rose};
+ghost use Rattle.std.specs.Prelude.{◌≡◌, ◌≢◌, ◌+◌, ◌-◌, ◌<◌, ◌≤◌, ℕ, [], All, length, slice_index_or, IfSome};
+ghost use Rattle.trace_outside.specs.Causes.{Rose, raised};
 ghost use Rattle.trace_base.specs.Layout.{IsLayout};
 ghost use Rattle.subpage.specs.Arrangement.{CpusRise};
 ghost use Rattle.event_cursor.specs.Standing.{IsInOrder, Stands};
-ghost use Rattle.time_merge.specs.LaneRows.{parts_of};
+ghost use Rattle.page_pool.specs.declared.lane.Lane.{Lane};
+ghost use Rattle.time_merge.specs.Advancing.{Advances, IsOver};
+ghost use Rattle.time_merge.specs.LaneRows.{IsReady, parts_of};
+ghost use Rattle.time_merge.specs.Reads.{all_reading, all_unread};
 ghost use Rattle.split_passes.specs.Measures.{IsMeasured, Tallied};
+ghost use Rattle.split_passes.specs.declared.tally.Tally.{Tally};
 
 use crate::choice::{Choice, choose};
 use crate::tally::Tally;
 use event_cursor::step;
 use page_pool::Lane;
-use split_pieces::{Gauge, Moment};
+use split_pieces::Gauge;
 use time_merge::{Next, next_lane};
+use trace_args::Moment;
 use trace_base::Layout;
 use trace_outside::File;
 
@@ -49,6 +54,18 @@ pub fn measure<F: File>(
     ensures measured { IfSome (F.bytes file.old) (λ bytes. All (Stands layout.now bytes) lanes.old
         → Tallied layout.now lanes.old [] tallies.old
         → IsMeasured layout.now bytes stop gauge.old gauge.new lanes.old lanes.new tallies.new result) }
+    ensures ready { result ≢ PieceEnd.Read → All (IsReady layout.now) lanes.new }
+    ensures advance { (i : ℕ) (d : Lane) → i < length lanes.old
+        → Advances (slice_index_or lanes.old i d) (slice_index_or lanes.new i d) }
+    // Of a lane that no sub-buffer is loaded of no item is taken.
+    ensures over { (i : ℕ) (d : Lane) (t : Tally) → i < length lanes.old
+        → IsOver (slice_index_or lanes.old i d).cursor.state
+        → slice_index_or tallies.new i t ≡ slice_index_or tallies.old i t }
+    ensures reads { F.reads file.new ≤ raised (F.reads file.old)
+        (all_unread layout.now (F.size file.old) lanes.old - all_unread layout.now (F.size file.old) lanes.new
+        + all_reading layout.now (F.size file.old) lanes.new) }
+    ensures unread { all_unread layout.now (F.size file.old) lanes.new
+        ≤ all_unread layout.now (F.size file.old) lanes.old }
     ensures read { result ≡ PieceEnd.Read → Rose (F.faults file.old) (F.faults file.new) }
     ensures later { F.faults file.old ≤ F.faults file.new }
     ensures bytes { F.bytes file.new ≡ F.bytes file.old }

@@ -1,11 +1,14 @@
-use Rattle.std.proofs.Common.{refl, arith, ◌≡◌, ◌<◌, length, sym, ◌∙◌}
+use Rattle.std.proofs.Common.{refl, arith, ◌≡◌, ◌<◌, length, get_or, sym, ◌∙◌}
 use Rattle.std.proofs.lemmas.List.{length-set}
 use Rattle.std.proofs.lemmas.List.Elements.{All-set}
 use Rattle.event_cursor.specs.Standing.{IsInOrder}
 use Rattle.event_cursor.proofs.Told.{told_all, told_map}
 use Rattle.time_merge.specs.declared.next_lanes.Next.TheVariants as code
+use Rattle.time_merge.proofs.Advancing.{advances_not}
 use Rattle.time_merge.proofs.Going.{still_parts}
-use Rattle.split_passes.proofs.Running.{runs_none, runs_on, loaded, all_measured, past_measured, full_measured, same_length}
+use Rattle.split_passes.proofs.Going.{loading_reads, going_reads, advances_on, advances_stepped, over_more}
+use Rattle.time_merge.proofs.Advancing.{same_length}
+use Rattle.split_passes.proofs.Running.{runs_none, runs_on, loaded, all_measured, past_measured, full_measured}
 use Rattle.split_passes.proofs.measuring.measure.Goals as goal
 
 pub loop-i-init : goal.loop-i-init
@@ -14,6 +17,10 @@ loop-i-init g c = record {
   parts = refl;
   long = c.requires.long;
   runs = told_all _ (g.F.File.bytes c.args.file.now) (λ file s t. runs_none c.args.layout.now file c.args.stop c.args.gauge.now c.args.lanes.now c.args.tallies.now s t);
+  advance = λ j d lt. advances_not (get_or c.args.lanes.now j d);
+  over = λ j d t lt over. refl;
+  reads = omega arith;
+  unread = omega arith;
   bytes = refl;
   size = refl;
   later = omega arith;
@@ -26,6 +33,11 @@ loop-i-preserved g c =
     let parts = c.next_lane.ensures.parts ∙ c.loop-i.invariant.parts in
     let long0 : length c.loop-i.tallies ≡ length c.args.lanes.now = c.loop-i.invariant.long ∙ same_length c.loop-i.lanes c.args.lanes.now c.loop-i.invariant.parts in
     let long1 : length c.next_lane.new.lanes ≡ length c.loop-i.lanes = same_length c.next_lane.new.lanes c.loop-i.lanes c.next_lane.ensures.parts in
+    let long2 = same_length c.loop-i.lanes c.args.lanes.now c.loop-i.invariant.parts in
+    let on = advances_on c.args.lanes.now c.loop-i.lanes c.next_lane.new.lanes long2 c.loop-i.invariant.advance c.next_lane.ensures.advance in
+    let held = (c.in-Lane.ensures.holds.1 c.index-lanes-i-in-Takes.result).0 in
+    let reads = going_reads l (g.F.File.size c.args.file.now) (g.F.File.size c.loop-i.file) c.loop-i.lanes c.next_lane.new.lanes c.in-Lane.i c.index-lanes-i-in-Takes.result c.step.new.lane _ _ _ _
+    c.loop-i.invariant.size lt c.step.ensures.used (c.in-Lane.ensures.ready (λ e. absurd cc)) c.loop-i.invariant.reads c.loop-i.invariant.unread c.next_lane.ensures.reads c.next_lane.ensures.unread in
     record {
       in_order = All-set (IsInOrder l) c.next_lane.new.lanes c.in-Lane.i c.step.new.lane c.step.ensures.in_order c.next_lane.ensures.in_order;
       parts = still_parts l c.next_lane.new.lanes c.in-Lane.i c.index-lanes-i-in-Takes.result c.step.new.lane lt c.step.ensures.used ∙ parts;
@@ -36,6 +48,10 @@ loop-i-preserved g c =
           c.requires.rise parts long0 lt r.1 c.step.ensures.used c.in-Takes.ensures r.0)
           (loaded l (g.F.File.bytes c.args.file.now) (g.F.File.bytes c.loop-i.file) c.args.stop c.args.gauge.now c.loop-i.gauge c.args.lanes.now c.loop-i.lanes c.next_lane.new.lanes c.args.tallies.now c.loop-i.tallies (code.Lane c.in-Lane.i)
           c.loop-i.invariant.bytes c.loop-i.invariant.parts c.next_lane.ensures.parts c.loop-i.invariant.runs c.next_lane.ensures.rows c.next_lane.ensures.stands c.in-Lane.ensures.next);
+      advance = advances_stepped l c.args.lanes.now c.next_lane.new.lanes c.in-Lane.i c.index-lanes-i-in-Takes.result c.step.new.lane (long1 ∙ long2) lt held c.step.ensures.used on;
+      over = over_more c.args.lanes.now c.next_lane.new.lanes c.args.tallies.now c.loop-i.tallies c.in-Lane.i c.index-lanes-i-in-Takes.result c.choose.new.tally lt held on c.loop-i.invariant.over;
+      reads = reads.0;
+      unread = reads.1;
       bytes = c.next_lane.ensures.bytes ∙ c.loop-i.invariant.bytes;
       size = c.next_lane.ensures.size ∙ c.loop-i.invariant.size;
       later = omega (arith, c.next_lane.ensures.later, c.loop-i.invariant.later);
@@ -78,3 +94,83 @@ returns-in-Malformed-clause-measured g c =
     (m.0, (r.1.0, m.1, r.1.1)))
     (loaded l (g.F.File.bytes c.args.file.now) (g.F.File.bytes c.loop-i.file) c.args.stop c.args.gauge.now c.loop-i.gauge c.args.lanes.now c.loop-i.lanes c.next_lane.new.lanes c.args.tallies.now c.loop-i.tallies (code.Malformed c.in-Malformed.cpu c.in-Malformed.page)
     c.loop-i.invariant.bytes c.loop-i.invariant.parts c.next_lane.ensures.parts c.loop-i.invariant.runs c.next_lane.ensures.rows c.next_lane.ensures.stands c.in-Malformed.ensures.next)
+
+pub returns-in-Past-clause-advance : goal.returns-in-Past-clause-advance
+returns-in-Past-clause-advance g c =
+    advances_on c.args.lanes.now c.loop-i.lanes c.next_lane.new.lanes (same_length c.loop-i.lanes c.args.lanes.now c.loop-i.invariant.parts) c.loop-i.invariant.advance c.next_lane.ensures.advance
+
+pub returns-in-Past-clause-reads : goal.returns-in-Past-clause-reads
+returns-in-Past-clause-reads g c =
+    (loading_reads c.args.layout.now (g.F.File.size c.args.file.now) (g.F.File.size c.loop-i.file) c.loop-i.lanes c.next_lane.new.lanes _ _ _ _
+    c.loop-i.invariant.size c.loop-i.invariant.reads c.loop-i.invariant.unread c.next_lane.ensures.reads c.next_lane.ensures.unread).0
+
+pub returns-in-Past-clause-unread : goal.returns-in-Past-clause-unread
+returns-in-Past-clause-unread g c =
+    (loading_reads c.args.layout.now (g.F.File.size c.args.file.now) (g.F.File.size c.loop-i.file) c.loop-i.lanes c.next_lane.new.lanes _ _ _ _
+    c.loop-i.invariant.size c.loop-i.invariant.reads c.loop-i.invariant.unread c.next_lane.ensures.reads c.next_lane.ensures.unread).1
+
+pub returns-in-Full-clause-advance : goal.returns-in-Full-clause-advance
+returns-in-Full-clause-advance g c =
+    advances_on c.args.lanes.now c.loop-i.lanes c.next_lane.new.lanes (same_length c.loop-i.lanes c.args.lanes.now c.loop-i.invariant.parts) c.loop-i.invariant.advance c.next_lane.ensures.advance
+
+pub returns-in-Full-clause-reads : goal.returns-in-Full-clause-reads
+returns-in-Full-clause-reads g c =
+    (loading_reads c.args.layout.now (g.F.File.size c.args.file.now) (g.F.File.size c.loop-i.file) c.loop-i.lanes c.next_lane.new.lanes _ _ _ _
+    c.loop-i.invariant.size c.loop-i.invariant.reads c.loop-i.invariant.unread c.next_lane.ensures.reads c.next_lane.ensures.unread).0
+
+pub returns-in-Full-clause-unread : goal.returns-in-Full-clause-unread
+returns-in-Full-clause-unread g c =
+    (loading_reads c.args.layout.now (g.F.File.size c.args.file.now) (g.F.File.size c.loop-i.file) c.loop-i.lanes c.next_lane.new.lanes _ _ _ _
+    c.loop-i.invariant.size c.loop-i.invariant.reads c.loop-i.invariant.unread c.next_lane.ensures.reads c.next_lane.ensures.unread).1
+
+pub returns-in-Done-clause-advance : goal.returns-in-Done-clause-advance
+returns-in-Done-clause-advance g c =
+    advances_on c.args.lanes.now c.loop-i.lanes c.next_lane.new.lanes (same_length c.loop-i.lanes c.args.lanes.now c.loop-i.invariant.parts) c.loop-i.invariant.advance c.next_lane.ensures.advance
+
+pub returns-in-Done-clause-reads : goal.returns-in-Done-clause-reads
+returns-in-Done-clause-reads g c =
+    (loading_reads c.args.layout.now (g.F.File.size c.args.file.now) (g.F.File.size c.loop-i.file) c.loop-i.lanes c.next_lane.new.lanes _ _ _ _
+    c.loop-i.invariant.size c.loop-i.invariant.reads c.loop-i.invariant.unread c.next_lane.ensures.reads c.next_lane.ensures.unread).0
+
+pub returns-in-Done-clause-unread : goal.returns-in-Done-clause-unread
+returns-in-Done-clause-unread g c =
+    (loading_reads c.args.layout.now (g.F.File.size c.args.file.now) (g.F.File.size c.loop-i.file) c.loop-i.lanes c.next_lane.new.lanes _ _ _ _
+    c.loop-i.invariant.size c.loop-i.invariant.reads c.loop-i.invariant.unread c.next_lane.ensures.reads c.next_lane.ensures.unread).1
+
+pub returns-in-Malformed-clause-advance : goal.returns-in-Malformed-clause-advance
+returns-in-Malformed-clause-advance g c =
+    advances_on c.args.lanes.now c.loop-i.lanes c.next_lane.new.lanes (same_length c.loop-i.lanes c.args.lanes.now c.loop-i.invariant.parts) c.loop-i.invariant.advance c.next_lane.ensures.advance
+
+pub returns-in-Malformed-clause-reads : goal.returns-in-Malformed-clause-reads
+returns-in-Malformed-clause-reads g c =
+    (loading_reads c.args.layout.now (g.F.File.size c.args.file.now) (g.F.File.size c.loop-i.file) c.loop-i.lanes c.next_lane.new.lanes _ _ _ _
+    c.loop-i.invariant.size c.loop-i.invariant.reads c.loop-i.invariant.unread c.next_lane.ensures.reads c.next_lane.ensures.unread).0
+
+pub returns-in-Malformed-clause-unread : goal.returns-in-Malformed-clause-unread
+returns-in-Malformed-clause-unread g c =
+    (loading_reads c.args.layout.now (g.F.File.size c.args.file.now) (g.F.File.size c.loop-i.file) c.loop-i.lanes c.next_lane.new.lanes _ _ _ _
+    c.loop-i.invariant.size c.loop-i.invariant.reads c.loop-i.invariant.unread c.next_lane.ensures.reads c.next_lane.ensures.unread).1
+
+pub returns-in-Read-clause-advance : goal.returns-in-Read-clause-advance
+returns-in-Read-clause-advance g c =
+    advances_on c.args.lanes.now c.loop-i.lanes c.next_lane.new.lanes (same_length c.loop-i.lanes c.args.lanes.now c.loop-i.invariant.parts) c.loop-i.invariant.advance c.next_lane.ensures.advance
+
+pub returns-in-Read-clause-reads : goal.returns-in-Read-clause-reads
+returns-in-Read-clause-reads g c =
+    (loading_reads c.args.layout.now (g.F.File.size c.args.file.now) (g.F.File.size c.loop-i.file) c.loop-i.lanes c.next_lane.new.lanes _ _ _ _
+    c.loop-i.invariant.size c.loop-i.invariant.reads c.loop-i.invariant.unread c.next_lane.ensures.reads c.next_lane.ensures.unread).0
+
+pub returns-in-Read-clause-unread : goal.returns-in-Read-clause-unread
+returns-in-Read-clause-unread g c =
+    (loading_reads c.args.layout.now (g.F.File.size c.args.file.now) (g.F.File.size c.loop-i.file) c.loop-i.lanes c.next_lane.new.lanes _ _ _ _
+    c.loop-i.invariant.size c.loop-i.invariant.reads c.loop-i.invariant.unread c.next_lane.ensures.reads c.next_lane.ensures.unread).1
+
+pub returns-in-Past-clause-over : goal.returns-in-Past-clause-over
+returns-in-Past-clause-over g c =
+    over_more c.args.lanes.now c.next_lane.new.lanes c.args.tallies.now c.loop-i.tallies c.in-Lane.i c.index-lanes-i.result c.choose.new.tally c.in-Lane.ensures.holds.0 (c.in-Lane.ensures.holds.1 c.index-lanes-i.result).0
+    (advances_on c.args.lanes.now c.loop-i.lanes c.next_lane.new.lanes (same_length c.loop-i.lanes c.args.lanes.now c.loop-i.invariant.parts) c.loop-i.invariant.advance c.next_lane.ensures.advance) c.loop-i.invariant.over
+
+pub returns-in-Full-clause-over : goal.returns-in-Full-clause-over
+returns-in-Full-clause-over g c =
+    over_more c.args.lanes.now c.next_lane.new.lanes c.args.tallies.now c.loop-i.tallies c.in-Lane.i c.index-lanes-i.result c.choose.new.tally c.in-Lane.ensures.holds.0 (c.in-Lane.ensures.holds.1 c.index-lanes-i.result).0
+    (advances_on c.args.lanes.now c.loop-i.lanes c.next_lane.new.lanes (same_length c.loop-i.lanes c.args.lanes.now c.loop-i.invariant.parts) c.loop-i.invariant.advance c.next_lane.ensures.advance) c.loop-i.invariant.over
