@@ -1,6 +1,9 @@
 pub mod FileAfterFile
 pub mod Storing
 pub mod FewItems
+pub mod Spending
+pub mod OneLaneOn
+pub mod Budget
 pub mod Starting
 pub mod Owning
 pub mod Alone

@@ -14,7 +14,7 @@ use Rattle.event_cursor.specs.Standing.{Stands, left_of}
 use Rattle.time_merge.specs.Rows.{Row, Each, least_cut}
 use Rattle.time_merge.specs.LaneRows.{parts_of, row_of, rows_of, to_come}
 use Rattle.time_merge.proofs.Starting.{cut_of_rows}
-use Rattle.split_pieces.specs.declared.moment.Moment.{Moment}
+use Rattle.trace_args.specs.declared.moment.Moment.{Moment}
 use Rattle.split_pieces.specs.declared.gauge.Gauge.{Gauge}
 use Rattle.split_pieces.specs.declared.rules.Rules.{Rules}
 use Rattle.split_pieces.specs.Cuts.{is_apart, first_of_all, items_of_cpu}
@@ -25,7 +25,7 @@ use Rattle.split_passes.specs.declared.measuring.PieceEnd.{PieceEnd}
 use Rattle.split_passes.specs.declared.measuring.PieceEnd.TheVariants as code
 use Rattle.split_passes.specs.Tallies.{IsTally}
 use Rattle.split_passes.specs.Measures.{Tallied, Measured, IsMeasured, list_left}
-use Rattle.split_passes.proofs.Running.{same_length}
+use Rattle.time_merge.proofs.Advancing.{same_length}
 use Rattle.split_tool.specs.declared.lists.Ends.{Ends}
 use Rattle.split_tool.specs.Lists.{come_of, left_in_rows, bad_in_rows, lists_left, bad_left}
 use Rattle.split_tool.specs.Measured.{is_full, bad_of_end, PieceTaken, ListMeasured, IsListMeasured, taken_of, FileMeasured, IsFileMeasured}

@@ -18,12 +18,12 @@ use Rattle.time_merge.specs.Rows.{Row, together, up_to, least_cut}
 use Rattle.time_merge.specs.LaneRows.{parts_of, row_of, rows_of, to_come}
 use Rattle.time_merge.specs.Nexts.{IsNextLane, IsNext}
 use Rattle.time_merge.specs.declared.next_lanes.Next.{Next}
-use Rattle.split_pieces.specs.declared.moment.Moment.{Moment}
+use Rattle.trace_args.specs.declared.moment.Moment.{Moment}
 use Rattle.split_pieces.specs.Moments.{is_before}
 use Rattle.split_pieces.specs.Pieces.{from_start}
 use Rattle.split_pieces.specs.declared.rules.Rules.{Rules}
 use Rattle.split_pieces.specs.Cuts.{is_apart}
-use Rattle.split_passes.proofs.Running.{same_length}
+use Rattle.time_merge.proofs.Advancing.{same_length}
 use Rattle.split_tool.specs.Lists.{come_of}
 use Rattle.split_tool.specs.Started.{ListStarted, Started}
 use Rattle.split_tool.proofs.OneByOne.{all_mid, still_mid, one_of, one_in_mid, first_more, put_more, put_others, Pairs, pairs_push}

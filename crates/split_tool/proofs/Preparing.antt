@@ -34,7 +34,8 @@ use Rattle.split_passes.specs.Tallies.{IsTally}
 use Rattle.split_passes.specs.Measures.{Tallied}
 use Rattle.split_passes.specs.Again.{IsFront}
 use Rattle.split_passes.specs.AllAgain.{AreFronts, owns, IsPackedAll}
-use Rattle.split_passes.proofs.Running.{same_length, same_cpu}
+use Rattle.time_merge.proofs.Advancing.{same_length}
+use Rattle.split_passes.proofs.Running.{same_cpu}
 use Rattle.split_file.specs.NewFile.{front_len, front_text, table_of, file_text}
 use Rattle.split_file.proofs.Laid.{length-front, length-table}
 use Rattle.split_tool.specs.declared.lists.Ends.{Ends}

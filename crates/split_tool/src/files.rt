@@ -1,6 +1,6 @@
 // One new file.
 
-ghost use Rattle.std.specs.Prelude.{◌≡◌, ◌<◌, ◌≤◌, ◌^◌, All, IfErr, IfSome, List, MatchResult, None, length};
+ghost use Rattle.std.specs.Prelude.{◌≡◌, ◌+◌, ◌<◌, ◌≤◌, ◌^◌, All, IfErr, IfOk, IfSome, List, MatchResult, None, length};
 ghost use Rattle.trace_outside.specs.Causes.{Rose, raised};
 ghost use Rattle.dat_header.specs.Allowed.{IsHeader};
 ghost use Rattle.subpage.specs.Arrangement.{CpusRise};
@@ -9,9 +9,11 @@ ghost use Rattle.event_cursor.specs.Standing.{IsInOrder, Stands};
 ghost use Rattle.time_merge.specs.LaneRows.{parts_of};
 ghost use Rattle.split_pieces.specs.Pieces.{joined_lists};
 ghost use Rattle.split_passes.specs.AllAgain.{AreFronts};
+ghost use Rattle.split_passes.specs.Reads.{all_packing};
 ghost use Rattle.split_file.specs.Names.{file_name};
 ghost use Rattle.split_tool.specs.Lists.{lists_left};
 ghost use Rattle.split_tool.specs.Made.{IsMade, IsPrepared, IsWritten, next_text};
+ghost use Rattle.split_tool.specs.Reads.{Spent, to_read};
 ghost use Rattle.split_tool.specs.Stored.{KeepsCounts};
 ghost use Rattle.split_tool.specs.Work.{IsWorkFor};
 
@@ -46,6 +48,13 @@ fn measure_file<F: File>(
         → length (joined_lists (lists_left plan.now.header.now.layout bytes rules.now lanes.old)) < 2 ^ 63
         → length (next_text plan.now.header.now bytes rules.now lanes.old) < 2 ^ 64
         → IsPrepared plan.now.header.now bytes rules.now lanes.old lanes.new work.new.fronts.items work.new.tallies.items work.new.table.items result) }
+    ensures reads { F.reads file.new
+        ≤ raised (F.reads file.old) (to_read plan.now.header.now.layout (F.size file.old) lanes.old) }
+    // What packing the file reads is left.
+    ensures spent { IfSome result (λ ends. Spent (to_read plan.now.header.now.layout (F.size file.old) lanes.old)
+        (to_read plan.now.header.now.layout (F.size file.old) lanes.new
+        + all_packing plan.now.header.now.layout (F.size file.old) lanes.new work.new.fronts.items work.new.tallies.items)
+        (F.reads file.old) (F.reads file.new)) }
     ensures read { result ≡ None → Rose (F.faults file.old) (F.faults file.new) }
     ensures later { F.faults file.old ≤ F.faults file.new }
     ensures bytes { F.bytes file.new ≡ F.bytes file.old }
@@ -86,6 +95,10 @@ fn write_file<F: File, O: Sink>(
     ensures told { IfSome (F.bytes file.old) (λ bytes. All (Stands plan.now.header.now.layout bytes) lanes.old
         → (lists : List (List ItemData)) → AreFronts plan.now.header.now.layout bytes lanes.old work.old.fronts.items work.old.tallies.items lists
         → IsWritten plan.now.header.now bytes work.old.table.items lists lanes.old lanes.new (O.written out.old) (O.written out.new) result) }
+    ensures reads { F.reads file.new ≤ raised (F.reads file.old)
+        (all_packing plan.now.header.now.layout (F.size file.old) lanes.old work.old.fronts.items work.old.tallies.items) }
+    ensures left { result ≡ End.Done → to_read plan.now.header.now.layout (F.size file.old) lanes.new
+        ≡ to_read plan.now.header.now.layout (F.size file.old) lanes.old }
     ensures name { O.name out.new ≡ O.name out.old }
     ensures read { result ≡ End.Read → Rose (F.faults file.old) (F.faults file.new) }
     ensures write { result ≡ End.Write → Rose (O.faults out.old) (O.faults out.new) }
@@ -134,6 +147,10 @@ pub(crate) fn make_file<F: File, D: Folder>(
         → length (joined_lists (lists_left plan.now.header.now.layout bytes rules.now lanes.old)) < 2 ^ 63
         → length (next_text plan.now.header.now bytes rules.now lanes.old) < 2 ^ 64
         → IsMade plan.now.header.now bytes rules.now (file_name plan.now.words.now.base.now number) lanes.old lanes.new (D.files folder.old) (D.files folder.new) result) }
+    ensures reads { F.reads file.new
+        ≤ raised (F.reads file.old) (to_read plan.now.header.now.layout (F.size file.old) lanes.old) }
+    ensures spent { IfOk result (λ ends. Spent (to_read plan.now.header.now.layout (F.size file.old) lanes.old)
+        (to_read plan.now.header.now.layout (F.size file.old) lanes.new) (F.reads file.old) (F.reads file.new)) }
     ensures read { IfErr result (λ end. end ≡ End.Read → Rose (F.faults file.old) (F.faults file.new)) }
     ensures write { IfErr result (λ end. end ≡ End.Write → Rose (D.counts folder.old).writing (D.counts folder.new).writing) }
     ensures later { F.faults file.old ≤ F.faults file.new }

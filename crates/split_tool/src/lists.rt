@@ -1,12 +1,15 @@
 // The lists that one file takes its pieces of.
 
-ghost use Rattle.std.specs.Prelude.{◌≡◌, ◌<◌, ◌≤◌, ◌&&◌, ◌||◌, ℕ, Bool, IsTrue, false, not, [], All, IfSome, None, length, slice_index_or};
+ghost use Rattle.std.specs.Prelude.{◌≡◌, ◌-◌, ◌<◌, ◌≤◌, ◌&&◌, ◌||◌, ℕ, Bool, IsTrue, false, not, [], All, IfSome, None, length, slice_index_or};
 ghost use Rattle.std.specs.Option.{option_or};
 ghost use Rattle.trace_base.specs.Layout.{IsLayout};
-ghost use Rattle.trace_outside.specs.Causes.{Rose};
+ghost use Rattle.trace_outside.specs.Causes.{Rose, raised};
 ghost use Rattle.subpage.specs.Arrangement.{CpusRise};
+ghost use Rattle.page_pool.specs.declared.lane.Lane.{Lane};
 ghost use Rattle.event_cursor.specs.Standing.{IsInOrder, Stands};
-ghost use Rattle.time_merge.specs.LaneRows.{parts_of};
+ghost use Rattle.time_merge.specs.Advancing.{Advances, IsOver};
+ghost use Rattle.time_merge.specs.LaneRows.{IsReady, parts_of};
+ghost use Rattle.time_merge.specs.Reads.{all_unread};
 ghost use Rattle.split_pieces.specs.Gauging.{closes_by};
 ghost use Rattle.split_passes.specs.Measures.{Tallied};
 ghost use Rattle.split_passes.specs.Tallies.{IsTally};
@@ -118,6 +121,18 @@ fn measure_list<F: File>(
     ensures told { IfSome (F.bytes file.old) (λ bytes. All (Stands layout.now bytes) lanes.old
         → Tallied layout.now lanes.old [] tallies.old
         → IsListMeasured layout.now bytes rules.now lanes.old lanes.new tallies.new before result) }
+    ensures ready { IfSome result (λ ends. All (IsReady layout.now) lanes.new) }
+    ensures advance { (i : ℕ) (d : Lane) → i < length lanes.old
+        → Advances (slice_index_or lanes.old i d) (slice_index_or lanes.new i d) }
+    ensures over { (i : ℕ) (d : Lane) (t : Tally) → i < length lanes.old
+        → IsOver (slice_index_or lanes.old i d).cursor.state
+        → slice_index_or tallies.new i t ≡ slice_index_or tallies.old i t }
+    ensures reads { F.reads file.new
+        ≤ raised (F.reads file.old) (all_unread layout.now (F.size file.old) lanes.old) }
+    ensures reads_done { IfSome result (λ ends. F.reads file.new ≤ raised (F.reads file.old)
+        (all_unread layout.now (F.size file.old) lanes.old - all_unread layout.now (F.size file.old) lanes.new)) }
+    ensures unread { all_unread layout.now (F.size file.old) lanes.new
+        ≤ all_unread layout.now (F.size file.old) lanes.old }
     ensures read { result ≡ None → Rose (F.faults file.old) (F.faults file.new) }
     ensures later { F.faults file.old ≤ F.faults file.new }
     ensures bytes { F.bytes file.new ≡ F.bytes file.old }
@@ -150,6 +165,18 @@ pub(crate) fn measure_lists<F: File>(
     ensures told { IfSome (F.bytes file.old) (λ bytes. All (Stands layout.now bytes) lanes.old
         → ((i : ℕ) (t : Tally) → i < length tallies.old → IsTally layout.now (slice_index_or tallies.old i t) [])
         → IsFileMeasured layout.now bytes rules.now lanes.old lanes.new tallies.new result) }
+    ensures ready { IfSome result (λ ends. All (IsReady layout.now) lanes.new) }
+    ensures advance { (i : ℕ) (d : Lane) → i < length lanes.old
+        → Advances (slice_index_or lanes.old i d) (slice_index_or lanes.new i d) }
+    ensures over { (i : ℕ) (d : Lane) (t : Tally) → i < length lanes.old
+        → IsOver (slice_index_or lanes.old i d).cursor.state
+        → slice_index_or tallies.new i t ≡ slice_index_or tallies.old i t }
+    ensures reads { F.reads file.new
+        ≤ raised (F.reads file.old) (all_unread layout.now (F.size file.old) lanes.old) }
+    ensures reads_done { IfSome result (λ ends. F.reads file.new ≤ raised (F.reads file.old)
+        (all_unread layout.now (F.size file.old) lanes.old - all_unread layout.now (F.size file.old) lanes.new)) }
+    ensures unread { all_unread layout.now (F.size file.old) lanes.new
+        ≤ all_unread layout.now (F.size file.old) lanes.old }
     ensures read { result ≡ None → Rose (F.faults file.old) (F.faults file.new) }
     ensures later { F.faults file.old ≤ F.faults file.new }
     ensures bytes { F.bytes file.new ≡ F.bytes file.old }

@@ -1,6 +1,6 @@
-ghost use Rattle.std.specs.Prelude.{◌≡◌, ◌<◌, ◌≤◌, ◌^◌, ◌&&◌, All, IfSome, List, length};
+ghost use Rattle.std.specs.Prelude.{◌≡◌, ◌*◌, ◌<◌, ◌≤◌, ◌^◌, ◌&&◌, All, IfSome, List, length, sum_by};
 ghost use Rattle.trace_base.specs.declared.part.Part.{Part};
-ghost use Rattle.trace_outside.specs.Causes.{Rose};
+ghost use Rattle.trace_outside.specs.Causes.{Rose, raised};
 ghost use Rattle.dat_header.specs.Allowed.{IsHeader};
 ghost use Rattle.subpage.specs.Arrangement.{CpusRise};
 ghost use Rattle.page_pool.specs.Fresh.{IsFresh};
@@ -11,7 +11,6 @@ ghost use Rattle.split_file.specs.NewFile.{file_text};
 ghost use Rattle.trace_args.specs.Command.{split_view};
 ghost use Rattle.split_tool.specs.Stored.{KeepsCounts};
 ghost use Rattle.split_tool.specs.NewFiles.{Creates, IsSplit, end_by, end_of, new_files};
-ghost use Rattle.split_tool.specs.Rules.{unit_of};
 ghost use Rattle.split_tool.specs.Work.{IsWorkFor};
 
 use crate::files::make_file;
@@ -64,7 +63,7 @@ pub fn split<F: File, D: Folder>(
     folder: &mut D,
 ) -> End
     requires allowed { IsHeader plan.now.header.now }
-    requires unit { IsUnit (unit_of plan.now.words.now.unit) }
+    requires unit { IsUnit plan.now.words.now.unit }
     requires base { length plan.now.words.now.base.now ≤ 4096 }
     requires fresh { All (λ lane. IsFresh lane.cursor) lanes.old }
     requires in_order { All (IsInOrder plan.now.header.now.layout) lanes.old }
@@ -82,6 +81,10 @@ pub fn split<F: File, D: Folder>(
         → Creates (length (new_files (split_view plan.now.words.now) plan.now.header.now bytes (parts_of lanes.old)))
         (D.counts folder.old).created (D.counts folder.new).created result) }
     ensures counts { KeepsCounts (D.counts folder.old) (D.counts folder.new) }
+    // Each sub-buffer is read at most three times: to measure the pieces, to pack the one that ends in it, and to pack the
+    // next one.
+    ensures reads { F.reads file.new
+        ≤ raised (F.reads file.old) (3 * sum_by (λ part. part.1.size) (parts_of lanes.old)) }
     ensures later { F.faults file.old ≤ F.faults file.new }
     ensures bytes { F.bytes file.new ≡ F.bytes file.old }
     ensures read { result ≡ End.Read → Rose (F.faults file.old) (F.faults file.new) }

@@ -1,29 +1,33 @@
 // The items before the start.
 
-ghost use Rattle.std.specs.Prelude.{◌≡◌, ◌≤◌, All, IfSome, IsTrue, Some, false};
+ghost use Rattle.std.specs.Prelude.{◌≡◌, ◌-◌, ◌<◌, ◌≤◌, ℕ, All, IfSome, IsTrue, Some, false, length, slice_index_or};
 ghost use Rattle.trace_base.specs.Layout.{IsLayout};
-ghost use Rattle.trace_outside.specs.Causes.{Rose};
+ghost use Rattle.trace_outside.specs.Causes.{Rose, raised};
 ghost use Rattle.subpage.specs.Arrangement.{CpusRise, Keyed};
+ghost use Rattle.page_pool.specs.declared.lane.Lane.{Lane};
 ghost use Rattle.event_cursor.specs.Keys.{first_of};
 ghost use Rattle.event_cursor.specs.Standing.{IsInOrder, Stands, keyed_held};
+ghost use Rattle.time_merge.specs.Advancing.{Advances};
 ghost use Rattle.time_merge.specs.LaneRows.{parts_of};
+ghost use Rattle.time_merge.specs.Reads.{all_unread};
 ghost use Rattle.split_pieces.specs.Moments.{is_before};
 ghost use Rattle.split_tool.specs.Started.{ListStarted, Started};
 
 use event_cursor::{head, step};
 use page_pool::Lane;
-use split_pieces::{Moment, Rules};
+use split_pieces::{Rules, is_before};
 use time_merge::{Next, next_lane};
+use trace_args::Moment;
 use trace_base::Layout;
 use trace_outside::File;
 
 // Whether a lane's first item stands before the start.
-fn is_before(layout: &Layout, lane: &Lane, start: Moment) -> bool
+fn stands_before(layout: &Layout, lane: &Lane, start: Moment) -> bool
     requires { IsInOrder layout.now lane.now }
     ensures { (x : Keyed) → first_of (keyed_held layout.now lane.now) ≡ Some x → result ≡ is_before start x.key }
 {
     match head(layout, lane) {
-        Some((key, _)) => start.is_after(key),
+        Some((key, _)) => is_before(start, key),
         None => false,
     }
 }
@@ -37,6 +41,14 @@ fn pass_list<F: File>(layout: &Layout, file: &mut F, lanes: &mut [Lane], start: 
     ensures parts { parts_of lanes.new ≡ parts_of lanes.old }
     ensures told { IfSome (F.bytes file.old) (λ bytes. All (Stands layout.now bytes) lanes.old → IsTrue result
         → ListStarted layout.now bytes (Some start) lanes.old lanes.new) }
+    ensures advance { (i : ℕ) (d : Lane) → i < length lanes.old
+        → Advances (slice_index_or lanes.old i d) (slice_index_or lanes.new i d) }
+    ensures reads { F.reads file.new
+        ≤ raised (F.reads file.old) (all_unread layout.now (F.size file.old) lanes.old) }
+    ensures reads_done { IsTrue result → F.reads file.new ≤ raised (F.reads file.old)
+        (all_unread layout.now (F.size file.old) lanes.old - all_unread layout.now (F.size file.old) lanes.new) }
+    ensures unread { all_unread layout.now (F.size file.old) lanes.new
+        ≤ all_unread layout.now (F.size file.old) lanes.old }
     ensures read { result ≡ false → Rose (F.faults file.old) (F.faults file.new) }
     ensures later { F.faults file.old ≤ F.faults file.new }
     ensures bytes { F.bytes file.new ≡ F.bytes file.old }
@@ -45,7 +57,7 @@ fn pass_list<F: File>(layout: &Layout, file: &mut F, lanes: &mut [Lane], start: 
     loop {
         match next_lane(layout, file, lanes) {
             Next::Lane(i) => {
-                if !is_before(layout, &lanes[i], start) {
+                if !stands_before(layout, &lanes[i], start) {
                     return true;
                 }
                 step(layout, &mut lanes[i]);
@@ -71,6 +83,14 @@ pub(crate) fn pass_start<F: File>(
     ensures parts { parts_of lanes.new ≡ parts_of lanes.old }
     ensures told { IfSome (F.bytes file.old) (λ bytes. All (Stands layout.now bytes) lanes.old → IsTrue result
         → Started layout.now bytes rules.now lanes.old lanes.new) }
+    ensures advance { (i : ℕ) (d : Lane) → i < length lanes.old
+        → Advances (slice_index_or lanes.old i d) (slice_index_or lanes.new i d) }
+    ensures reads { F.reads file.new
+        ≤ raised (F.reads file.old) (all_unread layout.now (F.size file.old) lanes.old) }
+    ensures reads_done { IsTrue result → F.reads file.new ≤ raised (F.reads file.old)
+        (all_unread layout.now (F.size file.old) lanes.old - all_unread layout.now (F.size file.old) lanes.new) }
+    ensures unread { all_unread layout.now (F.size file.old) lanes.new
+        ≤ all_unread layout.now (F.size file.old) lanes.old }
     ensures read { result ≡ false → Rose (F.faults file.old) (F.faults file.new) }
     ensures later { F.faults file.old ≤ F.faults file.new }
     ensures bytes { F.bytes file.new ≡ F.bytes file.old }

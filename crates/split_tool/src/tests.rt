@@ -10,7 +10,6 @@ ghost use Rattle.page_pool.specs.Fresh.{IsFresh, IsNew};
 ghost use Rattle.event_cursor.specs.Standing.{IsInOrder};
 ghost use Rattle.time_merge.specs.LaneRows.{parts_of};
 ghost use Rattle.split_pieces.specs.Pieces.{IsUnit};
-ghost use Rattle.split_tool.specs.Rules.{unit_of};
 
 use crate::{End, SplitPlan, SplitWork, split};
 use End::{Done, Malformed};
@@ -242,7 +241,7 @@ fn selected(one: Option<u32>, parts: &[Part]) -> (u32, &[Part])
 }
 
 fn is_allowed(words: &SplitWords<'_>) -> bool
-    ensures unit { result ≡ true → IsUnit (unit_of words.now.unit) }
+    ensures unit { result ≡ true → IsUnit words.now.unit }
     ensures base { result ≡ true → length words.now.base.now ≤ 4096 }
 {
     let unit = match words.unit {
@@ -263,7 +262,7 @@ fn split_parts(
     folder: &mut MemFolder,
 ) -> Result<End, Fail>
     requires allowed { IsHeader plan.now.header.now }
-    requires unit { IsUnit (unit_of plan.now.words.now.unit) }
+    requires unit { IsUnit plan.now.words.now.unit }
     requires base { length plan.now.words.now.base.now ≤ 4096 }
     requires inside { first + length parts.now ≤ plan.now.header.now.cpus }
 {

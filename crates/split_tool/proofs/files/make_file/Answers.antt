@@ -1,8 +1,9 @@
-use Rattle.std.proofs.Common.{◌∙◌}
+use Rattle.std.proofs.Common.{refl, ◌∙◌}
 use Rattle.event_cursor.proofs.Told.{told_again}
 use Rattle.split_file.specs.Names.{file_name}
 use Rattle.split_passes.specs.AllAgain.{owns}
 use Rattle.split_tool.specs.Measured.{taken_of}
+use Rattle.split_tool.proofs.Budget.{written_stops, written_spent}
 use Rattle.split_tool.proofs.Making.{finished}
 use Rattle.split_tool.proofs.files.make_file.Goals as goal
 
@@ -18,3 +19,33 @@ returns-in-Ok-finish_file-clause-told g c =
     c.in-Ok.ensures.files (c.write_file.ensures.name ∙ c.in-Ok.ensures.named ∙ c.as_str.ensures.value ∙ c.file_name-name.ensures) c.in-Ok.ensures.empty c.in-Ok-finish_file.ensures.stored
     p (w p.left.stands (owns c.args.lanes.now (taken_of header.layout file c.args.rules.now c.args.lanes.now)) p.fronts_are))
     c.in-Some.ensures.told c.in-Done.ensures.told
+
+pub returns-in-Ok-finish_file-clause-spent : goal.returns-in-Ok-finish_file-clause-spent
+returns-in-Ok-finish_file-clause-spent g c =
+    written_spent c.args.plan.now.header.now.layout (g.F.File.size c.args.file.now) (g.F.File.size c.measure_file.new.file) c.args.lanes.now c.measure_file.new.lanes c.measure_file.new.work.fronts.items c.measure_file.new.work.tallies.items _ _ _
+    c.measure_file.ensures.size c.in-Some.ensures.spent c.write_file.ensures.reads c.write_file.new.lanes (c.in-Done.ensures.left refl)
+
+pub returns-in-Ok-finish_file-clause-reads : goal.returns-in-Ok-finish_file-clause-reads
+returns-in-Ok-finish_file-clause-reads g c =
+    written_stops c.args.plan.now.header.now.layout (g.F.File.size c.args.file.now) (g.F.File.size c.measure_file.new.file) c.args.lanes.now c.measure_file.new.lanes c.measure_file.new.work.fronts.items c.measure_file.new.work.tallies.items _ _ _
+    c.measure_file.ensures.size c.in-Some.ensures.spent c.write_file.ensures.reads
+
+pub returns-in-Err-clause-reads : goal.returns-in-Err-clause-reads
+returns-in-Err-clause-reads g c =
+    written_stops c.args.plan.now.header.now.layout (g.F.File.size c.args.file.now) (g.F.File.size c.measure_file.new.file) c.args.lanes.now c.measure_file.new.lanes c.measure_file.new.work.fronts.items c.measure_file.new.work.tallies.items _ _ _
+    c.measure_file.ensures.size c.in-Some.ensures.spent c.write_file.ensures.reads
+
+pub returns-in-Malformed-clause-reads : goal.returns-in-Malformed-clause-reads
+returns-in-Malformed-clause-reads g c =
+    written_stops c.args.plan.now.header.now.layout (g.F.File.size c.args.file.now) (g.F.File.size c.measure_file.new.file) c.args.lanes.now c.measure_file.new.lanes c.measure_file.new.work.fronts.items c.measure_file.new.work.tallies.items _ _ _
+    c.measure_file.ensures.size c.in-Some.ensures.spent c.write_file.ensures.reads
+
+pub returns-in-Read-clause-reads : goal.returns-in-Read-clause-reads
+returns-in-Read-clause-reads g c =
+    written_stops c.args.plan.now.header.now.layout (g.F.File.size c.args.file.now) (g.F.File.size c.measure_file.new.file) c.args.lanes.now c.measure_file.new.lanes c.measure_file.new.work.fronts.items c.measure_file.new.work.tallies.items _ _ _
+    c.measure_file.ensures.size c.in-Some.ensures.spent c.write_file.ensures.reads
+
+pub returns-in-Write-clause-reads : goal.returns-in-Write-clause-reads
+returns-in-Write-clause-reads g c =
+    written_stops c.args.plan.now.header.now.layout (g.F.File.size c.args.file.now) (g.F.File.size c.measure_file.new.file) c.args.lanes.now c.measure_file.new.lanes c.measure_file.new.work.fronts.items c.measure_file.new.work.tallies.items _ _ _
+    c.measure_file.ensures.size c.in-Some.ensures.spent c.write_file.ensures.reads

@@ -1,10 +1,11 @@
-use Rattle.std.proofs.Common.{List, [], ◌≡◌, length, arith, get_or, ap, sym, subst, ◌∙◌, refl}
+use Rattle.std.proofs.Common.{List, [], ◌≡◌, ◌<◌, length, arith, get_or, ap, sym, subst, ◌∙◌, refl}
 use Rattle.std.proofs.lemmas.List.{take_at}
 use Rattle.dat_header.proofs.Headers.{header_layout}
-use Rattle.split_passes.proofs.Running.{same_length}
+use Rattle.time_merge.proofs.Advancing.{same_length}
 use Rattle.split_passes.specs.declared.tally.Tally.{Tally}
 use Rattle.split_passes.specs.Tallies.{IsTally}
 use Rattle.split_tool.specs.Counted.{AreCounted}
+use Rattle.split_tool.proofs.Budget.{loaded_out, loaded_stops, measured_back, measured_spent}
 use Rattle.split_tool.proofs.Preparing.{prepared_told, prepared_back}
 use Rattle.split_tool.proofs.files.measure_file.Goals as goal
 
@@ -42,3 +43,43 @@ returns-clause-told g c =
     (λ xs are short. c.fill_table.ensures xs (subst (λ (ts : List Tally). AreCounted l c.measure_lists.new.lanes ts xs) (sym counted) are) short)
     (λ i t lt. subst (λ (ts : List Tally). IsTally l (get_or ts i t) []) (sym cleared) (c.clear.ensures.none l i t (omega (arith, lt, ap length cleared, c.clear.ensures.long))))
     c.make_all_ready.ensures.rows c.make_all_ready.ensures.stands c.in_ok-ends.ensures.told)
+
+pub returns-clause-spent : goal.returns-clause-spent
+returns-clause-spent g c =
+    let header = c.args.plan.now.header.now in
+    let l = header.layout in
+    let size = g.F.File.size c.args.file.now in
+    let some : 0 < l.page = omega (arith, (header_layout header c.requires.allowed).page_least) in
+    let work = c.args.work.now in
+    let lanes : length c.make_all_ready.new.lanes ≡ length c.args.lanes.now = same_length c.make_all_ready.new.lanes c.args.lanes.now c.make_all_ready.ensures.parts in
+    let later : length c.measure_lists.new.lanes ≡ length c.make_all_ready.new.lanes = same_length c.measure_lists.new.lanes c.make_all_ready.new.lanes c.measure_lists.ensures.parts in
+    let front_room : length work.fronts.items ≡ work.fronts.len = ap length (sym c.as_mut_slice.ensures.value) ∙ c.as_mut_slice.ensures.len in
+    let tally_room : length work.tallies.items ≡ work.tallies.len = ap length (sym c.as_mut_slice-2.ensures.value) ∙ c.as_mut_slice-2.ensures.len in
+    let fronts_long : length c.note_fronts.new.fronts ≡ work.fronts.len = c.note_fronts.ensures.long ∙ lanes ∙ sym c.requires.work.fronts ∙ front_room in
+    let cleared_long : length c.clear.new.tallies ≡ work.tallies.len = c.clear.ensures.long ∙ c.as_mut_slice-2.ensures.len in
+    let tallies_long : length c.measure_lists.new.tallies ≡ work.tallies.len = c.measure_lists.ensures.long ∙ later ∙ lanes ∙ sym c.requires.work.tallies ∙ tally_room in
+    let cleared : c.as_mut_slice-3.result.now ≡ c.clear.new.tallies = c.as_mut_slice-3.ensures.value ∙ take_at c.clear.new.tallies _ work.tallies.len cleared_long in
+    measured_back l size some c.args.lanes.now c.measure_lists.new.lanes c.note_fronts.new.fronts _ c.measure_lists.new.tallies _ _ _
+    (take_at c.note_fronts.new.fronts _ work.fronts.len fronts_long) (take_at c.measure_lists.new.tallies _ work.tallies.len tallies_long)
+    (measured_spent l size some (g.F.File.size c.make_all_ready.new.file) c.args.lanes.now c.make_all_ready.new.lanes c.measure_lists.new.lanes c.note_fronts.new.fronts c.as_mut_slice-3.result.now c.measure_lists.new.tallies _ _ _
+    c.make_all_ready.ensures.size lanes later c.note_fronts.ensures.long (c.measure_lists.ensures.long ∙ later) c.make_all_ready.ensures.in_order (c.if-not-make_all_ready.ensures.ready refl) c.in_ok-ends.ensures.ready
+    c.make_all_ready.ensures.advance c.measure_lists.ensures.advance c.note_fronts.ensures.noted
+    (λ i t lt. subst (λ (ts : List Tally). IsTally l (get_or ts i t) []) (sym cleared) (c.clear.ensures.none l i t (omega (arith, lt, lanes, c.requires.work.tallies, tally_room, c.as_mut_slice-2.ensures.len))))
+    c.measure_lists.ensures.over c.make_all_ready.ensures.reads c.make_all_ready.ensures.unread c.in_ok-ends.ensures.reads_done c.measure_lists.ensures.unread)
+
+pub returns-clause-reads : goal.returns-clause-reads
+returns-clause-reads g c =
+    let header = c.args.plan.now.header.now in
+    loaded_out header.layout (g.F.File.size c.args.file.now) (omega (arith, (header_layout header c.requires.allowed).page_least)) (g.F.File.size c.make_all_ready.new.file) c.args.lanes.now c.make_all_ready.new.lanes _ _ _
+    c.make_all_ready.ensures.size (c.if-not-make_all_ready.ensures.ready refl) c.make_all_ready.ensures.reads c.make_all_ready.ensures.unread c.measure_lists.ensures.reads
+
+pub returns-in_err-ends-clause-reads : goal.returns-in_err-ends-clause-reads
+returns-in_err-ends-clause-reads g c =
+    let header = c.args.plan.now.header.now in
+    loaded_out header.layout (g.F.File.size c.args.file.now) (omega (arith, (header_layout header c.requires.allowed).page_least)) (g.F.File.size c.make_all_ready.new.file) c.args.lanes.now c.make_all_ready.new.lanes _ _ _
+    c.make_all_ready.ensures.size (c.if-not-make_all_ready.ensures.ready refl) c.make_all_ready.ensures.reads c.make_all_ready.ensures.unread c.measure_lists.ensures.reads
+
+pub returns-then-not-make_all_ready-clause-reads : goal.returns-then-not-make_all_ready-clause-reads
+returns-then-not-make_all_ready-clause-reads g c =
+    let header = c.args.plan.now.header.now in
+    loaded_stops header.layout (g.F.File.size c.args.file.now) (omega (arith, (header_layout header c.requires.allowed).page_least)) c.args.lanes.now c.make_all_ready.new.lanes _ _ c.make_all_ready.ensures.reads c.make_all_ready.ensures.unread

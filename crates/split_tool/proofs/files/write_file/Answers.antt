@@ -1,13 +1,16 @@
-use Rattle.std.proofs.Common.{List, sym, subst}
+use Rattle.std.proofs.Common.{◌≤◌, List, sym, subst}
 use Rattle.trace_base.specs.declared.part.Part.{Part}
+use Rattle.trace_outside.specs.Causes.{raised}
 use Rattle.trace_outside.specs.Writing.{Gained}
 use Rattle.dat_header.proofs.Headers.{header_layout}
 use Rattle.event_cursor.specs.declared.places.Place.{Place}
 use Rattle.event_cursor.proofs.Told.{told_map}
 use Rattle.split_passes.specs.AllAgain.{AreFronts}
+use Rattle.split_passes.specs.Reads.{all_packing}
 use Rattle.split_passes.specs.declared.tally.Tally.{Tally}
 use Rattle.split_file.specs.NewFile.{front_text}
 use Rattle.split_tool.proofs.Preparing.{written_all}
+use Rattle.split_tool.proofs.Spending.{same_to_read}
 use Rattle.split_tool.proofs.files.write_file.Goals as goal
 
 pub pack_all-requires-clause-allowed : goal.pack_all-requires-clause-allowed
@@ -25,3 +28,14 @@ returns-clause-told g c =
     let by_tallies = subst (λ (ts : List Tally). AreFronts header.layout file c.args.lanes.now c.as_slice-2.result.now ts lists) (sym c.as_slice-3.ensures.value) by_fronts in
     written_all header file work.table.items lists c.args.lanes.now c.pack_all.new.lanes old mid (g.O.Sink.written c.pack_all.new.out) c.pack_all.result front (p s lists by_tallies))
     c.pack_all.ensures.told
+
+pub returns-clause-reads : goal.returns-clause-reads
+returns-clause-reads g c =
+    let l = c.args.plan.now.header.now.layout in
+    let size = g.F.File.size c.args.file.now in
+    let most = λ (ps : List Place) (ts : List Tally). all_packing l size c.args.lanes.now ps ts in
+    subst (λ (ps : List Place). g.F.File.reads c.pack_all.new.file ≤ raised (g.F.File.reads c.args.file.now) (most ps c.args.work.now.tallies.items)) c.as_slice-2.ensures.value
+    (subst (λ (ts : List Tally). g.F.File.reads c.pack_all.new.file ≤ raised (g.F.File.reads c.args.file.now) (most c.as_slice-2.result.now ts)) c.as_slice-3.ensures.value c.pack_all.ensures.reads)
+
+pub returns-clause-left : goal.returns-clause-left
+returns-clause-left g c = λ done. same_to_read c.args.plan.now.header.now.layout (g.F.File.size c.args.file.now) c.args.lanes.now c.pack_all.new.lanes (c.pack_all.ensures.numbers done)

@@ -1,8 +1,11 @@
-use Rattle.std.proofs.Common.{rules, refl, arith, ◌≡◌, ◌+◌, ◌-◌, ◌<◌, ◌≤◌, length, sym, ◌∙◌}
+use Rattle.std.proofs.Common.{rules, refl, arith, ◌≡◌, ◌+◌, ◌-◌, ◌<◌, ◌≤◌, length, get_or, sym, ◌∙◌}
+use Rattle.std.proofs.lemmas.List.Elements.{AllWithin-none}
 use borrow.Rule.Slice.PartMut.{same_len_mid}
 use Rattle.event_cursor.specs.Standing.{IsInOrder}
 use Rattle.event_cursor.proofs.Told.{told_all, told_map, told_again}
-use Rattle.split_passes.proofs.Running.{same_length}
+use Rattle.time_merge.specs.LaneRows.{IsReady}
+use Rattle.time_merge.proofs.Advancing.{advances_not, same_length}
+use Rattle.split_tool.proofs.OneLaneOn.{lane_on, tally_on, ready_on, on_reads, on_stops, on_unread}
 use Rattle.split_tool.proofs.OneByOne.{map_put, all_put, all_mid, one_in_mid}
 use Rattle.split_tool.proofs.Measuring.{whole_measured, measured_none, measured_more, all_measured, clear_mid, still_stand}
 use Rattle.split_tool.proofs.lists.measure_lists.Goals as goal
@@ -21,6 +24,11 @@ loop-i-init g c = record {
   parts = refl;
   long = c.requires.long;
   measured = told_all _ (g.F.File.bytes c.args.file.now) (λ file s none. measured_none c.args.layout.now file c.args.rules.now c.args.lanes.now c.args.tallies.now c.none-ends.result c.none-ends.ensures.more c.none-ends.ensures.bad);
+  ready = AllWithin-none (IsReady c.args.layout.now) c.args.lanes.now 0;
+  advance = λ j d lt. advances_not (get_or c.args.lanes.now j d);
+  over = λ j d t lt over. refl;
+  reads = omega arith;
+  unread = omega arith;
   bytes = refl;
   size = refl;
   later = omega arith;
@@ -55,6 +63,11 @@ loop-i-preserved g c =
           c.measure_list-list.ensures.parts c.measure_list-list.ensures.long
           (m (still_stand l file c.args.rules.now i c.args.lanes.now c.loop-i.lanes c.args.tallies.now c.loop-i.tallies c.loop-i.ends s q) (clear_mid l file c.args.rules.now i c.args.lanes.now c.loop-i.lanes c.args.tallies.now c.loop-i.tallies c.loop-i.ends lt c.loop-i.invariant.long none q)) q)
           c.loop-i.invariant.measured c.in-Some.ensures.told;
+      ready = ready_on i c.loop-i.lanes c.measure_list-list.new.lanes lt one l c.in-Some.ensures.ready c.loop-i.invariant.ready;
+      advance = lane_on c.loop-i.i c.loop-i.lanes c.measure_list-list.new.lanes lt one c.args.lanes.now (same_length c.loop-i.lanes c.args.lanes.now c.loop-i.invariant.parts) c.measure_list-list.ensures.advance c.loop-i.invariant.advance;
+      over = tally_on c.loop-i.i c.loop-i.lanes c.measure_list-list.new.lanes lt one c.args.lanes.now c.args.tallies.now c.loop-i.tallies c.measure_list-list.new.tallies lt2 (c.measure_list-list.ensures.long ∙ one) c.loop-i.invariant.advance c.measure_list-list.ensures.over c.loop-i.invariant.over;
+      reads = on_reads c.loop-i.i c.loop-i.lanes c.measure_list-list.new.lanes lt one c.args.layout.now (g.F.File.size c.args.file.now) (g.F.File.size c.loop-i.file) _ _ _ _ c.loop-i.invariant.size c.loop-i.invariant.reads c.loop-i.invariant.unread c.measure_list-list.ensures.unread c.in-Some.ensures.reads_done;
+      unread = on_unread c.loop-i.i c.loop-i.lanes c.measure_list-list.new.lanes lt one c.args.layout.now (g.F.File.size c.args.file.now) (g.F.File.size c.loop-i.file) _ _ 0 _ c.loop-i.invariant.size c.loop-i.invariant.reads c.loop-i.invariant.unread c.measure_list-list.ensures.unread;
       bytes = c.measure_list-list.ensures.bytes ∙ c.loop-i.invariant.bytes;
       size = c.measure_list-list.ensures.size ∙ c.loop-i.invariant.size;
       later = omega (arith, c.measure_list-list.ensures.later, c.loop-i.invariant.later);
@@ -69,3 +82,31 @@ returns-clause-told g c =
     all_measured l file c.args.rules.now c.loop-i.i c.args.lanes.now c.loop-i.lanes c.args.tallies.now c.loop-i.tallies c.loop-i.ends (sym c.is_apart.ensures ∙ c.if-not-is_apart.false) c.requires.rise
     over (omega (arith, long, over)) (omega (arith, long, over, c.loop-i.invariant.long)) (p s none))
     c.loop-i.invariant.measured
+
+pub returns-in_default-clause-advance : goal.returns-in_default-clause-advance
+returns-in_default-clause-advance g c =
+    let lt : c.loop-i.i < length c.loop-i.lanes = search rules in
+    let one : length c.measure_list-list.new.lanes ≡ 1 = same_length c.measure_list-list.new.lanes _ c.measure_list-list.ensures.parts ∙ one_in_mid c.loop-i.i c.loop-i.lanes lt in
+    lane_on c.loop-i.i c.loop-i.lanes c.measure_list-list.new.lanes lt one c.args.lanes.now (same_length c.loop-i.lanes c.args.lanes.now c.loop-i.invariant.parts) c.measure_list-list.ensures.advance c.loop-i.invariant.advance
+
+pub returns-in_default-clause-over : goal.returns-in_default-clause-over
+returns-in_default-clause-over g c =
+    let lt : c.loop-i.i < length c.loop-i.lanes = search rules in
+    let one : length c.measure_list-list.new.lanes ≡ 1 = same_length c.measure_list-list.new.lanes _ c.measure_list-list.ensures.parts ∙ one_in_mid c.loop-i.i c.loop-i.lanes lt in
+    let lt2 : c.loop-i.i < length c.loop-i.tallies = omega (arith, lt, c.loop-i.invariant.long) in
+    tally_on c.loop-i.i c.loop-i.lanes c.measure_list-list.new.lanes lt one c.args.lanes.now c.args.tallies.now c.loop-i.tallies c.measure_list-list.new.tallies lt2 (c.measure_list-list.ensures.long ∙ one) c.loop-i.invariant.advance c.measure_list-list.ensures.over c.loop-i.invariant.over
+
+pub returns-in_default-clause-reads : goal.returns-in_default-clause-reads
+returns-in_default-clause-reads g c =
+    let lt : c.loop-i.i < length c.loop-i.lanes = search rules in
+    let one : length c.measure_list-list.new.lanes ≡ 1 = same_length c.measure_list-list.new.lanes _ c.measure_list-list.ensures.parts ∙ one_in_mid c.loop-i.i c.loop-i.lanes lt in
+    on_stops c.loop-i.i c.loop-i.lanes c.measure_list-list.new.lanes lt one c.args.layout.now (g.F.File.size c.args.file.now) (g.F.File.size c.loop-i.file) _ _ _ _ c.loop-i.invariant.size c.loop-i.invariant.reads c.loop-i.invariant.unread c.measure_list-list.ensures.unread c.measure_list-list.ensures.reads
+
+pub returns-in_default-clause-unread : goal.returns-in_default-clause-unread
+returns-in_default-clause-unread g c =
+    let lt : c.loop-i.i < length c.loop-i.lanes = search rules in
+    let one : length c.measure_list-list.new.lanes ≡ 1 = same_length c.measure_list-list.new.lanes _ c.measure_list-list.ensures.parts ∙ one_in_mid c.loop-i.i c.loop-i.lanes lt in
+    on_unread c.loop-i.i c.loop-i.lanes c.measure_list-list.new.lanes lt one c.args.layout.now (g.F.File.size c.args.file.now) (g.F.File.size c.loop-i.file) _ _ 0 _ c.loop-i.invariant.size c.loop-i.invariant.reads c.loop-i.invariant.unread c.measure_list-list.ensures.unread
+
+pub returns-clause-reads : goal.returns-clause-reads
+returns-clause-reads g c = omega (arith, c.loop-i.invariant.reads)

@@ -7,10 +7,11 @@ use Rattle.split_pieces.specs.declared.rules.Rules.{Rules}
 use Rattle.split_pieces.specs.Cuts.{bad_reached}
 use Rattle.split_pieces.specs.Pieces.{IsUnit}
 use Rattle.split_tool.specs.NewFiles.{new_files}
-use Rattle.split_passes.proofs.Running.{same_length}
+use Rattle.time_merge.proofs.Advancing.{same_length}
 use Rattle.split_tool.specs.Rules.{rules_of}
 use Rattle.split_tool.specs.Work.{IsWorkFor}
 use Rattle.time_merge.specs.LaneRows.{parts_of}
+use Rattle.split_tool.proofs.Budget.{passed_spent, same_spent, spent_all, spent_more, spent_stops, start_less}
 use Rattle.split_tool.proofs.Making.{created_last, created_stops, progress_none, progress_more, progress_last, progress_stops, next_short, next_few, same_cpus, fresh_stand}
 use Rattle.split_tool.proofs.Storing.{kept_twice, some_stored, stages_none}
 use Rattle.split_tool.proofs.splitting.split.Goals as goal
@@ -31,6 +32,8 @@ loop-number-init g c = record {
       progress_none c.args.plan.now.header.now (split_view c.args.plan.now.words.now) c.rules_of-rules.result file c.args.lanes.now c.pass_start.new.lanes (g.D.Folder.files c.args.folder.now) c.requires.allowed c.rules_of-rules.ensures c.requires.rise c.requires.cpus
       c.requires.fresh c.pass_start.ensures.parts small short (started (fresh_stand c.args.plan.now.header.now.layout file c.args.lanes.now c.requires.fresh) c.if-not-pass_start.false))
       c.pass_start.ensures.told;
+  spent = passed_spent c.args.plan.now.header.now.layout (g.F.File.size c.args.file.now) (omega (arith, (header_layout c.args.plan.now.header.now c.requires.allowed).page_least)) c.args.lanes.now c.pass_start.new.lanes _ _
+      (same_length c.pass_start.new.lanes c.args.lanes.now c.pass_start.ensures.parts) c.pass_start.ensures.advance (c.pass_start.ensures.reads_done c.if-not-pass_start.false) c.pass_start.ensures.unread;
   bytes = c.pass_start.ensures.bytes;
   size = c.pass_start.ensures.size;
   later = c.pass_start.ensures.later;
@@ -79,6 +82,8 @@ loop-number-preserved g c =
           progress_more header words.base file c.rules_of-rules.result news bad c.loop-number.number c.loop-number.lanes c.make_file.new.lanes old mid new c.in-Ok.ends unit (sym c.goes_on.ensures ∙ c.if-not-goes_on.false)
           (m q.stands (next_few header words.base file c.rules_of-rules.result news bad c.loop-number.number c.loop-number.lanes c.make_file.new.lanes old mid new q) (next_short header words.base file c.rules_of-rules.result news bad c.loop-number.number c.loop-number.lanes c.make_file.new.lanes old mid new q)) q)
           c.loop-number.invariant.progress c.in-Ok.ensures.told;
+      spent = spent_more _ _ _ _ _ _ c.loop-number.invariant.spent
+          (same_spent header.layout (g.F.File.size c.args.file.now) (g.F.File.size c.loop-number.file) c.loop-number.lanes c.make_file.new.lanes _ _ c.loop-number.invariant.size c.in-Ok.ensures.spent);
       bytes = c.make_file.ensures.bytes ∙ c.loop-number.invariant.bytes;
       size = c.make_file.ensures.size ∙ c.loop-number.invariant.size;
       later = omega (arith, c.make_file.ensures.later, c.loop-number.invariant.later);
@@ -168,3 +173,26 @@ returns-in-Err-clause-counts g c = kept_twice _ _ _ c.loop-number.invariant.coun
 
 pub returns-then-not-goes_on-clause-counts : goal.returns-then-not-goes_on-clause-counts
 returns-then-not-goes_on-clause-counts g c = kept_twice _ _ _ c.loop-number.invariant.counts c.make_file.ensures.counts
+
+pub returns-then-not-pass_start-clause-reads : goal.returns-then-not-pass_start-clause-reads
+returns-then-not-pass_start-clause-reads g c =
+    let header = c.args.plan.now.header.now in
+    start_less header.layout (g.F.File.size c.args.file.now) (omega (arith, (header_layout header c.requires.allowed).page_least)) c.args.lanes.now _ _ c.requires.fresh (omega (arith, c.pass_start.ensures.reads))
+
+pub returns-then-not-goes_on-clause-reads : goal.returns-then-not-goes_on-clause-reads
+returns-then-not-goes_on-clause-reads g c =
+    let header = c.args.plan.now.header.now in
+    start_less header.layout (g.F.File.size c.args.file.now) (omega (arith, (header_layout header c.requires.allowed).page_least)) c.args.lanes.now _ _ c.requires.fresh
+    (spent_all _ _ _ _ (spent_more _ _ _ _ _ _ c.loop-number.invariant.spent
+    (same_spent header.layout (g.F.File.size c.args.file.now) (g.F.File.size c.loop-number.file) c.loop-number.lanes c.make_file.new.lanes _ _ c.loop-number.invariant.size c.in-Ok.ensures.spent)))
+
+pub returns-in-Err-clause-reads : goal.returns-in-Err-clause-reads
+returns-in-Err-clause-reads g c =
+    let header = c.args.plan.now.header.now in
+    start_less header.layout (g.F.File.size c.args.file.now) (omega (arith, (header_layout header c.requires.allowed).page_least)) c.args.lanes.now _ _ c.requires.fresh
+    (spent_stops header.layout (g.F.File.size c.args.file.now) (g.F.File.size c.loop-number.file) c.args.lanes.now c.loop-number.lanes _ _ _ c.loop-number.invariant.size c.loop-number.invariant.spent c.make_file.ensures.reads)
+
+pub returns-clause-reads : goal.returns-clause-reads
+returns-clause-reads g c =
+    let header = c.args.plan.now.header.now in
+    start_less header.layout (g.F.File.size c.args.file.now) (omega (arith, (header_layout header c.requires.allowed).page_least)) c.args.lanes.now _ _ c.requires.fresh (spent_all _ _ _ _ c.loop-number.invariant.spent)

@@ -7,6 +7,7 @@ use Rattle.event_cursor.specs.Standing.{IsInOrder}
 use Rattle.time_merge.specs.LaneRows.{parts_of}
 use Rattle.split_pieces.specs.Cuts.{bad_reached}
 use Rattle.split_tool.specs.NewFiles.{new_files}
+use Rattle.split_tool.specs.Reads.{Spent, to_read}
 use Rattle.split_tool.specs.Rules.{rules_of}
 use Rattle.split_tool.specs.Stored.{KeepsCounts, NewFile}
 use Rattle.split_tool.specs.Work.{IsWorkFor}
@@ -22,6 +23,7 @@ invariant-loop-number g l = record {
       → All (λ (new : NewFile). length new.content < 2 ^ 64) (new_files (split_view l.plan.words.now) l.plan.header.now file (parts_of l.fn.lanes))
       → Progress l.plan.header.now l.plan.words.now.base.now file l.rules (new_files (split_view l.plan.words.now) l.plan.header.now file (parts_of l.fn.lanes))
       (bad_reached (rules_of (split_view l.plan.words.now)) l.plan.header.now.layout file (parts_of l.fn.lanes)) l.number l.lanes (g.D.Folder.files l.fn.folder) (g.D.Folder.files l.folder));
+  spent : Spent (to_read l.plan.header.now.layout (g.F.File.size l.fn.file) l.fn.lanes) (to_read l.plan.header.now.layout (g.F.File.size l.fn.file) l.lanes) (g.F.File.reads l.fn.file) (g.F.File.reads l.file);
   bytes : g.F.File.bytes l.file ≡ g.F.File.bytes l.fn.file;
   size : g.F.File.size l.file ≡ g.F.File.size l.fn.file;
   later : g.F.File.faults l.fn.file ≤ g.F.File.faults l.file;

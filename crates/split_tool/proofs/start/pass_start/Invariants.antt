@@ -1,8 +1,12 @@
-use Rattle.std.proofs.Common.{◌≡◌, ◌≤◌, Some}
+use Rattle.std.proofs.Common.{◌≡◌, ℕ, ◌-◌, ◌<◌, ◌≤◌, Some, length, get_or}
 use Rattle.std.specs.Option.{IfSome}
 use Rattle.std.specs.List.{All}
+use Rattle.trace_outside.specs.Causes.{raised}
+use Rattle.page_pool.specs.declared.lane.Lane.{Lane}
 use Rattle.event_cursor.specs.Standing.{IsInOrder, Stands}
+use Rattle.time_merge.specs.Advancing.{Advances}
 use Rattle.time_merge.specs.LaneRows.{parts_of}
+use Rattle.time_merge.specs.Reads.{all_unread}
 use Rattle.split_tool.proofs.Passing.{StartedTo}
 use Rattle.split_tool.proofs.start.pass_start.Given as goal
 
@@ -11,6 +15,11 @@ invariant-loop-i g l = record {
   in_order : All (IsInOrder l.layout) l.lanes;
   parts : parts_of l.lanes ≡ parts_of l.fn.lanes;
   started : IfSome (g.F.File.bytes l.fn.file) (λ file. All (Stands l.layout file) l.fn.lanes → StartedTo l.layout file (Some l.start) l.i l.fn.lanes l.lanes);
+  advance : (j : ℕ) (d : Lane) → j < length l.fn.lanes → Advances (get_or l.fn.lanes j d) (get_or l.lanes j d);
+  reads : g.F.File.reads l.file
+      ≤ raised (g.F.File.reads l.fn.file)
+      (all_unread l.layout (g.F.File.size l.fn.file) l.fn.lanes - all_unread l.layout (g.F.File.size l.fn.file) l.lanes);
+  unread : all_unread l.layout (g.F.File.size l.fn.file) l.lanes ≤ all_unread l.layout (g.F.File.size l.fn.file) l.fn.lanes;
   bytes : g.F.File.bytes l.file ≡ g.F.File.bytes l.fn.file;
   size : g.F.File.size l.file ≡ g.F.File.size l.fn.file;
   later : g.F.File.faults l.fn.file ≤ g.F.File.faults l.file;

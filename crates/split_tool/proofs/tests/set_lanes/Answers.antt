@@ -1,4 +1,4 @@
-use Rattle.std.proofs.Common.{◌<◌, ◌≡◌, ◌+◌, length, arith, ◌∙◌}
+use Rattle.std.proofs.Common.{◌<◌, length, arith, ◌∙◌}
 use Rattle.std.proofs.lemmas.List.{length-set}
 use Rattle.split_tool.proofs.LanesInRow.{new_ready, set_ready, set_numbered, numbered_rise}
 use Rattle.split_tool.proofs.tests.set_lanes.Goals as goal

@@ -1,0 +1,34 @@
+-- What a split may still read of lanes, in bytes, by the length of their file alone.
+use Rattle.std.specs.Prelude.{ℕ, ◌+◌, ◌-◌, ◌≤◌, List, sum_by}
+use Rattle.trace_base.specs.declared.layout.Layout.{Layout}
+use Rattle.trace_outside.specs.Causes.{raised}
+use Rattle.page_pool.specs.declared.lane.Lane.{Lane}
+use Rattle.page_pool.specs.declared.cursor.LaneState.{LaneState}
+use Rattle.page_pool.specs.declared.cursor.LaneState.TheVariants.{Fresh, Held, Ended, Malformed}
+use Rattle.event_cursor.specs.Unread.{size_from}
+use Rattle.time_merge.specs.Reads.{all_unread}
+
+-- the first sub-buffer that a second pass may still go back to
+abbrev pub first_again : LaneState → ℕ → ℕ
+first_again Fresh next = next - 1
+first_again Held next = next - 1
+first_again Ended next = next
+first_again Malformed next = next
+
+-- Second passes read each sub-buffer from there on, and once more that in which a piece ends and the next one begins.
+abbrev pub again : Layout → ℕ → Lane → ℕ
+again layout len lane =
+    size_from layout len lane.part (first_again lane.cursor.state lane.cursor.next)
+    + size_from layout len lane.part lane.cursor.next
+
+abbrev pub all_again : Layout → ℕ → List Lane → ℕ
+all_again layout len lanes = sum_by (again layout len) lanes
+
+-- both passes of all further files
+abbrev pub to_read : Layout → ℕ → List Lane → ℕ
+to_read layout len lanes = all_unread layout len lanes + all_again layout len lanes
+
+-- of what might be read so much is left, and no more than the rest of it was read
+pub record Spent (most left before now : ℕ) : Type 0 where
+  pub less : left ≤ most
+  pub reads : now ≤ raised before (most - left)
