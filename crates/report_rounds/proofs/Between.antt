@@ -4,7 +4,6 @@ use Rattle.std.specs.Prelude.{if◌then◌else◌, ◌==◌, nat_lt, nat_le, unw
 use Rattle.std.specs.List.{All}
 use Rattle.std.proofs.lemmas.Bool.{cases_Bool, cases_lt, le-ltb, le-leb, lt-leb}
 use Rattle.std.proofs.lemmas.List.{length-append}
-use Rattle.std.proofs.lemmas.List.Elements.{All-tail}
 use Rattle.trace_base.specs.declared.layout.Layout.{Layout}
 use Rattle.subpage.specs.ItemData.{ItemData}
 use Rattle.subpage.specs.Arrangement.{Keyed, IsRising}
@@ -14,11 +13,11 @@ use Rattle.event_cursor.specs.Standing.{IsInOrder, HoldsPage, keyed_held}
 use Rattle.time_merge.specs.declared.horizons.Horizon.{Horizon}
 use Rattle.cpu_workers.specs.Spaces.{Space, space_of, has_no_room, with_line, fill}
 use Rattle.cpu_workers.specs.Formats.{IsFormatted, IsSorted, line_key}
-use Rattle.round_print.specs.Prints.{IsFew, IsTidy, is_due, later_lines}
+use Rattle.round_print.specs.Prints.{IsFew, IsTidy, later_lines}
 use Rattle.round_print.specs.Rounds.{IsPrinted}
 use Rattle.report_rounds.specs.Between.{IsBetween, IsLoaded}
 use Rattle.report_rounds.proofs.RoundsPrinted.{with_region, same_lane}
-use Rattle.report_rounds.proofs.Ending.{later_rises}
+use Rattle.report_rounds.proofs.Ending.{later_all, later_rises}
 
 -- a space that keeps no line is as it was at first
 pub record IsTidySpace (space : Space) : Type 0 where
@@ -152,13 +151,6 @@ few_space r f = record { kept = f.kept; used = f.used }
 
 space_few : (r : Lines) → IsFewSpace (space_of r) → IsFew r
 space_few r f = record { kept = f.kept; used = f.used }
-
-later_all : (P : Line → Type 0) (h : Horizon) (cpu : ℕ) (lines : List Line) → All P lines → All P (later_lines h cpu lines)
-later_all P h cpu [] all = all
-later_all P h cpu (line ∷ lines) all = elim (cases_Bool (is_due h line.key cpu)) as (λ _. All P (later_lines h cpu (line ∷ lines))) [
-  | inl due ↦ rw due (later_all P h cpu lines (All-tail P line lines all))
-  | inr later ↦ rw later all
-]
 
 module _ (text : ℕ → ItemData → List ℕ) (l : Layout) where
   sorted_loaded : (a b : Lane) → b.region ≡ a.region → b.cursor.high ≡ a.cursor.high → IsSorted a → IsSorted b

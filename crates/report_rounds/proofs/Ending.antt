@@ -2,8 +2,9 @@
 use Rattle.std.proofs.Common.{◌≡◌, ℕ, ◌+◌, ◌<◌, ◌≤◌, true, false, List, [], ◌∷◌, ◌++◌, map, Option, Some, None, refl, sym, ap, subst, ◌∙◌, arith, inl, inr}
 use Rattle.std.specs.Prelude.{unwrap_or}
 use Rattle.std.specs.Option.{IfSome}
-use Rattle.std.specs.List.{filter_map, fold, cons_option}
+use Rattle.std.specs.List.{All, filter_map, fold, cons_option}
 use Rattle.std.proofs.lemmas.Bool.{cases_Bool, cases_lt, cases_eq, lt-ltb, le-ltb, le-leb, eq-eqb}
+use Rattle.std.proofs.lemmas.List.Elements.{All-tail}
 use Rattle.trace_base.specs.declared.layout.Layout.{Layout}
 use Rattle.subpage.specs.ItemData.{ItemData}
 use Rattle.subpage.specs.Arrangement.{Keyed, key_of, cpu_of, CpusRise, IsRising}
@@ -131,11 +132,11 @@ each_lines P cpu [] h = tt
 each_lines P cpu (line ∷ lines) h = (h.0, each_lines P cpu lines h.1)
 
 -- the lines that are not due
-later_each : (P : Line → Type 0) (h : Horizon) (cpu : ℕ) (lines : List Line) → Each P lines → Each P (later_lines h cpu lines)
-later_each P h cpu [] e = tt
-later_each P h cpu (line ∷ lines) e = elim (cases_Bool (is_due h line.key cpu)) as (λ _. Each P (later_lines h cpu (line ∷ lines))) [
-  | inl due ↦ rw due (later_each P h cpu lines e.1)
-  | inr later ↦ rw later e
+pub later_all : (P : Line → Type 0) (h : Horizon) (cpu : ℕ) (lines : List Line) → All P lines → All P (later_lines h cpu lines)
+later_all P h cpu [] all = all
+later_all P h cpu (line ∷ lines) all = elim (cases_Bool (is_due h line.key cpu)) as (λ _. All P (later_lines h cpu (line ∷ lines))) [
+  | inl due ↦ rw due (later_all P h cpu lines (All-tail P line lines all))
+  | inr later ↦ rw later all
 ]
 
 pub later_rises : (h : Horizon) (cpu : ℕ) (lines : List Line) → IsRising line_key lines → IsRising line_key (later_lines h cpu lines)
@@ -224,7 +225,7 @@ module _ (text : ℕ → ItemData → List ℕ) (l : Layout) (file : List ℕ) (
       let from : From key_of cpu_of (rank high) row = row_from l file a s in
       let lines : List Line = later_of h a in
       let up : Each (λ line. line.key ≤ unwrap_or high 0) lines =
-      later_each (λ line. line.key ≤ unwrap_or high 0) h a.cpu a.region.kept (each_of_all (λ line. line.key ≤ unwrap_or high 0) a.region.kept sorted.up_to) in
+      each_of_all (λ line. line.key ≤ unwrap_or high 0) lines (later_all (λ line. line.key ≤ unwrap_or high 0) h a.cpu a.region.kept sorted.up_to) in
       let none : high ≡ None → lines ≡ [] = λ e. ap (later_lines h a.cpu) (sorted.started e) in
       let more : Each (λ y. unwrap_or high 0 ≤ key_in y) (shown_lines text row.items) =
       each_shown text (λ x. rank high ≤ key_of x + 1) (λ y. unwrap_or high 0 ≤ key_in y) (λ x le. low high x.key le) row.items from.items in
