@@ -8,3 +8,5 @@ pub mod ArgumentLemmas
 pub mod PrintLemmas
 pub mod SameLemmas
 pub mod PlainLemmas
+pub mod WaitLemmas
+pub mod StepLemmas

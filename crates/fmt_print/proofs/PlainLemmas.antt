@@ -1,10 +1,9 @@
 -- What is shown as it is: without a width, a precision and a mark.
 use Rattle.std.proofs.Common.{◌≡◌, ℕ, ◌-◌, ◌<◌, ◌^◌, Bool, true, false, List, [], ◌++◌, length, replicate, refl, sym, ap, ◌∙◌, arith}
-use Rattle.std.specs.Prelude.{◌&&◌, ◌==◌, if◌then◌else◌, Option, None}
+use Rattle.std.specs.Prelude.{◌&&◌, ◌==◌, Option, None}
 use Rattle.std.specs.Fmt.{decimal}
 use Rattle.std.proofs.lemmas.Fmt.{decimal_nonempty}
 use Rattle.std.proofs.lemmas.List.{append-nil}
-use Rattle.fmt_directives.specs.declared.directive.Base.{Base}
 use Rattle.fmt_directives.specs.declared.directive.Base.TheVariants.{Signed, Unsigned}
 use Rattle.fmt_print.specs.declared.form.Form.{Form}
 use Rattle.fmt_print.specs.Integers.{integer_text, laid, shown, sign, zeros}

@@ -8,3 +8,4 @@ pub mod Plan
 pub mod Printed
 pub mod PlanView
 pub mod Views
+pub mod Steps

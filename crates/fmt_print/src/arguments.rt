@@ -24,7 +24,7 @@ pub struct Conversion<'a> {
 /// The first argument, and those behind it.
 #[inline(always)]
 #[tactic(auto, using(crate::proofs::ArgumentLemmas::first_none, crate::proofs::ArgumentLemmas::first_some))]
-fn first_of(args: &[Expr]) -> Option<(&Expr, &[Expr])>
+pub fn first_of(args: &[Expr]) -> Option<(&Expr, &[Expr])>
     ensures { option_map (λ a. (tree_of a.0.now, map tree_of a.1.now)) result ≡ first_of (map tree_of args.now) }
 {
     if args.is_empty() {

@@ -25,7 +25,7 @@ fn limit_of(precision: Option<u32>) -> u64
 }
 
 /// Puts the text of a tree up to its first NUL, as far as a precision shows it.
-fn put_shown(expr: &Expr, rec: &Rec<'_>, precision: Option<u32>, into: &mut Tail<'_>)
+pub fn put_shown(expr: &Expr, rec: &Rec<'_>, precision: Option<u32>, into: &mut Tail<'_>)
     ensures same_slice { lent into.new ≡ lent into.old }
     ensures value { held into.new ≡ put_held (held into.old) (cut_to precision (up_to_nul (text_of (given rec.now) (tree_of expr.now)))) }
 {

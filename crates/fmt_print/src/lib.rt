@@ -7,13 +7,16 @@ mod flow;
 mod form;
 mod integer;
 mod layout;
+mod plain;
 mod plan;
 mod printing;
 mod reading;
 mod repeat;
+mod step;
 mod string;
 #[cfg(test)]
 mod tests;
+mod waiting;
 
 pub use fmt_directives::{Amount, Base, Directive, Length, PointerForm, Spec};
 pub use plan::PrintPlan;

@@ -5,7 +5,10 @@ ghost use Rattle.fmt_directives.specs.Directives.{IsWithin};
 ghost use Rattle.fmt_directives.proofs.Withins.{within_prop};
 ghost use Rattle.fmt_expr.specs.TreeView.{tree_of};
 ghost use Rattle.fmt_fold.specs.Same.{SameTrees};
+ghost use Rattle.fmt_print.specs.Steps.{directive_of};
+ghost use Rattle.std.specs.Coded.{codes};
 
+use crate::step::Step;
 use fmt_directives::Directive;
 use fmt_expr::Expr;
 use trace_base::ByteText;
@@ -15,11 +18,14 @@ use trace_base::ByteText;
 pub struct PrintPlan {
     pub(crate) text: ByteText,
     pub(crate) directives: Vec<Directive>,
+    /// The directives, by how they are shown.
+    pub(crate) steps: Vec<Step>,
     pub(crate) args: Vec<Expr>,
     /// The arguments as they are computed: each the same over every record.
     pub(crate) folded: Vec<Expr>,
     pub(crate) long: u32,
     ghost within: { All (IsWithin (length text)) directives.items } by { Prim.hlevel (props, within_prop) },
+    ghost shown: { map directive_of steps.items ≡ directives.items } by { Prim.hlevel (props, codes) },
     ghost same: { SameTrees (map tree_of folded.items) (map tree_of args.items) } by { Prim.hlevel props },
 }
 
@@ -39,6 +45,14 @@ impl PrintPlan {
         ensures within { All (IsWithin (length (plan_view self.now).text)) result.now }
     {
         self.directives.as_slice()
+    }
+
+    /// The steps that show the directives, in order.
+    pub(crate) fn steps(&self) -> &[Step]
+        ensures value { map directive_of result.now ≡ (plan_view self.now).directives }
+        ensures within { All (λ s. IsWithin (length (plan_view self.now).text) (directive_of s)) result.now }
+    {
+        self.steps.as_slice()
     }
 
     /// The arguments, in order.

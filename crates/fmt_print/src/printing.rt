@@ -1,7 +1,6 @@
 //! Directives over arguments.
 
 ghost use Rattle.std.specs.Prelude.{◌≡◌, length, map};
-ghost use Rattle.std.specs.List.{All};
 ghost use Rattle.trace_base.specs.Kept.{put, put_held};
 ghost use Rattle.trace_base.specs.TailView.{kept, held, lent};
 ghost use Rattle.fmt_directives.specs.Directives.{IsWithin};
@@ -11,14 +10,19 @@ ghost use Rattle.fmt_print.specs.Strings.{letter_text, string_text};
 ghost use Rattle.fmt_print.specs.Addresses.{pointer_text};
 ghost use Rattle.fmt_print.specs.Arguments.{taken, by};
 ghost use Rattle.fmt_print.specs.PlanView.{plan_view};
+ghost use Rattle.fmt_print.specs.Steps.{plain_spec, decimal_base, directive_of, held_with};
+ghost use Rattle.fmt_directives.specs.declared.directive.Length.TheVariants as len;
 ghost use Rattle.fmt_print.specs.Printed.{long_bits, bits_of, is_signed, number_text, printed_one, printed, print_text};
 
 use crate::address::put_pointer;
-use crate::arguments::{Conversion, taken};
+use crate::arguments::{first_of, taken};
 use crate::form::Form;
 use crate::integer::put_integer;
+use crate::plain::{add_number, add_piece, add_pointer, add_text};
 use crate::plan::PrintPlan;
+use crate::step::Step;
 use crate::string::{put_letter, put_string};
+use crate::waiting::Waiting;
 use fmt_directives::{Base, Directive, Length, PointerForm, Spec};
 use fmt_eval::{cast_bits, number};
 use fmt_expr::Expr;
@@ -32,7 +36,7 @@ fn long_bits(long: u32) -> u32
 }
 
 /// How many bits a length asks for.
-fn bits_of(length: Length, long: u32) -> u32
+pub fn bits_of(length: Length, long: u32) -> u32
     ensures { result ≡ bits_of length long }
 {
     match length {
@@ -205,23 +209,132 @@ fn put_directive<'a>(
     }
 }
 
-/// Puts the texts of directives, one after another.
-fn put_directives(
+/// Adds the text of a plain conversion of numbers, and gives the arguments behind it.
+#[tactic(auto, using(crate::proofs::StepLemmas::shown_none, crate::proofs::StepLemmas::shown_some, crate::proofs::WaitLemmas::held_with_nothing))]
+fn add_number_step<'a>(
     long: u32,
-    text: &[u8],
-    directives: &[Directive],
+    length: Length,
+    signed: bool,
+    args: &'a [Expr],
+    rec: &Rec<'_>,
+    waiting: &mut Waiting,
+    into: &mut Tail<'_>,
+) -> &'a [Expr]
+    ensures same_slice { lent into.new ≡ lent into.old }
+    ensures value { held_with into.new waiting.new ≡ put_held (held_with into.old waiting.old) (by (number_text (given rec.now) long (plain_spec length) (decimal_base signed)) (taken (given rec.now) (plain_spec length) (map tree_of args.now))).0 }
+    ensures rest { map tree_of result.now ≡ (by (number_text (given rec.now) long (plain_spec length) (decimal_base signed)) (taken (given rec.now) (plain_spec length) (map tree_of args.now))).1 }
+{
+    match first_of(args) {
+        Some((argument, rest)) => {
+            add_number(long, length, signed, argument, rec, waiting, into);
+            rest
+        }
+        None => &[],
+    }
+}
+
+/// Adds the text of a plain conversion `s`, and gives the arguments behind it.
+#[tactic(auto, using(crate::proofs::StepLemmas::shown_none, crate::proofs::StepLemmas::shown_some, crate::proofs::WaitLemmas::held_with_nothing))]
+fn add_text_step<'a>(
+    args: &'a [Expr],
+    rec: &Rec<'_>,
+    symbols: &Symbols,
+    waiting: &mut Waiting,
+    into: &mut Tail<'_>,
+) -> &'a [Expr]
+    ensures same_slice { lent into.new ≡ lent into.old }
+    ensures value { held_with into.new waiting.new ≡ put_held (held_with into.old waiting.old) (by (string_text (given rec.now) symbols.now) (taken (given rec.now) (plain_spec len.Usual) (map tree_of args.now))).0 }
+    ensures rest { map tree_of result.now ≡ (by (string_text (given rec.now) symbols.now) (taken (given rec.now) (plain_spec len.Usual) (map tree_of args.now))).1 }
+{
+    match first_of(args) {
+        Some((argument, rest)) => {
+            add_text(argument, rec, symbols, waiting, into);
+            rest
+        }
+        None => &[],
+    }
+}
+
+/// Adds the text of a plain conversion `p`, and gives the arguments behind it.
+#[tactic(auto, using(crate::proofs::StepLemmas::shown_none, crate::proofs::StepLemmas::shown_some, crate::proofs::WaitLemmas::held_with_nothing))]
+fn add_pointer_step<'a>(
+    pointer: PointerForm,
+    args: &'a [Expr],
+    rec: &Rec<'_>,
+    symbols: &Symbols,
+    waiting: &mut Waiting,
+    into: &mut Tail<'_>,
+) -> &'a [Expr]
+    ensures same_slice { lent into.new ≡ lent into.old }
+    ensures value { held_with into.new waiting.new ≡ put_held (held_with into.old waiting.old) (by (pointer_text pointer (given rec.now) symbols.now) (taken (given rec.now) (plain_spec len.Usual) (map tree_of args.now))).0 }
+    ensures rest { map tree_of result.now ≡ (by (pointer_text pointer (given rec.now) symbols.now) (taken (given rec.now) (plain_spec len.Usual) (map tree_of args.now))).1 }
+{
+    match first_of(args) {
+        Some((argument, rest)) => {
+            add_pointer(pointer, argument, rec, symbols, waiting, into);
+            rest
+        }
+        None => &[],
+    }
+}
+
+/// Adds the text of a step, and gives the arguments behind it.
+#[tactic(auto, using(crate::proofs::PrintLemmas::held_nothing))]
+fn add_step<'a>(
+    plan: &PrintPlan,
+    step: &Step,
+    args: &'a [Expr],
+    rec: &Rec<'_>,
+    symbols: &Symbols,
+    waiting: &mut Waiting,
+    into: &mut Tail<'_>,
+) -> &'a [Expr]
+    requires { IsWithin (length (plan_view plan.now).text) (directive_of step.now) }
+    ensures same_slice { lent into.new ≡ lent into.old }
+    ensures value { held_with into.new waiting.new ≡ put_held (held_with into.old waiting.old) (printed_one (given rec.now) symbols.now (plan_view plan.now).long (plan_view plan.now).text (directive_of step.now) (map tree_of args.now)).0 }
+    ensures rest { map tree_of result.now ≡ (printed_one (given rec.now) symbols.now (plan_view plan.now).long (plan_view plan.now).text (directive_of step.now) (map tree_of args.now)).1 }
+{
+    match step {
+        Step::Literal { start, end } => {
+            add_piece(&plan.text()[*start as usize..*end as usize], waiting, into);
+            args
+        }
+        Step::Decimal { length, signed } => {
+            add_number_step(plan.long(), *length, *signed, args, rec, waiting, into)
+        }
+        Step::Text => add_text_step(args, rec, symbols, waiting, into),
+        Step::Pointer { form } => add_pointer_step(*form, args, rec, symbols, waiting, into),
+        Step::Other { directive } => {
+            waiting.put_into(into);
+            put_directive(
+                plan.long(),
+                plan.text(),
+                *directive,
+                args,
+                rec,
+                symbols,
+                into,
+            )
+        }
+    }
+}
+
+/// Adds the texts of a plan's steps, one after another.
+fn add_steps(
+    plan: &PrintPlan,
     args: &[Expr],
     rec: &Rec<'_>,
     symbols: &Symbols,
+    waiting: &mut Waiting,
     into: &mut Tail<'_>,
 )
-    requires { All (IsWithin (length text.now)) directives.now }
     ensures same_slice { lent into.new ≡ lent into.old }
-    ensures value { held into.new ≡ put_held (held into.old) (printed (given rec.now) symbols.now long text.now directives.now (map tree_of args.now)) }
+    ensures value { held_with into.new waiting.new ≡ put_held (held_with into.old waiting.old) (printed (given rec.now) symbols.now (plan_view plan.now).long (plan_view plan.now).text (plan_view plan.now).directives (map tree_of args.now)) }
 {
+    let steps = plan.steps();
     let mut left = args;
-    for directive in directives {
-        left = put_directive(long, text, *directive, left, rec, symbols, into);
+    for step in steps {
+        left = add_step(plan, step, left, rec, symbols, waiting, into);
     }
 }
 
@@ -231,14 +344,7 @@ pub fn print(plan: &PrintPlan, rec: &Rec<'_>, symbols: &Symbols, into: &mut Tail
     ensures same_slice { lent into.new ≡ lent into.old }
     ensures value { held into.new ≡ put_held (held into.old) (print_text (plan_view plan.now) (given rec.now) symbols.now) }
 {
-    let args = plan.folded();
-    put_directives(
-        plan.long(),
-        plan.text(),
-        plan.directives(),
-        args,
-        rec,
-        symbols,
-        into,
-    );
+    let mut waiting = Waiting::new();
+    add_steps(plan, plan.folded(), rec, symbols, &mut waiting, into);
+    waiting.put_into(into);
 }

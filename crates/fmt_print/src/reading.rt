@@ -6,6 +6,7 @@ ghost use Rattle.fmt_print.specs.Plan.{IsPlanOf, IsUnread, plan_of};
 ghost use Rattle.fmt_print.specs.PlanView.{plan_view};
 
 use crate::plan::PrintPlan;
+use crate::step::steps_of;
 use fmt_directives::directives;
 use fmt_expr::PrintFmt;
 use fmt_fold::all_folded;
@@ -30,10 +31,12 @@ pub fn compile(alloc: Global, fmt: PrintFmt) -> Result<Option<PrintPlan>, AllocE
     let Some(directives) = directives(alloc, text.as_bytes())? else {
         return Ok(None);
     };
+    let steps = steps_of(alloc, directives.as_slice())?;
     let folded = all_folded(alloc, args.as_slice())?;
     Ok(Some(PrintPlan {
         text,
         directives,
+        steps,
         args,
         folded,
         long,

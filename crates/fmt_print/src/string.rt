@@ -6,6 +6,8 @@ ghost use Rattle.symbols.specs.NameMap.{first_at};
 ghost use Rattle.trace_base.specs.Kept.{put, put_held};
 ghost use Rattle.trace_base.specs.TailView.{kept, held, lent};
 ghost use Rattle.fmt_expr.specs.TreeView.{tree_of};
+ghost use Rattle.fmt_expr.specs.Kinds.{kind_of};
+ghost use Rattle.fmt_expr.specs.declared.kinds.Kind.TheVariants as kinds;
 ghost use Rattle.fmt_eval.specs.Values.{given};
 ghost use Rattle.fmt_eval.specs.Texts.{up_to_nul, text_of};
 ghost use Rattle.fmt_eval.specs.Pieces.{hexadecimal};
@@ -79,31 +81,29 @@ fn behind_prefix(precision: Option<u32>) -> Option<u32>
     precision.map(|p| p.saturating_sub(2))
 }
 
-/// The text of a tree where it lies in memory, perhaps with a NUL and more behind it.
-#[tactic(auto, using(crate::proofs::TextLemmas::nul_once))]
-fn text_in<'a>(expr: &'a Expr, rec: &Rec<'a>) -> Option<&'a [u8]>
-    ensures { IfSome result (λ text. up_to_nul text.now ≡ up_to_nul (text_of (given rec.now) (tree_of expr.now))) }
+/// The tree that gives the text of a tree: that behind a cast, and of a choice the arm that is taken.
+pub fn source_of<'a>(expr: &'a Expr, rec: &Rec<'_>) -> &'a Expr
+    ensures { text_of (given rec.now) (tree_of result.now) ≡ text_of (given rec.now) (tree_of expr.now) }
 {
     match expr {
-        Expr::Literal { text } => Some(text.as_bytes()),
-        Expr::FieldText { field } => Some(bytes_of(rec, field)),
-        Expr::Cast { of, .. } => text_in(of, rec),
+        Expr::Cast { of, .. } => source_of(of, rec),
         Expr::Choice { test, yes, no } => {
             if number(test, rec).is_true() {
-                text_in(yes, rec)
+                source_of(yes, rec)
             } else {
-                text_in(no, rec)
+                source_of(no, rec)
             }
         }
-        _ => None,
+        _ => expr,
     }
 }
 
 /// The text of a tree without operands, where it lies in memory, perhaps with a NUL and more behind it.
 #[inline(always)]
 #[tactic(auto, using(crate::proofs::TextLemmas::nul_once))]
-fn text_at_once<'a>(expr: &'a Expr, rec: &Rec<'a>) -> Option<&'a [u8]>
-    ensures { IfSome result (λ text. up_to_nul text.now ≡ up_to_nul (text_of (given rec.now) (tree_of expr.now))) }
+pub fn text_at_once<'a>(expr: &'a Expr, rec: &Rec<'a>) -> Option<&'a [u8]>
+    ensures value { IfSome result (λ text. up_to_nul text.now ≡ up_to_nul (text_of (given rec.now) (tree_of expr.now))) }
+    ensures kind { IfSome result (λ _. kind_of (tree_of expr.now) ≡ kinds.Text) }
 {
     match expr {
         Expr::Literal { text } => Some(text.as_bytes()),
@@ -118,13 +118,10 @@ fn put_text_of(form: &Form, expr: &Expr, rec: &Rec<'_>, into: &mut Tail<'_>)
     ensures same_slice { lent into.new ≡ lent into.old }
     ensures value { held into.new ≡ put_held (held into.old) (padded form.now.left form.now.width (cut_to form.now.precision (up_to_nul (text_of (given rec.now) (tree_of expr.now))))) }
 {
-    if let Some(text) = text_at_once(expr, rec) {
-        put_bytes(form, up_to_nul(text), into);
-        return;
-    }
-    match text_in(expr, rec) {
+    let source = source_of(expr, rec);
+    match text_at_once(source, rec) {
         Some(text) => put_bytes(form, up_to_nul(text), into),
-        None => put_flow(form, expr, rec, into),
+        None => put_flow(form, source, rec, into),
     }
 }
 

@@ -1,8 +1,11 @@
-use Rattle.std.proofs.Common.{arith, map}
+use Rattle.std.proofs.Common.{List, ℕ, sym, ap, ◌∙◌, map}
+use Rattle.trace_base.specs.Kept.{Held, put_held}
+use Rattle.trace_base.specs.TailView.{held}
 use Rattle.fmt_expr.specs.TreeView.{tree_of}
 use Rattle.fmt_eval.specs.Values.{given}
 use Rattle.fmt_print.specs.PlanView.{plan_view}
-use Rattle.fmt_print.specs.Printed.{print_text}
+use Rattle.fmt_print.specs.Printed.{printed, print_text}
+use Rattle.fmt_print.proofs.PrintLemmas.{held_nothing}
 use Rattle.fmt_print.proofs.SameLemmas.{printed_same}
 use Rattle.fmt_print.proofs.printing.print.Goals as goal
 
@@ -11,5 +14,8 @@ unfolding print_text
 returns-clause-value c =
     let plan = plan_view c.args.plan.now in
     let g = given c.args.rec.now in
-    let same = printed_same g c.args.symbols.now plan.long plan.text plan.directives (map tree_of c.folded-args.result.now) plan.args (c.folded-args.ensures.each g) in
-    grind (arith, same)
+    let text = printed g c.args.symbols.now plan.long plan.text plan.directives (map tree_of c.folded.result.now) in
+    c.put_into.ensures.value ∙ c.add_steps.ensures.value
+    ∙ ap (λ (w : List ℕ). put_held (put_held (held c.args.into.now) w) text) c.new-waiting.ensures
+    ∙ ap (λ (h : Held). put_held h text) (sym (held_nothing c.args.into.now))
+    ∙ ap (put_held (held c.args.into.now)) (printed_same g c.args.symbols.now plan.long plan.text plan.directives (map tree_of c.folded.result.now) plan.args (c.folded.ensures.each g))

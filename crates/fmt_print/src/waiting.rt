@@ -1,0 +1,90 @@
+//! Text that waits to be put.
+
+ghost use Rattle.std.specs.Prelude.{◌≡◌, [], ◌++◌, ◌+◌, ◌<◌, ◌≤◌, length};
+ghost use Rattle.std.specs.Fmt.{decimal};
+ghost use Rattle.trace_base.specs.Kept.{put_held};
+ghost use Rattle.trace_base.specs.TailView.{held, lent};
+ghost use Rattle.fmt_print.specs.Plain.{minus};
+
+use itoa::write_digits;
+use std::marker::Model;
+use trace_base::Tail;
+
+/// Text of at most 192 bytes that waits to be put, so that many small pieces are put as one. Contracts see the text.
+#[derive(Drop)]
+pub struct Waiting {
+    room: [u8; 192],
+    len: usize,
+}
+
+impl Model for Waiting {
+    ghost use Rattle.std.specs.Prelude.{◌≤◌, ℕ, List, take};
+
+    ghost Value = { List ℕ };
+
+    ghost view = { λ w. take w.len w.room };
+
+    ghost invariant = { λ w. w.len ≤ 192 };
+}
+
+impl Waiting {
+    /// Nothing yet.
+    pub fn new() -> Waiting
+        ensures { result ≡ [] }
+    {
+        Waiting {
+            room: [0; 192],
+            len: 0,
+        }
+    }
+
+    /// How many more bytes there is room for.
+    pub fn spare(&self) -> usize
+        ensures { result + length self.now ≡ 192 }
+    {
+        192 - self.len
+    }
+
+    /// Adds a text.
+    pub fn text(&mut self, text: &[u8])
+        requires { length self.old + length text.now ≤ 192 }
+        ensures { self.new ≡ self.old ++ text.now }
+    {
+        let end = self.len + text.len();
+        self.room[self.len..end].copy_from_slice(text);
+        self.len = end;
+    }
+
+    /// Adds the sign of a number.
+    pub fn minus(&mut self, negative: bool)
+        requires { length self.old < 192 }
+        ensures longer { length self.new ≤ length self.old + 1 }
+        ensures value { self.new ≡ self.old ++ minus negative }
+    {
+        if negative {
+            self.text(b"-");
+        }
+    }
+
+    /// Adds a decimal number.
+    pub fn decimal(&mut self, n: u64)
+        requires { length self.old + 20 ≤ 192 }
+        ensures { self.new ≡ self.old ++ decimal n }
+    {
+        // Twenty bytes are copied, however many digits there are: a copy of a fixed length needs no call.
+        let mut digits = [0; 40];
+        let start = write_digits(n, &mut digits, 20);
+        self.room[self.len..self.len + 20].copy_from_slice(&digits[start..start + 20]);
+        self.len += 20 - start;
+    }
+
+    /// Puts the text, after which nothing waits.
+    pub fn put_into(&mut self, into: &mut Tail<'_>)
+        ensures same_slice { lent into.new ≡ lent into.old }
+        ensures value { held into.new ≡ put_held (held into.old) self.old }
+        ensures empty { self.new ≡ [] }
+    {
+        into.put(&self.room[..self.len]);
+        self.len = 0;
+    }
+}
