@@ -6,3 +6,5 @@ pub mod HeldPuts
 pub mod Lengths
 pub mod LineLemmas
 pub mod Passing
+pub mod Rooms
+pub mod ZeroFills

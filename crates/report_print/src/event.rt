@@ -1,6 +1,7 @@
 // The text of an item, without the line's end.
 
-ghost use Rattle.std.specs.Prelude.{◌≡◌, ◌≤◌, ◌++◌, length};
+ghost use Rattle.std.specs.Prelude.{◌≡◌, ◌≤◌, ◌+◌, ◌++◌, [], length, FitsSigned};
+ghost use Rattle.std.specs.Int.{w32};
 ghost use Rattle.format_parse.specs.Table.{format_at};
 ghost use Rattle.trace_base.specs.Kept.{put_held};
 ghost use Rattle.trace_base.specs.TailView.{held, lent};
@@ -45,8 +46,10 @@ fn put_front(context: &Context, cpu: u32, time: u64, payload: &[u8], into: &mut 
     ensures same_slice { lent into.new ≡ lent into.old }
     ensures value { held into.new ≡ put_held (held into.old) (spec.front_text context.now cpu time payload.now) }
 {
-    let name = context.symbols().comm_of(context.pid(payload));
-    let mut front = columns(context, cpu, time, payload);
+    let pid = context.pid(payload);
+    let name = context.symbols().comm_of(pid);
+    let mut front = Front::new();
+    put_columns(context, cpu, time, pid, payload, &mut front);
     let width = task_width(context.show());
     if name.len() <= 40 {
         front.task(width, name);
@@ -63,25 +66,35 @@ fn task_width(show: &Show) -> usize
     if show.latency { 8 } else { 16 }
 }
 
-/// The columns behind the task's name.
+/// Puts the columns behind the task's name, of the task with this pid, in an empty front.
 #[tactic(auto, unfolding(crate::specs::Line::columns_text))]
-fn columns(context: &Context, cpu: u32, time: u64, payload: &[u8]) -> Front
-    ensures value { result ≡ spec.columns_text context.now cpu time payload.now }
-    ensures short { length result ≤ 115 }
+fn put_columns(context: &Context, cpu: u32, time: u64, pid: i32, payload: &[u8], front: &mut Front)
+    requires empty { front.old ≡ [] }
+    requires pid { pid ≡ spec.pid_of context.now payload.now }
+    requires range { FitsSigned w32 pid }
+    ensures value { front.new ≡ spec.columns_text context.now cpu time payload.now }
+    ensures short { length front.new ≤ 115 }
 {
-    let show = context.show();
-    let mut front = Front::new();
     front.text(b": ");
-    front.time(show.full, time);
-    front.place(
-        show,
-        cpu,
-        context.flags(payload),
-        context.preempt_count(payload),
-    );
-    front.pid(context.pid(payload));
+    front.time(context.show().full, time);
+    put_place(context, cpu, payload, front);
+    front.pid(pid);
     front.byte(b'-');
-    front
+}
+
+/// Puts the processor in front, and with the latency columns what the event says of its context.
+#[tactic(auto, unfolding(crate::specs::Line::place_text))]
+fn put_place(context: &Context, cpu: u32, payload: &[u8], front: &mut Front)
+    requires { length front.old ≤ 49 }
+    ensures longer { length front.new ≤ length front.old + 26 }
+    ensures value { front.new ≡ spec.place_text context.now.show cpu (spec.flags_of context.now payload.now) (spec.preempt_count_of context.now payload.now) ++ front.old }
+{
+    if context.show().latency {
+        let flags = context.flags(payload);
+        front.latency(cpu, flags, context.preempt_count(payload));
+    } else {
+        front.processor(cpu);
+    }
 }
 
 /// Puts the event's name and what is said of it.

@@ -1,17 +1,16 @@
 // The columns of a line, written from the right.
 
-ghost use Rattle.std.specs.Prelude.{◌≡◌, ◌∷◌, ◌++◌, [], ◌+◌, ◌-◌, ◌<◌, ◌≤◌, length, max, replicate, FitsSigned};
+ghost use Rattle.std.specs.Prelude.{◌≡◌, ◌∷◌, ◌++◌, [], ◌+◌, ◌-◌, ◌^◌, ◌<◌, ◌≤◌, length, max, replicate, codes, FitsSigned};
 ghost use Rattle.std.specs.Int.{w32};
 ghost use Rattle.std.specs.Fmt.{decimal, signed_decimal};
-ghost use Rattle.report_print.specs.Columns.{left, right, fill, micros, time_text};
-ghost use Rattle.report_print.specs.Line.{place_text};
+ghost use Rattle.report_print.specs.Columns.{left, right, zeros, micros, time_text};
+ghost use Rattle.report_print.specs.Marks as spec;
 
 use crate::marks::latency_marks;
-use crate::show::Show;
 use itoa::{Buffer, write_digits};
 use std::marker::Model;
 
-/// A text of at most 160 bytes that grows at its front. Contracts see the text.
+/// A text of at most 160 bytes that grows at its front, in a room of spaces. Contracts see the text.
 #[derive(Drop)]
 pub(crate) struct Front {
     buffer: [u8; 160],
@@ -19,13 +18,13 @@ pub(crate) struct Front {
 }
 
 impl Model for Front {
-    ghost use Rattle.std.specs.Prelude.{◌≤◌, ℕ, List, drop};
+    ghost use Rattle.std.specs.Prelude.{◌≡◌, ◌≤◌, ℕ, List, take, drop, replicate};
 
     ghost Value = { List ℕ };
 
     ghost view = { λ f. drop f.at f.buffer };
 
-    ghost invariant = { λ f. f.at ≤ 160 };
+    ghost invariant = { λ f. (f.at ≤ 160) × (take f.at f.buffer ≡ replicate f.at 32) };
 }
 
 impl Front {
@@ -34,7 +33,7 @@ impl Front {
         ensures { result ≡ [] }
     {
         Front {
-            buffer: [0; 160],
+            buffer: [b' '; 160],
             at: 160,
         }
     }
@@ -75,15 +74,13 @@ impl Front {
         self.at = at;
     }
 
-    /// Puts a byte in front until the text is as long as this.
-    pub fn fill(&mut self, byte: u8, len: usize)
+    /// Puts spaces in front until the text is as long as this.
+    pub fn fill(&mut self, len: usize)
         requires { len ≤ 160 }
         ensures longer { length self.new ≡ max len (length self.old) }
-        ensures value { self.new ≡ replicate (len - length self.old) byte ++ self.old }
+        ensures value { self.new ≡ replicate (len - length self.old) 32 ++ self.old }
     {
-        let at = 160 - len.max(self.len());
-        self.buffer[at..self.at].fill(byte);
-        self.at = at;
+        self.at = self.at.min(160 - len);
     }
 
     /// Puts a number in front.
@@ -96,16 +93,32 @@ impl Front {
         self.at = write_digits(n, &mut self.buffer, self.at);
     }
 
-    /// Puts a number in front, filled to a width.
-    pub fn number(&mut self, n: u64, fills: u8, width: usize)
+    /// Puts a number in front, at the right of its column.
+    pub fn number(&mut self, width: usize, n: u64)
         requires room { length self.old ≤ 140 }
         requires narrow { width ≤ 20 }
         ensures longer { length self.new ≤ length self.old + 20 }
-        ensures value { self.new ≡ (fill fills width (decimal n) ++ decimal n) ++ self.old }
+        ensures value { self.new ≡ right width (decimal n) ++ self.old }
     {
         let len = self.len() + width;
         self.digits(n);
-        self.fill(fills, len);
+        self.fill(len);
+    }
+
+    /// Puts a byte and a number in front, with the zeros that its column asks for. `power` is ten to the power of the width.
+    pub fn zeros(&mut self, mark: u8, width: usize, power: u64, n: u64)
+        requires room { length self.old ≤ 140 }
+        requires some { 0 < width }
+        requires power { power ≡ 10 ^ width }
+        requires small { power ≤ 10 ^ 9 }
+        requires below { n < power }
+        ensures longer { length self.new ≤ length self.old + 20 }
+        ensures value { self.new ≡ mark ∷ (zeros width (decimal n) ++ self.old) }
+    {
+        // The digits of the sum are a 1, the zeros, and the number's own digits.
+        let at = write_digits(power + n, &mut self.buffer, self.at);
+        self.buffer[at] = mark;
+        self.at = at;
     }
 
     /// Puts seconds and their part in front.
@@ -116,34 +129,50 @@ impl Front {
         ensures value { self.new ≡ time_text full time ++ self.old }
     {
         if full {
-            self.number(time % 1_000_000_000, b'0', 9);
-            self.byte(b'.');
-            self.number(time / 1_000_000_000, b' ', 5);
+            self.zeros(b'.', 9, 1_000_000_000, time % 1_000_000_000);
+            self.number(5, time / 1_000_000_000);
         } else {
             let micros = micros(time);
-            self.number(micros % 1_000_000, b'0', 6);
-            self.byte(b'.');
-            self.number(micros / 1_000_000, b' ', 5);
+            self.zeros(b'.', 6, 1_000_000, micros % 1_000_000);
+            self.number(5, micros / 1_000_000);
         }
     }
 
-    /// Puts the processor in front, and with the latency columns what the event says of its context.
-    #[tactic(auto, unfolding(crate::specs::Line::place_text))]
-    pub fn place(&mut self, show: &Show, cpu: u32, flags: u32, preempt_count: u32)
+    /// Puts a processor's number in front, behind a bracket.
+    fn bracket(&mut self, cpu: u32)
+        requires { length self.old ≤ 51 }
+        ensures longer { length self.new ≤ length self.old + 21 }
+        ensures value { self.new ≡ 91 ∷ (zeros 3 (decimal cpu) ++ self.old) }
+    {
+        if cpu < 1000 {
+            self.zeros(b'[', 3, 1000, cpu as u64);
+        } else {
+            self.digits(cpu as u64);
+            self.byte(b'[');
+        }
+    }
+
+    /// Puts the processor in front.
+    pub fn processor(&mut self, cpu: u32)
         requires { length self.old ≤ 49 }
         ensures longer { length self.new ≤ length self.old + 26 }
-        ensures value { self.new ≡ place_text show.now cpu flags preempt_count ++ self.old }
+        ensures value { self.new ≡ (codes " [" ++ (zeros 3 (decimal cpu) ++ codes "] ")) ++ self.old }
     {
-        if show.latency {
-            self.byte(b' ');
-            self.text(&latency_marks(flags, preempt_count));
-            self.number(cpu as u64, b' ', 3);
-            self.byte(b' ');
-        } else {
-            self.text(b"] ");
-            self.number(cpu as u64, b'0', 3);
-            self.text(b" [");
-        }
+        self.text(b"] ");
+        self.bracket(cpu);
+        self.byte(b' ');
+    }
+
+    /// Puts the processor in front, and what an event says of its context.
+    pub fn latency(&mut self, cpu: u32, flags: u32, preempt_count: u32)
+        requires { length self.old ≤ 49 }
+        ensures longer { length self.new ≤ length self.old + 26 }
+        ensures value { self.new ≡ (codes " " ++ (right 3 (decimal cpu) ++ (spec.latency_marks flags preempt_count ++ codes " "))) ++ self.old }
+    {
+        self.byte(b' ');
+        self.text(&latency_marks(flags, preempt_count));
+        self.number(3, cpu as u64);
+        self.byte(b' ');
     }
 
     /// Puts a task's name in front, at the right of its column.
@@ -155,7 +184,7 @@ impl Front {
     {
         let len = self.len() + width;
         self.text(name);
-        self.fill(b' ', len);
+        self.fill(len);
     }
 
     /// Puts a pid in front, at the left of its column.
@@ -167,7 +196,7 @@ impl Front {
     {
         let mut buffer = Buffer::new();
         let digits = buffer.format(pid).as_bytes();
-        self.fill(b' ', self.len() + 5usize.saturating_sub(digits.len()));
+        self.fill(self.len() + 5usize.saturating_sub(digits.len()));
         self.text(digits);
     }
 }

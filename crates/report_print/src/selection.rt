@@ -6,13 +6,16 @@ ghost use Rattle.report_print.specs.Line as spec;
 
 use crate::context::Context;
 use crate::marks::has_flag;
-use crate::show::Show;
 use subpage::Item;
 
-fn is_shown(show: &Show, flags: u32) -> bool
-    ensures { result ≡ spec.is_shown show.now flags }
+/// Whether an event is shown, as far as interrupts go. Its flags are read only where they decide.
+fn is_shown(context: &Context, payload: &[u8]) -> bool
+    ensures { result ≡ spec.is_shown context.now.show (spec.flags_of context.now payload.now) }
 {
-    !(show.no_hard && has_flag(8, flags)) && !(show.no_soft && has_flag(16, flags))
+    let show = context.show();
+    let hard = show.no_hard && has_flag(8, context.flags(payload));
+    let soft = show.no_soft && has_flag(16, context.flags(payload));
+    !hard && !soft
 }
 
 /// Whether the item of this processor is shown: a loss always, and an event where the filters show it, unless it was written in
@@ -22,7 +25,7 @@ pub fn selected(context: &Context, cpu: u32, item: &Item<'_>) -> bool
 {
     match item {
         Item::Event { time: _, payload } => {
-            is_shown(context.show(), context.flags(payload)) && context.passes(cpu, payload)
+            is_shown(context, payload) && context.passes(cpu, payload)
         }
         Item::Loss { .. } => true,
     }
