@@ -1,12 +1,10 @@
 -- The job that a reading asks for.
-use Rattle.std.proofs.Common.{◌≡◌, ℕ, List, Result, Ok, Err, sym, ap, ◌∙◌}
+use Rattle.std.proofs.Common.{◌≡◌, ℕ, List, Result, Ok, Err, ap}
 use Rattle.trace_args.specs.declared.fault.WordFault.{WordFault}
-use Rattle.trace_args.specs.declared.fault.WordKind.TheVariants as kind
 use Rattle.trace_args.specs.Command as asked
 use Rattle.trace_args.specs.Command.{CommandData, ReportData, DumpData, SelfData, SplitData}
-use Rattle.trace_args.specs.Faults.{fault}
 use Rattle.trace_args.specs.Reading.{reading}
-use Rattle.trace_run.specs.Job.{Job, OnFile, SelfTest, Report, Dump, job_of, job_read}
+use Rattle.trace_run.specs.Job.{Job, OnFile, SelfTest, Report, Dump, Split, job_of, job_read}
 
 job_is : (words : List (List ℕ)) (read : Result CommandData WordFault) → reading words ≡ read → job_of words ≡ job_read read
 unfolding job_of
@@ -21,9 +19,8 @@ dump_asked words dump is = job_is words (Ok (asked.Dump dump)) is
 pub self_test_asked : (words : List (List ℕ)) (test : SelfData) → reading words ≡ Ok (asked.SelfTest test) → job_of words ≡ Ok (SelfTest test)
 self_test_asked words test is = job_is words (Ok (asked.SelfTest test)) is
 
-pub split_asked : (words : List (List ℕ)) (split : SplitData) (wrong : WordFault) → reading words ≡ Ok (asked.Split split) → wrong ≡ fault 1 kind.Unknown
-    → job_of words ≡ Err wrong
-split_asked words split wrong is unknown = job_is words (Ok (asked.Split split)) is ∙ ap (λ (f : WordFault). Err f) (sym unknown)
+pub split_asked : (words : List (List ℕ)) (split : SplitData) → reading words ≡ Ok (asked.Split split) → job_of words ≡ Ok (OnFile (Split split))
+split_asked words split is = job_is words (Ok (asked.Split split)) is
 
 pub none_asked : (words : List (List ℕ)) (wrong : WordFault) → reading words ≡ Err wrong → job_of words ≡ Err wrong
 none_asked words wrong is = job_is words (Err wrong) is

@@ -7,6 +7,12 @@ pub mod Latency
 pub mod PartsPrinted
 pub mod Selection
 pub mod Endings
+pub mod SplitWords
+pub mod HeaderLength
+pub mod Taken
+pub mod FewBytes
+pub mod Splits
+pub mod Lanes
 pub mod Jobs
 pub mod GeneratedReport
 pub mod SelfTested

@@ -52,8 +52,8 @@ never_read status before now caused = λ is. let rose : Rose 0 0 = caused.read_f
 ends : (words : SelfData) (status : Status) (files : Option NamedFiles) (counts : Counts) (before now : SinkSeen) → Writes (self_test words) status before.written now.written
     → IsCaused status 0 0 before.faults now.faults → RunsJob (SelfTest words) status (seen files counts before) (seen files counts now)
 ends words status None counts before now writes caused = tt
-ends words status (Some files) counts before now writes caused =
-    ends_plain (self_test words) status (seen (Some files) counts before) (seen (Some files) counts now) refl refl writes
+ends words status (Some files) counts before now writes caused = λ claimed.
+    ends_plain (Rose counts.reading counts.reading) (self_test words) status (seen (Some files) counts before) (seen (Some files) counts now) refl refl writes
     (λ is. absurd (never_read status before.faults now.faults caused is)) caused.write_fault refl refl
 
 risen : (status : Status) (before now : Outside) → status ≢ ReadFault → (status ≡ WriteFault → Rose before.out.faults now.out.faults) → IsOfFile status

@@ -6,10 +6,11 @@ use Rattle.trace_run.specs.declared.status.Status.{Status}
 use Rattle.trace_run.specs.declared.status.Status.TheVariants.{Done, Usage, Refused, ReadFault, WriteFault, NoMemory}
 use Rattle.trace_run.specs.declared.usage.UsageFault.{UsageFault}
 use Rattle.trace_run.specs.Job.{Job}
-use Rattle.trace_run.specs.Ending.{Outside, RunsJob, write_faults}
+use Rattle.trace_run.specs.Ending.{Outside, IsClaimedOf, RunsJob, write_faults}
 use Rattle.trace_run.specs.Meaning.{Meaning, Target, on_out, job_target, meaning}
 use Rattle.trace_run.specs.Work.{IsOfFile}
 use Rattle.trace_run.specs.Counts.{ClosesAll, JobMisses, JobReads, OpensAtMostOne}
+use Rattle.trace_run.specs.Usage.{asked}
 
 abbrev pub target_read : Result Job UsageFault → Target
 target_read (Ok job) = job_target job
@@ -29,7 +30,8 @@ IsComplete m status before now = m.status ≡ Done → ¬ (Rose before.counts.re
     → ¬ (Rose (write_faults m.target before) (write_faults m.target now)) → (status ≡ Done) ⊎ (status ≡ NoMemory)
 
 abbrev pub RunIsComplete : List (List ℕ) → Status → Outside → Outside → Type 0
-RunIsComplete words status before now = IfSome before.files (λ files. IsComplete (meaning words files) status before now)
+RunIsComplete words status before now =
+    IfSome before.files (λ files. IsClaimedOf (asked words) files → IsComplete (meaning words files) status before now)
 
 -- Usage is answered just where the words or a filter of theirs have no reading, unless there is no memory to read
 -- them; nothing is touched then

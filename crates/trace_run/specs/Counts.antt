@@ -1,5 +1,5 @@
 -- What a run leaves of the folder's counts: files opened and closed, names that are missing, bytes read.
-use Rattle.std.specs.Prelude.{Option, Result, Ok, Err, ◌≡◌, ◌≢◌, ◌+◌, ◌-◌, ◌^◌, ◌<◌, ◌≤◌, ℕ, Bool, List, length, sum_by, IfSome, IfOk}
+use Rattle.std.specs.Prelude.{Option, Result, Ok, Err, ◌≡◌, ◌≢◌, ◌+◌, ◌-◌, ◌*◌, ◌^◌, ◌<◌, ◌≤◌, ℕ, Bool, List, length, sum_by, IfSome, IfOk}
 use Rattle.std.specs.FinMap.{get}
 use Rattle.trace_outside.specs.declared.counts.Counts.{Counts}
 use Rattle.trace_outside.specs.Causes.{raised}
@@ -13,9 +13,10 @@ use Rattle.trace_run.specs.declared.usage.UsageFault.{UsageFault}
 use Rattle.trace_args.specs.declared.listing.Listing.{Listing}
 use Rattle.trace_args.specs.declared.listing.Listing.TheVariants.{Nothing}
 use Rattle.trace_run.specs.Ending.{Outside}
-use Rattle.trace_run.specs.Job.{FileCommand, Report, Dump, Job, OnFile, SelfTest}
+use Rattle.trace_run.specs.Job.{FileCommand, Report, Dump, Split, Job, OnFile, SelfTest}
 use Rattle.trace_run.specs.Meaning.{Meaning, input_of, meaning, job_meaning}
 use Rattle.trace_run.specs.Report.{selected}
+use Rattle.trace_run.specs.Split.{taken_of}
 use Rattle.trace_run.specs.Usage.{asked}
 
 -- files were opened as often as closed, as far as the counts go
@@ -45,10 +46,16 @@ abbrev pub report_share : Listing → Option (List Bool) → ℕ → ℕ → Bod
 report_share Nothing cpus end size body = body_share cpus end size body
 report_share list cpus end size body = 0
 
+-- a split reads the parts of the processors that it takes up to three times: for where its items begin, for each file's
+-- table, and for its data
+abbrev pub split_share : Option ℕ → Body → ℕ
+split_share one body = 3 * sum_by (λ part. part.1.size) (taken_of one body)
+
 -- how many bytes behind the header a command needs, of a file of this size
 abbrev pub share : FileCommand → Header → ℕ → ℕ
 share (Report words) header size = report_share words.list words.cpus header.end size header.body
 share (Dump words) header size = 0
+share (Split words) header size = split_share words.cpu header.body
 
 -- no more bytes were read than the header and the command's share have
 abbrev pub ReadsAtMost : FileCommand → Option (List ℕ) → ℕ → ℕ → Type 0

@@ -4,8 +4,7 @@ use Rattle.std.specs.Prelude.{Result, Ok, Err, ◌≡◌, ◌≢◌, List, ℕ, 
 use Rattle.trace_args.specs.declared.fault.WordFault.{WordFault}
 use Rattle.trace_args.specs.declared.fault.WordKind.TheVariants as kind
 use Rattle.trace_args.specs.Command as asked
-use Rattle.trace_args.specs.Command.{CommandData, ReportData, DumpData, SelfData, report_view, dump_view, self_view}
-use Rattle.trace_args.specs.Faults.{fault}
+use Rattle.trace_args.specs.Command.{CommandData, ReportData, DumpData, SelfData, SplitData, report_view, dump_view, self_view, split_view}
 use Rattle.trace_args.specs.Reading.{reading}
 use Rattle.trace_run.specs.declared.job.FileCommand.{FileCommand as CodeCommand}
 use Rattle.trace_run.specs.declared.job.FileCommand.TheVariants as code_command
@@ -16,17 +15,18 @@ use Rattle.trace_run.specs.declared.job.Job.TheVariants as code_job
 pub data FileCommand : Type 0 where
   Report : ReportData → FileCommand
   Dump : DumpData → FileCommand
+  Split : SplitData → FileCommand
 
 pub data Job : Type 0 where
   OnFile : FileCommand → Job
   SelfTest : SelfData → Job
 
--- the job that a reading asks for; `split` is not done yet
+-- the job that a reading asks for
 abbrev pub job_read : Result CommandData WordFault → Result Job WordFault
 job_read (Ok (asked.Report report)) = Ok (OnFile (Report report))
 job_read (Ok (asked.Dump dump)) = Ok (OnFile (Dump dump))
+job_read (Ok (asked.Split split)) = Ok (OnFile (Split split))
 job_read (Ok (asked.SelfTest words)) = Ok (SelfTest words)
-job_read (Ok (asked.Split split)) = Err (fault 1 kind.Unknown)
 job_read (Err wrong) = Err wrong
 
 -- the job that words ask for, or their first fault
@@ -36,6 +36,7 @@ job_of words = job_read (reading words)
 abbrev pub command_view : CodeCommand → FileCommand
 command_view (code_command.Report report) = Report (report_view report)
 command_view (code_command.Dump dump) = Dump (dump_view dump)
+command_view (code_command.Split split) = Split (split_view split)
 
 abbrev pub job_view : CodeJob → Job
 job_view (code_job.OnFile command) = OnFile (command_view command)

@@ -2,6 +2,9 @@ pub mod Text
 pub mod Context
 pub mod Report
 pub mod Job
+pub mod Allowed
+pub mod Split
+pub mod Lanes
 pub mod Usage
 pub mod UsageView
 pub mod Selftest

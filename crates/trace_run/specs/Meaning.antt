@@ -13,22 +13,19 @@ use Rattle.trace_run.specs.declared.status.Status.{Status}
 use Rattle.trace_run.specs.declared.status.Status.TheVariants.{Done, Usage, Refused, Malformed, ReadFault}
 use Rattle.trace_run.specs.declared.usage.UsageFault.{UsageFault}
 use Rattle.trace_run.specs.Usage.{asked}
-use Rattle.trace_args.specs.Command.{ReportData, DumpData, SelfData}
+use Rattle.trace_args.specs.Command.{ReportData, DumpData, SelfData, SplitData}
 use Rattle.report_lists.specs.Lists.{names_list, formats_list, symbols_list, printk_list}
 use Rattle.format_parse.specs.declared.format.EventFormat.{EventFormat}
 use Rattle.symbols.specs.Maps.{Maps}
 use Rattle.trace_args.specs.declared.listing.Listing.{Listing}
 use Rattle.trace_args.specs.declared.listing.Listing.TheVariants.{Nothing, Names, Formats, Symbols, Printk}
 use Rattle.trace_run.specs.Context.{context_of, formats_of, symbols_of}
-use Rattle.trace_run.specs.Job.{FileCommand, Report, Dump, Job, OnFile, SelfTest}
+use Rattle.trace_run.specs.Job.{FileCommand, Report, Dump, Split, Job, OnFile, SelfTest}
 use Rattle.trace_run.specs.Report.{cpus_line, report_pieces, selected}
 use Rattle.trace_run.specs.Selftest.{self_test_line}
+use Rattle.trace_run.specs.Split.{split_end, split_files, status_of}
 use Rattle.dump_tool.specs.Dump.{dump_text}
-
--- a new file: its name and its bytes
-pub record NewFile : Type 0 where
-  pub name : List ℕ
-  pub content : List ℕ
+use Rattle.split_tool.specs.Stored.{NewFile}
 
 -- the object whose fault a fault of writing is
 pub data Target : Type 0 where
@@ -92,6 +89,15 @@ report_by list words header bytes = list_report header list
 abbrev pub dump_of : DumpData → Header → Meaning
 dump_of words header = prints (dump_text words header ∷ []) Done
 
+-- nothing is printed: the file is cut into new ones
+abbrev pub split_by : SplitData → Header → List ℕ → Meaning
+split_by words header bytes = record {
+  pieces = [];
+  status = status_of (split_end words header bytes);
+  files = split_files words header bytes;
+  target = on_folder;
+}
+
 -- the line of a self-test
 abbrev pub self_test : SelfData → Meaning
 self_test words = prints (self_test_line words ∷ []) Done
@@ -100,11 +106,13 @@ self_test words = prints (self_test_line words ∷ []) Done
 abbrev pub target_of : FileCommand → Target
 target_of (Report words) = on_out
 target_of (Dump words) = on_out
+target_of (Split words) = on_folder
 
 -- a command, of a file's bytes with the header that they begin with
 abbrev pub header_means : FileCommand → Header → List ℕ → Meaning
 header_means (Report words) header bytes = report_by words.list words header bytes
 header_means (Dump words) header bytes = dump_of words header
+header_means (Split words) header bytes = split_by words header bytes
 
 -- the same, or why they begin with none
 abbrev pub file_means : FileCommand → Result Header OpenFault → List ℕ → Meaning
@@ -124,6 +132,7 @@ command_means command (Some bytes) = input_means command bytes
 abbrev pub input_of : FileCommand → List ℕ
 input_of (Report words) = words.input
 input_of (Dump words) = words.input
+input_of (Split words) = words.input
 
 abbrev pub command_meaning : FileCommand → NamedFiles → Meaning
 command_meaning command files = command_means command (get files (input_of command))

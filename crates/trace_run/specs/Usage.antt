@@ -7,7 +7,7 @@ use Rattle.trace_args.specs.declared.fault.WordFault.{WordFault}
 use Rattle.filter_lang.specs.Filter as lang
 use Rattle.filter_lang.specs.Reading as filter_text
 use Rattle.filter_truth.specs.Selection.{UseData}
-use Rattle.trace_run.specs.Job.{FileCommand, Report, Dump, Job, OnFile, SelfTest, job_of}
+use Rattle.trace_run.specs.Job.{FileCommand, Report, Dump, Split, Job, OnFile, SelfTest, job_of}
 use Rattle.trace_run.specs.declared.usage.UsageFault.{UsageFault}
 use Rattle.trace_run.specs.declared.usage.UsageFault.TheVariants.{Word, Filter}
 
@@ -33,6 +33,7 @@ filters_read (w ∷ ws) = before_others (use_read w) (filters_read ws)
 abbrev pub command_filters : FileCommand → List FilterData
 command_filters (Report words) = words.filters
 command_filters (Dump words) = []
+command_filters (Split words) = []
 
 abbrev pub job_filters : Job → List FilterData
 job_filters (OnFile command) = command_filters command

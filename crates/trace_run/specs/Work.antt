@@ -5,7 +5,10 @@ use Rattle.trace_outside.specs.Writing.{Gained, GainedPrefix}
 use Rattle.dat_header.specs.Header.{IsRefusal}
 use Rattle.trace_run.specs.declared.status.Status.{Status}
 use Rattle.trace_run.specs.declared.status.Status.TheVariants.{Usage, Refused, ReadFault, WriteFault, NoMemory}
-use Rattle.trace_run.specs.Meaning.{Meaning}
+use Rattle.split_tool.specs.Stored.{KeepsCounts}
+use Rattle.trace_run.specs.Ending.{EndsBy, IsClaimed, Outside, write_faults}
+use Rattle.trace_run.specs.Job.{FileCommand}
+use Rattle.trace_run.specs.Meaning.{Meaning, target_of}
 use Rattle.trace_run.specs.Text.{text}
 
 -- what stands on the output after this answer
@@ -30,4 +33,10 @@ pub record IsCaused (status : Status) (file_before file_now out_before out_now :
   pub read_fault : status ≡ ReadFault → Rose file_before file_now
   pub write_fault : status ≡ WriteFault → Rose out_before out_now
   pub of_file : IsOfFile status
-  pub later : file_before ≤ file_now
+
+-- What a command did that means this of a file's bytes, over a file with so many faults: it ended in one of the four ways,
+-- a fault of reading is one of the file, and of the folder's counts none but those of faults and of files created moved.
+pub record Worked (command : FileCommand) (means : List ℕ → Meaning) (told : Option (List ℕ)) (faults_before faults_now : ℕ) (status : Status) (before now : Outside) : Type 0 where
+  pub ends : IfSome told (λ bytes. IsClaimed command bytes → EndsBy (Rose faults_before faults_now) (means bytes) status before now)
+  pub causes : IsCaused status faults_before faults_now (write_faults (target_of command) before) (write_faults (target_of command) now)
+  pub counts : KeepsCounts before.counts now.counts

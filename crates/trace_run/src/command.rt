@@ -1,10 +1,12 @@
 // One job. Where it is a command on a file, that is opened, its header read, the work done, and the file closed. This
 // stands here once for all such commands.
 
-ghost use Rattle.std.specs.Prelude.{◌≡◌, ◌≤◌, map};
+ghost use Rattle.std.specs.Prelude.{Ok, ◌≡◌, ◌≤◌, map};
 ghost use Rattle.trace_base.specs.Layout.{IsLayout};
 ghost use Rattle.trace_outside.specs.Causes.{raised};
-ghost use Rattle.dat_header.specs.Allowed.{IsBody};
+ghost use Rattle.dat_header.specs.Allowed.{IsHeader};
+ghost use Rattle.dat_header.specs.Header.{ReadsHeader};
+ghost use Rattle.trace_run.specs.Allowed.{IsAllowed, IsAllowedJob};
 ghost use Rattle.trace_run.specs.Causes.{RanJob};
 ghost use Rattle.trace_run.specs.Counts.{ReadsInput, share};
 ghost use Rattle.trace_run.specs.Ending.{beside, sink_seen};
@@ -12,18 +14,19 @@ ghost use Rattle.trace_run.specs.Job.{OnFile, command_view, job_view};
 ghost use Rattle.trace_run.specs.Meaning as spec;
 ghost use Rattle.trace_run.specs.Meaning.{header_means, input_means, job_input};
 ghost use Rattle.trace_run.specs.Usage.{command_filters, job_filters, uses_in};
-ghost use Rattle.trace_run.specs.Work.{IsCaused, WritesFor};
+ghost use Rattle.trace_run.specs.Work.{Worked};
 ghost use Rattle.filter_truth.specs.SelectionView.{use_of};
 
 use crate::dump::print_dump;
 use crate::job::{FileCommand, Job};
 use crate::report::print_report;
 use crate::selftest::print_self_test;
+use crate::split::cut_file;
 use crate::status::Status;
 use dat_header::{Header, OpenFault, read_header};
 use filter_truth::FilterUse;
 use std::alloc::Global;
-use trace_outside::{Failed, File, Folder, Sink};
+use trace_outside::{Failed, Folder, Sink};
 
 /// The name of a job's input.
 pub(crate) fn job_input<'a>(job: &Job<'a>) -> &'a str
@@ -42,6 +45,7 @@ fn input_of<'a>(command: &FileCommand<'a>) -> &'a str
     match command {
         FileCommand::Report(words) => words.input,
         FileCommand::Dump(words) => words.input,
+        FileCommand::Split(words) => words.input,
     }
 }
 
@@ -53,7 +57,8 @@ pub(crate) fn run_job<F: Folder, O: Sink>(
     folder: &mut F,
     out: &mut O,
 ) -> Status
-    requires { uses_in (job_filters (job_view job.now)) ≡ map use_of filters.items }
+    requires allowed { IsAllowedJob (job_view job.now) }
+    requires filters { uses_in (job_filters (job_view job.now)) ≡ map use_of filters.items }
     ensures { RanJob (job_view job.now) result
         (beside F.files F.counts folder.old (sink_seen O.written O.faults out.old))
         (beside F.files F.counts folder.new (sink_seen O.written O.faults out.new)) }
@@ -72,7 +77,8 @@ fn run_command<F: Folder, O: Sink>(
     folder: &mut F,
     out: &mut O,
 ) -> Status
-    requires { uses_in (command_filters (command_view command.now)) ≡ map use_of filters.items }
+    requires allowed { IsAllowed (command_view command.now) }
+    requires filters { uses_in (command_filters (command_view command.now)) ≡ map use_of filters.items }
     ensures { RanJob (OnFile (command_view command.now)) result
         (beside F.files F.counts folder.old (sink_seen O.written O.faults out.old))
         (beside F.files F.counts folder.new (sink_seen O.written O.faults out.new)) }
@@ -80,7 +86,7 @@ fn run_command<F: Folder, O: Sink>(
     match folder.open_file(input_of(command)) {
         Err(Failed) => Status::ReadFault,
         Ok(mut file) => {
-            let status = run_on_file(alloc, command, filters, &mut file, out);
+            let status = run_on_file(alloc, command, filters, &mut file, folder, out);
             folder.close_file(file);
             status
         }
@@ -88,46 +94,54 @@ fn run_command<F: Folder, O: Sink>(
 }
 
 // Does a command on a file that was just opened. Its header is read once.
-fn run_on_file<I: File, O: Sink>(
+fn run_on_file<F: Folder, O: Sink>(
     alloc: Global,
     command: &FileCommand<'_>,
     filters: Vec<FilterUse>,
-    file: &mut I,
+    file: &mut F::In,
+    folder: &mut F,
     out: &mut O,
 ) -> Status
-    requires { uses_in (command_filters (command_view command.now)) ≡ map use_of filters.items }
-    ensures writes { WritesFor (input_means (command_view command.now)) (I.bytes file.old) result (O.written out.old) (O.written out.new) }
-    ensures causes { IsCaused result (I.faults file.old) (I.faults file.new) (O.faults out.old) (O.faults out.new) }
-    ensures reads { ReadsInput (command_view command.now) (I.bytes file.old) result (I.reads file.old) (I.reads file.new) }
+    requires allowed { IsAllowed (command_view command.now) }
+    requires filters { uses_in (command_filters (command_view command.now)) ≡ map use_of filters.items }
+    ensures worked { Worked (command_view command.now) (input_means (command_view command.now)) (F.In.bytes file.old) (F.In.faults file.old) (F.In.faults file.new) result
+        (beside F.files F.counts folder.old (sink_seen O.written O.faults out.old))
+        (beside F.files F.counts folder.new (sink_seen O.written O.faults out.new)) }
+    ensures reads { ReadsInput (command_view command.now) (F.In.bytes file.old) result (F.In.reads file.old) (F.In.reads file.new) }
 {
     match read_header(alloc, file) {
-        Ok(header) => run_on_header(alloc, command, filters, &header, file, out),
+        Ok(header) => run_on_header(alloc, command, filters, header, file, folder, out),
         Err(OpenFault::Read) => Status::ReadFault,
         Err(OpenFault::Memory) => Status::NoMemory,
         Err(fault) => Status::Refused(fault),
     }
 }
 
-// Does a command on a file that has this header: each command is a function of its own with these clauses.
-fn run_on_header<I: File, O: Sink>(
+// Does a command on a file that has this header. A command that only prints is a function over the file and the output,
+// and one that makes files a function over the file and the folder.
+fn run_on_header<F: Folder, O: Sink>(
     alloc: Global,
     command: &FileCommand<'_>,
     filters: Vec<FilterUse>,
-    header: &Header,
-    file: &mut I,
+    header: Header,
+    file: &mut F::In,
+    folder: &mut F,
     out: &mut O,
 ) -> Status
+    requires words { IsAllowed (command_view command.now) }
     requires filters { uses_in (command_filters (command_view command.now)) ≡ map use_of filters.items }
-    requires allowed { IsLayout header.now.layout }
-    requires inside { header.now.end ≤ I.size file.old }
-    requires parts { IsBody header.now.cpus header.now.body }
-    requires few { header.now.cpus ≤ 1024 }
-    ensures writes { WritesFor (header_means (command_view command.now) header.now) (I.bytes file.old) result (O.written out.old) (O.written out.new) }
-    ensures causes { IsCaused result (I.faults file.old) (I.faults file.new) (O.faults out.old) (O.faults out.new) }
-    ensures reads { I.reads file.new ≤ raised (I.reads file.old) (share (command_view command.now) header.now (I.size file.old)) }
+    requires allowed { IsHeader header }
+    requires layout { IsLayout header.layout }
+    requires read { ReadsHeader (F.In.bytes file.old) (Ok header) }
+    requires inside { header.end ≤ F.In.size file.old }
+    ensures worked { Worked (command_view command.now) (header_means (command_view command.now) header) (F.In.bytes file.old) (F.In.faults file.old) (F.In.faults file.new) result
+        (beside F.files F.counts folder.old (sink_seen O.written O.faults out.old))
+        (beside F.files F.counts folder.new (sink_seen O.written O.faults out.new)) }
+    ensures reads { F.In.reads file.new ≤ raised (F.In.reads file.old) (share (command_view command.now) header (F.In.size file.old)) }
 {
     match command {
-        FileCommand::Report(words) => print_report(alloc, words, filters, header, file, out),
-        FileCommand::Dump(words) => print_dump(alloc, words, header, out),
+        FileCommand::Report(words) => print_report(alloc, words, filters, &header, file, out),
+        FileCommand::Dump(words) => print_dump(alloc, words, &header, out),
+        FileCommand::Split(words) => cut_file(alloc, words, header, file, folder),
     }
 }

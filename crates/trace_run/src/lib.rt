@@ -13,6 +13,7 @@ mod report;
 mod rest;
 mod select;
 mod selftest;
+mod split;
 mod status;
 #[cfg(test)]
 mod tests;

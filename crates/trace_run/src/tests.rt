@@ -4,6 +4,7 @@ mod disk;
 mod filters;
 mod known;
 mod selftests;
+mod splits;
 
 use crate::{Status, run};
 use dat_header::OpenFault;
@@ -65,6 +66,8 @@ enum Record {
     Event(u32, u16, u32, u8, u8),
     /// An event whose payload ends behind its id: its delta and id.
     Short(u32, u16),
+    /// An event of delta 0 that fills a sub-buffer: its id and pid.
+    Large(u16, u32),
     /// A switch: its delta, pid, the task before, its state, and the task behind.
     Switch(u32, u32, Task, u64, Task),
     /// A function: its delta, pid, address, and the address that it was called from.
@@ -513,6 +516,14 @@ fn put_record(file: &mut Vec<u8>, record: &Record) -> Result<(), Fail> {
             put_head(file, *delta, 1)?;
             put_head(file, 0, u32::from(*id))
         }
+        Record::Large(id, pid) => {
+            let end = file.len().saturating_add(4080);
+            put_head(file, 0, 0)?;
+            file.extend_from_slice(&4076u32.to_le_bytes())?;
+            put_common(file, *id, 0, 0, *pid)?;
+            file.resize(end, 0)?;
+            Ok(())
+        }
         Record::Switch(delta, pid, from, state, to) => {
             put_head(file, *delta, 16)?;
             put_common(file, SWITCH, 0, 0, *pid)?;
@@ -659,7 +670,7 @@ fn fails_as<R: Alloc<A = Global> + Abort + Threads + Sync>(
 ) -> Result<(), Fail> {
     let alloc = rt.alloc();
     let words = words_of(alloc, &["report"])?;
-    let mut disk = Disk::new(bytes_of(alloc, &ONE)?, from);
+    let mut disk = Disk::new(bytes_of(alloc, &ONE)?, from, false);
     let mut out = MemSink::new(alloc);
     let mut err = MemSink::new(alloc);
     let status = run(rt, alloc, &words, &mut disk, &mut out, &mut err, &NoGate);

@@ -3,6 +3,7 @@
 ghost use Rattle.std.specs.Prelude.{◌≡◌, Ok, map, IfErr, IfOk};
 ghost use Rattle.trace_args.specs.Command.{filter_view};
 ghost use Rattle.filter_truth.specs.SelectionView.{use_of};
+ghost use Rattle.trace_run.specs.Allowed.{IsAllowedJob};
 ghost use Rattle.trace_run.specs.Job.{command_view, job_view};
 ghost use Rattle.trace_run.specs.Usage.{asked, command_filters, filters_read, job_filters, use_read, uses_in};
 ghost use Rattle.trace_run.specs.UsageView.{IsFaultOf};
@@ -53,6 +54,7 @@ pub(crate) fn ask<'a>(
     words: &'a Words,
 ) -> Result<(Job<'a>, Vec<FilterUse>), AskFault>
     ensures job { IfOk result (λ found. asked words.now ≡ Ok (job_view found.0)) }
+    ensures allowed { IfOk result (λ found. IsAllowedJob (job_view found.0)) }
     ensures filters { IfOk result (λ found. uses_in (job_filters (job_view found.0)) ≡ map use_of found.1.items) }
     ensures fault { IfErr result (λ why. IsFaultOf (asked words.now) why) }
 {
@@ -80,7 +82,7 @@ fn command_filters<'a, 'b>(command: &'b FileCommand<'a>) -> &'b [FilterWord<'a>]
 {
     match command {
         FileCommand::Report(words) => words.filters.as_slice(),
-        FileCommand::Dump(_) => &[],
+        FileCommand::Dump(_) | FileCommand::Split(_) => &[],
     }
 }
 

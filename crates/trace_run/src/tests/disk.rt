@@ -1,24 +1,26 @@
-// A folder whose one file cannot be read from a place on.
+// A folder whose one file cannot be read from a place on, and in which nothing can be made.
 
 ghost use Rattle.std.specs.Prelude.{None, length, [], ◌∷◌};
 
 use std::alloc::{AllocError, Global};
 use trace_outside::{Counts, Failed, File, Folder, Sink};
 
-/// A folder with one file under every name. Nothing can be created in it.
+/// A folder with one file under every name. What is created in it, if anything, cannot be finished.
 #[derive(Drop)]
 pub(super) struct Disk {
     bytes: Vec<u8>,
     from: u64,
+    creates: bool,
     counts: Counts,
 }
 
 impl Disk {
     /// A folder with a file of these bytes, of which those from this place on cannot be read.
-    pub(super) fn new(bytes: Vec<u8>, from: u64) -> Disk {
+    pub(super) fn new(bytes: Vec<u8>, from: u64, creates: bool) -> Disk {
         Disk {
             bytes,
             from,
+            creates,
             counts: Counts::NONE,
         }
     }
@@ -112,6 +114,10 @@ impl Folder for Disk {
     }
 
     fn create_file(&mut self, _name: &str) -> Result<Nowhere, Failed> {
+        if self.creates {
+            self.counts.created = self.counts.created.saturating_add(1);
+            return Ok(Nowhere);
+        }
         self.counts.writing = self.counts.writing.saturating_add(1);
         Err(Failed)
     }

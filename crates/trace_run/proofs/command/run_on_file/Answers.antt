@@ -1,7 +1,17 @@
+use Rattle.std.proofs.Common.{rules, ℕ, List, Option, Ok, subst, sym}
+use Rattle.dat_header.specs.Header.{ReadsHeader}
 use Rattle.trace_run.specs.Job.{command_view}
-use Rattle.trace_run.proofs.Endings.{behind_header_writes}
+use Rattle.trace_run.proofs.Endings.{behind_header, header_unread}
 use Rattle.trace_run.proofs.command.run_on_file.Goals as goal
 
-pub returns-in-Ok-clause-writes : goal.returns-in-Ok-clause-writes
-returns-in-Ok-clause-writes g c =
-    behind_header_writes (command_view c.args.command.now) c.in-Ok.header _ _ c.run_on_header.result _ _ c.read_header.ensures.bytes c.in-Ok.ensures.answer c.run_on_header.ensures.writes
+pub run_on_header-requires-clause-read : goal.run_on_header-requires-clause-read
+run_on_header-requires-clause-read g c =
+    subst (λ (told : Option (List ℕ)). ReadsHeader told (Ok c.in-Ok.header)) (sym c.read_header.ensures.bytes) c.in-Ok.ensures.answer
+
+pub returns-in-Ok-clause-worked : goal.returns-in-Ok-clause-worked
+returns-in-Ok-clause-worked g c =
+    behind_header (command_view c.args.command.now) c.in-Ok.header _ _ _ _ _ c.run_on_header.result _ _ c.read_header.ensures.bytes c.in-Ok.ensures.answer
+    c.read_header.ensures.later c.run_on_header.ensures.worked
+
+pub returns-in-Err-Read-clause-worked : goal.returns-in-Err-Read-clause-worked
+returns-in-Err-Read-clause-worked g c = header_unread (command_view c.args.command.now) _ _ _ _ (search rules)

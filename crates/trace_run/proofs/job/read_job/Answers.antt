@@ -1,11 +1,11 @@
-use Rattle.std.proofs.Common.{◌≡◌, rules, Ok}
-use Rattle.trace_args.specs.Command as asked
+use Rattle.std.proofs.Common.{rules}
 use Rattle.trace_args.specs.Command.{split_view}
-use Rattle.trace_args.specs.Reading.{reading}
 use Rattle.trace_run.proofs.Jobs.{split_asked}
+use Rattle.trace_run.proofs.SplitWords.{split_allowed}
 use Rattle.trace_run.proofs.job.read_job.Goals as goal
 
-pub returns-in-Ok-Split : goal.returns-in-Ok-Split
-returns-in-Ok-Split c =
-    let read : reading c.args.words.now ≡ Ok (asked.Split (split_view c.in-Ok-Split.field-0-0)) = search rules in
-    λ other. split_asked c.args.words.now (split_view c.in-Ok-Split.field-0-0) c.at.result read c.at.ensures
+pub returns-in-Ok-Split-clause-allowed : goal.returns-in-Ok-Split-clause-allowed
+returns-in-Ok-Split-clause-allowed c = split_allowed c.args.words.now (split_view c.in-Ok-Split.split) (search rules)
+
+pub returns-in-Ok-Split-clause-job : goal.returns-in-Ok-Split-clause-job
+returns-in-Ok-Split-clause-job c = split_asked c.args.words.now (split_view c.in-Ok-Split.split) (search rules)

@@ -1,0 +1,62 @@
+-- The new files of an input of at most 2^39 bytes are shorter than 2^64 bytes.
+use Rattle.std.proofs.Common.{◌≡◌, ℕ, ◌+◌, ◌<◌, ◌≤◌, ◌^◌, Bool, true, false, cond, not, List, [], ◌∷◌, length, Option, Some, None, Ok, ap, arith}
+use Rattle.std.proofs.lemmas.List.{length-append, length-replicate}
+use Rattle.std.proofs.lemmas.List.Concat.{flat_map-cons}
+use Rattle.std.specs.List.{All, filter, flat_map}
+use Rattle.std.specs.Option.{option_map}
+use Rattle.trace_base.specs.declared.order.Order.{Order}
+use Rattle.trace_base.specs.declared.part.Part.{Part}
+use Rattle.trace_args.specs.Command.{SplitData}
+use Rattle.dat_options.specs.declared.option.Opt.{Opt}
+use Rattle.dat_options.specs.Options.{option_text}
+use Rattle.dat_header.specs.declared.header.Header.{Header}
+use Rattle.dat_header.specs.Allowed.{IsHeader}
+use Rattle.dat_header.specs.Header.{header_of}
+use Rattle.dat_header.specs.Written.{header_text, is_instance, section_len, without_instances}
+use Rattle.dat_header.proofs.Wrapped.{length-header_text}
+use Rattle.split_file.specs.NewFile.{blank}
+use Rattle.split_tool.specs.Stored.{NewFile}
+use Rattle.split_tool.proofs.FewBytes.{short_parts}
+use Rattle.trace_run.specs.Split.{split_files, taken_of}
+use Rattle.trace_run.proofs.HeaderLength.{header_inside}
+use Rattle.trace_run.proofs.Taken.{taken_within}
+
+-- options that are left out take no room
+filter_shorter : {X : Type 0} (spell : X → List ℕ) (p : X → Bool) (xs : List X) → length (flat_map spell (filter p xs)) ≤ length (flat_map spell xs)
+filter_shorter spell p [] = omega arith
+filter_shorter spell p (x ∷ xs) = by_test (p x) (filter_shorter spell p xs)
+  where
+    by_test : (b : Bool) → length (flat_map spell (filter p xs)) ≤ length (flat_map spell xs)
+        → length (flat_map spell (cond b (x ∷ filter p xs) (filter p xs))) ≤ length (flat_map spell (x ∷ xs))
+    by_test true fewer = omega (
+      arith,
+      fewer,
+      ap length (flat_map-cons spell x xs),
+      ap length (flat_map-cons spell x (filter p xs)),
+      length-append (spell x) (flat_map spell xs),
+      length-append (spell x) (flat_map spell (filter p xs)),
+    )
+    by_test false fewer = omega (arith, fewer, ap length (flat_map-cons spell x xs), length-append (spell x) (flat_map spell xs))
+
+section_shorter : (order : Order) (p : Opt → Bool) (options : Option (List Opt)) → section_len order (option_map (filter p) options) ≤ section_len order options
+section_shorter order p None = omega arith
+section_shorter order p (Some options) = omega (arith, filter_shorter (option_text order) p options)
+
+-- a header that was read of so few bytes is short, whatever table it gets
+text_short : (header : Header) (bytes : List ℕ) → header_of bytes ≡ Ok header → header.cpus ≤ 1024 → length bytes ≤ 2 ^ 39
+    → length (header_text (without_instances header) (blank header.cpus)) ≤ 2 ^ 41
+text_short header bytes read few short = omega (
+  arith,
+  few,
+  short,
+  header_inside bytes header read,
+  section_shorter header.order (λ option. not (is_instance option)) header.options,
+  length-header_text (without_instances header) (blank header.cpus),
+  length-replicate {A = Part} header.cpus (record { offset = 0; size = 0 }),
+)
+
+pub few_bytes : (words : SplitData) (header : Header) (bytes : List ℕ) → IsHeader (without_instances header) → header_of bytes ≡ Ok header → length bytes ≤ 2 ^ 39
+    → All (λ (new : NewFile). length new.content < 2 ^ 64) (split_files words header bytes)
+few_bytes words header bytes allowed read short =
+    let some = taken_within words.cpu header.cpus header.body allowed.body in
+    short_parts words (without_instances header) bytes (taken_of words.cpu header.body) allowed (text_short header bytes read allowed.cpus short) (omega (arith, some, allowed.cpus)) short

@@ -1,0 +1,15 @@
+use Rattle.std.proofs.Common.{◌<◌, length, arith, ◌∙◌}
+use Rattle.std.proofs.lemmas.List.{length-set}
+use Rattle.trace_run.proofs.Lanes.{all_set, one_set, still_unused}
+use Rattle.trace_run.proofs.split.set_lanes.Goals as goal
+
+pub loop-i-preserved : goal.loop-i-preserved
+loop-i-preserved c =
+    let so_far = c.loop-i.invariant in
+    let within : c.loop-i.i < length c.args.parts.now = omega arith in
+    let inside : c.loop-i.i < length c.loop-i.lanes = omega (arith, so_far.same) in
+    record {
+      same = length-set c.loop-i.lanes c.loop-i.i c.set_lane.new.lane ∙ so_far.same;
+      parts = one_set c.loop-i.lanes c.args.parts.now c.loop-i.i c.set_lane.new.lane _ inside within c.set_lane.ensures.part.0 c.set_lane.ensures.part.1 so_far.parts;
+      unused = λ len all. still_unused len c.loop-i.lanes c.loop-i.i _ c.set_lane.new.lane inside c.set_lane.ensures.kept.0 c.set_lane.ensures.kept.1 (so_far.unused len all);
+    }

@@ -1,0 +1,149 @@
+// A split: its memory is taken, each processor that it takes has a lane, and the new files are made.
+
+ghost use Rattle.std.specs.Prelude.{Ok, ◌≡◌, ◌≤◌, ◌+◌, ◌++◌, [], ◌∷◌, ℕ, All, IfOk, IfSome, OnOk, filter, length};
+ghost use Rattle.trace_base.specs.declared.part.Part.{Part};
+ghost use Rattle.trace_outside.specs.Causes.{Rose, raised};
+ghost use Rattle.dat_header.specs.Allowed.{IsHeader};
+ghost use Rattle.dat_header.specs.Header.{ReadsHeader};
+ghost use Rattle.page_pool.specs.declared.lane.Lane.{Lane};
+ghost use Rattle.time_merge.specs.LaneRows.{parts_of};
+ghost use Rattle.trace_args.specs.Command.{split_view};
+ghost use Rattle.split_tool.specs.Stored.{KeepsCounts};
+ghost use Rattle.trace_run.specs.Allowed.{IsAllowedSplit};
+ghost use Rattle.trace_run.specs.Counts.{split_share};
+ghost use Rattle.trace_run.specs.Ending.{EndsBy, IsClaimed, SinkSeen, beside};
+ghost use Rattle.trace_run.specs.Job.{Split};
+ghost use Rattle.trace_run.specs.Meaning.{split_by};
+ghost use Rattle.trace_run.specs.Split as spec;
+ghost use Rattle.trace_run.specs.Lanes.{IsUnused};
+ghost use Rattle.trace_run.specs.Split.{taken, taken_of};
+ghost use Rattle.trace_run.specs.Work.{IsCaused};
+
+use crate::status::Status;
+use dat_header::{Body, Header};
+use page_pool::{Lane, Pool};
+use split_tool::{End, SplitPlan, SplitWork, split};
+use std::alloc::{AllocError, Global};
+use trace_args::SplitWords;
+use trace_base::Part;
+use trace_outside::Folder;
+
+/// Cuts a file with this header into new files of the folder. Nothing is created before all memory is there.
+pub(crate) fn cut_file<F: Folder>(
+    alloc: Global,
+    words: &SplitWords<'_>,
+    header: Header,
+    file: &mut F::In,
+    folder: &mut F,
+) -> Status
+    requires words { IsAllowedSplit (split_view words.now) }
+    requires allowed { IsHeader header }
+    requires read { ReadsHeader (F.In.bytes file.old) (Ok header) }
+    ensures ends { (out : SinkSeen) → IfSome (F.In.bytes file.old) (λ bytes. IsClaimed (Split (split_view words.now)) bytes
+        → EndsBy (Rose (F.In.faults file.old) (F.In.faults file.new)) (split_by (split_view words.now) header bytes) result
+        (beside F.files F.counts folder.old out) (beside F.files F.counts folder.new out)) }
+    ensures causes { IsCaused result (F.In.faults file.old) (F.In.faults file.new) (F.counts folder.old).writing (F.counts folder.new).writing }
+    ensures counts { KeepsCounts (F.counts folder.old) (F.counts folder.new) }
+    ensures reads { F.In.reads file.new ≤ raised (F.In.reads file.old) (split_share words.now.cpu header.body) }
+{
+    let mut header = header;
+    let Ok(parts) = take(alloc, words.cpu, &header) else {
+        return Status::NoMemory;
+    };
+    header.drop_instances();
+    let count = parts.len() as u32;
+    let (Ok(mut pool), Ok(mut work)) = (
+        Pool::new(alloc, count, header.layout.page, 0),
+        SplitWork::new(alloc, &header, count),
+    ) else {
+        return Status::NoMemory;
+    };
+    let lanes = pool.lanes();
+    set_lanes(lanes, &parts);
+    let plan = SplitPlan {
+        words,
+        header: &header,
+    };
+    status_of(split(&plan, file, lanes, &mut work, folder))
+}
+
+// The processors that a split takes, with their numbers.
+fn take(alloc: Global, one: Option<u32>, header: &Header) -> Result<Vec<(u32, Part)>, AllocError>
+    requires { IsHeader header.now }
+    ensures taken { IfOk result (λ parts. parts.items ≡ taken_of one header.now.body) }
+    ensures few { IfOk result (λ parts. length parts.items ≤ 1024) }
+{
+    match &header.body {
+        Body::Latency => Ok(Vec::new(alloc)),
+        Body::Fly(parts) => take_parts(alloc, one, parts.as_slice()),
+    }
+}
+
+fn take_parts(
+    alloc: Global,
+    one: Option<u32>,
+    parts: &[Part],
+) -> Result<Vec<(u32, Part)>, AllocError>
+    requires { length parts.now ≤ 1024 }
+    ensures { IfOk result (λ chosen. chosen.items ≡ taken one parts.now) }
+{
+    let mut chosen = Vec::with_capacity(alloc, parts.len())?;
+    let mut cpu = 0;
+    for part in parts {
+        push_taken(&mut chosen, one, (cpu, *part))?;
+        cpu += 1;
+    }
+    Ok(chosen)
+}
+
+fn push_taken(
+    chosen: &mut Vec<(u32, Part)>,
+    one: Option<u32>,
+    part: (u32, Part),
+) -> Result<(), AllocError>
+    ensures { OnOk result (chosen.new.items ≡ chosen.old.items ++ filter (λ numbered. spec.is_taken one numbered.0) (part ∷ [])) }
+{
+    if is_taken(one, part.0) {
+        chosen.push(part)?;
+    }
+    Ok(())
+}
+
+fn is_taken(one: Option<u32>, cpu: u32) -> bool
+    ensures { result ≡ spec.is_taken one cpu }
+{
+    match one {
+        None => true,
+        Some(one) => cpu == one,
+    }
+}
+
+// Gives each lane its processor and its part.
+fn set_lanes(lanes: &mut [Lane], parts: &[(u32, Part)])
+    requires { length lanes.old ≡ length parts.now }
+    ensures parts { parts_of lanes.new ≡ parts.now }
+    ensures unused { (len : ℕ) → All (IsUnused len) lanes.old → All (IsUnused len) lanes.new }
+{
+    for i in 0..parts.len() {
+        set_lane(&mut lanes[i], parts[i]);
+    }
+}
+
+fn set_lane(lane: &mut Lane, part: (u32, Part))
+    ensures part { (lane.new.cpu ≡ part.0) × (lane.new.part ≡ part.1) }
+    ensures kept { (lane.new.cursor ≡ lane.old.cursor) × (lane.new.page ≡ lane.old.page) }
+{
+    lane.cpu = part.0;
+    lane.part = part.1;
+}
+
+fn status_of(end: End) -> Status
+    ensures { result ≡ spec.status_of end }
+{
+    match end {
+        End::Done => Status::Done,
+        End::Malformed { cpu, page } => Status::Malformed { cpu, page },
+        End::Read => Status::ReadFault,
+        End::Write => Status::WriteFault,
+    }
+}
