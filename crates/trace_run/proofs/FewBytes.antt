@@ -14,7 +14,6 @@ use Rattle.dat_header.specs.Allowed.{IsHeader}
 use Rattle.dat_header.specs.Header.{header_of}
 use Rattle.dat_header.specs.Written.{header_text, is_instance, section_len, without_instances}
 use Rattle.dat_header.proofs.Wrapped.{length-header_text}
-use Rattle.split_file.specs.NewFile.{blank}
 use Rattle.split_tool.specs.Stored.{NewFile}
 use Rattle.split_tool.proofs.FewBytes.{short_parts}
 use Rattle.trace_run.specs.Split.{split_files, taken_of}
@@ -43,20 +42,20 @@ section_shorter order p None = omega arith
 section_shorter order p (Some options) = omega (arith, filter_shorter (option_text order) p options)
 
 -- a header that was read of so few bytes is short, whatever table it gets
-text_short : (header : Header) (bytes : List ℕ) → header_of bytes ≡ Ok header → header.cpus ≤ 1024 → length bytes ≤ 2 ^ 39
-    → length (header_text (without_instances header) (blank header.cpus)) ≤ 2 ^ 41
-text_short header bytes read few short = omega (
+text_short : (header : Header) (bytes : List ℕ) (parts : List Part) → header_of bytes ≡ Ok header → header.cpus ≤ 1024 → length parts ≡ header.cpus → length bytes ≤ 2 ^ 39
+    → length (header_text (without_instances header) parts) ≤ 2 ^ 41
+text_short header bytes parts read few each short = omega (
   arith,
   few,
   short,
   header_inside bytes header read,
   section_shorter header.order (λ option. not (is_instance option)) header.options,
-  length-header_text (without_instances header) (blank header.cpus),
-  length-replicate {A = Part} header.cpus (record { offset = 0; size = 0 }),
+  length-header_text (without_instances header) parts,
+  each,
 )
 
 pub few_bytes : (words : SplitData) (header : Header) (bytes : List ℕ) → IsHeader (without_instances header) → header_of bytes ≡ Ok header → length bytes ≤ 2 ^ 39
     → All (λ (new : NewFile). length new.content < 2 ^ 64) (split_files words header bytes)
 few_bytes words header bytes allowed read short =
     let some = taken_within words.cpu header.cpus header.body allowed.body in
-    short_parts words (without_instances header) bytes (taken_of words.cpu header.body) allowed (text_short header bytes read allowed.cpus short) (omega (arith, some, allowed.cpus)) short
+    short_parts words (without_instances header) bytes (taken_of words.cpu header.body) allowed (text_short header bytes _ read allowed.cpus (length-replicate header.cpus _) short) (omega (arith, some, allowed.cpus)) short
