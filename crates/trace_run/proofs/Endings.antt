@@ -23,7 +23,7 @@ use Rattle.trace_run.specs.declared.usage.UsageFault.{UsageFault}
 use Rattle.trace_args.specs.declared.listing.Listing.{Listing}
 use Rattle.trace_args.specs.declared.listing.Listing.TheVariants.{Nothing}
 use Rattle.trace_args.specs.Command.{ReportData, DumpData}
-use Rattle.trace_run.specs.Job.{FileCommand, Report, Dump, Split, Job, OnFile, SelfTest}
+use Rattle.trace_run.specs.Job.{FileCommand, Report, Dump, Job, OnFile, SelfTest}
 use Rattle.trace_run.specs.Meaning.{Meaning, Target, on_out, on_folder, body_report, dump_of, report_by, header_means, file_means, input_means, command_means, command_meaning, meaning_of, input_of, target_of, job_meaning, job_target}
 use Rattle.trace_run.specs.Work.{Writes, WritesFor, IsCaused, IsOfFile, Worked}
 use Rattle.trace_run.specs.Causes.{AnswersUsage, IsComplete, HasRisen, target_read}

@@ -7,7 +7,7 @@ use Rattle.trace_outside.specs.Writing.{Gained}
 use Rattle.subpage.specs.ItemData.{ItemData}
 use Rattle.subpage.specs.Processor.{list_of, bad_of}
 use Rattle.subpage.specs.Arrangement.{Keyed, arranged}
-use Rattle.subpage.specs.Cut.{Cut, own_cut, cuts_of, cut_of, earlier, reached_of, is_up_to, lists_of as lists_in}
+use Rattle.subpage.specs.Cut.{Cut, cuts_of, cut_of, earlier, reached_of, is_up_to, lists_of as lists_in}
 use Rattle.dat_header.specs.declared.header.Header.{Header}
 use Rattle.dat_header.specs.Header.{header_of, ReadsHeader}
 use Rattle.dat_header.specs.Written.{written}

@@ -1,5 +1,5 @@
 -- The texts of a header that was read are no longer than the file.
-use Rattle.std.proofs.Common.{◌≡◌, ℕ, zero, suc, ◌+◌, ◌<◌, ◌≤◌, Bool, true, false, cond, if◌then◌else◌, eqb, ltb, List, [], ◌∷◌, ◌++◌, length, take, drop, Option, None, Some, Result, Ok, Err, refl, sym, ap, subst, arith}
+use Rattle.std.proofs.Common.{◌≡◌, ℕ, zero, suc, ◌+◌, ◌<◌, ◌≤◌, Bool, true, false, cond, if◌then◌else◌, eqb, ltb, List, [], ◌∷◌, length, take, drop, Option, None, Some, Result, Ok, Err, refl, sym, ap, subst, arith}
 use Rattle.std.proofs.lemmas.Bool.{ltb-false}
 use Rattle.std.proofs.lemmas.List.{length-append, length-drop, length-take}
 use Rattle.std.proofs.lemmas.List.Concat.{flat_map-cons}
@@ -18,7 +18,7 @@ use Rattle.dat_header.specs.declared.header.Header.{Header}
 use Rattle.dat_header.specs.declared.header.System.{System}
 use Rattle.dat_header.specs.Found.{Found, ◌>>=◌, or_wrong}
 use Rattle.dat_header.specs.Header.{version_at, machine_at, page_text_at, carried_at, last_word_at, first_word_in, first_word_at, body_at, behind_options_at, behind_first_at, sections_at, joined, header_of}
-use Rattle.dat_header.specs.Items.{magic_word, page_word, event_word, body_words, sized, sized_texts, formats_text, system_text}
+use Rattle.dat_header.specs.Items.{magic_word, page_word, event_word, body_words, sized, sized_texts, system_text}
 use Rattle.dat_header.specs.ItemsAt.{word_at, bytes_at, number_at, value_at, text_at, row_at, formats_at, before_nul, name_at, system_at, systems_at, cpus_of}
 use Rattle.dat_header.specs.PageText.{layout_of}
 use Rattle.dat_header.specs.Refusal.{begins_with}

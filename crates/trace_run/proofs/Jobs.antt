@@ -4,7 +4,7 @@ use Rattle.trace_args.specs.declared.fault.WordFault.{WordFault}
 use Rattle.trace_args.specs.Command as asked
 use Rattle.trace_args.specs.Command.{CommandData, ReportData, DumpData, SelfData, SplitData}
 use Rattle.trace_args.specs.Reading.{reading}
-use Rattle.trace_run.specs.Job.{Job, OnFile, SelfTest, Report, Dump, Split, job_of, job_read}
+use Rattle.trace_run.specs.Job.{OnFile, SelfTest, Report, Dump, Split, job_of, job_read}
 
 job_is : (words : List (List ℕ)) (read : Result CommandData WordFault) → reading words ≡ read → job_of words ≡ job_read read
 unfolding job_of

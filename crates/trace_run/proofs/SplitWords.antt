@@ -5,7 +5,6 @@ use Rattle.std.specs.List.{find}
 use Rattle.std.specs.Option.{option_and_then, option_map_or, option_or}
 use Rattle.std.proofs.lemmas.Bool.Decides.{nat_tests}
 use Rattle.split_pieces.specs.Pieces.{IsUnit}
-use Rattle.trace_args.specs.declared.fault.WordFault.{WordFault}
 use Rattle.trace_args.specs.declared.fault.WordKind.TheVariants.{LongName}
 use Rattle.trace_args.specs.declared.option.ValuedOption.{ValuedOption}
 use Rattle.trace_args.specs.declared.option.ValuedOption.TheVariants as valued
@@ -16,7 +15,7 @@ use Rattle.trace_args.specs.declared.piece.PieceOption.TheVariants.{Seconds, Mil
 use Rattle.trace_args.specs.declared.tool.Tool.{Tool}
 use Rattle.trace_args.specs.declared.tool.Tool.TheVariants as tool
 use Rattle.trace_args.specs.Asked.{base_of, command_of, input_of, piece_by, split_of, unit_of as unit_in}
-use Rattle.trace_args.specs.Command.{CommandData, SplitData, Split}
+use Rattle.trace_args.specs.Command.{SplitData, Split}
 use Rattle.trace_args.specs.Faults.{fault, fault_of, input_name_fault, late_fault, name_fault, value_fault, IsClean}
 use Rattle.trace_args.specs.Given.{gives, value_in, value_of}
 use Rattle.trace_args.specs.Number.{number_of, piece_count}

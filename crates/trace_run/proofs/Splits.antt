@@ -1,5 +1,5 @@
 -- A split, as one of the four endings.
-use Rattle.std.proofs.Common.{◌≡◌, ℕ, ◌<◌, ◌≤◌, ◌^◌, List, [], length, Option, None, Some, IfSome, Ok, refl, sym, ap, subst, ◌∙◌}
+use Rattle.std.proofs.Common.{◌≡◌, ℕ, ◌<◌, ◌≤◌, ◌^◌, List, length, Option, None, Some, IfSome, Ok, refl, ap, subst}
 use Rattle.std.specs.List.{All}
 use Rattle.trace_base.specs.declared.part.Part.{Part}
 use Rattle.trace_outside.specs.declared.counts.Counts.{Counts}
@@ -14,14 +14,14 @@ use Rattle.dat_header.specs.Written.{without_instances}
 use Rattle.time_merge.specs.declared.ending.End.{End}
 use Rattle.time_merge.specs.declared.ending.End.TheVariants as end
 use Rattle.split_tool.specs.NewFiles.{Creates, IsSplit, end_of, new_files}
-use Rattle.split_tool.specs.Stored.{NewFile, KeepsCounts}
-use Rattle.trace_run.specs.declared.status.Status.TheVariants.{ReadFault, WriteFault, NoMemory}
+use Rattle.split_tool.specs.Stored.{NewFile}
+use Rattle.trace_run.specs.declared.status.Status.TheVariants.{NoMemory}
 use Rattle.trace_run.specs.Ending.{SinkSeen, EndsBy, IsClaimed}
 use Rattle.trace_run.specs.Job.{Split}
-use Rattle.trace_run.specs.Meaning.{split_by, on_folder, header_means}
+use Rattle.trace_run.specs.Meaning.{split_by}
 use Rattle.trace_run.specs.Split.{split_end, split_files, status_of, taken_of}
-use Rattle.trace_run.specs.Work.{IsCaused, Worked}
-use Rattle.trace_run.proofs.Endings.{seen, unmoved, stored_none}
+use Rattle.trace_run.specs.Work.{IsCaused}
+use Rattle.trace_run.proofs.Endings.{seen}
 use Rattle.trace_run.proofs.FewBytes.{few_bytes}
 
 -- the four answers of a split

@@ -1,7 +1,7 @@
 -- What a self-test prints: the line that sums up the report of generated events. The report is told by the events
 -- alone, in the order in which they happened; how a file holds them is not.
 -- Source: this project.
-use Rattle.std.specs.Prelude.{Option, None, ℕ, false, List, [], ◌∷◌}
+use Rattle.std.specs.Prelude.{None, ℕ, false, List, []}
 use Rattle.std.specs.List.{enumerate_from}
 use Rattle.subpage.specs.Arrangement.{Keyed, arranged}
 use Rattle.trace_args.specs.Command.{ReportData, SelfData}

@@ -1,5 +1,5 @@
 -- What the part of a run does that has an open file.
-use Rattle.std.specs.Prelude.{Option, ◌≡◌, ◌≤◌, ℕ, List, take, IfSome}
+use Rattle.std.specs.Prelude.{Option, ◌≡◌, ℕ, List, take, IfSome}
 use Rattle.trace_outside.specs.Causes.{Rose}
 use Rattle.trace_outside.specs.Writing.{Gained, GainedPrefix}
 use Rattle.dat_header.specs.Header.{IsRefusal}

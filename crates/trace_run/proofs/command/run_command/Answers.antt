@@ -1,4 +1,4 @@
-use Rattle.std.proofs.Common.{◌≡◌, ◌∙◌, ap, subst, refl, rules, arith, ℕ}
+use Rattle.std.proofs.Common.{◌∙◌, ap, subst, refl, rules, arith, ℕ}
 use Rattle.trace_outside.specs.Causes.{Rose, raised}
 use Rattle.trace_run.specs.Job.{command_view}
 use Rattle.trace_run.specs.Counts.{ReadsInput}

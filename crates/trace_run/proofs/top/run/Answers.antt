@@ -1,4 +1,4 @@
-use Rattle.std.proofs.Common.{refl, rules, arith, subst, sym}
+use Rattle.std.proofs.Common.{refl, rules, arith, subst}
 use Rattle.trace_run.specs.declared.usage.AskFault.{AskFault}
 use Rattle.trace_run.specs.Usage.{asked}
 use Rattle.trace_run.specs.Messages.{Says, usage_line}

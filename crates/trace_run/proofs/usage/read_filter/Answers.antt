@@ -1,4 +1,4 @@
-use Rattle.std.proofs.Common.{◌≡◌, ℕ, ◌≤◌, List, length, drop, subst}
+use Rattle.std.proofs.Common.{ℕ, ◌≤◌, List, length, drop, subst}
 use Rattle.trace_args.specs.Command.{filter_view}
 use Rattle.filter_lang.specs.FaultView.{IsRefusedAt, IsPlaceIn}
 use Rattle.filter_lang.specs.FilterView.{filter_of}
