@@ -46,8 +46,8 @@ abbrev pub report_share : Listing → Option (List Bool) → ℕ → ℕ → Bod
 report_share Nothing cpus end size body = body_share cpus end size body
 report_share list cpus end size body = 0
 
--- a split reads the parts of the processors that it takes up to three times: for where its items begin, for each file's
--- table, and for its data
+-- a split reads the parts of the processors that it takes at most three times: to measure its pieces, and to pack of each
+-- sub-buffer the piece that ends in it and the one that begins there
 abbrev pub split_share : Option ℕ → Body → ℕ
 split_share one body = 3 * sum_by (λ part. part.1.size) (taken_of one body)
 

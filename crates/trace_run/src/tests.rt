@@ -670,7 +670,7 @@ fn fails_as<R: Alloc<A = Global> + Abort + Threads + Sync>(
 ) -> Result<(), Fail> {
     let alloc = rt.alloc();
     let words = words_of(alloc, &["report"])?;
-    let mut disk = Disk::new(bytes_of(alloc, &ONE)?, from, false);
+    let mut disk = Disk::new(alloc, bytes_of(alloc, &ONE)?, from, false);
     let mut out = MemSink::new(alloc);
     let mut err = MemSink::new(alloc);
     let status = run(rt, alloc, &words, &mut disk, &mut out, &mut err, &NoGate);

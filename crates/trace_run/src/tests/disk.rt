@@ -1,13 +1,15 @@
 // A folder whose one file cannot be read from a place on, and in which nothing can be made.
 
-ghost use Rattle.std.specs.Prelude.{None, length, [], ◌∷◌};
+ghost use Rattle.std.specs.Prelude.{None, length};
 
 use std::alloc::{AllocError, Global};
+use trace_base::ByteText;
 use trace_outside::{Counts, Failed, File, Folder, Sink};
 
 /// A folder with one file under every name. What is created in it, if anything, cannot be finished.
 #[derive(Drop)]
 pub(super) struct Disk {
+    alloc: Global,
     bytes: Vec<u8>,
     from: u64,
     creates: bool,
@@ -16,8 +18,9 @@ pub(super) struct Disk {
 
 impl Disk {
     /// A folder with a file of these bytes, of which those from this place on cannot be read.
-    pub(super) fn new(bytes: Vec<u8>, from: u64, creates: bool) -> Disk {
+    pub(super) fn new(alloc: Global, bytes: Vec<u8>, from: u64, creates: bool) -> Disk {
         Disk {
+            alloc,
             bytes,
             from,
             creates,
@@ -64,10 +67,12 @@ impl File for BadFile {
 }
 
 #[derive(Drop)]
-pub(super) struct Nowhere;
+pub(super) struct Nowhere {
+    label: ByteText,
+}
 
 impl Sink for Nowhere {
-    ghost name = { λ s. [] };
+    ghost name = { λ s. s.label };
 
     ghost written = { λ s. None };
 
@@ -113,10 +118,12 @@ impl Folder for Disk {
         self.counts.bytes = self.counts.bytes.saturating_add(file.reads);
     }
 
-    fn create_file(&mut self, _name: &str) -> Result<Nowhere, Failed> {
+    fn create_file(&mut self, name: &str) -> Result<Nowhere, Failed> {
         if self.creates {
-            self.counts.created = self.counts.created.saturating_add(1);
-            return Ok(Nowhere);
+            if let Ok(label) = ByteText::copy(self.alloc, name.as_bytes()) {
+                self.counts.created = self.counts.created.saturating_add(1);
+                return Ok(Nowhere { label });
+            }
         }
         self.counts.writing = self.counts.writing.saturating_add(1);
         Err(Failed)
