@@ -378,7 +378,7 @@ fn faults_and_other_bytes(rt: HostRuntime) -> Result<(), Fail> {
         (2, Then::Fails, 2, PieceEnd::Read, End::Read),
         (3, Then::Fails, 2, Done, End::Read),
         (5, Then::Fails, 2, Done, End::Read),
-        (3, Then::Zeros, 2, Done, End::Malformed { cpu: 0, page: 0 }),
+        (3, Then::Zeros, 2, Done, End::Malformed { cpu: 0, page: 1 }),
         (5, Then::Zeros, 2, Done, End::Malformed { cpu: 1, page: 0 }),
         (6, Then::Fails, 0, Done, End::Write),
         (6, Then::Fails, 1, Done, End::Write),
