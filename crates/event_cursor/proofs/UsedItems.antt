@@ -56,7 +56,7 @@ same_front used front end e =
     let same : length front ≡ length used = omega (arith, length-append used end, length-append front end) in
     sym (take_at used end (length used) refl) ∙ ap (take (length used)) e ∙ take_at front end (length used) same
 
-held_counts : (size page k : ℕ) → 0 < page → (k + 1) * page ≤ size → k < size / page + min 1 (size % page)
+pub held_counts : (size page k : ℕ) → 0 < page → (k + 1) * page ≤ size → k < size / page + min 1 (size % page)
 held_counts size page k some le = let whole : k + 1 ≤ size / page = (le-div_iff_mul-le some).1 le in omega (arith, whole)
 
 there_counts : (l : Layout) (file : List ℕ) (part : Part) (k : ℕ) → 0 < l.page → is_there l file part k ≡ true → k < page_count l part

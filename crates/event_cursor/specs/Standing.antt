@@ -1,7 +1,8 @@
 -- Where a lane stands among its processor's items: which of them are used up, and which are left.
-use Rattle.std.specs.Prelude.{◌≡◌, ℕ, ◌+◌, ◌-◌, ◌*◌, ◌^◌, ◌<◌, ◌≤◌, true, is_none, List, [], ◌++◌, length, drop, Option, Some, None}
+use Rattle.std.specs.Prelude.{◌≡◌, ℕ, ◌+◌, ◌-◌, ◌*◌, ◌^◌, ◌<◌, ◌≤◌, true, is_none, List, [], ◌∷◌, ◌++◌, length, drop, Option, Some, None}
 use Rattle.std.specs.List.{position_from}
 use Rattle.trace_base.specs.declared.layout.Layout.{Layout}
+use Rattle.subpage.specs.declared.mark.Mark.{Mark}
 use Rattle.subpage.specs.ItemData.{ItemData}
 use Rattle.subpage.specs.Page.{items}
 use Rattle.subpage.specs.Marks.{items_from, IsMark}
@@ -9,12 +10,25 @@ use Rattle.subpage.specs.Processor.{is_there, page_bytes, page_count, pages_from
 use Rattle.subpage.specs.Arrangement.{Keyed}
 use Rattle.subpage.specs.Cut.{last_key}
 use Rattle.page_pool.specs.declared.lane.Lane.{Lane}
+use Rattle.page_pool.specs.declared.cursor.Ahead.{Ahead}
 use Rattle.page_pool.specs.declared.cursor.LaneState.{LaneState}
 use Rattle.page_pool.specs.declared.cursor.LaneState.TheVariants.{Fresh, Held, Ended, Malformed}
-use Rattle.event_cursor.specs.Keys.{keyed_behind}
+use Rattle.event_cursor.specs.Keys.{key_behind, keyed_behind}
 
--- The buffer is a sub-buffer that is not malformed, the lane's place in it is behind so many of its items, and the next
--- one to load is that behind it.
+-- The first item at a place of a sub-buffer, behind items whose greatest time is high: its key, and the place behind it.
+pub record HasAhead (layout : Layout) (page : List ℕ) (mark : Mark) (high : Option ℕ) (ahead : Ahead) : Type 0 where
+  pub first : ItemData
+  pub items : items_from layout page mark ≡ first ∷ items_from layout page ahead.behind
+  pub key : ahead.key ≡ key_behind high first
+  pub behind : IsMark layout page ahead.behind
+
+-- the first item there, or that there is none
+abbrev pub TellsAhead : Layout → List ℕ → Mark → Option ℕ → Option Ahead → Type 0
+TellsAhead layout page mark high None = items_from layout page mark ≡ []
+TellsAhead layout page mark high (Some ahead) = HasAhead layout page mark high ahead
+
+-- The buffer is a sub-buffer that is not malformed, the lane's place in it is behind so many of its items, the item
+-- there is known, and the next one to load is that behind it.
 pub record HoldsPage (layout : Layout) (lane : Lane) : Type 0 where
   pub all : List ItemData
   pub all_are : items layout lane.page ≡ Some all
@@ -22,6 +36,7 @@ pub record HoldsPage (layout : Layout) (lane : Lane) : Type 0 where
   pub used_up : lane.cursor.at ≤ length all
   pub mark : IsMark layout lane.page lane.cursor.mark
   pub left : items_from layout lane.page lane.cursor.mark ≡ drop lane.cursor.at all
+  pub ahead : TellsAhead layout lane.page lane.cursor.mark lane.cursor.high lane.cursor.ahead
   pub next : lane.cursor.next ≡ lane.cursor.held + 1
 
 -- A lane in order, whatever its file: its buffer is as long as a sub-buffer, and holds one where the lane is Held.

@@ -1,5 +1,5 @@
 //! Where a lane stands among its processor's items: loading its sub-buffers, the item at its place, one item on, and
-//! going back to a place.
+//! going back to a place. The key of the item at its place is kept beside it, and is told without a look at the bytes.
 //!
 //! What a lane has used up and what it has left is one definition, `Stands` in `specs/Standing.antt`. A call over a file
 //! that tells its bytes leaves what was left as it was, or takes its first item. Over any file a lane stays in order:
@@ -20,4 +20,4 @@ pub use laws::used_items;
 pub use loading::{Loaded, load};
 pub use places::Place;
 pub use seeking::{Sought, place, seek};
-pub use stepping::{head, key_behind, step};
+pub use stepping::{head, head_key, key_behind, step};

@@ -7,8 +7,8 @@ ghost use Rattle.event_cursor.specs.Loading.{KeepsLeft, KeepsPlace, IsState, IsA
 ghost use Rattle.event_cursor.specs.Unread.{IsAsked, reading, size_there, unread};
 
 use crate::fetching::{Fetched, fetch};
+use crate::stepping::ahead_at;
 use page_pool::{Lane, LaneState};
-use subpage::first_at;
 use trace_base::Layout;
 use trace_outside::File;
 
@@ -94,13 +94,15 @@ fn load_next<F: File>(layout: &Layout, file: &mut F, lane: &mut Lane, count: u64
     match fetch(layout, file, lane.part, number, &mut lane.page) {
         Fetched::Page(mark) => {
             lane.cursor.next = number + 1;
-            if first_at(layout, lane.page.bytes(), mark).is_none() {
+            let ahead = ahead_at(layout, lane.page.bytes(), mark, lane.cursor.high);
+            if ahead.is_none() {
                 return None;
             }
             lane.cursor.state = LaneState::Held;
             lane.cursor.held = number;
             lane.cursor.at = 0;
             lane.cursor.mark = mark;
+            lane.cursor.ahead = ahead;
             Some(Loaded::Loaded)
         }
         Fetched::Malformed => {

@@ -9,8 +9,9 @@ ghost use Rattle.event_cursor.specs.Unread.{is_there_in};
 
 use crate::fetching::{Fetched, fetch};
 use crate::places::Place;
+use crate::stepping::ahead_at;
 use page_pool::{Cursor, Lane, LaneState};
-use subpage::{Mark, first_at, open_page, settle};
+use subpage::{Mark, first_at, open_page};
 use trace_base::Layout;
 use trace_outside::File;
 
@@ -53,7 +54,7 @@ fn pass(layout: &Layout, page: &[u8], first: Mark, count: u32) -> Option<Mark>
         };
         mark = behind;
     }
-    Some(settle(layout, page, mark))
+    Some(mark)
 }
 
 /// Whether the lane holds this sub-buffer.
@@ -124,6 +125,7 @@ pub fn seek<F: File>(layout: &Layout, place: &Place, file: &mut F, lane: &mut La
     let Some(mark) = pass(layout, lane.page.bytes(), first, place.at) else {
         return Sought::Malformed;
     };
+    let ahead = ahead_at(layout, lane.page.bytes(), mark, place.high);
     lane.cursor = Cursor {
         state: LaneState::Held,
         held: place.page,
@@ -131,6 +133,7 @@ pub fn seek<F: File>(layout: &Layout, place: &Place, file: &mut F, lane: &mut La
         at: place.at,
         mark,
         high: place.high,
+        ahead,
     };
     Sought::Held
 }

@@ -1,4 +1,5 @@
-//! A lane gone through from several places, and places that are gone to.
+//! A lane gone through from several places, and places that are gone to. At each the key that the lane tells by itself is
+//! its head's.
 
 mod disk;
 
@@ -11,7 +12,7 @@ use crate::fetching::is_there;
 use crate::loading::{Loaded, load};
 use crate::places::Place;
 use crate::seeking::{Sought, place, seek};
-use crate::stepping::{head, step};
+use crate::stepping::{head, head_key, step};
 use disk::Disk;
 use page_pool::{Lane, LaneState, Pool};
 use std::alloc::{AllocError, Global};
@@ -88,6 +89,16 @@ fn holds_item(layout: &Layout, lane: &Lane) -> bool
     }
 }
 
+// The key that the lane tells by itself is that of its head.
+fn knows_key(layout: &Layout, lane: &Lane) -> bool
+    requires { IsInOrder layout.now lane.now }
+{
+    match head(layout, lane) {
+        Some((key, _)) => head_key(lane) == Some(key),
+        None => head_key(lane) == None,
+    }
+}
+
 // Loads the lane where it has no item.
 fn ready<F: File>(layout: &Layout, file: &mut F, lane: &mut Lane) -> Loaded
     requires allowed { IsLayout layout.now }
@@ -120,12 +131,15 @@ fn tells<F: File>(
             Loaded::Loaded => {}
             Loaded::End | Loaded::Malformed(_) | Loaded::Read => return false,
         }
-        if head(layout, lane) != Some(*item) {
+        if head(layout, lane) != Some(*item) || !knows_key(layout, lane) {
             return false;
         }
         step(layout, lane);
+        if !knows_key(layout, lane) {
+            return false;
+        }
     }
-    ready(layout, file, lane) == end
+    ready(layout, file, lane) == end && knows_key(layout, lane)
 }
 
 // Uses so many items up.
@@ -177,6 +191,7 @@ fn go_to(
         Sought::Held => {
             file.from = u64::MAX;
             let is_right = stands_at(lane, to)
+                && knows_key(layout, lane)
                 && tells(layout, file, lane, items, Loaded::Malformed(bad));
             if is_right { Some((sought, read)) } else { None }
         }
