@@ -11,7 +11,7 @@ ghost use Rattle.time_merge.specs.Reads.{all_reading, all_unread};
 
 use crate::best::better;
 use crate::ready::make_all_ready;
-use event_cursor::head;
+use event_cursor::head_key;
 use page_pool::{Lane, LaneState};
 use trace_base::Layout;
 use trace_outside::File;
@@ -35,8 +35,8 @@ fn next_of(layout: &Layout, lane: &Lane) -> Option<Option<u64>>
     ensures { result ≡ next_of layout.now lane.now }
 {
     match lane.cursor.state {
-        LaneState::Held => match head(layout, lane) {
-            Some((key, _)) => Some(Some(key)),
+        LaneState::Held => match head_key(lane) {
+            Some(key) => Some(Some(key)),
             None => None,
         },
         LaneState::Malformed => Some(lane.cursor.high),
