@@ -187,7 +187,7 @@ module _ (text : ℕ → ItemData → List ℕ) (l : Layout) where
   ordered_region : (a : Lane) (r : Lines) → IsInOrder l a → IsInOrder l (with_region a r)
   ordered_region a r o = record {
     long = o.long;
-    held = λ e. let h : HoldsPage l a = o.held e in record { all = h.all; all_are = h.all_are; few = h.few; used_up = h.used_up; mark = h.mark; left = h.left; next = h.next };
+    held = λ e. let h : HoldsPage l a = o.held e in record { all = h.all; all_are = h.all_are; few = h.few; used_up = h.used_up; mark = h.mark; left = h.left; ahead = h.ahead; next = h.next };
   }
 
   pub printed_between : (h : Horizon) (a b : Lane) → IsPrinted h a b → IsBetween text l a → IsBetween text l b

@@ -3,7 +3,7 @@ use Rattle.std.proofs.Common.{◌≡◌, ◌≢◌, ℕ, zero, suc, ◌<◌, tru
 use Rattle.std.specs.Option.{IfSome}
 use Rattle.std.specs.List.{All}
 use Rattle.std.proofs.lemmas.Bool.{cases_Bool, eqb-true, eq-eqb, ne_eqb, cases_order}
-use Rattle.std.proofs.lemmas.List.{map-append, get_or-map, get_or-set_same, get_or-set_other, set-get_or}
+use Rattle.std.proofs.lemmas.List.{map-append, get_or-map, get_or-set_same, get_or-set_other, get_or_default, set-get_or}
 use Rattle.std.proofs.lemmas.List.Elements.{All-set, All-get_or, filter-append}
 use Rattle.trace_base.specs.declared.layout.Layout.{Layout}
 use Rattle.trace_base.specs.declared.part.Part.{Part}
@@ -200,7 +200,7 @@ runs_on l file stop start gauge gauge1 first lanes tallies i d d2 now e after ri
           | inl b ↦
               let same : j ≡ i = eqb-true j i b in
               let before : left_of l file (get_or first j dj) ≡ items_of_cpu (get_or first j dj).cpu r.taken ++ left_of l file (get_or lanes j dj) = r.passed.lefts j dj jt in
-              let at : get_or lanes j dj ≡ get_or lanes i d = ap (λ (k : ℕ). get_or lanes k dj) same ∙ same_default lanes i dj d lt in
+              let at : get_or lanes j dj ≡ get_or lanes i d = ap (λ (k : ℕ). get_or lanes k dj) same ∙ get_or_default lanes i dj d lt in
               let cpu : x.cpu ≡ (get_or first j dj).cpu = mine.0 ∙ ap (λ (a : Lane). a.cpu) (sym at) ∙ same_cpu lanes first j dj (omega (arith, lanes_long, jt)) jt parts in
               let now_is : get_or later j dj ≡ now = ap (λ (k : ℕ). get_or later k dj) same ∙ get_or-set_same lanes i now dj lt in
               let stepped : left_of l file (get_or lanes j dj) ≡ x.item ∷ left_of l file now = ap (left_of l file) at ∙ left_stepped l file (get_or lanes i d) now s ∙ ap (λ (y : ItemData). y ∷ left_of l file now) (sym mine.1) in
@@ -216,7 +216,7 @@ runs_on l file stop start gauge gauge1 first lanes tallies i d d2 now e after ri
       tallied = λ j dj ej jt. elim (cases_Bool (eqb j i)) [
         | inl b ↦
             let same : j ≡ i = eqb-true j i b in
-            let cpu : x.cpu ≡ (get_or first j dj).cpu = mine.0 ∙ ap (λ (a : Lane). a.cpu) (sym (ap (λ (k : ℕ). get_or lanes k dj) same ∙ same_default lanes i dj d lt)) ∙ same_cpu lanes first j dj (omega (arith, lanes_long, jt)) jt parts in
+            let cpu : x.cpu ≡ (get_or first j dj).cpu = mine.0 ∙ ap (λ (a : Lane). a.cpu) (sym (ap (λ (k : ℕ). get_or lanes k dj) same ∙ get_or_default lanes i dj d lt)) ∙ same_cpu lanes first j dj (omega (arith, lanes_long, jt)) jt parts in
             let now_is : get_or (set tallies i after) j ej ≡ after = ap (λ (k : ℕ). get_or (set tallies i after) k ej) same ∙ get_or-set_same tallies i after ej (omega (arith, long, lanes_long, lt)) in
             let before : IsTally l (get_or tallies i e) (items_of_cpu (get_or first j dj).cpu r.taken) = subst (λ (k : ℕ). IsTally l (get_or tallies k e) (items_of_cpu (get_or first j dj).cpu r.taken)) same (r.tallied j dj e jt) in
             let now_tally : IsTally l after (items_of_cpu (get_or first j dj).cpu r.taken ++ x.item ∷ []) = t.tallied _ before in
@@ -235,17 +235,12 @@ runs_on l file stop start gauge gauge1 first lanes tallies i d d2 now e after ri
     not_same : (j i : ℕ) → eqb j i ≡ false → j ≡ i → ⊥
     not_same j i b e = let h : true ≡ false = sym (eq-eqb j i e) ∙ b in absurd cc
 
-    same_default : (lanes : List Lane) (i : ℕ) (d d2 : Lane) → i < length lanes → get_or lanes i d ≡ get_or lanes i d2
-    same_default [] i d d2 lt = absurd (omega (arith, lt))
-    same_default (a ∷ lanes) zero d d2 lt = refl
-    same_default (a ∷ lanes) (suc i) d d2 lt = same_default lanes i d d2 (omega (arith, lt))
-
     not_its : (j : ℕ) (dj : Lane) → j < length first → (j ≡ i → ⊥) → next.item.cpu ≡ (get_or first j dj).cpu → ⊥
     not_its j dj jt other e =
         let lanes_long : length lanes ≡ length first = same_length lanes first parts in
         let it : i < length first = omega (arith, lanes_long, lt) in
         let mine = first_is l (get_or lanes i d) now next.item (next.first d) s in
-        let cpu : (get_or first i dj).cpu ≡ (get_or first j dj).cpu = sym (mine.0 ∙ ap (λ (a : Lane). a.cpu) (same_default lanes i d dj lt) ∙ same_cpu lanes first i dj lt it parts) ∙ e in
+        let cpu : (get_or first i dj).cpu ≡ (get_or first j dj).cpu = sym (mine.0 ∙ ap (λ (a : Lane). a.cpu) (get_or_default lanes i d dj lt) ∙ same_cpu lanes first i dj lt it parts) ∙ e in
         cpus_differ first i j dj rise (λ same. other (sym same)) it jt cpu
 
 pub measured_none : (l : Layout) (file : List ℕ) (stop : Option Moment) (start gauge : Gauge) (first now : List Lane) (tallies : List Tally) → piece_by gauge (up_to_end stop (to_come l file now)) ≡ []

@@ -13,7 +13,7 @@ ghost use Rattle.time_merge.specs.Reads.{all_unread};
 ghost use Rattle.split_pieces.specs.Moments.{is_before};
 ghost use Rattle.split_tool.specs.Started.{ListStarted, Started};
 
-use event_cursor::{head, step};
+use event_cursor::{head_key, step};
 use page_pool::Lane;
 use split_pieces::{Rules, is_before};
 use time_merge::{Next, next_lane};
@@ -26,8 +26,8 @@ fn stands_before(layout: &Layout, lane: &Lane, start: Moment) -> bool
     requires { IsInOrder layout.now lane.now }
     ensures { (x : Keyed) → first_of (keyed_held layout.now lane.now) ≡ Some x → result ≡ is_before start x.key }
 {
-    match head(layout, lane) {
-        Some((key, _)) => is_before(start, key),
+    match head_key(lane) {
+        Some(key) => is_before(start, key),
         None => false,
     }
 }
