@@ -9,7 +9,9 @@ use Rattle.subpage.specs.ItemData.{ItemData}
 use Rattle.subpage.specs.Arrangement.{Keyed, IsRising}
 use Rattle.page_pool.specs.Lines.{Line, Lines, line_of, most_lines}
 use Rattle.page_pool.specs.declared.lane.Lane.{Lane}
-use Rattle.event_cursor.specs.Standing.{IsInOrder, HoldsPage, keyed_held}
+use Rattle.event_cursor.specs.Loading.{KeepsLeft}
+use Rattle.event_cursor.specs.Standing.{IsInOrder, HoldsPage, Stands, keyed_held}
+use Rattle.event_cursor.proofs.Told.{told_all}
 use Rattle.time_merge.specs.declared.horizons.Horizon.{Horizon}
 use Rattle.cpu_workers.specs.Spaces.{Space, space_of, has_no_room, with_line, fill}
 use Rattle.cpu_workers.specs.Formats.{IsFormatted, IsSorted, line_key}
@@ -151,6 +153,16 @@ few_space r f = record { kept = f.kept; used = f.used }
 
 space_few : (r : Lines) → IsFewSpace (space_of r) → IsFew r
 space_few r f = record { kept = f.kept; used = f.used }
+
+-- a lane that was not loaded
+pub still_loaded : (l : Layout) (told : Option (List ℕ)) (a : Lane) → IsInOrder l a → IsLoaded l told a a
+still_loaded l told a order = record {
+  in_order = order;
+  place = record { cpu = refl; part = refl; high = refl; region = refl; forward = omega arith };
+  left = told_all (λ file. KeepsLeft l file a a) told (λ file. record { left = refl; bad = refl });
+  stands = told_all (λ file. Stands l file a → Stands l file a) told (λ file s. s);
+  most = omega arith;
+}
 
 module _ (text : ℕ → ItemData → List ℕ) (l : Layout) where
   sorted_loaded : (a b : Lane) → b.region ≡ a.region → b.cursor.high ≡ a.cursor.high → IsSorted a → IsSorted b

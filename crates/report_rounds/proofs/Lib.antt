@@ -7,7 +7,11 @@ pub mod Ending
 pub mod Between
 pub mod Progress
 pub mod Reading
+pub mod LineCounts
+pub mod Before
+pub mod DueLanes
 pub mod Turning
 pub mod Reporting
 pub mod Starting
+pub mod DueReads
 pub mod OpenLanes

@@ -1,7 +1,7 @@
 -- Lists of lanes that are related place by place.
 use Rattle.std.proofs.Common.{◌≡◌, ℕ, zero, suc, ◌+◌, ◌<◌, ◌≤◌, List, [], ◌∷◌, length, map, get_or, set, sum_by, refl, sym, ap, subst, ◌∙◌, arith, inl, inr}
 use Rattle.std.specs.List.{All}
-use Rattle.std.proofs.lemmas.Bool.{cases_eq}
+use Rattle.std.proofs.lemmas.Bool.{cases_eq, cases_lt}
 use Rattle.std.proofs.lemmas.Grind.{get_or-set_at}
 use Rattle.std.proofs.lemmas.List.{get_or-set_other, get_or_default}
 use Rattle.std.proofs.lemmas.List.Sums.{sum_by-cons}
@@ -26,6 +26,15 @@ one_more R xs ys i e now lt done rest one k d le = elim (cases_eq k i) as (λ _.
 pub rest_more : (xs ys : List Lane) (i : ℕ) (now : Lane) → ((k : ℕ) → (d : Lane) → i ≤ k → get_or ys k d ≡ get_or xs k d)
     → (k : ℕ) → (d : Lane) → i + 1 ≤ k → get_or (set ys i now) k d ≡ get_or xs k d
 rest_more xs ys i now rest k d le = get_or-set_other ys i k now d (λ e. omega (arith, le, e)) ∙ rest k d (omega (arith, le))
+
+-- one more lane is related to what it was, and those behind it to themselves
+pub all_more : (R : Lane → Lane → Type 0) (xs ys : List Lane) (i : ℕ) (e now : Lane) → i < length ys
+    → ((k : ℕ) → (d : Lane) → k < i → R (get_or xs k d) (get_or ys k d)) → ((k : ℕ) → (d : Lane) → i ≤ k → get_or ys k d ≡ get_or xs k d) → R (get_or ys i e) now
+    → ((k : ℕ) → (d : Lane) → k < length xs → R (get_or xs k d) (get_or xs k d)) → Related R xs (set ys i now)
+all_more R xs ys i e now lt done rest one still k d inside = elim (cases_lt k (i + 1)) as (λ _. R (get_or xs k d) (get_or (set ys i now) k d)) [
+  | inl first ↦ one_more R xs ys i e now lt done rest one k d first
+  | inr behind ↦ subst (R (get_or xs k d)) (sym (rest_more xs ys i now rest k d behind)) (still k d inside)
+]
 
 pub related_on : (R S T : Lane → Lane → Type 0) (xs ys zs : List Lane) → length ys ≡ length xs → Related R xs ys → Related S ys zs → ((a b c : Lane) → R a b → S b c → T a c) → Related T xs zs
 related_on R S T xs ys zs same r s on = λ i d lt. on (get_or xs i d) (get_or ys i d) (get_or zs i d) (r i d lt) (s i d (omega (arith, same, lt)))

@@ -23,12 +23,12 @@ use Rattle.round_print.specs.Rounds.{IsPrinted}
 use Rattle.report_rounds.proofs.Pairs.{Related}
 
 module _ (l : Layout) (len : ℕ) where
-  size_none : (part : Part) (k : ℕ) → page_count l part ≤ k → size_from l len part k ≡ 0
+  pub size_none : (part : Part) (k : ℕ) → page_count l part ≤ k → size_from l len part k ≡ 0
   unfolding size_from
   size_none part k le = let none : page_count l part - k ≡ 0 = omega (arith, le) in ap (λ (n : ℕ). sum_by (size_there l len part) (range_with_len k n)) none
 
   -- a sub-buffer that is there stands in its part
-  there_inside : (part : Part) (k : ℕ) → is_there_in l len part k ≡ true → (k + 1) * l.page ≤ part.size
+  pub there_inside : (part : Part) (k : ℕ) → is_there_in l len part k ≡ true → (k + 1) * l.page ≤ part.size
   there_inside part k there = leb-true _ _ (and_parts _ _ (and_parts _ _ there).0).0
 
   there_size : (part : Part) (k : ℕ) → size_there l len part k + (part.size - (k + 1) * l.page) ≤ part.size - k * l.page
@@ -58,7 +58,7 @@ module _ (l : Layout) (len : ℕ) where
   all_inside (a ∷ lanes) =
       omega (arith, unread_inside a, all_inside lanes, sum_by-cons (unread l len) a lanes, sum_by-cons (λ (part : ℕ × Part). part.1.size) (a.cpu, a.part) (parts_of lanes))
 
-  counts_there : (size page k : ℕ) → 0 < page → (k + 1) * page ≤ size → k < size / page + min 1 (size % page)
+  pub counts_there : (size page k : ℕ) → 0 < page → (k + 1) * page ≤ size → k < size / page + min 1 (size % page)
   counts_there size page k some le = let whole : k + 1 ≤ size / page = (le-div_iff_mul-le some).1 le in omega (arith, whole)
 
   there_from : (part : Part) (k : ℕ) → 0 < l.page → size_there l len part k ≤ size_from l len part k

@@ -1,6 +1,6 @@
 -- Rounds, one behind another, make the report.
-use Rattle.std.proofs.Common.{◌≡◌, ℕ, List, [], ◌++◌, Option, Some, None, refl, sym, ap, subst, ◌∙◌, append_assoc}
-use Rattle.std.specs.List.{All}
+use Rattle.std.proofs.Common.{◌≡◌, ℕ, List, [], ◌++◌, get_or, Option, Some, None, refl, sym, ap, subst, ◌∙◌, append_assoc, arith}
+use Rattle.std.specs.List.{All, count_by}
 use Rattle.std.specs.Option.{IfSome}
 use Rattle.std.proofs.lemmas.List.{append-nil}
 use Rattle.std.proofs.lemmas.List.Concat.{flat_map-append}
@@ -17,9 +17,11 @@ use Rattle.time_merge.specs.declared.ending.End.{End}
 use Rattle.time_merge.specs.declared.ending.End.TheVariants as code
 use Rattle.round_print.specs.Prints.{CpuLine, text_of}
 use Rattle.report_rounds.specs.Between.{IsAtStart}
+use Rattle.report_rounds.specs.Due.{is_of}
 use Rattle.report_rounds.specs.Lines.{left_lines}
 use Rattle.report_rounds.specs.Reports.{IsReport, lines_text}
-use Rattle.report_rounds.specs.Turns.{IsEnding, IsFurther, IsTurned}
+use Rattle.report_rounds.specs.Turns.{HasPrinted, IsEnding, IsFurther, IsTurned}
+use Rattle.report_rounds.proofs.LineCounts.{count_on}
 use Rattle.report_rounds.proofs.Shown.{shown_first, shown_text}
 use Rattle.report_rounds.proofs.Starting.{start_lines, start_stands}
 
@@ -30,13 +32,31 @@ pub record IsGoing (text : ℕ → ItemData → List ℕ) (l : Layout) (file : L
 
 module _ (text : ℕ → ItemData → List ℕ) (l : Layout) where
   going_first : (file : List ℕ) (lanes : List Lane) (old : Option (List ℕ)) → All (IsAtStart l) lanes → IsGoing text l file lanes lanes old old
-  going_first file lanes old start = record { stands = start_stands l file lanes start; further = record { done = []; parted = refl; gained = gained_nothing old } }
+  going_first file lanes old start = record {
+    stands = start_stands l file lanes start;
+    further = record {
+      done = [];
+      parted = refl;
+      gained = gained_nothing old;
+      long = refl;
+      own = λ i d lt. record { cpu = refl; part = refl; lines = omega arith };
+    };
+  }
 
   further_on : (file : List ℕ) (first mid now : List Lane) (old between new : Option (List ℕ)) → IsFurther text l file first mid old between → IsFurther text l file mid now between new → IsFurther text l file first now old new
   further_on file first mid now old between new one two = record {
     done = one.done ++ two.done;
     parted = one.parted ∙ ap (λ (xs : List CpuLine). one.done ++ xs) two.parted ∙ sym (append_assoc one.done two.done (left_lines text l file now));
     gained = subst (Gained old new) (sym (flat_map-append (λ (line : CpuLine). line.text) one.done two.done)) (gained_both old between new (text_of one.done) (text_of two.done) one.gained two.gained);
+    long = two.long ∙ one.long;
+    own = λ i d lt.
+        let a : HasPrinted text l file one.done (get_or first i d) (get_or mid i d) = one.own i d lt in
+        let b : HasPrinted text l file two.done (get_or mid i d) (get_or now i d) = two.own i d (omega (arith, lt, one.long)) in
+        record {
+          cpu = b.cpu ∙ a.cpu;
+          part = b.part ∙ a.part;
+          lines = omega (arith, a.lines, b.lines, count_on (is_of (get_or first i d).cpu) one.done two.done, ap (λ (n : ℕ). count_by (is_of n) two.done) a.cpu);
+        };
   }
 
   module _ (file : List ℕ) (first mid : List Lane) (old between new : Option (List ℕ)) (start : All (IsAtStart l) first) (parts : parts_of mid ≡ parts_of first) (going : IsFurther text l file first mid old between) where

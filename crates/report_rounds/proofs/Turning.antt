@@ -1,6 +1,6 @@
 -- One round, step by step: lanes are loaded, formatted and printed.
 use Rattle.std.proofs.Common.{◌≡◌, ◌≢◌, ℕ, ◌+◌, ◌<◌, ◌≤◌, List, [], ◌∷◌, ◌++◌, length, map, get_or, take, drop, Option, Some, None, refl, sym, ap, subst, ◌∙◌, arith}
-use Rattle.std.specs.List.{All}
+use Rattle.std.specs.List.{All, count_by}
 use Rattle.std.specs.Option.{IfSome, IfNone}
 use Rattle.std.proofs.lemmas.List.{append-nil}
 use Rattle.std.proofs.lemmas.List.Concat.{flat_map-append}
@@ -24,7 +24,7 @@ use Rattle.time_merge.specs.declared.ending.End.TheVariants as ends
 use Rattle.time_merge.specs.declared.horizons.Horizon.{Horizon}
 use Rattle.time_merge.specs.declared.horizons.Horizon.TheVariants as code
 use Rattle.time_merge.specs.Horizons.{IsHorizon, IsLeastLane, high_in}
-use Rattle.time_merge.specs.LaneRows.{IsReadyIn, parts_of, row_of}
+use Rattle.time_merge.specs.LaneRows.{IsReady, IsReadyIn, parts_of, row_of}
 use Rattle.time_merge.specs.Rows.{Each, Row, coming}
 use Rattle.time_merge.specs.Rounds.{row_in}
 use Rattle.time_merge.proofs.Choosing.{each_of_all}
@@ -34,12 +34,14 @@ use Rattle.cpu_workers.proofs.Placing.{stands_region}
 use Rattle.round_print.specs.Prints.{CpuLine, KeysRise, key_in, cpu_in, printed, text_of}
 use Rattle.round_print.specs.Rounds.{IsPrinted}
 use Rattle.report_rounds.specs.Between.{IsBetween, IsLoaded, all_work, work_of}
+use Rattle.report_rounds.specs.Due.{is_of}
 use Rattle.report_rounds.specs.Ends.{IsEnd, IsStop, StandsBefore}
 use Rattle.report_rounds.specs.Lines.{waiting_of, waiting_row, waiting_rows, left_lines}
-use Rattle.report_rounds.specs.Turns.{IsFurther, IsTurned}
+use Rattle.report_rounds.specs.Turns.{HasPrinted, IsFurther, IsTurned}
 use Rattle.report_rounds.proofs.Between.{loaded_between, formatted_between, printed_between}
 use Rattle.report_rounds.proofs.Ending.{IsHorizonAt, at_start, at_key, cut_of_waiting, none_later, stopped}
 use Rattle.report_rounds.proofs.Horizons.{IsAround, around_least, ended_cuts, none_after, parted, place_is}
+use Rattle.report_rounds.proofs.LineCounts.{printed_count, printed_waiting}
 use Rattle.report_rounds.proofs.LineRows.{formatted_row}
 use Rattle.report_rounds.proofs.Pairs.{Related, all_on, map_on, parts_on, related_on, sum_less, sum_on}
 use Rattle.report_rounds.proofs.Progress.{work_formatted, work_less, work_loaded, work_printed}
@@ -50,6 +52,7 @@ pub record IsFormed (text : ℕ → ItemData → List ℕ) (l : Layout) (told : 
   pub long_loaded : length loaded ≡ length first
   pub long_formed : length formed ≡ length loaded
   pub load : Related (IsLoaded l told) first loaded
+  pub ready : All (IsReady l) loaded
   pub format : Related (IsFormatted text l) loaded formed
 
 module _ (text : ℕ → ItemData → List ℕ) (l : Layout) (told : Option (List ℕ)) (first loaded formed : List Lane) (f : IsFormed text l told first loaded formed) where
@@ -97,7 +100,7 @@ module _ (text : ℕ → ItemData → List ℕ) (l : Layout) (told : Option (Lis
       inside = omega (arith, least.inside, f.long_formed)
 
       some_held : (d : Lane) (s : LaneState) → (get_or loaded least.i d).cursor.state ≡ s → 0 < length (held_left l (get_or loaded least.i d))
-      some_held d s e = of_state s (subst (λ (t : LaneState). IsReadyIn t (held_left l a)) e (f.load least.i d (omega (arith, inside, f.long_loaded))).ready)
+      some_held d s e = of_state s (subst (λ (t : LaneState). IsReadyIn t (held_left l a)) e (f.ready least.i d inside))
           (subst (λ (t : LaneState). high_in t b.cursor.high ≡ Some high) (format.keeps.state ∙ e) there.here)
           (λ bad. sound least.i d (omega (arith, least.inside, long)) (print_i.keeps.cpu ∙ there.own) (ap (λ (c : Cursor). c.state) print_i.keeps.cursor ∙ format.keeps.state ∙ e ∙ bad))
         where
@@ -163,7 +166,7 @@ module _ (text : ℕ → ItemData → List ℕ) (l : Layout) (file : List ℕ) w
   unfolding left_lines
   left_on xs ys e = ap (coming key_in cpu_in) (rows_are ys ∙ e ∙ sym (rows_are xs))
 
-  loaded_row : (a b : Lane) → KeepsPlace a b → KeepsLeft l file a b → waiting_row text l file b ≡ waiting_row text l file a
+  pub loaded_row : (a b : Lane) → KeepsPlace a b → KeepsLeft l file a b → waiting_row text l file b ≡ waiting_row text l file a
   loaded_row a b p k =
       ap (λ (r : Row Keyed). row_in (wait_with text b.cpu b.region.kept r)) (same_row l file a b p k)
       ∙ ap (λ (c : ℕ). row_in (wait_with text c b.region.kept (row_of l file a))) p.cpu
@@ -202,11 +205,38 @@ module _ (text : ℕ → ItemData → List ℕ) (l : Layout) (file : List ℕ) w
           subst (λ (xs : List CpuLine). Gained old new (text_of xs)) (sym whole) gained
 
       module _ (now : List Lane) (long : length now ≡ length formed) (print : Related (IsPrinted h) formed now) where
+        -- of each lane's lines to come those that it printed are gone
+        now_printed : Related (HasPrinted text l file (printed h formed)) first now
+        now_printed i d lt =
+            let a : Lane = get_or first i d in
+            let b : Lane = get_or loaded i d in
+            let c : Lane = get_or formed i d in
+            let loaded_lt : i < length loaded = omega (arith, lt, f.long_loaded) in
+            let formed_lt : i < length formed = omega (arith, loaded_lt, f.long_formed) in
+            let load : IsLoaded l (Some file) a b = f.load i d lt in
+            let format : IsFormatted text l b c = f.format i d loaded_lt in
+            let p : IsPrinted h c (get_or now i d) = print i d formed_lt in
+            let cpu : c.cpu ≡ a.cpu = format.keeps.cpu ∙ load.place.cpu in
+            let row : waiting_row text l file c ≡ waiting_row text l file a = formatted_row text l file b c format ∙ loaded_row a b load.place load.left in
+            record {
+              cpu = p.keeps.cpu ∙ cpu;
+              part = p.keeps.part ∙ format.keeps.part ∙ load.place.part;
+              lines = omega (
+                arith,
+                ap (λ (r : Row CpuLine). length r.items) row,
+                printed_waiting h text l file c (get_or now i d) p,
+                printed_count h formed i d formed_lt (formed_rise text l (Some file) first loaded formed f rise),
+                ap (λ (n : ℕ). count_by (is_of n) (printed h formed)) cpu,
+              );
+            }
+
         turned_further : (old new : Option (List ℕ)) → Gained old new (text_of (printed h formed)) → IsFurther text l file first now old new
         turned_further old new gained = record {
           done = printed h formed;
           parted = formed_parted ∙ ap (λ (xs : List CpuLine). printed h formed ++ xs) (sym (printed_left text l file h formed now long print));
           gained = gained;
+          long = long ∙ f.long_formed ∙ f.long_loaded;
+          own = now_printed;
         }
 
         -- at the malformed sub-buffer before which the horizon's lane stands

@@ -6,7 +6,6 @@ use Rattle.page_pool.specs.Fresh.{IsFresh}
 use Rattle.page_pool.specs.declared.lane.Lane.{Lane}
 use Rattle.event_cursor.specs.Loading.{KeepsLeft, KeepsPlace}
 use Rattle.event_cursor.specs.Standing.{IsInOrder, Stands, most_left}
-use Rattle.time_merge.specs.LaneRows.{IsReady}
 use Rattle.cpu_workers.specs.Formats.{IsSorted}
 use Rattle.round_print.specs.Prints.{IsFew, IsTidy}
 
@@ -29,11 +28,10 @@ pub record IsBetween (text : ℕ → ItemData → List ℕ) (layout : Layout) (l
   pub few : IsFew lane.region
   pub room : HasRoom text lane
 
--- The lane is ready. It keeps the lines that it kept, and what was left of it is left.
+-- The lane may have loaded sub-buffers. It keeps the lines that it kept, and what was left of it is left.
 pub record IsLoaded (layout : Layout) (told : Option (List ℕ)) (before now : Lane) : Type 0 where
   pub in_order : IsInOrder layout now
   pub place : KeepsPlace before now
-  pub ready : IsReady layout now
   pub left : IfSome told (λ file. KeepsLeft layout file before now)
   pub stands : IfSome told (λ file. Stands layout file before → Stands layout file now)
   pub most : most_left layout now ≤ most_left layout before

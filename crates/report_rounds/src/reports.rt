@@ -4,6 +4,7 @@ ghost use Rattle.trace_outside.specs.Causes.{Rose, raised};
 ghost use Rattle.subpage.specs.Arrangement.{CpusRise};
 ghost use Rattle.time_merge.specs.LaneRows.{parts_of};
 ghost use Rattle.report_rounds.specs.Between.{HasRoom, IsAtStart};
+ghost use Rattle.report_rounds.specs.Due.{ReadsDue};
 ghost use Rattle.report_rounds.specs.Reports.{IsReport};
 
 use crate::turns::turn;
@@ -19,8 +20,10 @@ use trace_outside::{File, Gate, Pending, Sink};
 ///
 /// The lanes stand before their first items and keep no line, each region has room for any line, and nothing waits in
 /// `pending`. Lines are formed on at most `workers` threads, with the same bytes for any number of them. After `Read` the
-/// lines of the first few reached items are written, after `Write` a prefix of the text. No more bytes are read than the
-/// parts of the processors have. It takes no memory.
+/// lines of the first few reached items are written, after `Write` a prefix of the text. It takes no memory.
+///
+/// No more bytes are read than the parts of the processors have, and none ahead of what is written: of the lines before
+/// a sub-buffer that is read no more than a region keeps were not written yet.
 pub fn report_rounds<R: Threads + Sync, F: File, L: Form, G: Gate, O: Sink>(
     rt: &R,
     form: &L,
@@ -46,6 +49,8 @@ pub fn report_rounds<R: Threads + Sync, F: File, L: Form, G: Gate, O: Sink>(
     ensures out_later { O.faults out.old ≤ O.faults out.new }
     ensures reads { F.reads file.new
         ≤ raised (F.reads file.old) (sum_by (λ part. part.1.size) (parts_of lanes.old)) }
+    ensures due { IfSome (F.bytes file.old) (λ bytes. ReadsDue (L.text form.now) layout.now bytes (parts_of lanes.old)
+        (O.written out.old) (O.written out.new) (F.reads file.old) (F.reads file.new)) }
     ensures bytes { F.bytes file.new ≡ F.bytes file.old }
     ensures size { F.size file.new ≡ F.size file.old }
     ensures name { O.name out.new ≡ O.name out.old }

@@ -6,7 +6,7 @@ ghost use Rattle.event_cursor.specs.Standing.{Stands};
 ghost use Rattle.time_merge.specs.LaneRows.{parts_of};
 ghost use Rattle.time_merge.specs.Reads.{all_unread};
 ghost use Rattle.report_rounds.specs.Between.{IsBetween, all_work};
-ghost use Rattle.report_rounds.specs.Turns.{IsTurned};
+ghost use Rattle.report_rounds.specs.Turns.{HasLoaded, IsTurned};
 
 use crate::ends::end_at;
 use crate::loading::load_all;
@@ -49,6 +49,8 @@ pub(crate) fn turn<R: Threads + Sync, F: File, L: Form, G: Gate, O: Sink>(
     ensures write { result ≡ Some End.Write → Rose (O.faults out.old) (O.faults out.new) }
     ensures later { F.faults file.old ≤ F.faults file.new }
     ensures out_later { O.faults out.old ≤ O.faults out.new }
+    ensures loaded { HasLoaded layout.now (F.bytes file.old) (F.size file.old) lanes.old (F.reads file.old)
+        (F.reads file.new) }
     ensures all { F.reads file.new
         ≤ raised (F.reads file.old) (all_unread layout.now (F.size file.old) lanes.old) }
     ensures reads { IfNone result (F.reads file.new ≤ raised (F.reads file.old)

@@ -1,4 +1,5 @@
 use Rattle.std.proofs.Common.{◌∙◌, refl, arith}
+use Rattle.report_rounds.proofs.DueReads.{due_told}
 use Rattle.report_rounds.proofs.Reading.{less_further, reads_ended, reads_further}
 use Rattle.report_rounds.proofs.Reporting.{going_ended, going_on, going_start}
 use Rattle.report_rounds.proofs.Starting.{start_between}
@@ -50,3 +51,10 @@ returns-in-Some-clause-report g c =
     going_ended (g.L.Form.text c.args.form.now) c.args.layout.now (g.F.File.bytes c.args.file.now) (g.F.File.bytes c.loop-end.file) c.args.lanes.now c.loop-end.lanes c.turn.new.lanes
     (g.O.Sink.written c.args.out.now) (g.O.Sink.written c.loop-end.out) (g.O.Sink.written c.turn.new.out) c.in-Some.end c.loop-end.invariant.bytes c.requires.start c.loop-end.invariant.parts
     c.loop-end.invariant.going c.in-Some.ensures.turned
+
+pub returns-in-Some-clause-due : goal.returns-in-Some-clause-due
+returns-in-Some-clause-due g c =
+    due_told (g.L.Form.text c.args.form.now) c.args.layout.now (g.F.File.bytes c.args.file.now) (g.F.File.bytes c.loop-end.file) (g.F.File.size c.args.file.now) (g.F.File.size c.loop-end.file)
+    c.args.lanes.now c.loop-end.lanes (g.O.Sink.written c.args.out.now) (g.O.Sink.written c.loop-end.out) (g.O.Sink.written c.turn.new.out) _ _ _ c.in-Some.end
+    c.loop-end.invariant.bytes c.loop-end.invariant.size (g.met.F.File.size_is c.args.file.now) (omega (arith, c.requires.allowed.page_least)) c.requires.start c.loop-end.invariant.between
+    c.loop-end.invariant.parts c.loop-end.invariant.going c.turn.ensures.loaded c.in-Some.ensures.turned c.loop-end.invariant.unread c.loop-end.invariant.reads

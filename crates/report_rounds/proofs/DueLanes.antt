@@ -1,0 +1,156 @@
+-- What a lane has asked for is due.
+use Rattle.std.proofs.Common.{◌≡◌, ℕ, zero, suc, ◌+◌, ◌-◌, ◌*◌, ◌<◌, ◌≤◌, Bool, true, cond, List, [], ◌∷◌, length, sum_by, Option, Some, None, refl, ap, ◌∙◌, arith, inl, inr}
+use Rattle.std.specs.Prelude.{count_by, filter, nat_le}
+use Rattle.std.specs.List.{range_with_len}
+use Rattle.std.specs.Option.{IfSome}
+use Rattle.std.proofs.lemmas.Bool.{and_from, cases_Bool, cases_lt, cond-true, le-leb}
+use Rattle.std.proofs.lemmas.List.{length-drop}
+use Rattle.std.proofs.lemmas.List.Sums.{length-filter, sum_by-cons}
+use Rattle.trace_base.specs.declared.layout.Layout.{Layout}
+use Rattle.trace_base.specs.declared.part.Part.{Part}
+use Rattle.subpage.specs.ItemData.{ItemData}
+use Rattle.subpage.specs.Processor.{bad_of, is_there, list_of, page_count}
+use Rattle.page_pool.specs.Fresh.{IsFresh}
+use Rattle.page_pool.specs.Lines.{most_lines}
+use Rattle.page_pool.specs.declared.cursor.LaneState.{LaneState}
+use Rattle.page_pool.specs.declared.cursor.LaneState.TheVariants.{Fresh, Held, Ended, Malformed}
+use Rattle.page_pool.specs.declared.lane.Lane.{Lane}
+use Rattle.event_cursor.specs.Standing.{IsInOrder, Stands, left_of}
+use Rattle.event_cursor.specs.Unread.{first_unread, is_there_in, reading, reading_in, size_from, size_there, unread}
+use Rattle.event_cursor.proofs.UnreadLaws.{size_step}
+use Rattle.time_merge.specs.LaneRows.{parts_of}
+use Rattle.time_merge.specs.Reads.{all_reading, all_unread}
+use Rattle.time_merge.specs.Rows.{Each}
+use Rattle.round_print.specs.Prints.{CpuLine}
+use Rattle.report_rounds.specs.Due.{has_line, is_due, is_of, items_before, none_before, unwritten_before}
+use Rattle.report_rounds.proofs.Before.{asked_in, before_left, sound_to}
+use Rattle.report_rounds.proofs.LineCounts.{count_cons, one_if}
+use Rattle.report_rounds.proofs.Reading.{counts_there, size_none, there_inside}
+
+module _ (text : ℕ → ItemData → List ℕ) (l : Layout) (file : List ℕ) (written : List CpuLine) (a : Lane) where
+  -- all lines of a lane's used items are kept or among these pieces
+  abbrev pub HasWritten : Type 0
+  HasWritten = count_by (has_line text a.cpu) (list_of l file a.part)
+      ≤ count_by (is_of a.cpu) written + (length a.region.kept + count_by (has_line text a.cpu) (left_of l file a))
+
+  sound_before : (bad : Option ℕ) (next k : ℕ) → IfSome bad (λ at. next ≤ at) → k ≤ next → none_before bad k ≡ true
+  sound_before None next k sound le = refl
+  sound_before (Some at) next k sound le = le-leb k at (omega (arith, sound, le))
+
+  no_later : (s : LaneState) (next k : ℕ) → k < asked_in s next → k ≤ next
+  no_later Fresh next k lt = omega (arith, lt)
+  no_later Held next k lt = omega (arith, lt)
+  no_later Ended next k lt = omega (arith, lt)
+  no_later Malformed next k lt = omega (arith, lt)
+
+  module _ (some : 0 < l.page) (order : IsInOrder l a) (s : Stands l file a) (few : length a.region.kept ≤ most_lines) (has : HasWritten) where
+    few_unwritten : (k : ℕ) → k < page_count l a.part → k < asked_in a.cursor.state a.cursor.next → length (unwritten_before text l file written (a.cpu, a.part) k) ≤ most_lines
+    few_unwritten k inside lt =
+        let p : ItemData → Bool = has_line text a.cpu in
+        let done : ℕ = count_by (is_of a.cpu) written in
+        omega (
+          arith,
+          length-drop done (filter p (items_before l file a.part k)),
+          length-filter p (items_before l file a.part k),
+          before_left l file p a some order s k inside lt,
+          few,
+          has,
+        )
+
+    pub asked_due : (k : ℕ) → k < asked_in a.cursor.state a.cursor.next → is_there l file a.part k ≡ true → is_due text l file written (a.cpu, a.part) k ≡ true
+    asked_due k lt there =
+        let inside : k < page_count l a.part = counts_there l (length file) a.part.size l.page k some (there_inside l (length file) a.part k there) in
+        let sound : none_before (bad_of l file a.part) k ≡ true = sound_before (bad_of l file a.part) a.cursor.next k (sound_to l file a s) (no_later a.cursor.state a.cursor.next k lt) in
+        let small : nat_le (length (unwritten_before text l file written (a.cpu, a.part) k)) most_lines ≡ true = le-leb _ _ (few_unwritten k inside lt) in
+        and_from _ _ (and_from (is_there l file a.part k) (none_before (bad_of l file a.part) k) there sound) small
+
+-- the bytes of a part's sub-buffers before one that was not asked for
+module _ (l : Layout) (len : ℕ) (some : 0 < l.page) where
+  there_or_none : (part : Part) (k : ℕ) → page_count l part ≤ k → size_there l len part k ≡ 0
+  there_or_none part k past = elim (cases_Bool (is_there_in l len part k)) as (λ _. size_there l len part k ≡ 0) [
+    | inl there ↦ absurd (omega (arith, past, counts_there l len part.size l.page k some (there_inside l len part k there)))
+    | inr none ↦ rw none refl
+  ]
+
+  there_step : (part : Part) (k : ℕ) → size_there l len part k + size_from l len part (k + 1) ≤ size_from l len part k
+  there_step part k = elim (cases_lt k (page_count l part)) as (λ _. size_there l len part k + size_from l len part (k + 1) ≤ size_from l len part k) [
+    | inl lt ↦ omega (arith, size_step l len part k lt)
+    | inr past ↦ omega (arith, there_or_none part k past, size_none l len part (k + 1) (omega (arith, past)))
+  ]
+
+  size_less : (part : Part) (from d : ℕ) → size_from l len part (from + d) ≤ size_from l len part from
+  size_less part from zero = let same : from + 0 ≡ from = omega arith in omega (arith, ap (size_from l len part) same)
+  size_less part from (suc d) =
+      let same : from + suc d ≡ from + d + 1 = omega arith in
+      omega (arith, ap (size_from l len part) same, there_step part (from + d), size_less part from d)
+
+  module _ (part : Part) (due : ℕ → Bool) (asked : ℕ) (each : (k : ℕ) → k < asked → is_there_in l len part k ≡ true → due k ≡ true) where
+    one_due : (k : ℕ) → k < asked → size_there l len part k ≤ l.page * one_if (due k)
+    one_due k lt = elim (cases_Bool (is_there_in l len part k)) as (λ _. size_there l len part k ≤ l.page * one_if (due k)) [
+      | inl there ↦
+          let one : one_if (due k) ≡ 1 = ap one_if (each k lt there) in
+          let page : l.page * one_if (due k) ≡ l.page * 1 = ap (λ (n : ℕ). l.page * n) one in
+          let size : size_there l len part k ≡ l.page = cond-true _ _ _ there in
+          omega (arith, page, size)
+      | inr none ↦ let size : size_there l len part k ≡ 0 = ap (λ (b : Bool). cond b l.page 0) none in omega (arith, size)
+    ]
+
+    due_size : (n k : ℕ) → page_count l part - k ≡ n → size_from l len part k ≤ l.page * count_by due (range_with_len k n) + size_from l len part asked
+    due_size zero k e = omega (arith, size_none l len part k (omega (arith, e)))
+    due_size (suc n) k e =
+        let rest : size_from l len part (k + 1) ≤ l.page * count_by due (range_with_len (k + 1) n) + size_from l len part asked = due_size n (k + 1) (omega (arith, e)) in
+        let count : l.page * count_by due (range_with_len k (suc n)) ≡ l.page * (one_if (due k) + count_by due (range_with_len (k + 1) n)) = ap (λ (m : ℕ). l.page * m) (count_cons due k (range_with_len (k + 1) n)) in
+        elim (cases_lt k asked) as (λ _. size_from l len part k ≤ l.page * count_by due (range_with_len k (suc n)) + size_from l len part asked) [
+          | inl lt ↦ omega (arith, rest, count, one_due k lt, size_step l len part k (omega (arith, e)))
+          | inr past ↦
+              let same : asked + (k - asked) ≡ k = omega (arith, past) in
+              omega (arith, ap (size_from l len part) same, size_less part asked (k - asked))
+        ]
+
+    pub all_due : size_from l len part 0 ≤ l.page * count_by due (range_with_len 0 (page_count l part)) + size_from l len part asked
+    all_due = due_size (page_count l part) 0 (omega arith)
+
+  -- what a lane has not read, without what it may be reading, is what it did not ask for
+  asked_unread : (s : LaneState) (part : Part) (next : ℕ) → size_from l len part (asked_in s next) + reading_in s (size_there l len part next) ≤ size_from l len part (first_unread s next)
+  asked_unread Fresh part next = omega (arith, there_step part next)
+  asked_unread Held part next = omega arith
+  asked_unread Ended part next = omega arith
+  asked_unread Malformed part next = omega arith
+
+  -- a lane that asked for due sub-buffers only
+  abbrev pub AsksDue : (ℕ × Part → ℕ) → Lane → Type 0
+  AsksDue count a = size_from l len a.part 0 + reading l len a ≤ l.page * count (a.cpu, a.part) + unread l len a
+
+  pub asks_due : (a : Lane) (due : ℕ → Bool) → ((k : ℕ) → k < asked_in a.cursor.state a.cursor.next → is_there_in l len a.part k ≡ true → due k ≡ true)
+      → size_from l len a.part 0 + reading l len a ≤ l.page * count_by due (range_with_len 0 (page_count l a.part)) + unread l len a
+  asks_due a due each = omega (arith, all_due a.part due (asked_in a.cursor.state a.cursor.next) each, asked_unread a.cursor.state a.part a.cursor.next)
+
+  pub lanes_due : (count : ℕ × Part → ℕ) (lanes : List Lane) → Each (AsksDue count) lanes
+      → sum_by (λ part. size_from l len part.1 0) (parts_of lanes) + all_reading l len lanes ≤ l.page * sum_by count (parts_of lanes) + all_unread l len lanes
+  lanes_due count [] each = omega arith
+  lanes_due count (a ∷ lanes) each =
+      let part : ℕ × Part = (a.cpu, a.part) in
+      let due : l.page * sum_by count (part ∷ parts_of lanes) ≡ l.page * (count part + sum_by count (parts_of lanes)) = ap (λ (n : ℕ). l.page * n) (sum_by-cons count part (parts_of lanes)) in
+      omega (
+        arith,
+        due,
+        each.0,
+        lanes_due count lanes each.1,
+        sum_by-cons (λ (q : ℕ × Part). size_from l len q.1 0) part (parts_of lanes),
+        sum_by-cons (reading l len) a lanes,
+        sum_by-cons (unread l len) a lanes,
+      )
+
+  fresh_unread : (a : Lane) → IsFresh a.cursor → unread l len a ≡ size_from l len a.part 0
+  fresh_unread a f = ap (λ (s : LaneState). size_from l len a.part (first_unread s a.cursor.next)) f.state ∙ ap (size_from l len a.part) f.next
+
+  pub fresh_all : (lanes : List Lane) → Each (λ a. IsFresh a.cursor) lanes → all_unread l len lanes ≡ sum_by (λ part. size_from l len part.1 0) (parts_of lanes)
+  fresh_all [] fresh = refl
+  fresh_all (a ∷ lanes) fresh =
+      omega (
+        arith,
+        fresh_unread a fresh.0,
+        fresh_all lanes fresh.1,
+        sum_by-cons (unread l len) a lanes,
+        sum_by-cons (λ (q : ℕ × Part). size_from l len q.1 0) (a.cpu, a.part) (parts_of lanes),
+      )

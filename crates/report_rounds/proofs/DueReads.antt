@@ -1,0 +1,201 @@
+-- Whatever ends the rounds, no more was read than is due by what was written.
+use Rattle.std.proofs.Common.{◌≡◌, ℕ, zero, suc, ◌-◌, ◌*◌, ◌<◌, ◌≤◌, Bool, true, false, List, [], ◌∷◌, ◌++◌, length, take, get_or, sum_by, Option, Some, None, refl, sym, ap, subst, ◌∙◌, arith, inl, inr}
+use Rattle.std.specs.Prelude.{count_by, nat_eq}
+use Rattle.std.specs.List.{All, starts_with}
+use Rattle.std.specs.Option.{IfSome}
+use lib.Pointwise.{pointwise}
+use Rattle.std.proofs.lemmas.Bool.{cases_Bool, cases_eq}
+use Rattle.std.proofs.lemmas.Cmp.{nat_list_eq_equiv}
+use Rattle.std.proofs.lemmas.List.{take-take, take_at}
+use Rattle.std.proofs.lemmas.List.Sums.{sum_by-take-le}
+use Rattle.trace_base.specs.declared.layout.Layout.{Layout}
+use Rattle.trace_base.specs.declared.part.Part.{Part}
+use Rattle.trace_outside.specs.Causes.{raised}
+use Rattle.trace_outside.specs.Writing.{Gained}
+use Rattle.trace_outside.proofs.Gains.{gained_both, gained_nothing}
+use Rattle.subpage.specs.ItemData.{ItemData}
+use Rattle.subpage.specs.Cut.{last_key}
+use Rattle.subpage.specs.Processor.{list_of}
+use Rattle.page_pool.specs.Fresh.{IsFresh}
+use Rattle.page_pool.specs.Lines.{Line, Lines, most_lines}
+use Rattle.page_pool.specs.declared.lane.Lane.{Lane}
+use Rattle.event_cursor.specs.Standing.{Stands, left_of}
+use Rattle.event_cursor.specs.Unread.{is_there_in, size_from}
+use Rattle.time_merge.specs.LaneRows.{parts_of}
+use Rattle.time_merge.specs.Reads.{all_unread}
+use Rattle.time_merge.specs.Rows.{Row}
+use Rattle.time_merge.specs.declared.ending.End.{End}
+use Rattle.time_merge.specs.declared.ending.End.TheVariants as code
+use Rattle.time_merge.proofs.Choosing.{each_of_all}
+use Rattle.time_merge.proofs.Starting.{fresh_stands}
+use Rattle.round_print.specs.Prints.{CpuLine, text_of}
+use Rattle.report_rounds.specs.Between.{IsAtStart, IsBetween, IsLoaded}
+use Rattle.report_rounds.specs.Due.{ReadsDue, due_bytes, due_count, greatest_up_to, has_line, is_due, is_of, pieces_of, whole_pieces, written_pieces}
+use Rattle.report_rounds.specs.Lines.{left_lines}
+use Rattle.report_rounds.specs.Turns.{HasLoaded, HasPrinted, IsEnding}
+use Rattle.report_rounds.proofs.DueLanes.{AsksDue, HasWritten, asked_due, asks_due, fresh_all, lanes_due}
+use Rattle.report_rounds.proofs.LineCounts.{one_if, waiting_count}
+use Rattle.report_rounds.proofs.Pairs.{parts_on}
+use Rattle.report_rounds.proofs.Reporting.{IsGoing}
+use Rattle.report_rounds.proofs.Starting.{start_lines}
+use Rattle.report_rounds.proofs.Turning.{loaded_row}
+
+-- what passes is no greater than the greatest that passes
+pub greatest_least : (n m : ℕ) (passes : ℕ → Bool) → m ≤ n → passes m ≡ true → m ≤ greatest_up_to n passes
+greatest_least zero m passes le here = le
+greatest_least (suc n) m passes le here = elim (cases_Bool (passes (suc n))) as (λ _. m ≤ greatest_up_to (suc n) passes) [
+  | inl last ↦ rw last le
+  | inr not_last ↦ elim (cases_eq m (suc n)) as (λ _. m ≤ greatest_up_to (suc n) passes) [
+    | inl same ↦ absurd (never (sym here ∙ ap passes same ∙ not_last))
+    | inr other ↦
+        let less : m ≤ n = grind (arith, le, other) in
+        rw not_last (greatest_least n m passes less here)
+  ]
+]
+  where
+    never : true ≡ false → ⊥
+    never e = cc
+
+-- pieces of which the first few were written, and then more text
+module _ (done left : List CpuLine) (rest : List ℕ) where
+  abbrev pieces : List CpuLine
+  pieces = done ++ left
+
+  abbrev written : List ℕ
+  written = text_of done ++ rest
+
+  begins : starts_with nat_eq written (text_of (take (length done) pieces)) ≡ true
+  begins =
+      let first : take (length done) pieces ≡ done = take_at done left (length done) refl in
+      let same : take (length (text_of done)) written ≡ text_of done = take_at (text_of done) rest (length (text_of done)) refl in
+      subst (λ (ps : List CpuLine). starts_with nat_eq written (text_of ps) ≡ true) (sym first)
+      (ap (pointwise nat_eq (text_of done)) same ∙ nat_list_eq_equiv.refl (text_of done))
+
+  whole_no_less : length done ≤ whole_pieces pieces written
+  whole_no_less = greatest_least (length pieces) (length done) (λ w. starts_with nat_eq written (text_of (take w pieces))) (length_front done left) begins
+    where
+      length_front : (xs ys : List CpuLine) → length xs ≤ length (xs ++ ys)
+      length_front [] ys = omega arith
+      length_front (x ∷ xs) ys = omega (arith, length_front xs ys)
+
+  pub written_count : (p : CpuLine → Bool) → count_by p done ≤ count_by p (written_pieces pieces written)
+  written_count p =
+      let w : ℕ = whole_pieces pieces written in
+      let first : take (length done) (take w pieces) ≡ done = take-take (length done) w pieces whole_no_less ∙ take_at done left (length done) refl in
+      omega (arith, sum_by-take-le (λ (line : CpuLine). one_if (p line)) (take w pieces) (length done), ap (count_by p) first)
+
+module _ (text : ℕ → ItemData → List ℕ) (l : Layout) (file : List ℕ) where
+  -- whatever the end, the sink gained some text
+  ending_gained : (lanes : List Lane) (old new : Option (List ℕ)) (end : End) → IsEnding text l file lanes old new end → (rest : List ℕ) × Gained old new rest
+  ending_gained lanes old new code.Done ending = (_, ending.0)
+  ending_gained lanes old new (code.Malformed cpu page) ending = (_, ending.0)
+  ending_gained lanes old new code.Read ending = ([], ending ∙ gained_nothing old)
+  ending_gained lanes old new code.Write ending = (_, ending.1)
+
+  -- a lane at the start has all of its items left
+  start_left : (a : Lane) → IsFresh a.cursor → left_of l file a ≡ list_of l file a.part
+  start_left a f =
+      let s : Stands l file a = fresh_stands l file a f in
+      let none : s.used ≡ [] = no_items s.used (sym s.high ∙ f.high) in
+      sym (s.parted ∙ ap (λ (xs : List ItemData). xs ++ left_of l file a) none)
+    where
+      no_items : (xs : List ItemData) → last_key xs ≡ None → xs ≡ []
+      no_items [] e = refl
+      no_items (x ∷ xs) e = absurd cc
+
+  -- a lane that printed some of its lines since the start, and then was loaded
+  lane_written : (done whole : List CpuLine) (first a b : Lane) → IsAtStart l first → HasPrinted text l file done first a → IsLoaded l (Some file) a b
+      → ((p : CpuLine → Bool) → count_by p done ≤ count_by p whole) → HasWritten text l file whole b
+  lane_written done whole first a b start own load more =
+      let cpu : b.cpu ≡ first.cpu = load.place.cpu ∙ own.cpu in
+      let part : b.part ≡ first.part = load.place.part ∙ own.part in
+      omega (
+        arith,
+        waiting_count text l file first,
+        ap (λ (lines : List Line). length lines) start.kept,
+        ap (count_by (has_line text first.cpu)) (start_left first start.cursor),
+        own.lines,
+        ap (λ (r : Row CpuLine). length r.items) (loaded_row text l file a b load.place load.left),
+        waiting_count text l file b,
+        ap (λ (n : ℕ). count_by (has_line text n) (list_of l file b.part)) cpu,
+        ap (λ (p : Part). count_by (has_line text first.cpu) (list_of l file p)) part,
+        ap (λ (n : ℕ). count_by (is_of n) done) cpu,
+        more (is_of b.cpu),
+      )
+
+  module _ (len : ℕ) (same_len : length file ≡ len) (some : 0 < l.page) (first mid : List Lane) (old between new : Option (List ℕ)) (before reads after : ℕ)
+      (start : All (IsAtStart l) first) (going : IsGoing text l file first mid old between) (all : All (IsBetween text l) mid) (parts : parts_of mid ≡ parts_of first)
+      (load : HasLoaded l (Some file) len mid reads after) (rest : List ℕ) where
+    abbrev done_lines : List CpuLine
+    done_lines = going.further.done
+
+    abbrev whole_text : List ℕ
+    whole_text = text_of done_lines ++ rest
+
+    abbrev all_pieces : List CpuLine
+    all_pieces = pieces_of text l file (parts_of first)
+
+    whole_lines : List CpuLine
+    whole_lines = written_pieces all_pieces whole_text
+
+    whole_count : (p : CpuLine → Bool) → count_by p done_lines ≤ count_by p whole_lines
+    unfolding whole_lines
+    whole_count p =
+        let is : done_lines ++ left_lines text l file mid ≡ all_pieces = sym going.further.parted ∙ start_lines text l file first start in
+        subst (λ (ps : List CpuLine). count_by p done_lines ≤ count_by p (written_pieces ps whole_text)) is (written_count done_lines (left_lines text l file mid) rest p)
+
+    each_due : All (AsksDue l len some (due_count text l file whole_lines)) load.now
+    each_due i d lt =
+        let a : Lane = get_or mid i d in
+        let b : Lane = get_or load.now i d in
+        let mid_lt : i < length mid = omega (arith, lt, load.long) in
+        let first_lt : i < length first = omega (arith, mid_lt, going.further.long) in
+        let one : IsLoaded l (Some file) a b = load.each i d mid_lt in
+        let few : length b.region.kept ≤ most_lines =
+        omega (arith, (all i d mid_lt).few.kept, (all i d mid_lt).few.used, ap (λ (r : Lines). length r.kept) one.place.region) in
+        let has : HasWritten text l file whole_lines b =
+        lane_written done_lines whole_lines (get_or first i d) a b (start i d first_lt) (going.further.own i d first_lt) one whole_count in
+        asks_due l len some b (is_due text l file whole_lines (b.cpu, b.part)) (λ k asked there.
+        asked_due text l file whole_lines b some one.in_order (one.stands (going.stands i d mid_lt)) few has k asked
+        (subst (λ (n : ℕ). is_there_in l n b.part k ≡ true) (sym same_len) there))
+
+    now_parts : parts_of load.now ≡ parts_of first
+    now_parts = parts_on (IsLoaded l (Some file)) mid load.now load.long load.each (λ a b r. r.place.cpu) (λ a b r. r.place.part) ∙ parts
+
+    pub reads_due : all_unread l len mid ≤ all_unread l len first → reads ≤ raised before (all_unread l len first - all_unread l len mid)
+        → Gained between new rest → ReadsDue text l file (parts_of first) old new before after
+    unfolding due_bytes whole_lines
+    reads_due less read gained =
+        let fresh : All (λ (a : Lane). IsFresh a.cursor) first = λ i d lt. (start i d lt).cursor in
+        let count : ℕ × Part → ℕ = due_count text l file whole_lines in (
+          whole_text,
+          (
+            gained_both old between new (text_of done_lines) rest going.further.gained gained,
+            omega (
+              arith,
+              fresh_all l len some first (each_of_all (λ (a : Lane). IsFresh a.cursor) first fresh),
+              lanes_due l len some count load.now (each_of_all (AsksDue l len some count) load.now each_due),
+              ap (λ (ps : List (ℕ × Part)). l.page * sum_by count ps) now_parts,
+              ap (λ (ps : List (ℕ × Part)). sum_by (λ part. size_from l len part.1 0) ps) now_parts,
+              less,
+              read,
+              load.less,
+              load.reads,
+            ),
+          ),
+        )
+
+-- over a file that may tell its bytes
+pub due_told : (text : ℕ → ItemData → List ℕ) (l : Layout) (told now_told : Option (List ℕ)) (len now_len : ℕ) (first mid : List Lane) (old between new : Option (List ℕ)) (before reads after : ℕ)
+    (end : End) → now_told ≡ told → now_len ≡ len → IfSome told (λ file. length file ≡ len) → 0 < l.page → All (IsAtStart l) first → All (IsBetween text l) mid → parts_of mid ≡ parts_of first
+    → IfSome told (λ file. IsGoing text l file first mid old between)
+    → HasLoaded l now_told now_len mid reads after → IfSome now_told (λ file. All (Stands l file) mid → IsEnding text l file mid between new end)
+    → all_unread l len mid ≤ all_unread l len first → reads ≤ raised before (all_unread l len first - all_unread l len mid)
+    → IfSome told (λ file. ReadsDue text l file (parts_of first) old new before after)
+due_told text l None now_told len now_len first mid old between new before reads after end same same_len size some start all parts going load turned less read = tt
+due_told text l (Some file) now_told len now_len first mid old between new before reads after end same same_len size some start all parts going load turned less read =
+    let ending : All (Stands l file) mid → IsEnding text l file mid between new end = subst (λ (o : Option (List ℕ)). IfSome o (λ file. All (Stands l file) mid → IsEnding text l file mid between new end)) same turned in
+    let gained : (rest : List ℕ) × Gained between new rest = ending_gained text l file mid between new end (ending going.stands) in
+    let here : HasLoaded l (Some file) len mid reads after =
+    subst (λ (n : ℕ). HasLoaded l (Some file) n mid reads after) same_len (subst (λ (o : Option (List ℕ)). HasLoaded l o now_len mid reads after) same load) in
+    reads_due text l file len size some first mid old between new before reads after start going all parts here gained.0 less read gained.1
