@@ -191,6 +191,17 @@ fn put_many(pages: &mut Vec<Page>, first: u64) -> Result<(), AllocError> {
     Ok(())
 }
 
+// The sub-buffers of two processors: 306 lines in each but the last of the first processor's nine, and behind them 21 with
+// at most a line each, whose events come first but for the last one.
+fn put_two_processors(pages: &mut Vec<Page>) -> Result<(), AllocError> {
+    put_many(pages, 10_000)?;
+    for time in 1..=20_u64 {
+        pages.push(events(time, 1, 0))?;
+    }
+    pages.push(events(20_000, 1, 0))?;
+    Ok(())
+}
+
 #[test]
 fn many_events_of_one_processor_against_two_of_another(rt: HostRuntime) -> Result<(), Fail> {
     let mut pages = Vec::new(rt.alloc());
@@ -225,13 +236,11 @@ fn many_events_of_one_processor_against_two_of_another(rt: HostRuntime) -> Resul
 #[test]
 fn more_lines_wait_than_a_region_keeps(rt: HostRuntime) -> Result<(), Fail> {
     let mut pages = Vec::new(rt.alloc());
-    put_many(&mut pages, 10_000)?;
+    put_two_processors(&mut pages)?;
     let mut text = Vec::new(rt.alloc());
     for time in 1..=20_u64 {
-        pages.push(events(time, 1, 0))?;
         put_mark(&mut text, 4, time)?;
     }
-    pages.push(events(20_000, 1, 0))?;
     for time in 10_000..13_000 {
         put_mark(&mut text, 3, time)?;
     }
@@ -339,6 +348,33 @@ fn a_prefix_is_written_before_a_failed_write(rt: HostRuntime) -> Result<(), Fail
         assert!(rt; found == Some(end), "{room}");
         assert!(rt; out.bytes() == text.as_bytes(), "{room}");
         assert!(rt; out.faults == u64::from(end == Write), "{room}");
+    }
+    Ok(())
+}
+
+#[test]
+fn no_more_is_read_than_is_due_by_what_was_written(rt: HostRuntime) -> Result<(), Fail> {
+    let mut pages = Vec::new(rt.alloc());
+    put_two_processors(&mut pages)?;
+    // Each row has the bytes that can be written, the sub-buffers that are read, and those that are due. All 21 of the
+    // second processor are due. The fifth of the first one has 1,224 lines before it: it is due from the 200th on, behind
+    // the second one's 18 lines of two bytes.
+    for (room, read, due, end) in [
+        (0, 2, 4 + 21, Write),
+        (1, 2, 4 + 21, Write),
+        (2, 4, 4 + 21, Write),
+        (36, 25, 4 + 21, Write),
+        (435, 25, 4 + 21, Write),
+        (436, 25, 5 + 21, Write),
+        (5437, 30, 9 + 21, Write),
+        (5438, 30, 9 + 21, Done),
+    ] {
+        let mut file = Disk::new(bytes_of(rt.alloc(), pages.as_slice())?, u64::MAX);
+        let mut out = Paper::new(rt.alloc(), room)?;
+        let found = report(&rt, rt.alloc(), &[9, 21], 65_537, 2, &mut file, &mut out)?;
+        assert!(rt; found == Some(end), "{room}");
+        assert!(rt; file.reads == 4096 * read, "{room}: {read}");
+        assert!(rt; file.reads <= 4096 * due, "{room}: {due}");
     }
     Ok(())
 }
