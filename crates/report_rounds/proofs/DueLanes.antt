@@ -3,7 +3,7 @@ use Rattle.std.proofs.Common.{◌≡◌, ℕ, zero, suc, ◌+◌, ◌-◌, ◌*�
 use Rattle.std.specs.Prelude.{count_by, filter, nat_le}
 use Rattle.std.specs.List.{range_with_len}
 use Rattle.std.specs.Option.{IfSome}
-use Rattle.std.proofs.lemmas.Bool.{and_from, cases_Bool, cases_lt, cond-true, le-leb}
+use Rattle.std.proofs.lemmas.Bool.{and_from, and_parts, cases_Bool, cases_lt, cond-true, le-leb}
 use Rattle.std.proofs.lemmas.List.{length-drop}
 use Rattle.std.proofs.lemmas.List.Sums.{length-filter, sum_by-cons}
 use Rattle.trace_base.specs.declared.layout.Layout.{Layout}
@@ -22,10 +22,10 @@ use Rattle.time_merge.specs.LaneRows.{parts_of}
 use Rattle.time_merge.specs.Reads.{all_reading, all_unread}
 use Rattle.time_merge.specs.Rows.{Each}
 use Rattle.round_print.specs.Prints.{CpuLine}
-use Rattle.report_rounds.specs.Due.{has_line, is_due, is_of, items_before, none_before, unwritten_before}
+use Rattle.report_rounds.specs.Due.{due_count, has_line, is_due, is_of, items_before, none_before, unwritten_before}
 use Rattle.report_rounds.proofs.Before.{asked_in, before_left, sound_to}
 use Rattle.report_rounds.proofs.LineCounts.{count_cons, one_if}
-use Rattle.report_rounds.proofs.Reading.{counts_there, size_none, there_inside}
+use Rattle.report_rounds.proofs.Reading.{counts_there, size_inside, size_none, there_inside}
 
 module _ (text : ℕ → ItemData → List ℕ) (l : Layout) (file : List ℕ) (written : List CpuLine) (a : Lane) where
   -- all lines of a lane's used items are kept or among these pieces
@@ -110,6 +110,26 @@ module _ (l : Layout) (len : ℕ) (some : 0 < l.page) where
     pub all_due : size_from l len part 0 ≤ l.page * count_by due (range_with_len 0 (page_count l part)) + size_from l len part asked
     all_due = due_size (page_count l part) 0 (omega arith)
 
+  -- each due sub-buffer is there
+  due_there : (part : Part) (due : ℕ → Bool) → ((k : ℕ) → due k ≡ true → is_there_in l len part k ≡ true) → (n k : ℕ) → page_count l part - k ≡ n
+      → l.page * count_by due (range_with_len k n) ≤ size_from l len part k
+  due_there part due each zero k e = omega arith
+  due_there part due each (suc n) k e =
+      let count : l.page * count_by due (range_with_len k (suc n)) ≡ l.page * (one_if (due k) + count_by due (range_with_len (k + 1) n)) = ap (λ (m : ℕ). l.page * m) (count_cons due k (range_with_len (k + 1) n)) in
+      omega (arith, count, one, due_there part due each n (k + 1) (omega (arith, e)), size_step l len part k (omega (arith, e)))
+    where
+      one : l.page * one_if (due k) ≤ size_there l len part k
+      one = elim (cases_Bool (due k)) as (λ _. l.page * one_if (due k) ≤ size_there l len part k) [
+        | inl yes_due ↦
+            let page : l.page * one_if (due k) ≡ l.page * 1 = ap (λ (b : Bool). l.page * one_if b) yes_due in
+            let size : size_there l len part k ≡ l.page = cond-true _ _ _ (each k yes_due) in
+            omega (arith, page, size)
+        | inr not_due ↦ let none : l.page * one_if (due k) ≡ l.page * 0 = ap (λ (b : Bool). l.page * one_if b) not_due in omega (arith, none)
+      ]
+
+  pub part_due : (part : Part) (due : ℕ → Bool) → ((k : ℕ) → due k ≡ true → is_there_in l len part k ≡ true) → l.page * count_by due (range_with_len 0 (page_count l part)) ≤ part.size
+  part_due part due each = omega (arith, due_there part due each (page_count l part) 0 (omega arith), size_inside l len (page_count l part) part 0 (omega arith))
+
   -- what a lane has not read, without what it may be reading, is what it did not ask for
   asked_unread : (s : LaneState) (part : Part) (next : ℕ) → size_from l len part (asked_in s next) + reading_in s (size_there l len part next) ≤ size_from l len part (first_unread s next)
   asked_unread Fresh part next = omega (arith, there_step part next)
@@ -154,3 +174,19 @@ module _ (l : Layout) (len : ℕ) (some : 0 < l.page) where
         sum_by-cons (unread l len) a lanes,
         sum_by-cons (λ (q : ℕ × Part). size_from l len q.1 0) (a.cpu, a.part) (parts_of lanes),
       )
+
+-- of each processor no more is due than its part has
+pub parts_due : (text : ℕ → ItemData → List ℕ) (l : Layout) (file : List ℕ) (written : List CpuLine) (parts : List (ℕ × Part)) → 0 < l.page
+    → l.page * sum_by (due_count text l file written) parts ≤ sum_by (λ part. part.1.size) parts
+parts_due text l file written [] some = omega arith
+parts_due text l file written (part ∷ parts) some =
+    let all : l.page * sum_by (due_count text l file written) (part ∷ parts) ≡ l.page * (due_count text l file written part + sum_by (due_count text l file written) parts) =
+    ap (λ (n : ℕ). l.page * n) (sum_by-cons (due_count text l file written) part parts) in
+    let there : (k : ℕ) → is_due text l file written part k ≡ true → is_there_in l (length file) part.1 k ≡ true = λ k due. (and_parts _ _ (and_parts _ _ due).0).0 in
+    omega (
+      arith,
+      all,
+      part_due l (length file) some part.1 (is_due text l file written part) there,
+      parts_due text l file written parts some,
+      sum_by-cons (λ (q : ℕ × Part). q.1.size) part parts,
+    )

@@ -56,6 +56,14 @@ greatest_least (suc n) m passes le here = elim (cases_Bool (passes (suc n))) as 
     never : true ≡ false → ⊥
     never e = cc
 
+-- the greatest passes, where 0 does
+pub greatest_passes : (n : ℕ) (passes : ℕ → Bool) → passes 0 ≡ true → passes (greatest_up_to n passes) ≡ true
+greatest_passes zero passes first = first
+greatest_passes (suc n) passes first = elim (cases_Bool (passes (suc n))) as (λ _. passes (greatest_up_to (suc n) passes) ≡ true) [
+  | inl last ↦ rw last last
+  | inr not_last ↦ rw not_last (greatest_passes n passes first)
+]
+
 -- pieces of which the first few were written, and then more text
 module _ (done left : List CpuLine) (rest : List ℕ) where
   abbrev pieces : List CpuLine

@@ -37,7 +37,7 @@ module _ (l : Layout) (len : ℕ) where
     | inr not_there ↦ rw not_there (omega arith)
   ]
 
-  size_inside : (n : ℕ) (part : Part) (k : ℕ) → page_count l part - k ≤ n → size_from l len part k ≤ part.size - k * l.page
+  pub size_inside : (n : ℕ) (part : Part) (k : ℕ) → page_count l part - k ≤ n → size_from l len part k ≤ part.size - k * l.page
   size_inside zero part k le = omega (arith, size_none part k (omega (arith, le)))
   size_inside (suc n) part k le = elim (cases_le k) as (λ _. size_from l len part k ≤ part.size - k * l.page) [
     | inl lt ↦ omega (arith, size_step l len part k lt, there_size part k, size_inside n part (k + 1) (omega (arith, le)))

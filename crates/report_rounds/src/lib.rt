@@ -6,6 +6,7 @@
 #![tactic(auto)]
 
 mod ends;
+pub mod laws;
 mod loading;
 mod reports;
 #[cfg(test)]
