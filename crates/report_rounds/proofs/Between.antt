@@ -9,15 +9,14 @@ use Rattle.subpage.specs.ItemData.{ItemData}
 use Rattle.subpage.specs.Arrangement.{Keyed, IsRising}
 use Rattle.page_pool.specs.Lines.{Line, Lines, line_of, most_lines}
 use Rattle.page_pool.specs.declared.lane.Lane.{Lane}
-use Rattle.event_cursor.specs.Loading.{KeepsLeft}
-use Rattle.event_cursor.specs.Standing.{IsInOrder, HoldsPage, Stands, keyed_held}
-use Rattle.event_cursor.proofs.Told.{told_all}
+use Rattle.event_cursor.specs.Standing.{IsInOrder, HoldsPage, keyed_held}
+use Rattle.time_merge.specs.Advancing.{IsReadied}
 use Rattle.time_merge.specs.declared.horizons.Horizon.{Horizon}
 use Rattle.cpu_workers.specs.Spaces.{Space, space_of, has_no_room, with_line, fill}
 use Rattle.cpu_workers.specs.Formats.{IsFormatted, IsSorted, line_key}
 use Rattle.round_print.specs.Prints.{IsFew, IsTidy, later_lines}
 use Rattle.round_print.specs.Rounds.{IsPrinted}
-use Rattle.report_rounds.specs.Between.{IsBetween, IsLoaded}
+use Rattle.report_rounds.specs.Between.{IsBetween}
 use Rattle.report_rounds.proofs.RoundsPrinted.{with_region, same_lane}
 use Rattle.report_rounds.proofs.Ending.{later_all, later_rises}
 
@@ -154,16 +153,6 @@ few_space r f = record { kept = f.kept; used = f.used }
 space_few : (r : Lines) → IsFewSpace (space_of r) → IsFew r
 space_few r f = record { kept = f.kept; used = f.used }
 
--- a lane that was not loaded
-pub still_loaded : (l : Layout) (told : Option (List ℕ)) (a : Lane) → IsInOrder l a → IsLoaded l told a a
-still_loaded l told a order = record {
-  in_order = order;
-  place = record { cpu = refl; part = refl; high = refl; region = refl; forward = omega arith };
-  left = told_all (λ file. KeepsLeft l file a a) told (λ file. record { left = refl; bad = refl });
-  stands = told_all (λ file. Stands l file a → Stands l file a) told (λ file s. s);
-  most = omega arith;
-}
-
 module _ (text : ℕ → ItemData → List ℕ) (l : Layout) where
   sorted_loaded : (a b : Lane) → b.region ≡ a.region → b.cursor.high ≡ a.cursor.high → IsSorted a → IsSorted b
   sorted_loaded a b region high s = record {
@@ -173,9 +162,9 @@ module _ (text : ℕ → ItemData → List ℕ) (l : Layout) where
     started = λ none. ap (λ (r : Lines). r.kept) region ∙ s.started (sym high ∙ none);
   }
 
-  pub loaded_between : (told : Option (List ℕ)) (a b : Lane) → IsLoaded l told a b → IsBetween text l a → IsBetween text l b
-  loaded_between told a b loaded s = record {
-    in_order = loaded.in_order;
+  pub loaded_between : (told : Option (List ℕ)) (a b : Lane) → IsInOrder l b → IsReadied l told a b → IsBetween text l a → IsBetween text l b
+  loaded_between told a b order loaded s = record {
+    in_order = order;
     sorted = sorted_loaded a b loaded.place.region loaded.place.high s.sorted;
     tidy = subst IsTidy (sym loaded.place.region) s.tidy;
     few = subst IsFew (sym loaded.place.region) s.few;

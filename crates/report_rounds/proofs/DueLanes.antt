@@ -18,6 +18,7 @@ use Rattle.page_pool.specs.declared.lane.Lane.{Lane}
 use Rattle.event_cursor.specs.Standing.{IsInOrder, Stands, left_of}
 use Rattle.event_cursor.specs.Unread.{first_unread, is_there_in, reading, reading_in, size_from, size_there, unread}
 use Rattle.event_cursor.proofs.UnreadLaws.{size_step}
+use Rattle.event_cursor.proofs.UsedItems.{held_counts}
 use Rattle.time_merge.specs.LaneRows.{parts_of}
 use Rattle.time_merge.specs.Reads.{all_reading, all_unread}
 use Rattle.time_merge.specs.Rows.{Each}
@@ -25,7 +26,7 @@ use Rattle.round_print.specs.Prints.{CpuLine}
 use Rattle.report_rounds.specs.Due.{due_count, has_line, is_due, is_of, items_before, none_before, unwritten_before}
 use Rattle.report_rounds.proofs.Before.{asked_in, before_left, sound_to}
 use Rattle.report_rounds.proofs.LineCounts.{count_cons, one_if}
-use Rattle.report_rounds.proofs.Reading.{counts_there, size_inside, size_none, there_inside}
+use Rattle.report_rounds.proofs.Reading.{size_inside, size_none, there_inside}
 
 module _ (text : ℕ → ItemData → List ℕ) (l : Layout) (file : List ℕ) (written : List CpuLine) (a : Lane) where
   -- all lines of a lane's used items are kept or among these pieces
@@ -59,7 +60,7 @@ module _ (text : ℕ → ItemData → List ℕ) (l : Layout) (file : List ℕ) (
 
     pub asked_due : (k : ℕ) → k < asked_in a.cursor.state a.cursor.next → is_there l file a.part k ≡ true → is_due text l file written (a.cpu, a.part) k ≡ true
     asked_due k lt there =
-        let inside : k < page_count l a.part = counts_there l (length file) a.part.size l.page k some (there_inside l (length file) a.part k there) in
+        let inside : k < page_count l a.part = held_counts a.part.size l.page k some (there_inside l (length file) a.part k there) in
         let sound : none_before (bad_of l file a.part) k ≡ true = sound_before (bad_of l file a.part) a.cursor.next k (sound_to l file a s) (no_later a.cursor.state a.cursor.next k lt) in
         let small : nat_le (length (unwritten_before text l file written (a.cpu, a.part) k)) most_lines ≡ true = le-leb _ _ (few_unwritten k inside lt) in
         and_from _ _ (and_from (is_there l file a.part k) (none_before (bad_of l file a.part) k) there sound) small
@@ -68,7 +69,7 @@ module _ (text : ℕ → ItemData → List ℕ) (l : Layout) (file : List ℕ) (
 module _ (l : Layout) (len : ℕ) (some : 0 < l.page) where
   there_or_none : (part : Part) (k : ℕ) → page_count l part ≤ k → size_there l len part k ≡ 0
   there_or_none part k past = elim (cases_Bool (is_there_in l len part k)) as (λ _. size_there l len part k ≡ 0) [
-    | inl there ↦ absurd (omega (arith, past, counts_there l len part.size l.page k some (there_inside l len part k there)))
+    | inl there ↦ absurd (omega (arith, past, held_counts part.size l.page k some (there_inside l len part k there)))
     | inr none ↦ rw none refl
   ]
 

@@ -21,6 +21,7 @@ use Rattle.page_pool.specs.Lines.{Line, Lines, most_lines}
 use Rattle.page_pool.specs.declared.lane.Lane.{Lane}
 use Rattle.event_cursor.specs.Standing.{Stands, left_of}
 use Rattle.event_cursor.specs.Unread.{is_there_in, size_from}
+use Rattle.time_merge.specs.Advancing.{IsReadied}
 use Rattle.time_merge.specs.LaneRows.{parts_of}
 use Rattle.time_merge.specs.Reads.{all_unread}
 use Rattle.time_merge.specs.Rows.{Row}
@@ -29,7 +30,7 @@ use Rattle.time_merge.specs.declared.ending.End.TheVariants as code
 use Rattle.time_merge.proofs.Choosing.{each_of_all}
 use Rattle.time_merge.proofs.Starting.{fresh_stands}
 use Rattle.round_print.specs.Prints.{CpuLine, text_of}
-use Rattle.report_rounds.specs.Between.{IsAtStart, IsBetween, IsLoaded}
+use Rattle.report_rounds.specs.Between.{IsAtStart, IsBetween}
 use Rattle.report_rounds.specs.Due.{ReadsDue, due_bytes, due_count, greatest_up_to, has_line, is_due, is_of, pieces_of, whole_pieces, written_pieces}
 use Rattle.report_rounds.specs.Lines.{left_lines}
 use Rattle.report_rounds.specs.Turns.{HasLoaded, HasPrinted, IsEnding}
@@ -112,7 +113,7 @@ module _ (text : ℕ → ItemData → List ℕ) (l : Layout) (file : List ℕ) w
       no_items (x ∷ xs) e = absurd cc
 
   -- a lane that printed some of its lines since the start, and then was loaded
-  lane_written : (done whole : List CpuLine) (first a b : Lane) → IsAtStart l first → HasPrinted text l file done first a → IsLoaded l (Some file) a b
+  lane_written : (done whole : List CpuLine) (first a b : Lane) → IsAtStart l first → HasPrinted text l file done first a → IsReadied l (Some file) a b
       → ((p : CpuLine → Bool) → count_by p done ≤ count_by p whole) → HasWritten text l file whole b
   lane_written done whole first a b start own load more =
       let cpu : b.cpu ≡ first.cpu = load.place.cpu ∙ own.cpu in
@@ -158,17 +159,17 @@ module _ (text : ℕ → ItemData → List ℕ) (l : Layout) (file : List ℕ) w
         let b : Lane = get_or load.now i d in
         let mid_lt : i < length mid = omega (arith, lt, load.long) in
         let first_lt : i < length first = omega (arith, mid_lt, going.further.long) in
-        let one : IsLoaded l (Some file) a b = load.each i d mid_lt in
+        let one : IsReadied l (Some file) a b = load.each i d mid_lt in
         let few : length b.region.kept ≤ most_lines =
         omega (arith, (all i d mid_lt).few.kept, (all i d mid_lt).few.used, ap (λ (r : Lines). length r.kept) one.place.region) in
         let has : HasWritten text l file whole_lines b =
         lane_written done_lines whole_lines (get_or first i d) a b (start i d first_lt) (going.further.own i d first_lt) one whole_count in
         asks_due l len some b (is_due text l file whole_lines (b.cpu, b.part)) (λ k asked there.
-        asked_due text l file whole_lines b some one.in_order (one.stands (going.stands i d mid_lt)) few has k asked
+        asked_due text l file whole_lines b some (load.in_order i d lt) (one.stands (going.stands i d mid_lt)) few has k asked
         (subst (λ (n : ℕ). is_there_in l n b.part k ≡ true) (sym same_len) there))
 
     now_parts : parts_of load.now ≡ parts_of first
-    now_parts = parts_on (IsLoaded l (Some file)) mid load.now load.long load.each (λ a b r. r.place.cpu) (λ a b r. r.place.part) ∙ parts
+    now_parts = parts_on (IsReadied l (Some file)) mid load.now load.long load.each (λ a b r. r.place.cpu) (λ a b r. r.place.part) ∙ parts
 
     pub reads_due : all_unread l len mid ≤ all_unread l len first → reads ≤ raised before (all_unread l len first - all_unread l len mid)
         → Gained between new rest → ReadsDue text l file (parts_of first) old new before after

@@ -16,13 +16,12 @@ use Rattle.page_pool.specs.declared.cursor.LaneState.TheVariants.{Fresh, Held, E
 use Rattle.event_cursor.specs.Standing.{Stands}
 use Rattle.time_merge.specs.declared.horizons.Horizon.{Horizon}
 use Rattle.time_merge.specs.declared.horizons.Horizon.TheVariants as code
-use Rattle.time_merge.specs.Rows.{Each, Row, IsFrom, IsRow, NotBefore, rank, bound, bound_of, up_to, up_to_key, Rise, cpus, coming, least_cut}
+use Rattle.time_merge.specs.Rows.{Each, Row, IsRow, NotBefore, rank, bound, bound_of, up_to_key, Rise, cpus, coming, least_cut}
 use Rattle.time_merge.specs.Rounds.{Waiting, row_in, rows_in}
 use Rattle.time_merge.specs.Horizons.{high_in, high_of}
-use Rattle.time_merge.specs.Known.{IsKnownTo}
 use Rattle.time_merge.specs.LaneRows.{row_of, rows_of, parts_of}
 use Rattle.time_merge.proofs.Choosing.{each_of_all}
-use Rattle.time_merge.proofs.Known.{known_later}
+use Rattle.time_merge.proofs.Known.{from_high}
 use Rattle.time_merge.proofs.LaneLaws.{is_row, cut_is}
 use Rattle.time_merge.proofs.Parting.{each_append, each_weaker}
 use Rattle.time_merge.proofs.RowLaws.{From, next_cut}
@@ -57,68 +56,22 @@ due_here k c key le = elim (cases_Bool (up_to_key (Some k) c key c)) as (λ _. u
   | inr later ↦ let far : k < key = (behind_horizon k c key c later).1 (omega arith) in absurd (omega arith)
 ]
 
--- a cut that what stands at a key and a processor is up to
-cut_no_sooner : (k c : ℕ) (o : Option ℕ) (cut_cpu : ℕ) → up_to_key o cut_cpu k c ≡ true → k + 1 ≤ rank o
-cut_no_sooner k c None cut_cpu e = absurd cc
-cut_no_sooner k c (Some key) cut_cpu e = elim (cases_lt key k) as (λ _. k + 1 ≤ key + 1) [
-  | inl lt ↦ absurd (grind (arith, e, lt))
-  | inr le ↦ omega (arith, le)
-]
-
 low : (high : Option ℕ) (key : ℕ) → rank high ≤ key + 1 → unwrap_or high 0 ≤ key
 low None key le = omega arith
 low (Some h) key le = omega arith
 
 module _ (l : Layout) (file : List ℕ) where
-  from_weaker : (m n : ℕ) (row : Row Keyed) → m ≤ n → From key_of cpu_of n row → From key_of cpu_of m row
-  from_weaker m n row le f = record {
-    items = each_weaker (λ x. n ≤ key_of x + 1) (λ x. m ≤ key_of x + 1) (λ x e. omega (arith, le, e)) row.items f.items;
-    cut = of_cut row.cut f.cut;
-  }
-    where
-      of_cut : (o : Option Cut) → IfSome o (λ c. n ≤ rank c.key) → IfSome o (λ c. m ≤ rank c.key)
-      of_cut None e = tt
-      of_cut (Some c) e = omega (arith, le, e)
-
-  row_at : (a : Lane) (high : Option ℕ) → a.cursor.high ≡ high → Stands l file a → From key_of cpu_of (rank high) (row_of l file a)
-  row_at a None is s = record { items = of_items (row_of l file a).items; cut = of_cut (row_of l file a).cut }
-    where
-      of_items : (xs : List Keyed) → Each (λ x. 0 ≤ key_of x + 1) xs
-      of_items [] = tt
-      of_items (x ∷ xs) = (omega arith, of_items xs)
-
-      of_cut : (o : Option Cut) → IfSome o (λ c. 0 ≤ rank c.key)
-      of_cut None = tt
-      of_cut (Some c) = omega arith
-  row_at a (Some h) is s = record {
-    items = each_weaker (IsFrom key_of cpu_of h a.cpu) (λ x. h + 1 ≤ key_of x + 1) (λ x f. of_item x f) (row_of l file a).items known.more;
-    cut = of_cut (row_of l file a).cut known.cut;
-  }
-    where
-      known : IsKnownTo l file h a.cpu a
-      known = known_later l file h a.cpu a s (λ lt. omega (arith, lt)) (omega (arith, ap rank is))
-
-      of_item : (x : Keyed) → IsFrom key_of cpu_of h a.cpu x → h + 1 ≤ x.key + 1
-      of_item x f = elim f [ inl lt ↦ omega (arith, lt) | inr same ↦ omega (arith, same.0) ]
-
-      of_cut : (o : Option Cut) → IfSome o (λ cut. up_to (Some cut) h a.cpu ≡ true) → IfSome o (λ cut. h + 1 ≤ rank cut.key)
-      of_cut None e = tt
-      of_cut (Some cut) e = cut_no_sooner h a.cpu cut.key cut.cpu e
-
   -- nothing of a lane comes before its greatest time so far
-  row_from : (a : Lane) → Stands l file a → From key_of cpu_of (rank a.cursor.high) (row_of l file a)
-  row_from a s = row_at a a.cursor.high refl s
-
   row_not_before : (n : ℕ) (a : Lane) (s : LaneState) → a.cursor.state ≡ s → Stands l file a → NotBefore n (high_in s a.cursor.high) → From key_of cpu_of n (row_of l file a)
-  row_not_before n a Fresh e s nb = from_weaker n (rank a.cursor.high) (row_of l file a) nb (row_from a s)
-  row_not_before n a Held e s nb = from_weaker n (rank a.cursor.high) (row_of l file a) nb (row_from a s)
+  row_not_before n a Fresh e s nb = from_high l file a n s nb
+  row_not_before n a Held e s nb = from_high l file a n s nb
   row_not_before n a Ended e s nb =
       let none : ((row_of l file a).items ≡ []) × ((row_of l file a).cut ≡ None) = ended_row l file a s e in
       record {
         items = subst (Each (λ x. n ≤ key_of x + 1)) (sym none.0) tt;
         cut = subst (λ (o : Option Cut). IfSome o (λ c. n ≤ rank c.key)) (sym none.1) tt;
       }
-  row_not_before n a Malformed e s nb = from_weaker n (rank a.cursor.high) (row_of l file a) nb (row_from a s)
+  row_not_before n a Malformed e s nb = from_high l file a n s nb
 
 -- lines that go on
 rising_append : (m : ℕ) (xs ys : List CpuLine) → IsRising key_in xs → IsRising key_in ys → Each (λ x. key_in x ≤ m) xs → Each (λ y. m ≤ key_in y) ys → IsRising key_in (xs ++ ys)
@@ -222,7 +175,7 @@ module _ (text : ℕ → ItemData → List ℕ) (l : Layout) (file : List ℕ) (
       let high : Option ℕ = a.cursor.high in
       let row : Row Keyed = row_of l file a in
       let is : IsRow key_of cpu_of row = is_row l file a s in
-      let from : From key_of cpu_of (rank high) row = row_from l file a s in
+      let from : From key_of cpu_of (rank high) row = from_high l file a (rank high) s (omega arith) in
       let lines : List Line = later_of h a in
       let up : Each (λ line. line.key ≤ unwrap_or high 0) lines =
       each_of_all (λ line. line.key ≤ unwrap_or high 0) lines (later_all (λ line. line.key ≤ unwrap_or high 0) h a.cpu a.region.kept sorted.up_to) in

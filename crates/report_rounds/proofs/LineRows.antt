@@ -1,6 +1,6 @@
 -- Lines to come, as items become lines.
 use Rattle.std.proofs.Common.{◌≡◌, ℕ, List, [], ◌∷◌, ◌++◌, length, map, Option, Some, refl, sym, ap, ◌∙◌, append_assoc, inl, inr}
-use Rattle.std.specs.Prelude.{if◌then◌else◌, ◌==◌}
+use Rattle.std.specs.Prelude.{if◌then◌else◌, ◌==◌, unwrap_or}
 use Rattle.std.proofs.lemmas.Bool.{cases_Bool}
 use Rattle.std.proofs.lemmas.List.{map-append}
 use Rattle.trace_base.specs.declared.layout.Layout.{Layout}
@@ -15,15 +15,12 @@ use Rattle.event_cursor.specs.Keys.{key_behind, keyed_behind}
 use Rattle.event_cursor.specs.Standing.{held_left, keyed_held, left_of, pages_left}
 use Rattle.event_cursor.proofs.Leaving.{left_is}
 use Rattle.time_merge.specs.Rows.{Each, Row}
+use Rattle.time_merge.proofs.LaneLaws.{keyed_own}
 use Rattle.round_print.specs.Prints.{CpuLine, with_cpu}
 use Rattle.cpu_workers.specs.Spaces.{Space, space_of, has_no_room, with_line, fill}
 use Rattle.cpu_workers.specs.Formats.{IsFormatted, high_after, high_behind}
 use Rattle.report_rounds.specs.Lines.{item_line, shown_lines, waiting_row}
 use Rattle.report_rounds.proofs.Shown.{shown_on}
-
-keyed_own : (cpu : ℕ) (high : Option ℕ) (xs : List ItemData) → Each (λ x. cpu_of x ≡ cpu) (keyed_behind cpu high xs)
-keyed_own cpu high [] = tt
-keyed_own cpu high (x ∷ xs) = (refl, keyed_own cpu (Some (key_behind high x)) xs)
 
 keyed_on : (cpu : ℕ) (high : Option ℕ) (xs ys : List ItemData) → keyed_behind cpu high (xs ++ ys) ≡ keyed_behind cpu high xs ++ keyed_behind cpu (high_after high xs) ys
 keyed_on cpu high [] ys = refl
@@ -79,7 +76,7 @@ formatted_row text l file before now f =
     let held_same : held_now ≡ keyed_held l now = ap (λ (c : ℕ). keyed_behind c now.cursor.high (held_left l now)) (sym same) in
     let joint : map (with_cpu cpu) now.region.kept ++ shown_lines text (keyed_held l now) ≡ map (with_cpu cpu) before.region.kept ++ shown_lines text (keyed_held l before) =
     ap (λ (r : Space × List Keyed). map (with_cpu cpu) r.0.kept ++ shown_lines text r.1) (sym f.filled)
-    ∙ fill_both text cpu (space_of before.region) (keyed_held l before) (keyed_own cpu before.cursor.high (held_left l before)) in
+    ∙ fill_both text cpu (space_of before.region) (keyed_held l before) (keyed_own cpu (unwrap_or before.cursor.high 0) (held_left l before)) in
     let all : map (with_cpu cpu) now.region.kept ++ shown_lines text (keyed_behind cpu now.cursor.high (left_of l file now)) ≡ map (with_cpu cpu) before.region.kept ++ shown_lines text (keyed_behind cpu before.cursor.high (left_of l file before)) =
     ap (λ (ks : List Keyed). map (with_cpu cpu) now.region.kept ++ shown_lines text ks) (items_now ∙ ap (λ (ks : List Keyed). ks ++ more) held_same)
     ∙ ap (λ (ps : List CpuLine). map (with_cpu cpu) now.region.kept ++ ps) (shown_on text (keyed_held l now) more)

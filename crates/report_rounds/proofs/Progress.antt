@@ -6,6 +6,7 @@ use Rattle.subpage.specs.Arrangement.{Keyed, keyed_from}
 use Rattle.page_pool.specs.Lines.{Line, Lines}
 use Rattle.page_pool.specs.declared.lane.Lane.{Lane}
 use Rattle.event_cursor.specs.Standing.{held_left, keyed_held, most_left}
+use Rattle.time_merge.specs.Advancing.{IsReadied}
 use Rattle.time_merge.specs.declared.horizons.Horizon.{Horizon}
 use Rattle.cpu_workers.specs.Spaces.{Space, space_of, fill}
 use Rattle.cpu_workers.specs.Formats.{IsFormatted}
@@ -13,7 +14,7 @@ use Rattle.round_print.specs.Prints.{later_lines, later_of, is_due}
 use Rattle.round_print.specs.Rounds.{IsPrinted}
 use Rattle.std.proofs.lemmas.Bool.{cases_Bool}
 use Rattle.std.proofs.Common.{inl, inr}
-use Rattle.report_rounds.specs.Between.{IsBetween, IsLoaded, work_of}
+use Rattle.report_rounds.specs.Between.{IsBetween, work_of}
 use Rattle.report_rounds.proofs.Between.{IsFill, fill_counts, fill_some, tidy_space}
 use Rattle.report_rounds.proofs.RoundsPrinted.{same_lane}
 
@@ -29,7 +30,7 @@ later_long h cpu (line ∷ lines) = elim (cases_Bool (is_due h line.key cpu)) as
 ]
 
 module _ (text : ℕ → ItemData → List ℕ) (l : Layout) where
-  pub work_loaded : (told : Option (List ℕ)) (a b : Lane) → IsLoaded l told a b → work_of l b ≤ work_of l a
+  pub work_loaded : (told : Option (List ℕ)) (a b : Lane) → IsReadied l told a b → work_of l b ≤ work_of l a
   work_loaded told a b loaded = omega (arith, loaded.most, ap (λ (r : Lines). length r.kept) loaded.place.region)
 
   formatted_counts : (a b : Lane) → IsFormatted text l a b → IsFill text (space_of a.region) (keyed_held l a) (space_of b.region, keyed_held l b)

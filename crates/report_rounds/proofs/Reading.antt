@@ -1,9 +1,8 @@
 -- What a round reads: each lane reads its sub-buffers once, and these are bytes of its part.
-use Rattle.std.proofs.Common.{◌≡◌, ℕ, zero, suc, ◌+◌, ◌-◌, ◌*◌, ◌/◌, ◌%◌, min, ◌<◌, ◌≤◌, true, List, [], ◌∷◌, length, sum_by, refl, ap, subst, ◌∙◌, arith, ◌⊎◌, inl, inr}
+use Rattle.std.proofs.Common.{◌≡◌, ℕ, zero, suc, ◌+◌, ◌-◌, ◌*◌, ◌<◌, ◌≤◌, true, List, [], ◌∷◌, length, sum_by, Option, refl, ap, subst, ◌∙◌, arith, ◌⊎◌, inl, inr}
 use Rattle.std.specs.List.{range_with_len}
 use Rattle.std.proofs.lemmas.Bool.{cases_Bool, cases_lt, leb-true, and_parts}
 use Rattle.std.proofs.lemmas.List.Sums.{sum_by-cons}
-use Rattle.std.proofs.Math.Nat.{le-div_iff_mul-le}
 use Rattle.trace_base.specs.declared.layout.Layout.{Layout}
 use Rattle.trace_base.specs.declared.part.Part.{Part}
 use Rattle.trace_outside.specs.Causes.{raised}
@@ -15,11 +14,13 @@ use Rattle.page_pool.specs.declared.cursor.LaneState.TheVariants.{Fresh, Held, E
 use Rattle.page_pool.specs.declared.lane.Lane.{Lane}
 use Rattle.event_cursor.specs.Unread.{is_there_in, size_there, size_from, first_unread, unread, reading, reading_in}
 use Rattle.event_cursor.proofs.UnreadLaws.{size_step}
+use Rattle.event_cursor.proofs.UsedItems.{held_counts}
 use Rattle.time_merge.specs.LaneRows.{parts_of}
 use Rattle.time_merge.specs.Reads.{all_unread, all_reading}
 use Rattle.time_merge.specs.declared.horizons.Horizon.{Horizon}
 use Rattle.cpu_workers.specs.Formats.{IsFormatted}
 use Rattle.round_print.specs.Rounds.{IsPrinted}
+use Rattle.report_rounds.specs.Turns.{HasLoaded}
 use Rattle.report_rounds.proofs.Pairs.{Related}
 
 module _ (l : Layout) (len : ℕ) where
@@ -58,12 +59,9 @@ module _ (l : Layout) (len : ℕ) where
   all_inside (a ∷ lanes) =
       omega (arith, unread_inside a, all_inside lanes, sum_by-cons (unread l len) a lanes, sum_by-cons (λ (part : ℕ × Part). part.1.size) (a.cpu, a.part) (parts_of lanes))
 
-  pub counts_there : (size page k : ℕ) → 0 < page → (k + 1) * page ≤ size → k < size / page + min 1 (size % page)
-  counts_there size page k some le = let whole : k + 1 ≤ size / page = (le-div_iff_mul-le some).1 le in omega (arith, whole)
-
   there_from : (part : Part) (k : ℕ) → 0 < l.page → size_there l len part k ≤ size_from l len part k
   there_from part k some = elim (cases_Bool (is_there_in l len part k)) as (λ _. size_there l len part k ≤ size_from l len part k) [
-    | inl there ↦ omega (arith, size_step l len part k (counts_there part.size l.page k some (there_inside part k there)))
+    | inl there ↦ omega (arith, size_step l len part k (held_counts part.size l.page k some (there_inside part k there)))
     | inr not_there ↦ rw not_there (omega arith)
   ]
 
@@ -103,6 +101,10 @@ module _ (l : Layout) (len : ℕ) where
         sum_same (x ∷ xs) (y ∷ ys) same r =
             let rest : sum_by (unread l len) ys ≡ sum_by (unread l len) xs = sum_same xs ys (omega (arith, same)) (λ i d lt. r (suc i) d (omega (arith, lt))) in
             omega (arith, rest, r 0 x (omega arith), sum_by-cons (unread l len) x xs, sum_by-cons (unread l len) y ys)
+
+-- what the lanes of a round read is no more than they have not read
+pub reads_all : (l : Layout) (told : Option (List ℕ)) (len : ℕ) (lanes : List Lane) (before after : ℕ) → 0 < l.page → HasLoaded l told len lanes before after → after ≤ raised before (all_unread l len lanes)
+reads_all l told len lanes before after some load = omega (arith, load.reads, load.less, all_reading_in l len load.now some)
 
 -- one round more, by a file whose length is the same
 module _ (l : Layout) (len now_len first before after : ℕ) (lanes mid : List Lane) (same : now_len ≡ len) (read : before ≤ raised first (all_unread l len lanes - all_unread l len mid))

@@ -18,7 +18,8 @@ use Rattle.page_pool.specs.declared.cursor.LaneState.{LaneState}
 use Rattle.page_pool.specs.declared.cursor.LaneState.TheVariants.{Fresh, Held, Ended, Malformed}
 use Rattle.page_pool.specs.declared.lane.Lane.{Lane}
 use Rattle.event_cursor.specs.Loading.{KeepsLeft, KeepsPlace}
-use Rattle.event_cursor.specs.Standing.{Stands, held_left}
+use Rattle.event_cursor.specs.Standing.{IsInOrder, Stands, held_left}
+use Rattle.time_merge.specs.Advancing.{IsReadied}
 use Rattle.time_merge.specs.declared.ending.End.{End}
 use Rattle.time_merge.specs.declared.ending.End.TheVariants as ends
 use Rattle.time_merge.specs.declared.horizons.Horizon.{Horizon}
@@ -33,7 +34,7 @@ use Rattle.cpu_workers.specs.Formats.{IsFormatted, IsSorted}
 use Rattle.cpu_workers.proofs.Placing.{stands_region}
 use Rattle.round_print.specs.Prints.{CpuLine, KeysRise, key_in, cpu_in, printed, text_of}
 use Rattle.round_print.specs.Rounds.{IsPrinted}
-use Rattle.report_rounds.specs.Between.{IsBetween, IsLoaded, all_work, work_of}
+use Rattle.report_rounds.specs.Between.{IsBetween, all_work, work_of}
 use Rattle.report_rounds.specs.Due.{is_of}
 use Rattle.report_rounds.specs.Ends.{IsEnd, IsStop, StandsBefore}
 use Rattle.report_rounds.specs.Lines.{waiting_of, waiting_row, waiting_rows, left_lines}
@@ -51,13 +52,16 @@ use Rattle.report_rounds.proofs.RoundsPrinted.{after, left_after, printed_left, 
 pub record IsFormed (text : ℕ → ItemData → List ℕ) (l : Layout) (told : Option (List ℕ)) (first loaded formed : List Lane) : Type 0 where
   pub long_loaded : length loaded ≡ length first
   pub long_formed : length formed ≡ length loaded
-  pub load : Related (IsLoaded l told) first loaded
+  pub in_order : All (IsInOrder l) loaded
+  pub load : Related (IsReadied l told) first loaded
   pub ready : All (IsReady l) loaded
   pub format : Related (IsFormatted text l) loaded formed
 
 module _ (text : ℕ → ItemData → List ℕ) (l : Layout) (told : Option (List ℕ)) (first loaded formed : List Lane) (f : IsFormed text l told first loaded formed) where
   loaded_all : All (IsBetween text l) first → All (IsBetween text l) loaded
-  loaded_all all = all_on (IsLoaded l told) (IsBetween text l) (IsBetween text l) first loaded f.long_loaded f.load (loaded_between text l told) all
+  loaded_all all = λ i d lt.
+      let inside : i < length first = omega (arith, lt, f.long_loaded) in
+      loaded_between text l told (get_or first i d) (get_or loaded i d) (f.in_order i d lt) (f.load i d inside) (all i d inside)
 
   pub formed_all : All (IsBetween text l) first → All (IsBetween text l) formed
   formed_all all = all_on (IsFormatted text l) (IsBetween text l) (IsBetween text l) loaded formed f.long_formed f.format (formatted_between text l) (loaded_all all)
@@ -68,7 +72,7 @@ module _ (text : ℕ → ItemData → List ℕ) (l : Layout) (told : Option (Lis
   pub formed_parts : parts_of formed ≡ parts_of first
   formed_parts =
       parts_on (IsFormatted text l) loaded formed f.long_formed f.format (λ a b g. g.keeps.cpu) (λ a b g. g.keeps.part)
-      ∙ parts_on (IsLoaded l told) first loaded f.long_loaded f.load (λ a b g. g.place.cpu) (λ a b g. g.place.part)
+      ∙ parts_on (IsReadied l told) first loaded f.long_loaded f.load (λ a b g. g.place.cpu) (λ a b g. g.place.part)
 
   pub formed_rise : CpusRise (parts_of first) → CpusRise (parts_of formed)
   formed_rise rise = subst (λ (ps : List (ℕ × Part)). CpusRise ps) (sym formed_parts) rise
@@ -91,7 +95,7 @@ module _ (text : ℕ → ItemData → List ℕ) (l : Layout) (told : Option (Lis
     work_done a c d = omega (arith, work_formatted text l a d.0 d.1.0, work_printed text l h d.0 c d.1.1)
 
     loaded_less : all_work l loaded ≤ all_work l first
-    loaded_less = sum_on (IsLoaded l told) (work_of l) first loaded f.long_loaded f.load (work_loaded text l told)
+    loaded_less = sum_on (IsReadied l told) (work_of l) first loaded f.long_loaded f.load (work_loaded text l told)
 
     -- of the horizon's lane, where it does not stand before a malformed sub-buffer
     module _ (high : Option ℕ) (cpu : ℕ) (at : IsHorizonAt h high cpu) (least : IsLeastLane formed high cpu) (rise : CpusRise (parts_of formed)) (all : All (IsBetween text l) first)
@@ -176,12 +180,12 @@ module _ (text : ℕ → ItemData → List ℕ) (l : Layout) (file : List ℕ) w
     formed_left : left_lines text l file formed ≡ left_lines text l file first
     formed_left =
         left_on loaded formed (map_on (IsFormatted text l) (waiting_row text l file) (waiting_row text l file) loaded formed f.long_formed f.format (λ a b g. formatted_row text l file a b g))
-        ∙ left_on first loaded (map_on (IsLoaded l (Some file)) (waiting_row text l file) (waiting_row text l file) first loaded f.long_loaded f.load (λ a b g. loaded_row a b g.place g.left))
+        ∙ left_on first loaded (map_on (IsReadied l (Some file)) (waiting_row text l file) (waiting_row text l file) first loaded f.long_loaded f.load (λ a b g. loaded_row a b g.place g.left))
 
     formed_stands : All (Stands l file) formed
     formed_stands =
         all_on (IsFormatted text l) (Stands l file) (Stands l file) loaded formed f.long_formed f.format (λ a b g s. g.stands file s)
-        (all_on (IsLoaded l (Some file)) (Stands l file) (Stands l file) first loaded f.long_loaded f.load (λ a b g s. g.stands s) stands)
+        (all_on (IsReadied l (Some file)) (Stands l file) (Stands l file) first loaded f.long_loaded f.load (λ a b g s. g.stands s) stands)
 
     pub now_stands : (h : Horizon) (now : List Lane) → length now ≡ length formed → Related (IsPrinted h) formed now → All (Stands l file) now
     now_stands h now long print =
@@ -213,7 +217,7 @@ module _ (text : ℕ → ItemData → List ℕ) (l : Layout) (file : List ℕ) w
             let c : Lane = get_or formed i d in
             let loaded_lt : i < length loaded = omega (arith, lt, f.long_loaded) in
             let formed_lt : i < length formed = omega (arith, loaded_lt, f.long_formed) in
-            let load : IsLoaded l (Some file) a b = f.load i d lt in
+            let load : IsReadied l (Some file) a b = f.load i d lt in
             let format : IsFormatted text l b c = f.format i d loaded_lt in
             let p : IsPrinted h c (get_or now i d) = print i d formed_lt in
             let cpu : c.cpu ≡ a.cpu = format.keeps.cpu ∙ load.place.cpu in

@@ -1,11 +1,10 @@
 -- Lanes at the start, between rounds, and once they are ready.
-use Rattle.std.specs.Prelude.{◌≡◌, ◌≤◌, ℕ, ◌+◌, ◌*◌, IfSome, List, [], length, sum_by, Option}
+use Rattle.std.specs.Prelude.{◌≡◌, ◌≤◌, ℕ, ◌+◌, ◌*◌, List, [], length, sum_by}
 use Rattle.trace_base.specs.declared.layout.Layout.{Layout}
 use Rattle.subpage.specs.ItemData.{ItemData}
 use Rattle.page_pool.specs.Fresh.{IsFresh}
 use Rattle.page_pool.specs.declared.lane.Lane.{Lane}
-use Rattle.event_cursor.specs.Loading.{KeepsLeft, KeepsPlace}
-use Rattle.event_cursor.specs.Standing.{IsInOrder, Stands, most_left}
+use Rattle.event_cursor.specs.Standing.{IsInOrder, most_left}
 use Rattle.cpu_workers.specs.Formats.{IsSorted}
 use Rattle.round_print.specs.Prints.{IsFew, IsTidy}
 
@@ -27,14 +26,6 @@ pub record IsBetween (text : ℕ → ItemData → List ℕ) (layout : Layout) (l
   pub tidy : IsTidy lane.region
   pub few : IsFew lane.region
   pub room : HasRoom text lane
-
--- The lane may have loaded sub-buffers. It keeps the lines that it kept, and what was left of it is left.
-pub record IsLoaded (layout : Layout) (told : Option (List ℕ)) (before now : Lane) : Type 0 where
-  pub in_order : IsInOrder layout now
-  pub place : KeepsPlace before now
-  pub left : IfSome told (λ file. KeepsLeft layout file before now)
-  pub stands : IfSome told (λ file. Stands layout file before → Stands layout file now)
-  pub most : most_left layout now ≤ most_left layout before
 
 -- What is still to be done of a lane, whatever its file: an item becomes a line at most, and a line is printed.
 abbrev pub work_of : Layout → Lane → ℕ

@@ -1,17 +1,18 @@
 -- What one round prints of the lines to come, and how the rounds end.
-use Rattle.std.specs.Prelude.{◌≡◌, ℕ, ◌+◌, ◌-◌, ◌<◌, ◌≤◌, List, ◌++◌, count_by, length, slice_index_or, Option, Some, None}
+use Rattle.std.specs.Prelude.{◌≡◌, ℕ, ◌+◌, ◌-◌, ◌<◌, ◌≤◌, All, List, ◌++◌, count_by, length, slice_index_or, Option, Some, None}
 use Rattle.trace_base.specs.declared.layout.Layout.{Layout}
 use Rattle.trace_outside.specs.Causes.{raised}
 use Rattle.trace_outside.specs.Writing.{Gained, GainedPrefix}
 use Rattle.subpage.specs.ItemData.{ItemData}
 use Rattle.subpage.specs.Cut.{cut_of}
 use Rattle.page_pool.specs.declared.lane.Lane.{Lane}
+use Rattle.event_cursor.specs.Standing.{IsInOrder}
+use Rattle.time_merge.specs.Advancing.{IsReadied}
 use Rattle.time_merge.specs.LaneRows.{parts_of}
 use Rattle.time_merge.specs.Reads.{all_reading, all_unread}
 use Rattle.time_merge.specs.declared.ending.End.{End}
 use Rattle.time_merge.specs.declared.ending.End.TheVariants as code
 use Rattle.round_print.specs.Prints.{CpuLine, text_of}
-use Rattle.report_rounds.specs.Between.{IsLoaded}
 use Rattle.report_rounds.specs.Due.{is_of}
 use Rattle.report_rounds.specs.Lines.{left_lines, waiting_row}
 
@@ -47,12 +48,13 @@ abbrev pub IsTurned : (ℕ → ItemData → List ℕ) → Layout → List ℕ �
 IsTurned text layout file before now old new None = IsFurther text layout file before now old new
 IsTurned text layout file before now old new (Some end) = IsEnding text layout file before old new end
 
--- Lanes were loaded, all of them or some, and no more bytes were read than those of the sub-buffers that they asked for.
+-- Lanes were made ready, all of them or some, and no more bytes were read than those of the sub-buffers that they asked for.
 pub record HasLoaded (layout : Layout) (told : Option (List ℕ)) (len : ℕ) (before : List Lane) (old new : ℕ) : Type 0 where
   pub now : List Lane
   pub long : length now ≡ length before
+  pub in_order : All (IsInOrder layout) now
   pub each : (i : ℕ) → (d : Lane) → i < length before
-      → IsLoaded layout told (slice_index_or before i d) (slice_index_or now i d)
+      → IsReadied layout told (slice_index_or before i d) (slice_index_or now i d)
   pub less : all_unread layout len now ≤ all_unread layout len before
   pub reads : new
       ≤ raised old (all_unread layout len before - all_unread layout len now + all_reading layout len now)

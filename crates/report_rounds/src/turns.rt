@@ -9,12 +9,11 @@ ghost use Rattle.report_rounds.specs.Between.{IsBetween, all_work};
 ghost use Rattle.report_rounds.specs.Turns.{HasLoaded, IsTurned};
 
 use crate::ends::end_at;
-use crate::loading::load_all;
 use cpu_workers::{Form, format_lanes};
 use page_pool::Lane;
 use round_print::print_round;
 use std::thread::Threads;
-use time_merge::{End, horizon};
+use time_merge::{End, horizon, make_all_ready};
 use trace_base::Layout;
 use trace_outside::{File, Gate, Pending, Sink};
 
@@ -51,8 +50,6 @@ pub(crate) fn turn<R: Threads + Sync, F: File, L: Form, G: Gate, O: Sink>(
     ensures out_later { O.faults out.old ≤ O.faults out.new }
     ensures loaded { HasLoaded layout.now (F.bytes file.old) (F.size file.old) lanes.old (F.reads file.old)
         (F.reads file.new) }
-    ensures all { F.reads file.new
-        ≤ raised (F.reads file.old) (all_unread layout.now (F.size file.old) lanes.old) }
     ensures reads { IfNone result (F.reads file.new ≤ raised (F.reads file.old)
         (all_unread layout.now (F.size file.old) lanes.old - all_unread layout.now (F.size file.old) lanes.new)) }
     ensures unread { IfNone result (all_unread layout.now (F.size file.old) lanes.new
@@ -61,7 +58,7 @@ pub(crate) fn turn<R: Threads + Sync, F: File, L: Form, G: Gate, O: Sink>(
     ensures size { F.size file.new ≡ F.size file.old }
     ensures name { O.name out.new ≡ O.name out.old }
 {
-    if !load_all(layout, file, lanes) {
+    if !make_all_ready(layout, file, lanes) {
         return Some(End::Read);
     }
     format_lanes(rt, form, layout, lanes, workers, gate);

@@ -1,6 +1,6 @@
 use Rattle.std.proofs.Common.{◌∙◌, refl, arith}
 use Rattle.report_rounds.proofs.DueReads.{due_told}
-use Rattle.report_rounds.proofs.Reading.{less_further, reads_ended, reads_further}
+use Rattle.report_rounds.proofs.Reading.{less_further, reads_all, reads_ended, reads_further}
 use Rattle.report_rounds.proofs.Reporting.{going_ended, going_on, going_start}
 use Rattle.report_rounds.proofs.Starting.{start_between}
 use Rattle.report_rounds.proofs.reports.report_rounds.Goals as goal
@@ -44,7 +44,7 @@ loop-end-preserved g c =
 pub returns-in-Some-clause-reads : goal.returns-in-Some-clause-reads
 returns-in-Some-clause-reads g c =
     reads_ended c.args.layout.now (g.F.File.size c.args.file.now) (g.F.File.size c.loop-end.file) _ _ _ c.args.lanes.now c.loop-end.lanes c.loop-end.invariant.size c.loop-end.invariant.reads c.loop-end.invariant.unread
-    c.turn.ensures.all
+    (reads_all c.args.layout.now _ _ c.loop-end.lanes _ _ (omega (arith, c.requires.allowed.page_least)) c.turn.ensures.loaded)
 
 pub returns-in-Some-clause-report : goal.returns-in-Some-clause-report
 returns-in-Some-clause-report g c =

@@ -7,130 +7,141 @@ use Rattle.report_rounds.proofs.turns.turn.Goals as goal
 
 pub print_round-requires-clause-rise : goal.print_round-requires-clause-rise
 print_round-requires-clause-rise g c =
-    let f : IsFormed (g.L.Form.text c.args.form.now) c.args.layout.now (g.F.File.bytes c.args.file.now) c.args.lanes.now c.load_all.new.lanes c.format_lanes.new.lanes = record {
-      long_loaded = c.load_all.auto.lanes;
+    let f : IsFormed (g.L.Form.text c.args.form.now) c.args.layout.now (g.F.File.bytes c.args.file.now) c.args.lanes.now c.make_all_ready.new.lanes c.format_lanes.new.lanes = record {
+      long_loaded = c.make_all_ready.auto.lanes;
       long_formed = c.format_lanes.ensures.count;
-      load = c.if-not-load_all.ensures.each;
-      ready = c.if-not-load_all.ensures.ready refl;
+      in_order = c.if-not-make_all_ready.ensures.in_order;
+      load = c.if-not-make_all_ready.ensures.each;
+      ready = c.if-not-make_all_ready.ensures.ready refl;
       format = c.format_lanes.ensures.each;
     } in
-    formed_rise (g.L.Form.text c.args.form.now) c.args.layout.now (g.F.File.bytes c.args.file.now) c.args.lanes.now c.load_all.new.lanes c.format_lanes.new.lanes f c.requires.rise
+    formed_rise (g.L.Form.text c.args.form.now) c.args.layout.now (g.F.File.bytes c.args.file.now) c.args.lanes.now c.make_all_ready.new.lanes c.format_lanes.new.lanes f c.requires.rise
 
 pub print_round-requires-clause-rises : goal.print_round-requires-clause-rises
 print_round-requires-clause-rises g c =
-    let f : IsFormed (g.L.Form.text c.args.form.now) c.args.layout.now (g.F.File.bytes c.args.file.now) c.args.lanes.now c.load_all.new.lanes c.format_lanes.new.lanes = record {
-      long_loaded = c.load_all.auto.lanes;
+    let f : IsFormed (g.L.Form.text c.args.form.now) c.args.layout.now (g.F.File.bytes c.args.file.now) c.args.lanes.now c.make_all_ready.new.lanes c.format_lanes.new.lanes = record {
+      long_loaded = c.make_all_ready.auto.lanes;
       long_formed = c.format_lanes.ensures.count;
-      load = c.if-not-load_all.ensures.each;
-      ready = c.if-not-load_all.ensures.ready refl;
+      in_order = c.if-not-make_all_ready.ensures.in_order;
+      load = c.if-not-make_all_ready.ensures.each;
+      ready = c.if-not-make_all_ready.ensures.ready refl;
       format = c.format_lanes.ensures.each;
     } in
-    formed_rises (g.L.Form.text c.args.form.now) c.args.layout.now (g.F.File.bytes c.args.file.now) c.args.lanes.now c.load_all.new.lanes c.format_lanes.new.lanes f c.requires.between
+    formed_rises (g.L.Form.text c.args.form.now) c.args.layout.now (g.F.File.bytes c.args.file.now) c.args.lanes.now c.make_all_ready.new.lanes c.format_lanes.new.lanes f c.requires.between
 
 pub returns-in-Ok-clause-between : goal.returns-in-Ok-clause-between
 returns-in-Ok-clause-between g c =
-    let f : IsFormed (g.L.Form.text c.args.form.now) c.args.layout.now (g.F.File.bytes c.args.file.now) c.args.lanes.now c.load_all.new.lanes c.format_lanes.new.lanes = record {
-      long_loaded = c.load_all.auto.lanes;
+    let f : IsFormed (g.L.Form.text c.args.form.now) c.args.layout.now (g.F.File.bytes c.args.file.now) c.args.lanes.now c.make_all_ready.new.lanes c.format_lanes.new.lanes = record {
+      long_loaded = c.make_all_ready.auto.lanes;
       long_formed = c.format_lanes.ensures.count;
-      load = c.if-not-load_all.ensures.each;
-      ready = c.if-not-load_all.ensures.ready refl;
+      in_order = c.if-not-make_all_ready.ensures.in_order;
+      load = c.if-not-make_all_ready.ensures.each;
+      ready = c.if-not-make_all_ready.ensures.ready refl;
       format = c.format_lanes.ensures.each;
     } in
-    if_none c.end_at.result _ (now_all (g.L.Form.text c.args.form.now) c.args.layout.now (g.F.File.bytes c.args.file.now) c.args.lanes.now c.load_all.new.lanes c.format_lanes.new.lanes f c.horizon-known.result c.print_round.new.lanes c.print_round.auto.lanes c.in-Ok.ensures.lanes c.requires.between)
+    if_none c.end_at.result _ (now_all (g.L.Form.text c.args.form.now) c.args.layout.now (g.F.File.bytes c.args.file.now) c.args.lanes.now c.make_all_ready.new.lanes c.format_lanes.new.lanes f c.horizon-known.result c.print_round.new.lanes c.print_round.auto.lanes c.in-Ok.ensures.lanes c.requires.between)
 
 pub returns-in-Ok-clause-parts : goal.returns-in-Ok-clause-parts
 returns-in-Ok-clause-parts g c =
-    let f : IsFormed (g.L.Form.text c.args.form.now) c.args.layout.now (g.F.File.bytes c.args.file.now) c.args.lanes.now c.load_all.new.lanes c.format_lanes.new.lanes = record {
-      long_loaded = c.load_all.auto.lanes;
+    let f : IsFormed (g.L.Form.text c.args.form.now) c.args.layout.now (g.F.File.bytes c.args.file.now) c.args.lanes.now c.make_all_ready.new.lanes c.format_lanes.new.lanes = record {
+      long_loaded = c.make_all_ready.auto.lanes;
       long_formed = c.format_lanes.ensures.count;
-      load = c.if-not-load_all.ensures.each;
-      ready = c.if-not-load_all.ensures.ready refl;
+      in_order = c.if-not-make_all_ready.ensures.in_order;
+      load = c.if-not-make_all_ready.ensures.each;
+      ready = c.if-not-make_all_ready.ensures.ready refl;
       format = c.format_lanes.ensures.each;
     } in
-    if_none c.end_at.result _ (now_parts (g.L.Form.text c.args.form.now) c.args.layout.now (g.F.File.bytes c.args.file.now) c.args.lanes.now c.load_all.new.lanes c.format_lanes.new.lanes f c.horizon-known.result c.print_round.new.lanes c.print_round.auto.lanes c.in-Ok.ensures.lanes)
+    if_none c.end_at.result _ (now_parts (g.L.Form.text c.args.form.now) c.args.layout.now (g.F.File.bytes c.args.file.now) c.args.lanes.now c.make_all_ready.new.lanes c.format_lanes.new.lanes f c.horizon-known.result c.print_round.new.lanes c.print_round.auto.lanes c.in-Ok.ensures.lanes)
 
 pub returns-in-Ok-clause-less : goal.returns-in-Ok-clause-less
 returns-in-Ok-clause-less g c =
-    let f : IsFormed (g.L.Form.text c.args.form.now) c.args.layout.now (g.F.File.bytes c.args.file.now) c.args.lanes.now c.load_all.new.lanes c.format_lanes.new.lanes = record {
-      long_loaded = c.load_all.auto.lanes;
+    let f : IsFormed (g.L.Form.text c.args.form.now) c.args.layout.now (g.F.File.bytes c.args.file.now) c.args.lanes.now c.make_all_ready.new.lanes c.format_lanes.new.lanes = record {
+      long_loaded = c.make_all_ready.auto.lanes;
       long_formed = c.format_lanes.ensures.count;
-      load = c.if-not-load_all.ensures.each;
-      ready = c.if-not-load_all.ensures.ready refl;
+      in_order = c.if-not-make_all_ready.ensures.in_order;
+      load = c.if-not-make_all_ready.ensures.each;
+      ready = c.if-not-make_all_ready.ensures.ready refl;
       format = c.format_lanes.ensures.each;
     } in
-    now_less (g.L.Form.text c.args.form.now) c.args.layout.now (g.F.File.bytes c.args.file.now) c.args.lanes.now c.load_all.new.lanes c.format_lanes.new.lanes f c.horizon-known.result c.print_round.new.lanes c.print_round.auto.lanes c.in-Ok.ensures.lanes c.end_at.result c.horizon-known.ensures c.end_at.ensures c.requires.rise c.requires.between
+    now_less (g.L.Form.text c.args.form.now) c.args.layout.now (g.F.File.bytes c.args.file.now) c.args.lanes.now c.make_all_ready.new.lanes c.format_lanes.new.lanes f c.horizon-known.result c.print_round.new.lanes c.print_round.auto.lanes c.in-Ok.ensures.lanes c.end_at.result c.horizon-known.ensures c.end_at.ensures c.requires.rise c.requires.between
 
 pub returns-in-Ok-clause-stands : goal.returns-in-Ok-clause-stands
 returns-in-Ok-clause-stands g c =
-    let f : IsFormed (g.L.Form.text c.args.form.now) c.args.layout.now (g.F.File.bytes c.args.file.now) c.args.lanes.now c.load_all.new.lanes c.format_lanes.new.lanes = record {
-      long_loaded = c.load_all.auto.lanes;
+    let f : IsFormed (g.L.Form.text c.args.form.now) c.args.layout.now (g.F.File.bytes c.args.file.now) c.args.lanes.now c.make_all_ready.new.lanes c.format_lanes.new.lanes = record {
+      long_loaded = c.make_all_ready.auto.lanes;
       long_formed = c.format_lanes.ensures.count;
-      load = c.if-not-load_all.ensures.each;
-      ready = c.if-not-load_all.ensures.ready refl;
+      in_order = c.if-not-make_all_ready.ensures.in_order;
+      load = c.if-not-make_all_ready.ensures.each;
+      ready = c.if-not-make_all_ready.ensures.ready refl;
       format = c.format_lanes.ensures.each;
     } in
-    if_none c.end_at.result _ (now_stands_told (g.L.Form.text c.args.form.now) c.args.layout.now (g.F.File.bytes c.args.file.now) c.args.lanes.now c.load_all.new.lanes c.format_lanes.new.lanes f c.horizon-known.result c.print_round.new.lanes c.print_round.auto.lanes c.in-Ok.ensures.lanes)
+    if_none c.end_at.result _ (now_stands_told (g.L.Form.text c.args.form.now) c.args.layout.now (g.F.File.bytes c.args.file.now) c.args.lanes.now c.make_all_ready.new.lanes c.format_lanes.new.lanes f c.horizon-known.result c.print_round.new.lanes c.print_round.auto.lanes c.in-Ok.ensures.lanes)
 
 pub returns-in-Ok-clause-turned : goal.returns-in-Ok-clause-turned
 returns-in-Ok-clause-turned g c =
-    let f : IsFormed (g.L.Form.text c.args.form.now) c.args.layout.now (g.F.File.bytes c.args.file.now) c.args.lanes.now c.load_all.new.lanes c.format_lanes.new.lanes = record {
-      long_loaded = c.load_all.auto.lanes;
+    let f : IsFormed (g.L.Form.text c.args.form.now) c.args.layout.now (g.F.File.bytes c.args.file.now) c.args.lanes.now c.make_all_ready.new.lanes c.format_lanes.new.lanes = record {
+      long_loaded = c.make_all_ready.auto.lanes;
       long_formed = c.format_lanes.ensures.count;
-      load = c.if-not-load_all.ensures.each;
-      ready = c.if-not-load_all.ensures.ready refl;
+      in_order = c.if-not-make_all_ready.ensures.in_order;
+      load = c.if-not-make_all_ready.ensures.each;
+      ready = c.if-not-make_all_ready.ensures.ready refl;
       format = c.format_lanes.ensures.each;
     } in
-    turned_told (g.L.Form.text c.args.form.now) c.args.layout.now (g.F.File.bytes c.args.file.now) c.args.lanes.now c.load_all.new.lanes c.format_lanes.new.lanes f c.horizon-known.result c.print_round.new.lanes c.print_round.auto.lanes c.in-Ok.ensures.lanes c.end_at.result c.horizon-known.ensures c.end_at.ensures c.requires.rise c.requires.between _ _ c.in-Ok.ensures.written
+    turned_told (g.L.Form.text c.args.form.now) c.args.layout.now (g.F.File.bytes c.args.file.now) c.args.lanes.now c.make_all_ready.new.lanes c.format_lanes.new.lanes f c.horizon-known.result c.print_round.new.lanes c.print_round.auto.lanes c.in-Ok.ensures.lanes c.end_at.result c.horizon-known.ensures c.end_at.ensures c.requires.rise c.requires.between _ _ c.in-Ok.ensures.written
 
 pub returns-in-Err-clause-turned : goal.returns-in-Err-clause-turned
 returns-in-Err-clause-turned g c =
-    let f : IsFormed (g.L.Form.text c.args.form.now) c.args.layout.now (g.F.File.bytes c.args.file.now) c.args.lanes.now c.load_all.new.lanes c.format_lanes.new.lanes = record {
-      long_loaded = c.load_all.auto.lanes;
+    let f : IsFormed (g.L.Form.text c.args.form.now) c.args.layout.now (g.F.File.bytes c.args.file.now) c.args.lanes.now c.make_all_ready.new.lanes c.format_lanes.new.lanes = record {
+      long_loaded = c.make_all_ready.auto.lanes;
       long_formed = c.format_lanes.ensures.count;
-      load = c.if-not-load_all.ensures.each;
-      ready = c.if-not-load_all.ensures.ready refl;
+      in_order = c.if-not-make_all_ready.ensures.in_order;
+      load = c.if-not-make_all_ready.ensures.each;
+      ready = c.if-not-make_all_ready.ensures.ready refl;
       format = c.format_lanes.ensures.each;
     } in
-    failed_told (g.L.Form.text c.args.form.now) c.args.layout.now (g.F.File.bytes c.args.file.now) c.args.lanes.now c.load_all.new.lanes c.format_lanes.new.lanes f c.horizon-known.result c.horizon-known.ensures c.requires.rise c.requires.between _ _ c.in-Err.ensures.written
+    failed_told (g.L.Form.text c.args.form.now) c.args.layout.now (g.F.File.bytes c.args.file.now) c.args.lanes.now c.make_all_ready.new.lanes c.format_lanes.new.lanes f c.horizon-known.result c.horizon-known.ensures c.requires.rise c.requires.between _ _ c.in-Err.ensures.written
 
 -- what was read, whatever became of the round
-pub returns-then-not-load_all-clause-loaded : goal.returns-then-not-load_all-clause-loaded
-returns-then-not-load_all-clause-loaded g c = record {
-  now = c.load_all.new.lanes;
-  long = c.load_all.auto.lanes;
-  each = c.load_all.ensures.each;
-  less = c.load_all.ensures.unread;
-  reads = c.load_all.ensures.asked;
+pub returns-then-not-make_all_ready-clause-loaded : goal.returns-then-not-make_all_ready-clause-loaded
+returns-then-not-make_all_ready-clause-loaded g c = record {
+  now = c.make_all_ready.new.lanes;
+  long = c.make_all_ready.auto.lanes;
+  in_order = c.make_all_ready.ensures.in_order;
+  each = c.make_all_ready.ensures.each;
+  less = c.make_all_ready.ensures.unread;
+  reads = c.make_all_ready.ensures.reads;
 }
 
 pub returns-in-Ok-clause-loaded : goal.returns-in-Ok-clause-loaded
 returns-in-Ok-clause-loaded g c = record {
-  now = c.load_all.new.lanes;
-  long = c.load_all.auto.lanes;
-  each = c.load_all.ensures.each;
-  less = c.load_all.ensures.unread;
-  reads = c.load_all.ensures.asked;
+  now = c.make_all_ready.new.lanes;
+  long = c.make_all_ready.auto.lanes;
+  in_order = c.make_all_ready.ensures.in_order;
+  each = c.make_all_ready.ensures.each;
+  less = c.make_all_ready.ensures.unread;
+  reads = c.make_all_ready.ensures.reads;
 }
 
 pub returns-in-Err-clause-loaded : goal.returns-in-Err-clause-loaded
 returns-in-Err-clause-loaded g c = record {
-  now = c.load_all.new.lanes;
-  long = c.load_all.auto.lanes;
-  each = c.load_all.ensures.each;
-  less = c.load_all.ensures.unread;
-  reads = c.load_all.ensures.asked;
+  now = c.make_all_ready.new.lanes;
+  long = c.make_all_ready.auto.lanes;
+  in_order = c.make_all_ready.ensures.in_order;
+  each = c.make_all_ready.ensures.each;
+  less = c.make_all_ready.ensures.unread;
+  reads = c.make_all_ready.ensures.reads;
 }
 
 pub returns-in-Ok-clause-reads : goal.returns-in-Ok-clause-reads
 returns-in-Ok-clause-reads g c =
     let all : ℕ = all_unread c.args.layout.now (g.F.File.size c.args.file.now) c.args.lanes.now in
     if_none c.end_at.result _
-    (subst (λ (n : ℕ). g.F.File.reads c.load_all.new.file ≤ raised (g.F.File.reads c.args.file.now) (all - n))
-    (sym (unread_turned c.args.layout.now (g.F.File.size c.args.file.now) (g.L.Form.text c.args.form.now) c.horizon-known.result c.load_all.new.lanes c.format_lanes.new.lanes c.print_round.new.lanes c.format_lanes.ensures.count c.print_round.auto.lanes c.format_lanes.ensures.each c.in-Ok.ensures.lanes))
-    (c.if-not-load_all.ensures.reads refl))
+    (subst (λ (n : ℕ). g.F.File.reads c.make_all_ready.new.file ≤ raised (g.F.File.reads c.args.file.now) (all - n))
+    (sym (unread_turned c.args.layout.now (g.F.File.size c.args.file.now) (g.L.Form.text c.args.form.now) c.horizon-known.result c.make_all_ready.new.lanes c.format_lanes.new.lanes c.print_round.new.lanes c.format_lanes.ensures.count c.print_round.auto.lanes c.format_lanes.ensures.each c.in-Ok.ensures.lanes))
+    (c.if-not-make_all_ready.ensures.reads_done refl))
 
 pub returns-in-Ok-clause-unread : goal.returns-in-Ok-clause-unread
 returns-in-Ok-clause-unread g c =
     let all : ℕ = all_unread c.args.layout.now (g.F.File.size c.args.file.now) c.args.lanes.now in
     if_none c.end_at.result _
-    (subst (λ (n : ℕ). n ≤ all) (sym (unread_turned c.args.layout.now (g.F.File.size c.args.file.now) (g.L.Form.text c.args.form.now) c.horizon-known.result c.load_all.new.lanes c.format_lanes.new.lanes c.print_round.new.lanes c.format_lanes.ensures.count c.print_round.auto.lanes c.format_lanes.ensures.each c.in-Ok.ensures.lanes)) c.if-not-load_all.ensures.unread)
+    (subst (λ (n : ℕ). n ≤ all) (sym (unread_turned c.args.layout.now (g.F.File.size c.args.file.now) (g.L.Form.text c.args.form.now) c.horizon-known.result c.make_all_ready.new.lanes c.format_lanes.new.lanes c.print_round.new.lanes c.format_lanes.ensures.count c.print_round.auto.lanes c.format_lanes.ensures.each c.in-Ok.ensures.lanes)) c.if-not-make_all_ready.ensures.unread)
