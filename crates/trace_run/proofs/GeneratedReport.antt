@@ -23,7 +23,7 @@ use Rattle.trace_run.specs.Report.{is_chosen, report_pieces, selected}
 use Rattle.trace_run.specs.Selftest.{plain_report, generated_items, generated_report}
 use Rattle.trace_run.specs.Text.{text}
 use Rattle.trace_run.specs.Work.{Writes, WritesFor}
-use Rattle.trace_run.proofs.LoadingLists.{filter-all, filter-same}
+use Rattle.trace_run.proofs.Filters.{filter-all, filter-same}
 
 -- sound parts have no cut
 no_cuts : (layout : Layout) (file : List ℕ) (cpu : ℕ) (parts : List Part) → All (λ part. bad_of layout file part ≡ None) parts
@@ -69,21 +69,21 @@ reported header parts bytes lists old now are sound writes =
 ok_is : {T E : Type 0} (x y : T) (read : Result T E) → read ≡ Ok x → read ≡ Ok y → x ≡ y
 ok_is x y read first second = cc
 
--- a report without options of a generated file
-generated_reported : (seed events : ℕ) (bytes : List ℕ) (header : Header) (words : ReportData) (old now : Option (List ℕ)) → IsGenerated seed events bytes
-    → header_of bytes ≡ Ok header → words ≡ plain_report → Writes (report_by words.list words header bytes) Done old now → Gained old now (generated_report seed events)
+-- a report without options of a generated file, on any number of threads
+generated_reported : (seed events workers : ℕ) (bytes : List ℕ) (header : Header) (words : ReportData) (old now : Option (List ℕ)) → IsGenerated seed events bytes
+    → header_of bytes ≡ Ok header → words ≡ record plain_report { workers = workers } → Writes (report_by words.list words header bytes) Done old now → Gained old now (generated_report seed events)
 unfolding generated_report generated_items
-generated_reported seed events bytes header words old now is found plain writes =
+generated_reported seed events workers bytes header words old now is found plain writes =
     reported header_but_parts is.parts bytes (lists_of seed events) old now is.lists is.sound
     (subst (λ (h : Header). Writes (report_by Nothing plain_report h bytes) Done old now) (ok_is header (written header_but_parts is.parts) (header_of bytes) found is.header_is)
     (subst (λ (w : ReportData). Writes (report_by w.list w header bytes) Done old now) plain writes))
 
 -- the same, of a file that tells its bytes
-pub told_reported : (seed events : ℕ) (told same : Option (List ℕ)) (bytes : List ℕ) (header : Header) (words : ReportData) (old now : Option (List ℕ)) → told ≡ Some bytes
-    → IfSome told (IsGenerated seed events) → same ≡ told → ReadsHeader told (Ok header) → words ≡ plain_report
+pub told_reported : (seed events workers : ℕ) (told same : Option (List ℕ)) (bytes : List ℕ) (header : Header) (words : ReportData) (old now : Option (List ℕ)) → told ≡ Some bytes
+    → IfSome told (IsGenerated seed events) → same ≡ told → ReadsHeader told (Ok header) → words ≡ record plain_report { workers = workers }
     → WritesFor (report_by words.list words header) same Done old now → Gained old now (generated_report seed events)
-told_reported seed events told same bytes header words old now is generated kept found plain writes =
-    generated_reported seed events bytes header words old now
+told_reported seed events workers told same bytes header words old now is generated kept found plain writes =
+    generated_reported seed events workers bytes header words old now
     (subst (λ (t : Option (List ℕ)). IfSome t (IsGenerated seed events)) is generated)
     (subst (λ (t : Option (List ℕ)). ReadsHeader t (Ok header)) is found)
     plain

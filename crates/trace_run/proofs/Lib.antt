@@ -12,13 +12,12 @@ pub mod HeaderLength
 pub mod Taken
 pub mod FewBytes
 pub mod Splits
-pub mod Lanes
+pub mod UnusedLanes
 pub mod Jobs
 pub mod GeneratedReport
 pub mod SelfTested
 pub mod Reading
-pub mod LoadingLists
-pub mod LoadingPages
-pub mod Loading
-pub mod LoadingKeys
+pub mod Filters
+pub mod Numbers
+pub mod Workers
 pub mod Usages

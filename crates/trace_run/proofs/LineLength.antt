@@ -2,7 +2,7 @@
 use Rattle.std.proofs.Common.{◌≡◌, ℕ, ◌≤◌, ◌-◌, Bool, true, false, cond, List, [], length, take, inl, inr, arith, length-append}
 use Rattle.std.specs.Prelude.{codes}
 use Rattle.std.proofs.lemmas.Bool.{lt-ltb, le-ltb, cases_lt}
-use Rattle.std.proofs.lemmas.List.{length-take, take_all}
+use Rattle.std.proofs.lemmas.List.{length-take}
 use Rattle.subpage.specs.ItemData.{ItemData}
 use Rattle.report_print.specs.Ending.{closed, chomped, ends_in_newline}
 use Rattle.report_print.specs.Given.{Given}
@@ -22,12 +22,9 @@ closed_short text = elim (cases_lt 65536 (length text)) [
   | inr le ↦ rw (le-ltb 65536 (length text) le) (omega (arith, length-append (chomped text) (codes "\n"), chomped_short text))
 ]
 
-line_short : (given : Given) (cpu : ℕ) (item : ItemData) → length (line given cpu item) ≤ 65537
+pub line_short : (given : Given) (cpu : ℕ) (item : ItemData) → length (line given cpu item) ≤ 65537
 line_short given cpu item = by_choice (selected given cpu item)
   where
     by_choice : (shown : Bool) → length (cond shown (closed (item_text given cpu item)) []) ≤ 65537
     by_choice true = closed_short (item_text given cpu item)
     by_choice false = omega arith
-
-pub whole_line : (given : Given) (cpu : ℕ) (item : ItemData) (room : ℕ) → room ≡ 65537 → take room (line given cpu item) ≡ line given cpu item
-whole_line given cpu item room is = take_all room (line given cpu item) (omega (arith, line_short given cpu item))

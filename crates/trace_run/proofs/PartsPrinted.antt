@@ -1,51 +1,83 @@
--- A report of processors' parts, by what was loaded and reached.
-use Rattle.std.proofs.Common.{◌≡◌, ℕ, List, Option, None, Some, sym, ap, ◌∙◌, subst}
+-- A report of processors' parts: the first line, and behind it the lines of the reached items.
+use Rattle.std.proofs.Common.{◌≡◌, ℕ, suc, List, [], ◌∷◌, ◌++◌, map, take, Option, None, Some, IfSome, refl, sym, ap, ◌∙◌, subst}
+use Rattle.std.proofs.lemmas.List.{append-nil, take-map}
+use Rattle.std.proofs.lemmas.List.Concat.{flat_map-cons}
+use Rattle.std.specs.Io.KnownBytes.{append_known}
 use Rattle.trace_base.specs.declared.layout.Layout.{Layout}
 use Rattle.trace_base.specs.declared.part.Part.{Part}
-use Rattle.trace_base.specs.Layout.{IsLayout}
 use Rattle.trace_outside.specs.Writing.{Gained, GainedPrefix}
+use Rattle.trace_outside.proofs.Gains.{gained_both, prefix_behind}
+use Rattle.trace_outside.proofs.PendingLemmas.{prefix_longer}
 use Rattle.subpage.specs.Arrangement.{Keyed}
-use Rattle.subpage.specs.Cut.{Cut, cut_of, reached_of}
-use Rattle.trace_run.specs.Loaded.{LoadedData, AreLoaded, cut_in, reached_in}
-use Rattle.trace_args.specs.Command.{ReportData}
-use Rattle.trace_run.specs.Meaning.{Meaning, ended, parts_report}
-use Rattle.trace_run.specs.Report.{selected, report_pieces}
-use Rattle.dat_header.specs.declared.header.Header.{Header}
+use Rattle.subpage.specs.Cut.{cut_of, reached_of}
+use Rattle.time_merge.specs.declared.ending.End.{End}
+use Rattle.time_merge.specs.declared.ending.End.TheVariants as code
+use Rattle.report_rounds.specs.Reports.{IsReport, lines_text}
 use Rattle.report_print.specs.Given.{Given}
-use Rattle.trace_run.specs.Context.{context_of}
-use Rattle.trace_run.specs.Work.{Writes, WritesFor}
-use Rattle.trace_run.specs.Text.{text}
-use Rattle.trace_run.specs.declared.status.Status.{Status}
+use Rattle.report_print.specs.Line.{line}
+use Rattle.dat_header.specs.declared.header.Header.{Header}
+use Rattle.trace_args.specs.Command.{ReportData}
 use Rattle.trace_run.specs.declared.status.Status.TheVariants.{WriteFault}
-use Rattle.trace_run.proofs.Loading.{cut_is, reached_is}
+use Rattle.trace_run.specs.Context.{context_of}
+use Rattle.trace_run.specs.Meaning.{ended, parts_report, prints}
+use Rattle.trace_run.specs.Report.{cpus_line, entry_line, report_pieces, selected}
+use Rattle.trace_run.specs.Split.{status_of}
+use Rattle.trace_run.specs.Text.{text}
+use Rattle.trace_run.specs.Work.{Writes, WritesFor}
 
-writes_ended : (m : Meaning) (cut : Option Cut) (status : Status) (old now : Option (List ℕ)) → status ≡ ended cut → status ≡ m.status
-    → Gained old now (text m.pieces) → Writes m status old now
-writes_ended m None status old now is means gained = subst (λ (s : Status). Writes m s old now) (sym is) (sym is ∙ means, gained)
-writes_ended m (Some cut) status old now is means gained = subst (λ (s : Status). Writes m s old now) (sym is) (sym is ∙ means, gained)
+lines_are : (given : Given) (items : List Keyed) → lines_text (line given) items ≡ text (map (entry_line given) items)
+lines_are given [] = refl
+lines_are given (x ∷ xs) =
+    flat_map-cons (entry_line given) x xs ∙ ap (λ rest. entry_line given x ++ rest) (lines_are given xs)
+    ∙ sym (flat_map-cons (λ piece. piece) (entry_line given x) (map (entry_line given) xs))
 
-items_are : (words : ReportData) (layout : Layout) (bytes : List ℕ) (parts : List Part) (chosen : List (ℕ × Part)) (loaded : List LoadedData) (items : List Keyed) → IsLayout layout
-    → chosen ≡ selected words.cpus parts → AreLoaded layout (Some bytes) chosen loaded → items ≡ reached_in layout loaded → items ≡ reached_of layout bytes (selected words.cpus parts)
-items_are words layout bytes parts chosen loaded items allowed all are reached =
-    reached ∙ reached_is layout bytes chosen loaded allowed are ∙ ap (reached_of layout bytes) all
+-- the report's text: the first line, and then those of the items
+report_text : (cpus : ℕ) (given : Given) (items : List Keyed) → cpus_line cpus ++ lines_text (line given) items ≡ text (report_pieces cpus given items)
+report_text cpus given items =
+    ap (λ rest. cpus_line cpus ++ rest) (lines_are given items)
+    ∙ sym (flat_map-cons (λ piece. piece) (cpus_line cpus) (map (entry_line given) items))
 
-pub parts_printed : (words : ReportData) (header : Header) (parts : List Part) (told : Option (List ℕ)) (chosen : List (ℕ × Part)) (loaded : List LoadedData) (items : List Keyed)
-    (cut : Option Cut) (status : Status) (old now : Option (List ℕ)) (given : Given) → given ≡ context_of words header → IsLayout header.layout → chosen ≡ selected words.cpus parts
-    → AreLoaded header.layout told chosen loaded → items ≡ reached_in header.layout loaded → cut ≡ cut_in header.layout loaded → status ≡ ended cut
-    → Gained old now (text (report_pieces header.cpus given items)) → WritesFor (parts_report words header parts) told status old now
-parts_printed words header parts None chosen loaded items cut status old now given shown allowed all are reached cuts is gained = tt
-parts_printed words header parts (Some bytes) chosen loaded items cut status old now given shown allowed all are reached cuts is gained =
-    writes_ended (parts_report words header parts bytes) cut status old now is
-    (is ∙ ap ended (cuts ∙ cut_is header.layout bytes chosen loaded allowed are ∙ ap (cut_of header.layout bytes) all))
-    (subst (λ (known : List Keyed). Gained old now (text (report_pieces header.cpus (context_of words header) known)))
-    (items_are words header.layout bytes parts chosen loaded items allowed all are reached)
-    (subst (λ (by : Given). Gained old now (text (report_pieces header.cpus by items))) shown gained))
+-- the first few of its pieces
+first_text : (cpus : ℕ) (given : Given) (items : List Keyed) (count : ℕ)
+    → cpus_line cpus ++ lines_text (line given) (take count items) ≡ text (take (suc count) (report_pieces cpus given items))
+first_text cpus given items count =
+    report_text cpus given (take count items) ∙ ap (λ (lines : List (List ℕ)). text (cpus_line cpus ∷ lines)) (sym (take-map (entry_line given) count items))
 
-pub parts_stopped : (words : ReportData) (header : Header) (parts : List Part) (told : Option (List ℕ)) (chosen : List (ℕ × Part)) (loaded : List LoadedData) (items : List Keyed)
-    (old now : Option (List ℕ)) (given : Given) → given ≡ context_of words header → IsLayout header.layout → chosen ≡ selected words.cpus parts → AreLoaded header.layout told chosen loaded
-    → items ≡ reached_in header.layout loaded → GainedPrefix old now (text (report_pieces header.cpus given items)) → WritesFor (parts_report words header parts) told WriteFault old now
-parts_stopped words header parts None chosen loaded items old now given shown allowed all are reached stopped = tt
-parts_stopped words header parts (Some bytes) chosen loaded items old now given shown allowed all are reached stopped =
-    subst (λ (known : List Keyed). GainedPrefix old now (text (report_pieces header.cpus (context_of words header) known)))
-    (items_are words header.layout bytes parts chosen loaded items allowed all are reached)
-    (subst (λ (by : Given). GainedPrefix old now (text (report_pieces header.cpus by items))) shown stopped)
+module _ (cpus : ℕ) (given : Given) (layout : Layout) (bytes : List ℕ) (parts : List (ℕ × Part)) where
+  items : List Keyed
+  items = reached_of layout bytes parts
+
+  whole : (old mid now : Option (List ℕ)) → Gained old mid (cpus_line cpus) → Gained mid now (lines_text (line given) items) → Gained old now (text (report_pieces cpus given items))
+  whole old mid now first gained =
+      gained_both old mid now (cpus_line cpus) (lines_text (line given) items) first gained ∙ ap (append_known old) (report_text cpus given items)
+
+  -- by how the rounds behind the first line ended
+  report_written : (old mid now : Option (List ℕ)) (end : End) → Gained old mid (cpus_line cpus) → IsReport (line given) layout bytes parts mid now end
+      → Writes (prints (report_pieces cpus given items) (ended (cut_of layout bytes parts))) (status_of end) old now
+  report_written old mid now code.Done first report = (sym (ap ended report.1), whole old mid now first report.0)
+  report_written old mid now (code.Malformed cpu page) first report = (sym (ap ended report.1.1), whole old mid now first report.0)
+  report_written old mid now code.Read first report = (
+    suc report.0,
+    gained_both old mid now (cpus_line cpus) (lines_text (line given) (take report.0 items)) first report.1
+        ∙ ap (append_known old) (first_text cpus given items report.0),
+  )
+  report_written old mid now code.Write first report =
+      prefix_behind old mid now (cpus_line cpus) (lines_text (line given) items) [] (text (report_pieces cpus given items))
+      (sym (report_text cpus given items) ∙ ap (λ rest. cpus_line cpus ++ rest) (sym (append-nil (lines_text (line given) items))))
+      first report
+
+pub parts_written : (words : ReportData) (header : Header) (parts : List Part) (told : Option (List ℕ)) (chosen : List (ℕ × Part)) (given : Given)
+    (old mid now : Option (List ℕ)) (end : End) → given ≡ context_of words header → chosen ≡ selected words.cpus parts → Gained old mid (cpus_line header.cpus)
+    → IfSome told (λ bytes. IsReport (line given) header.layout bytes chosen mid now end) → WritesFor (parts_report words header parts) told (status_of end) old now
+parts_written words header parts None chosen given old mid now end shown all first report = tt
+parts_written words header parts (Some bytes) chosen given old mid now end shown all first report =
+    subst (λ (ps : List (ℕ × Part)). Writes (prints (report_pieces header.cpus (context_of words header) (reached_of header.layout bytes ps)) (ended (cut_of header.layout bytes ps))) (status_of end) old now) all
+    (subst (λ (by : Given). Writes (prints (report_pieces header.cpus by (reached_of header.layout bytes chosen)) (ended (cut_of header.layout bytes chosen))) (status_of end) old now) shown
+    (report_written header.cpus given header.layout bytes chosen old mid now end first report))
+
+pub parts_unbegun : (words : ReportData) (header : Header) (parts : List Part) (told : Option (List ℕ)) (old now : Option (List ℕ))
+    → GainedPrefix old now (cpus_line header.cpus) → WritesFor (parts_report words header parts) told WriteFault old now
+parts_unbegun words header parts None old now first = tt
+parts_unbegun words header parts (Some bytes) old now first =
+    subst (λ (all : List ℕ). GainedPrefix old now all) (report_text header.cpus (context_of words header) (reached_of header.layout bytes (selected words.cpus parts)))
+    (prefix_longer old now (cpus_line header.cpus) (lines_text (line (context_of words header)) (reached_of header.layout bytes (selected words.cpus parts))) first)

@@ -1,13 +1,7 @@
--- The lines of a report, one behind another, and the choice of processors.
-use Rattle.std.proofs.Common.{◌≡◌, Bool, true, false, cond, ℕ, ◌+◌, ◌<◌, List, [], ◌∷◌, ◌++◌, length, map, drop, get_or, drop-cons, append_assoc, refl, sym, ap, ◌∙◌, add-one}
-use Rattle.std.proofs.lemmas.List.Concat.{flat_map-cons}
+-- Processors that are chosen one after another.
+use Rattle.std.proofs.Common.{◌≡◌, Bool, true, false, cond, ℕ, ◌+◌, ◌<◌, List, [], ◌∷◌, ◌++◌, length, drop, get_or, drop-cons, append_assoc, refl, sym, ap, ◌∙◌, add-one}
 use Rattle.std.specs.Prelude.{filter}
-use Rattle.std.specs.List.{flat_map, enumerate_from}
-use Rattle.report_print.specs.Given.{Given}
-use Rattle.trace_run.specs.declared.whole.entry.Entry.{Entry}
-use Rattle.trace_run.specs.LoadedView.{entry_view}
-use Rattle.trace_run.specs.Report.{cpus_line, entry_line, report_pieces}
-use Rattle.trace_run.specs.Text.{text}
+use Rattle.std.specs.List.{enumerate_from}
 
 filter_both : {X : Type 0} (p : X → Bool) (x : X) (xs : List X) → filter p (x ∷ []) ++ filter p xs ≡ filter p (x ∷ xs)
 filter_both p x xs = by_test (p x)
@@ -29,16 +23,3 @@ numbered_more p done now whole n i xs d inside next so_far =
   where
     parted : drop i xs ≡ get_or xs i d ∷ drop (i + 1) xs
     parted = rw add-one (drop-cons xs i d inside)
-
-lines_each : {X Y : Type 0} (view : X → Y) (f : Y → List ℕ) (xs : List X) → flat_map (λ x. f (view x)) xs ≡ text (map f (map view xs))
-lines_each view f [] = refl
-lines_each view f (x ∷ xs) =
-    flat_map-cons (λ y. f (view y)) x xs ∙ ap (λ rest. f (view x) ++ rest) (lines_each view f xs)
-    ∙ sym (flat_map-cons (λ piece. piece) (f (view x)) (map f (map view xs)))
-
--- the report's text: the first line, and then those of the entries
-pub report_text : (cpus : ℕ) (given : Given) (entries : List Entry)
-    → cpus_line cpus ++ flat_map (λ entry. entry_line given (entry_view entry)) entries ≡ text (report_pieces cpus given (map entry_view entries))
-report_text cpus given entries =
-    ap (λ rest. cpus_line cpus ++ rest) (lines_each entry_view (entry_line given) entries)
-    ∙ sym (flat_map-cons (λ piece. piece) (cpus_line cpus) (map (entry_line given) (map entry_view entries)))

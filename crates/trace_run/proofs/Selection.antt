@@ -1,5 +1,5 @@
--- The numbers of chosen processors rise.
-use Rattle.std.proofs.Common.{ℕ, ◌+◌, ◌≤◌, Bool, true, false, cond, List, [], ◌∷◌, arith}
+-- Chosen processors: their numbers rise, and they are no more than there are.
+use Rattle.std.proofs.Common.{◌≡◌, ℕ, ◌+◌, ◌≤◌, suc, Bool, true, false, cond, List, [], ◌∷◌, ◌++◌, length, length-append, ap, arith}
 use Rattle.std.specs.Prelude.{filter}
 use Rattle.std.specs.List.{enumerate_from}
 use Rattle.subpage.specs.Arrangement.{CpusRise}
@@ -26,3 +26,16 @@ chosen_rise p n (x ∷ xs) = by_test (p (n, x)) (chosen_rise p (n + 1) xs)
         × CpusRise (cond b ((n, x) ∷ filter p (enumerate_from (n + 1) xs)) (filter p (enumerate_from (n + 1) xs)))
     by_test true rest = (omega arith, in_front n x (filter p (enumerate_from (n + 1) xs)) rest.0 rest.1)
     by_test false rest = (later n (filter p (enumerate_from (n + 1) xs)) rest.0, rest.1)
+
+pub chosen_few : {X : Type 0} (p : ℕ × X → Bool) (n : ℕ) (xs : List X) → length (filter p (enumerate_from n xs)) ≤ length xs
+chosen_few p n [] = omega arith
+chosen_few p n (x ∷ xs) = by_test (p (n, x)) (chosen_few p (n + 1) xs)
+  where
+    by_test : (b : Bool) → length (filter p (enumerate_from (n + 1) xs)) ≤ length xs
+        → length (cond b ((n, x) ∷ filter p (enumerate_from (n + 1) xs)) (filter p (enumerate_from (n + 1) xs))) ≤ suc (length xs)
+    by_test true few = omega (arith, few)
+    by_test false few = omega (arith, few)
+
+-- nor are the first of them
+pub first_few : {X : Type 0} (p : ℕ × X → Bool) (done rest : List (ℕ × X)) (n most : ℕ) (xs : List X) → done ++ rest ≡ filter p (enumerate_from n xs) → length xs ≤ most → length done ≤ most
+first_few p done rest n most xs parted few = omega (arith, length-append done rest, ap length parted, chosen_few p n xs, few)

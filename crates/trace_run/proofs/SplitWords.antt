@@ -23,6 +23,7 @@ use Rattle.trace_args.specs.Pieces.{piece}
 use Rattle.trace_args.specs.Reading.{Reads}
 use Rattle.trace_args.specs.Setting.{Text, Setting, Flag, Valued, Stray}
 use Rattle.trace_run.specs.Allowed.{IsAllowedSplit}
+use Rattle.trace_run.proofs.Numbers.{within_of}
 
 -- THE UNIT
 
@@ -35,14 +36,8 @@ piece_good Millis n h = omega arith
 piece_good Micros n h = omega arith
 piece_good Events n h = h
 
-by_tests : (n m most : ℕ) (low high : Bool) → nat_le 1 m ≡ low → (if low && high then Some m else None) ≡ Some n → 0 < n
-by_tests n m most true true e h = let same : m ≡ n = cc in rw (← same) (grind (arith, nat_tests, e))
-by_tests n m most true false e h = cc
-by_tests n m most false high e h = cc
-
 least_of : (n most : ℕ) (number : Option ℕ) → option_and_then (λ m. if nat_le 1 m && nat_le m most then Some m else None) number ≡ Some n → 0 < n
-least_of n most None h = cc
-least_of n most (Some m) h = by_tests n m most (nat_le 1 m) (nat_le m most) refl h
+least_of n most number h = omega (arith, (within_of n 1 most number h).0)
 
 count_good : (option : PieceOption) (count : Option ℕ) → ((n : ℕ) → count ≡ Some n → 0 < n) → IfSome (option_map (piece option) count) IsGood
 count_good option None h = tt

@@ -12,22 +12,12 @@ use Rattle.subpage.specs.Arrangement.{CpusRise}
 use Rattle.page_pool.specs.declared.lane.Lane.{Lane}
 use Rattle.time_merge.specs.LaneRows.{parts_of}
 use Rattle.trace_run.specs.Split.{is_taken, taken, taken_of}
-use Rattle.trace_run.proofs.Selection.{chosen_rise}
+use Rattle.trace_run.proofs.Selection.{chosen_few, chosen_rise}
 
 -- their numbers rise
 pub taken_rise : (one : Option ℕ) (body : Body) → CpusRise (taken_of one body)
 taken_rise one Latency = tt
 taken_rise one (Fly parts) = (chosen_rise (λ part. is_taken one part.0) 0 parts).1
-
--- no more are chosen than there are
-chosen_few : {X : Type 0} (p : ℕ × X → Bool) (n : ℕ) (xs : List X) → length (filter p (enumerate_from n xs)) ≤ length xs
-chosen_few p n [] = omega arith
-chosen_few p n (x ∷ xs) = by_test (p (n, x)) (chosen_few p (n + 1) xs)
-  where
-    by_test : (b : Bool) → length (filter p (enumerate_from (n + 1) xs)) ≤ length xs
-        → length (cond b ((n, x) ∷ filter p (enumerate_from (n + 1) xs)) (filter p (enumerate_from (n + 1) xs))) ≤ suc (length xs)
-    by_test true few = omega (arith, few)
-    by_test false few = omega (arith, few)
 
 pub taken_few : {V E : Type 0} (items : V → List (ℕ × Part)) (one : Option ℕ) (parts : List Part) (result : Result V E)
     → IfOk result (λ chosen. items chosen ≡ taken one parts) → length parts ≤ 1024 → IfOk result (λ chosen. length (items chosen) ≤ 1024)

@@ -114,6 +114,6 @@ unfolding uses_in
 uses_known ws uses read = ap (λ (r : Filters). result_unwrap_or r []) read
 
 -- words without filters
-pub no_uses : (report : ReportData) (uses : List FilterUse) → report ≡ plain_report → uses ≡ [] → uses_in report.filters ≡ map use_of uses
+pub no_uses : (report : ReportData) (workers : ℕ) (uses : List FilterUse) → report ≡ record plain_report { workers = workers } → uses ≡ [] → uses_in report.filters ≡ map use_of uses
 unfolding uses_in
-no_uses report uses plain none = ap (λ (r : ReportData). uses_in r.filters) plain ∙ sym (ap (map use_of) none)
+no_uses report workers uses plain none = ap (λ (r : ReportData). uses_in r.filters) plain ∙ sym (ap (map use_of) none)

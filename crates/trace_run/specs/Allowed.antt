@@ -1,19 +1,24 @@
--- What the words of a job that has a reading keep: the number of a split's unit is at least 1, and the names of its new
--- files begin with no more bytes than words allow.
--- Source: trace-cmd-split(1); the limit of 4,096 bytes is this project's own.
-use Rattle.std.specs.Prelude.{◌≤◌, length}
+-- What the words of a job that has a reading keep: the number of a split's unit is at least 1, the names of its new files
+-- begin with no more bytes than words allow, and from 1 to 64 threads form the lines of a report.
+-- Source: trace-cmd-split(1); the limits of 4,096 bytes and of 64 threads are this project's own.
+use Rattle.std.specs.Prelude.{◌≤◌, ℕ, length}
 use Rattle.split_pieces.specs.Pieces.{IsUnit}
 use Rattle.trace_args.specs.Command.{SplitData}
-use Rattle.trace_run.specs.Job.{FileCommand, Split, Job, OnFile, SelfTest}
+use Rattle.trace_run.specs.Job.{FileCommand, Report, Dump, Split, Job, OnFile, SelfTest}
 
 pub record IsAllowedSplit (words : SplitData) : Type 0 where
   pub unit : IsUnit words.unit
   pub base : length words.base ≤ 4096
 
+-- so many threads
+abbrev pub IsWorkers : ℕ → Type 0
+IsWorkers count = (1 ≤ count) × (count ≤ 64)
+
 abbrev pub IsAllowed : FileCommand → Type 0
+IsAllowed (Report words) = IsWorkers words.workers
+IsAllowed (Dump words) = Unit {0}
 IsAllowed (Split words) = IsAllowedSplit words
-IsAllowed command = Unit {0}
 
 abbrev pub IsAllowedJob : Job → Type 0
 IsAllowedJob (OnFile command) = IsAllowed command
-IsAllowedJob (SelfTest words) = Unit {0}
+IsAllowedJob (SelfTest words) = IsWorkers words.workers

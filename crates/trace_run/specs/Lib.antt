@@ -16,6 +16,3 @@ pub mod Causes
 pub mod Messages
 pub mod StatusNumber
 pub mod Rest
-pub mod Loaded
-pub mod LoadedKeys
-pub mod LoadedView

@@ -26,7 +26,8 @@ use crate::status::Status;
 use dat_header::{Header, OpenFault, read_header};
 use filter_truth::FilterUse;
 use std::alloc::Global;
-use trace_outside::{Failed, Folder, Sink};
+use std::thread::Threads;
+use trace_outside::{Failed, Folder, Gate, Sink};
 
 /// The name of a job's input.
 pub(crate) fn job_input<'a>(job: &Job<'a>) -> &'a str
@@ -50,12 +51,14 @@ fn input_of<'a>(command: &FileCommand<'a>) -> &'a str
 }
 
 /// Does one job on the files of the folder. The filters are those of its words.
-pub(crate) fn run_job<F: Folder, O: Sink>(
+pub(crate) fn run_job<R: Threads + Sync, F: Folder, O: Sink, G: Gate>(
+    rt: &R,
     alloc: Global,
     job: &Job<'_>,
     filters: Vec<FilterUse>,
     folder: &mut F,
     out: &mut O,
+    gate: &G,
 ) -> Status
     requires allowed { IsAllowedJob (job_view job.now) }
     requires filters { uses_in (job_filters (job_view job.now)) ≡ map use_of filters.items }
@@ -64,18 +67,20 @@ pub(crate) fn run_job<F: Folder, O: Sink>(
         (beside F.files F.counts folder.new (sink_seen O.written O.faults out.new)) }
 {
     match job {
-        Job::OnFile(command) => run_command(alloc, command, filters, folder, out),
-        Job::SelfTest(words) => print_self_test(alloc, words, out),
+        Job::OnFile(command) => run_command(rt, alloc, command, filters, folder, out, gate),
+        Job::SelfTest(words) => print_self_test(rt, alloc, words, out, gate),
     }
 }
 
 // Does one command on a file of the folder.
-fn run_command<F: Folder, O: Sink>(
+fn run_command<R: Threads + Sync, F: Folder, O: Sink, G: Gate>(
+    rt: &R,
     alloc: Global,
     command: &FileCommand<'_>,
     filters: Vec<FilterUse>,
     folder: &mut F,
     out: &mut O,
+    gate: &G,
 ) -> Status
     requires allowed { IsAllowed (command_view command.now) }
     requires filters { uses_in (command_filters (command_view command.now)) ≡ map use_of filters.items }
@@ -86,7 +91,7 @@ fn run_command<F: Folder, O: Sink>(
     match folder.open_file(input_of(command)) {
         Err(Failed) => Status::ReadFault,
         Ok(mut file) => {
-            let status = run_on_file(alloc, command, filters, &mut file, folder, out);
+            let status = run_on_file(rt, alloc, command, filters, &mut file, folder, out, gate);
             folder.close_file(file);
             status
         }
@@ -94,13 +99,15 @@ fn run_command<F: Folder, O: Sink>(
 }
 
 // Does a command on a file that was just opened. Its header is read once.
-fn run_on_file<F: Folder, O: Sink>(
+fn run_on_file<R: Threads + Sync, F: Folder, O: Sink, G: Gate>(
+    rt: &R,
     alloc: Global,
     command: &FileCommand<'_>,
     filters: Vec<FilterUse>,
     file: &mut F::In,
     folder: &mut F,
     out: &mut O,
+    gate: &G,
 ) -> Status
     requires allowed { IsAllowed (command_view command.now) }
     requires filters { uses_in (command_filters (command_view command.now)) ≡ map use_of filters.items }
@@ -110,7 +117,9 @@ fn run_on_file<F: Folder, O: Sink>(
     ensures reads { ReadsInput (command_view command.now) (F.In.bytes file.old) result (F.In.reads file.old) (F.In.reads file.new) }
 {
     match read_header(alloc, file) {
-        Ok(header) => run_on_header(alloc, command, filters, header, file, folder, out),
+        Ok(header) => {
+            run_on_header(rt, alloc, command, filters, header, file, folder, out, gate)
+        }
         Err(OpenFault::Read) => Status::ReadFault,
         Err(OpenFault::Memory) => Status::NoMemory,
         Err(fault) => Status::Refused(fault),
@@ -119,7 +128,8 @@ fn run_on_file<F: Folder, O: Sink>(
 
 // Does a command on a file that has this header. A command that only prints is a function over the file and the output,
 // and one that makes files a function over the file and the folder.
-fn run_on_header<F: Folder, O: Sink>(
+fn run_on_header<R: Threads + Sync, F: Folder, O: Sink, G: Gate>(
+    rt: &R,
     alloc: Global,
     command: &FileCommand<'_>,
     filters: Vec<FilterUse>,
@@ -127,6 +137,7 @@ fn run_on_header<F: Folder, O: Sink>(
     file: &mut F::In,
     folder: &mut F,
     out: &mut O,
+    gate: &G,
 ) -> Status
     requires words { IsAllowed (command_view command.now) }
     requires filters { uses_in (command_filters (command_view command.now)) ≡ map use_of filters.items }
@@ -140,7 +151,9 @@ fn run_on_header<F: Folder, O: Sink>(
     ensures reads { F.In.reads file.new ≤ raised (F.In.reads file.old) (share (command_view command.now) header (F.In.size file.old)) }
 {
     match command {
-        FileCommand::Report(words) => print_report(alloc, words, filters, &header, file, out),
+        FileCommand::Report(words) => {
+            print_report(rt, alloc, words, filters, &header, file, out, gate)
+        }
         FileCommand::Dump(words) => print_dump(alloc, words, &header, out),
         FileCommand::Split(words) => cut_file(alloc, words, header, file, folder),
     }

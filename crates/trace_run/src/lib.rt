@@ -5,6 +5,7 @@ mod command;
 mod context;
 mod dump;
 mod job;
+mod lanes;
 mod laws;
 mod lines;
 mod list;
@@ -19,7 +20,6 @@ mod status;
 mod tests;
 mod top;
 mod usage;
-mod whole;
 
 pub use laws::selection_rises;
 pub use status::Status;

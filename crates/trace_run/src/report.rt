@@ -1,43 +1,47 @@
-ghost use Rattle.std.specs.Prelude.{◌≡◌, ◌≤◌, ◌-◌, [], map, length, sum_by, option_map, IfOk, OnOk, OnErr};
+ghost use Rattle.std.specs.Prelude.{◌≡◌, ◌≤◌, ◌-◌, [], map, length, sum_by, IfOk, OnOk, OnErr};
 ghost use Rattle.trace_outside.specs.Causes.{HasCause, raised};
 ghost use Rattle.trace_base.specs.Layout.{IsLayout};
 ghost use Rattle.trace_outside.specs.Writing.{Gained, GainedPrefix};
 ghost use Rattle.dat_header.specs.Allowed.{IsBody};
 ghost use Rattle.trace_args.specs.Command.{report_view};
+ghost use Rattle.trace_run.specs.Allowed.{IsWorkers};
 ghost use Rattle.trace_run.specs.Counts.{body_share, share};
 ghost use Rattle.trace_run.specs.Job.{Report};
-ghost use Rattle.trace_run.specs.Meaning.{body_report, ended, latency_report, parts_report, report_by};
-ghost use Rattle.trace_run.specs.Report.{cpus_line, report_pieces, selected};
+ghost use Rattle.trace_run.specs.Meaning.{body_report, latency_report, parts_report, report_by};
+ghost use Rattle.trace_run.specs.Report.{cpus_line, selected};
 ghost use Rattle.trace_run.specs.Work.{IsCaused, WritesFor};
-ghost use Rattle.trace_run.specs.LoadedView.{cut_view, entry_view};
-ghost use Rattle.trace_run.specs.Text.{text};
 ghost use Rattle.filter_truth.specs.SelectionView.{use_of};
 ghost use Rattle.trace_run.specs.Usage.{uses_in};
 
 use crate::context::context_of;
-use crate::lines::{line_room, put_cpus, put_lines};
+use crate::lanes::{set_lanes, status_of};
+use crate::lines::{ItemLines, LONGEST_LINE, put_cpus};
 use crate::list::print_list;
 use crate::rest::{CopyFault, copy_rest};
 use crate::select::select;
 use crate::status::Status;
-use crate::whole::{Cut, Entry, LoadFault, load, reach};
 use dat_header::{Body, Header};
 use filter_truth::FilterUse;
-use report_print::Context;
+use page_pool::Pool;
+use report_rounds::report_rounds;
 use std::alloc::{AllocError, Global};
+use std::thread::Threads;
 use trace_args::{Listing, ReportWords};
 use trace_base::Part;
-use trace_outside::{Failed, File, Pending, Sink};
+use trace_outside::{Failed, File, Gate, Pending, Sink};
 
 /// Prints the report of a file with this header: the events, or the list that the words ask for.
-pub(crate) fn print_report<I: File, O: Sink>(
+pub(crate) fn print_report<R: Threads + Sync, I: File, O: Sink, G: Gate>(
+    rt: &R,
     alloc: Global,
     words: &ReportWords<'_>,
     filters: Vec<FilterUse>,
     header: &Header,
     file: &mut I,
     out: &mut O,
+    gate: &G,
 ) -> Status
+    requires workers { IsWorkers words.now.workers }
     requires filters { uses_in (report_view words.now).filters ≡ map use_of filters.items }
     requires allowed { IsLayout header.now.layout }
     requires inside { header.now.end ≤ I.size file.old }
@@ -48,7 +52,7 @@ pub(crate) fn print_report<I: File, O: Sink>(
     ensures reads { I.reads file.new ≤ raised (I.reads file.old) (share (Report (report_view words.now)) header.now (I.size file.old)) }
 {
     match words.list {
-        Listing::Nothing => print_events(alloc, words, filters, header, file, out),
+        Listing::Nothing => print_events(rt, alloc, words, filters, header, file, out, gate),
         Listing::Names => print_list(alloc, Listing::Names, header, out),
         Listing::Formats => print_list(alloc, Listing::Formats, header, out),
         Listing::Symbols => print_list(alloc, Listing::Symbols, header, out),
@@ -57,14 +61,17 @@ pub(crate) fn print_report<I: File, O: Sink>(
 }
 
 // Prints the events of a file, or the rest of a latency file.
-fn print_events<I: File, O: Sink>(
+fn print_events<R: Threads + Sync, I: File, O: Sink, G: Gate>(
+    rt: &R,
     alloc: Global,
     words: &ReportWords<'_>,
     filters: Vec<FilterUse>,
     header: &Header,
     file: &mut I,
     out: &mut O,
+    gate: &G,
 ) -> Status
+    requires workers { IsWorkers words.now.workers }
     requires filters { uses_in (report_view words.now).filters ≡ map use_of filters.items }
     requires allowed { IsLayout header.now.layout }
     requires inside { header.now.end ≤ I.size file.old }
@@ -77,7 +84,8 @@ fn print_events<I: File, O: Sink>(
     match &header.body {
         Body::Latency => print_latency(alloc, header.cpus, header.end, file, out),
         Body::Fly(parts) => {
-            print_parts(alloc, words, filters, header, parts.as_slice(), file, out)
+            let parts = parts.as_slice();
+            print_parts(rt, alloc, words, filters, header, parts, file, out, gate)
         }
     }
 }
@@ -115,8 +123,10 @@ fn copy_buffer(alloc: Global) -> Result<Vec<u8>, AllocError>
     vec![in alloc; 0; Pending::ROOM]
 }
 
-// Prints the lines of the processors' items in the order in which they happened.
-fn print_parts<I: File, O: Sink>(
+// Prints the first line, and behind it the lines of the processors' items in the order in which they happened. All memory
+// is taken before.
+fn print_parts<R: Threads + Sync, I: File, O: Sink, G: Gate>(
+    rt: &R,
     alloc: Global,
     words: &ReportWords<'_>,
     filters: Vec<FilterUse>,
@@ -124,7 +134,9 @@ fn print_parts<I: File, O: Sink>(
     parts: &[Part],
     file: &mut I,
     out: &mut O,
+    gate: &G,
 ) -> Status
+    requires workers { IsWorkers words.now.workers }
     requires filters { uses_in (report_view words.now).filters ≡ map use_of filters.items }
     requires allowed { IsLayout header.now.layout }
     requires few { length parts.now ≤ 1024 }
@@ -138,69 +150,41 @@ fn print_parts<I: File, O: Sink>(
     let Ok(selected) = select(alloc, &words.cpus, parts) else {
         return Status::NoMemory;
     };
-    let loaded = match load(alloc, &header.layout, &selected, file) {
-        Ok(loaded) => loaded,
-        Err(LoadFault::Read) => return Status::ReadFault,
-        Err(LoadFault::Memory) => return Status::NoMemory,
-    };
-    let Ok(reached) = reach(alloc, &header.layout, &loaded) else {
+    let count = selected.len() as u32;
+    let (Ok(mut pool), Ok(mut pending)) = (
+        Pool::new(alloc, count, header.layout.page, LONGEST_LINE),
+        Pending::new(alloc),
+    ) else {
         return Status::NoMemory;
     };
-    let (Ok(mut pending), Ok(mut room)) = (Pending::new(alloc), line_room(alloc)) else {
-        return Status::NoMemory;
-    };
-    match print_lines(
-        header.cpus,
-        &context,
-        &reached.entries,
-        &mut room,
+    let lanes = pool.lanes();
+    set_lanes(lanes, &selected);
+    match print_cpus(header.cpus, &mut pending, out) {
+        Ok(()) => {}
+        Err(Failed) => return Status::WriteFault,
+    }
+    let form = ItemLines { context };
+    status_of(report_rounds(
+        rt,
+        &form,
+        &header.layout,
+        file,
+        lanes,
+        words.workers,
+        gate,
         &mut pending,
         out,
-    ) {
-        Ok(()) => end_at(reached.cut),
-        Err(Failed) => Status::WriteFault,
-    }
+    ))
 }
 
-// Prints the first line and the lines of these entries, each of which is formed in the room.
-fn print_lines<O: Sink>(
-    cpus: u32,
-    context: &Context,
-    entries: &[Entry<'_>],
-    room: &mut [u8],
-    pending: &mut Pending,
-    out: &mut O,
-) -> Result<(), Failed>
-    requires empty { pending.old ≡ [] }
-    requires room { length room.old ≡ 65537 }
-    ensures gained { OnOk result (Gained (O.written out.old) (O.written out.new) (text (report_pieces cpus context.now (map entry_view entries.now)))) }
-    ensures prefix { OnErr result (GainedPrefix (O.written out.old) (O.written out.new) (text (report_pieces cpus context.now (map entry_view entries.now)))) }
-    ensures cause { HasCause (O.faults out.old) (O.faults out.new) result }
-{
-    put_lines(pending, out, cpus, context, entries, room)?;
-    pending.flush(out)
-}
-
-// Prints the first line alone.
+// Prints the first line alone. Nothing waits behind it.
 fn print_cpus<O: Sink>(cpus: u32, pending: &mut Pending, out: &mut O) -> Result<(), Failed>
     requires { pending.old ≡ [] }
     ensures gained { OnOk result (Gained (O.written out.old) (O.written out.new) (cpus_line cpus)) }
+    ensures empty { OnOk result (pending.new ≡ []) }
     ensures prefix { OnErr result (GainedPrefix (O.written out.old) (O.written out.new) (cpus_line cpus)) }
     ensures cause { HasCause (O.faults out.old) (O.faults out.new) result }
 {
     put_cpus(pending, out, cpus)?;
     pending.flush(out)
-}
-
-// The answer where the output ends at this cut.
-fn end_at(cut: Option<Cut>) -> Status
-    ensures { result ≡ ended (option_map cut_view cut) }
-{
-    match cut {
-        None => Status::Done,
-        Some(cut) => Status::Malformed {
-            cpu: cut.cpu,
-            page: cut.page,
-        },
-    }
 }

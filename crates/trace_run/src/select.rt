@@ -15,7 +15,8 @@ pub(crate) fn select(
     parts: &[Part],
 ) -> Result<Vec<(u32, Part)>, AllocError>
     requires { length parts.now ≤ 1024 }
-    ensures { IfOk result (λ chosen. chosen.items ≡ selected cpus.now parts.now) }
+    ensures chosen { IfOk result (λ chosen. chosen.items ≡ selected cpus.now parts.now) }
+    ensures few { IfOk result (λ chosen. length chosen.items ≤ 1024) }
 {
     let mut chosen = Vec::with_capacity(alloc, parts.len())?;
     let mut cpu = 0;

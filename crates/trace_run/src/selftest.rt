@@ -3,6 +3,7 @@
 ghost use Rattle.std.specs.Prelude.{◌≡◌, [], Some, IfOk, OnOk};
 ghost use Rattle.trace_outside.specs.Writing.{Gained};
 ghost use Rattle.trace_args.specs.Command.{report_view, self_view};
+ghost use Rattle.trace_run.specs.Allowed.{IsWorkers};
 ghost use Rattle.trace_run.specs.Meaning.{self_test};
 ghost use Rattle.trace_run.specs.Selftest.{generated_report, plain_report, self_test_line};
 ghost use Rattle.trace_run.specs.Work.{IsCaused, Writes};
@@ -11,17 +12,25 @@ use crate::report::print_report;
 use crate::status::Status;
 use dat_header::read_header;
 use std::alloc::{AllocError, Global};
+use std::thread::Threads;
 use trace_args::{Listing, ReportWords, SelfWords};
 use trace_base::ByteText;
 use trace_gen::{generate, summary_line};
-use trace_outside::{Failed, MemSink, Sink, write_all};
+use trace_outside::{Failed, Gate, MemSink, Sink, write_all};
 
 /// Prints the line of a self-test. No file of a folder is opened.
-pub(crate) fn print_self_test<O: Sink>(alloc: Global, words: &SelfWords, out: &mut O) -> Status
+pub(crate) fn print_self_test<R: Threads + Sync, O: Sink, G: Gate>(
+    rt: &R,
+    alloc: Global,
+    words: &SelfWords,
+    out: &mut O,
+    gate: &G,
+) -> Status
+    requires { IsWorkers words.now.workers }
     ensures writes { Writes (self_test (self_view words.now)) result (O.written out.old) (O.written out.new) }
     ensures causes { IsCaused result 0 0 (O.faults out.old) (O.faults out.new) }
 {
-    let Ok(line) = line_of(alloc, words) else {
+    let Ok(line) = line_of(rt, alloc, words, gate) else {
         return Status::NoMemory;
     };
     match write_all(out, line.as_bytes()) {
@@ -31,38 +40,47 @@ pub(crate) fn print_self_test<O: Sink>(alloc: Global, words: &SelfWords, out: &m
 }
 
 // The line that sums up the report of the generated file.
-fn line_of(alloc: Global, words: &SelfWords) -> Result<ByteText, AllocError>
+fn line_of<R: Threads + Sync, G: Gate>(
+    rt: &R,
+    alloc: Global,
+    words: &SelfWords,
+    gate: &G,
+) -> Result<ByteText, AllocError>
+    requires { IsWorkers words.now.workers }
     ensures { IfOk result (λ line. line ≡ self_test_line (self_view words.now)) }
 {
     let mut report = MemSink::new(alloc);
-    report_generated(alloc, words.seed, words.events, &mut report)?;
+    report_generated(rt, alloc, words, &mut report, gate)?;
     summary_line(alloc, words.seed, words.events, report.bytes())
 }
 
 // Reports the generated file to a sink in memory.
-fn report_generated(
+fn report_generated<R: Threads + Sync, G: Gate>(
+    rt: &R,
     alloc: Global,
-    seed: u64,
-    events: u32,
+    words: &SelfWords,
     report: &mut MemSink,
+    gate: &G,
 ) -> Result<(), AllocError>
-    ensures { OnOk result (Gained (⟦<MemSink as Sink>⟧.written report.old) (⟦<MemSink as Sink>⟧.written report.new) (generated_report seed events)) }
+    requires { IsWorkers words.now.workers }
+    ensures { OnOk result (Gained (⟦<MemSink as Sink>⟧.written report.old) (⟦<MemSink as Sink>⟧.written report.new) (generated_report words.now.seed words.now.events)) }
 {
-    let words = plain_words(alloc);
-    let mut file = generate(alloc, seed, events)?;
+    let plain = plain_words(alloc, words.workers);
+    let mut file = generate(alloc, words.seed, words.events)?;
     let Ok(header) = read_header(alloc, &mut file) else {
         return Err(AllocError);
     };
-    match print_report(alloc, &words, Vec::new(alloc), &header, &mut file, report) {
+    let filters = Vec::new(alloc);
+    match print_report(rt, alloc, &plain, filters, &header, &mut file, report, gate) {
         Status::Done => Ok(()),
         // The file is sound, and its reads and the sink's writes fail only for want of memory.
         _ => Err(AllocError),
     }
 }
 
-// The words of a report without options.
-fn plain_words(alloc: Global) -> ReportWords<'static>
-    ensures { report_view result ≡ plain_report }
+// The words of a report without options, on so many threads.
+fn plain_words(alloc: Global, workers: u32) -> ReportWords<'static>
+    ensures { report_view result ≡ record plain_report { workers = workers } }
 {
     ReportWords {
         input: "",
@@ -75,6 +93,6 @@ fn plain_words(alloc: Global) -> ReportWords<'static>
         no_soft: false,
         list: Listing::Nothing,
         cpus: None,
-        workers: 1,
+        workers,
     }
 }

@@ -1,12 +1,10 @@
 // A split: its memory is taken, each processor that it takes has a lane, and the new files are made.
 
-ghost use Rattle.std.specs.Prelude.{Ok, ◌≡◌, ◌≤◌, ◌+◌, ◌++◌, [], ◌∷◌, ℕ, All, IfOk, IfSome, OnOk, filter, length};
+ghost use Rattle.std.specs.Prelude.{Ok, ◌≡◌, ◌≤◌, ◌+◌, ◌++◌, [], ◌∷◌, IfOk, IfSome, OnOk, filter, length};
 ghost use Rattle.trace_base.specs.declared.part.Part.{Part};
 ghost use Rattle.trace_outside.specs.Causes.{Rose, raised};
 ghost use Rattle.dat_header.specs.Allowed.{IsHeader};
 ghost use Rattle.dat_header.specs.Header.{ReadsHeader};
-ghost use Rattle.page_pool.specs.declared.lane.Lane.{Lane};
-ghost use Rattle.time_merge.specs.LaneRows.{parts_of};
 ghost use Rattle.trace_args.specs.Command.{split_view};
 ghost use Rattle.split_tool.specs.Stored.{KeepsCounts};
 ghost use Rattle.trace_run.specs.Allowed.{IsAllowedSplit};
@@ -15,14 +13,14 @@ ghost use Rattle.trace_run.specs.Ending.{EndsBy, IsClaimed, SinkSeen, beside};
 ghost use Rattle.trace_run.specs.Job.{Split};
 ghost use Rattle.trace_run.specs.Meaning.{split_by};
 ghost use Rattle.trace_run.specs.Split as spec;
-ghost use Rattle.trace_run.specs.Lanes.{IsUnused};
 ghost use Rattle.trace_run.specs.Split.{taken, taken_of};
 ghost use Rattle.trace_run.specs.Work.{IsCaused};
 
+use crate::lanes::{set_lanes, status_of};
 use crate::status::Status;
 use dat_header::{Body, Header};
-use page_pool::{Lane, Pool};
-use split_tool::{End, SplitPlan, SplitWork, split};
+use page_pool::Pool;
+use split_tool::{SplitPlan, SplitWork, split};
 use std::alloc::{AllocError, Global};
 use trace_args::SplitWords;
 use trace_base::Part;
@@ -115,35 +113,5 @@ fn is_taken(one: Option<u32>, cpu: u32) -> bool
     match one {
         None => true,
         Some(one) => cpu == one,
-    }
-}
-
-// Gives each lane its processor and its part.
-fn set_lanes(lanes: &mut [Lane], parts: &[(u32, Part)])
-    requires { length lanes.old ≡ length parts.now }
-    ensures parts { parts_of lanes.new ≡ parts.now }
-    ensures unused { (len : ℕ) → All (IsUnused len) lanes.old → All (IsUnused len) lanes.new }
-{
-    for i in 0..parts.len() {
-        set_lane(&mut lanes[i], parts[i]);
-    }
-}
-
-fn set_lane(lane: &mut Lane, part: (u32, Part))
-    ensures part { (lane.new.cpu ≡ part.0) × (lane.new.part ≡ part.1) }
-    ensures kept { (lane.new.cursor ≡ lane.old.cursor) × (lane.new.page ≡ lane.old.page) }
-{
-    lane.cpu = part.0;
-    lane.part = part.1;
-}
-
-fn status_of(end: End) -> Status
-    ensures { result ≡ spec.status_of end }
-{
-    match end {
-        End::Done => Status::Done,
-        End::Malformed { cpu, page } => Status::Malformed { cpu, page },
-        End::Read => Status::ReadFault,
-        End::Write => Status::WriteFault,
     }
 }

@@ -481,7 +481,7 @@ const DISKS: &[(u64, Status, &str, &str)] = &[
     (
         4096,
         Status::ReadFault,
-        "",
+        "cpus=1\n",
         "trace-cmd: trace.dat: read failed\n",
     ),
     (
@@ -632,9 +632,17 @@ fn words_of(alloc: Global, all: &[&str]) -> Result<Words, Fail> {
     Ok(words)
 }
 
-fn runs_as<R: Alloc<A = Global> + Abort + Threads + Sync>(rt: &R, row: &Row) -> Result<(), Fail> {
+// Runs a row's words with these behind them.
+fn runs_with<R: Alloc<A = Global> + Abort + Threads + Sync>(
+    rt: &R,
+    row: &Row,
+    more: &[&str],
+) -> Result<(), Fail> {
     let alloc = rt.alloc();
-    let words = words_of(alloc, row.words)?;
+    let mut words = words_of(alloc, row.words)?;
+    for word in more {
+        words.push(word)?;
+    }
     let mut folder = MemFolder::new(alloc);
     if !matches!(&row.file, Input::Missing) {
         folder.put("trace.dat", &bytes_of(alloc, &row.file)?)?;
@@ -645,6 +653,29 @@ fn runs_as<R: Alloc<A = Global> + Abort + Threads + Sync>(rt: &R, row: &Row) -> 
     assert_eq!(rt; status, row.status);
     assert_eq!(rt; out.bytes(), row.out.as_bytes());
     assert_eq!(rt; err.bytes(), row.err.as_bytes());
+    Ok(())
+}
+
+fn runs_as<R: Alloc<A = Global> + Abort + Threads + Sync>(rt: &R, row: &Row) -> Result<(), Fail> {
+    runs_with(rt, row, &[])
+}
+
+// Whether the row is a report that goes through its file.
+fn is_report(row: &Row) -> bool {
+    !row.words.is_empty()
+        && row.words[0] == "report"
+        && matches!(row.status, Status::Done | Status::Malformed { .. })
+}
+
+#[test]
+fn reports_on_any_number_of_threads(rt: HostRuntime) -> Result<(), Fail> {
+    for row in ROWS {
+        if is_report(row) {
+            for workers in ["1", "3", "64"] {
+                runs_with(&rt, row, &["--workers", workers])?;
+            }
+        }
+    }
     Ok(())
 }
 

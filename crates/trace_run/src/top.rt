@@ -19,14 +19,17 @@ use trace_outside::{Folder, Gate, Sink};
 /// The words are read first, then their filters in their order, and only then a file is opened. The output goes to
 /// `out`, and for every answer but `Done` one line of message to `err`. All memory is taken before the first byte of
 /// output.
+///
+/// A report's lines are formed on as many threads as the words ask for, with the same bytes for any number of them. Each
+/// lane passes the gate before its lines are formed.
 pub fn run<R: Threads + Sync, F: Folder, O: Sink, E: Sink, G: Gate>(
-    _rt: &R,
+    rt: &R,
     alloc: Global,
     words: &Words,
     folder: &mut F,
     out: &mut O,
     err: &mut E,
-    _gate: &G,
+    gate: &G,
 ) -> Status
     ensures ends { Runs words.now result
         (beside F.files F.counts folder.old (sink_seen O.written O.faults out.old))
@@ -52,7 +55,7 @@ pub fn run<R: Threads + Sync, F: Folder, O: Sink, E: Sink, G: Gate>(
 {
     match ask(alloc, words) {
         Ok((job, filters)) => {
-            let status = run_job(alloc, &job, filters, folder, out);
+            let status = run_job(rt, alloc, &job, filters, folder, out, gate);
             say(job_input(&job), status, err);
             status
         }

@@ -1,8 +1,15 @@
 use Rattle.std.proofs.Common.{rules}
-use Rattle.trace_args.specs.Command.{split_view}
+use Rattle.trace_args.specs.Command.{report_view, self_view, split_view}
 use Rattle.trace_run.proofs.Jobs.{split_asked}
 use Rattle.trace_run.proofs.SplitWords.{split_allowed}
+use Rattle.trace_run.proofs.Workers.{report_workers, self_test_workers}
 use Rattle.trace_run.proofs.job.read_job.Goals as goal
+
+pub returns-in-Ok-Report-clause-allowed : goal.returns-in-Ok-Report-clause-allowed
+returns-in-Ok-Report-clause-allowed c = report_workers c.args.words.now (report_view c.in-Ok-Report.report) (search rules)
+
+pub returns-in-Ok-SelfTest-clause-allowed : goal.returns-in-Ok-SelfTest-clause-allowed
+returns-in-Ok-SelfTest-clause-allowed c = self_test_workers c.args.words.now (self_view c.in-Ok-SelfTest.words) (search rules)
 
 pub returns-in-Ok-Split-clause-allowed : goal.returns-in-Ok-Split-clause-allowed
 returns-in-Ok-Split-clause-allowed c = split_allowed c.args.words.now (split_view c.in-Ok-Split.split) (search rules)

@@ -1,20 +1,46 @@
-use Rattle.std.proofs.Common.{◌∙◌, ap, map}
+use Rattle.std.proofs.Common.{◌≤◌, ℕ, List, subst, sym, ◌∙◌, arith}
+use Rattle.std.specs.Prelude.{sum_by}
+use Rattle.trace_base.specs.declared.part.Part.{Part}
+use Rattle.trace_outside.specs.Causes.{Rose, raised}
 use Rattle.trace_args.specs.Command.{report_view}
-use Rattle.trace_run.specs.LoadedView.{entry_view}
-use Rattle.trace_run.proofs.PartsPrinted.{parts_printed, parts_stopped}
+use Rattle.subpage.specs.Arrangement.{CpusRise}
+use Rattle.trace_run.specs.Report.{is_chosen}
+use Rattle.trace_run.proofs.UnusedLanes.{new_unused, unused_room, unused_start}
+use Rattle.trace_run.proofs.PartsPrinted.{parts_unbegun, parts_written}
+use Rattle.trace_run.proofs.Selection.{chosen_rise}
+use Rattle.trace_run.proofs.Splits.{cut_caused}
 use Rattle.trace_run.proofs.report.print_parts.Goals as goal
 
-pub returns-in-Ok-print_lines-clause-writes : goal.returns-in-Ok-print_lines-clause-writes
-returns-in-Ok-print_lines-clause-writes g c =
-    let entries = rw c.deref-2.ensures.value at c.in-Ok-reach.ensures.entries in
-    let cut = rw c.deref-2.ensures.value at c.in-Ok-reach.ensures.cut in
-    parts_printed (report_view c.args.words.now) c.args.header.now c.args.parts.now _ _ _ _ _ c.end_at.result _ _ _ c.in-Ok.ensures c.requires.allowed
-    (c.deref.ensures.value ∙ c.in-Ok-select.ensures) c.in-Ok-load.ensures.loaded (ap (map entry_view) c.deref-3.ensures.value ∙ entries) cut c.end_at.ensures
-    c.in-Ok-print_lines.ensures.gained
+pub report_rounds-requires-clause-start : goal.report_rounds-requires-clause-start
+report_rounds-requires-clause-start g c =
+    unused_start c.args.header.now.layout _ _ (c.set_lanes.ensures.unused _ _ (new_unused _ _ _ _ c.lanes-lanes.ensures.value c.in-Ok-Ok.ensures.lanes))
+
+pub report_rounds-requires-clause-room : goal.report_rounds-requires-clause-room
+report_rounds-requires-clause-room g c =
+    unused_room c.in-Ok.context _ _ _ (c.set_lanes.ensures.unused _ _ (new_unused _ _ _ _ c.lanes-lanes.ensures.value c.in-Ok-Ok.ensures.lanes)) (omega arith)
+
+pub report_rounds-requires-clause-rise : goal.report_rounds-requires-clause-rise
+report_rounds-requires-clause-rise g c =
+    let are = c.set_lanes.ensures.parts ∙ c.deref.ensures.value ∙ c.in-Ok-select.ensures.chosen in
+    subst (λ (ps : List (ℕ × Part)). CpusRise ps) (sym are) (chosen_rise (λ part. is_chosen c.args.words.now.cpus part.0) 0 c.args.parts.now).1
+
+pub returns-in-Err-clause-writes : goal.returns-in-Err-clause-writes
+returns-in-Err-clause-writes g c = parts_unbegun (report_view c.args.words.now) c.args.header.now c.args.parts.now _ _ _ c.in-Err.ensures.prefix
 
 pub returns-clause-writes : goal.returns-clause-writes
 returns-clause-writes g c =
-    let entries = rw c.deref-2.ensures.value at c.in-Ok-reach.ensures.entries in
-    parts_stopped (report_view c.args.words.now) c.args.header.now c.args.parts.now _ _ _ _ _ _ _ c.in-Ok.ensures c.requires.allowed
-    (c.deref.ensures.value ∙ c.in-Ok-select.ensures) c.in-Ok-load.ensures.loaded (ap (map entry_view) c.deref-3.ensures.value ∙ entries)
-    c.in-Err.ensures.prefix
+    let are = c.set_lanes.ensures.parts ∙ c.deref.ensures.value ∙ c.in-Ok-select.ensures.chosen in
+    rw c.status_of.ensures
+    (parts_written (report_view c.args.words.now) c.args.header.now c.args.parts.now _ _ _ _ _ _ c.report_rounds.result c.in-Ok.ensures are c.in-Ok-print_cpus.ensures.gained c.report_rounds.ensures.report)
+
+pub returns-clause-causes : goal.returns-clause-causes
+returns-clause-causes g c =
+    rw c.status_of.ensures
+    (cut_caused c.report_rounds.result _ _ _ _ c.report_rounds.ensures.read (λ is.
+    let rose : Rose (g.O.Sink.faults c.print_cpus.new.out) (g.O.Sink.faults c.report_rounds.new.out) = c.report_rounds.ensures.write is in
+    omega (arith, rose, c.in-Ok-print_cpus.ensures.cause.later)))
+
+pub returns-clause-reads : goal.returns-clause-reads
+returns-clause-reads g c =
+    let are = c.set_lanes.ensures.parts ∙ c.deref.ensures.value ∙ c.in-Ok-select.ensures.chosen in
+    subst (λ (parts : List (ℕ × Part)). g.I.File.reads c.report_rounds.new.file ≤ raised (g.I.File.reads c.args.file.now) (sum_by (λ part. part.1.size) parts)) are c.report_rounds.ensures.reads

@@ -1,6 +1,7 @@
 use Rattle.std.proofs.Common.{◌<◌, length, arith}
 use Rattle.trace_run.specs.Report.{is_chosen}
 use Rattle.trace_run.proofs.Printing.{numbered_more}
+use Rattle.trace_run.proofs.Selection.{first_few}
 use Rattle.trace_run.proofs.select.select.Goals as goal
 
 pub loop-part-preserved : goal.loop-part-preserved
@@ -10,3 +11,7 @@ loop-part-preserved c =
       place = omega arith;
       chosen = numbered_more (λ part. is_chosen c.args.cpus.now part.0) _ _ _ c.loop-part.cpu c.loop-part.part-index c.args.parts.now _ inside c.in_ok-push_chosen.ensures c.loop-part.invariant.chosen;
     }
+
+pub returns-clause-few : goal.returns-clause-few
+returns-clause-few c =
+    first_few (λ part. is_chosen c.args.cpus.now part.0) c.loop-part.chosen.items _ 0 1024 c.args.parts.now c.loop-part.invariant.chosen c.requires

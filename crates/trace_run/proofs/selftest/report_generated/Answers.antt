@@ -4,9 +4,9 @@ use Rattle.trace_run.proofs.Usages.{no_uses}
 use Rattle.trace_run.proofs.selftest.report_generated.Goals as goal
 
 pub returns-in-Done : goal.returns-in-Done
-returns-in-Done c =
-    told_reported c.args.seed c.args.events _ _ _ _ _ (Some c.args.report.now.kept.items) _ c.in_ok-file.ensures.bytes c.in_ok-file.ensures.generated c.read_header.ensures.bytes c.in-Ok.ensures.answer
-    c.plain_words-words.ensures c.in-Done.ensures.writes
+returns-in-Done g c =
+    told_reported c.args.words.now.seed c.args.words.now.events c.args.words.now.workers _ _ _ _ _ (Some c.args.report.now.kept.items) _ c.in_ok-file.ensures.bytes c.in_ok-file.ensures.generated c.read_header.ensures.bytes c.in-Ok.ensures.answer
+    c.plain_words-plain.ensures c.in-Done.ensures.writes
 
 pub print_report-requires-clause-filters : goal.print_report-requires-clause-filters
-print_report-requires-clause-filters c = no_uses _ _ c.plain_words-words.ensures c.new.ensures.items
+print_report-requires-clause-filters g c = no_uses _ c.args.words.now.workers _ c.plain_words-plain.ensures c.new-filters.ensures.items

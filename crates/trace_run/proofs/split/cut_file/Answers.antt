@@ -7,21 +7,19 @@ use Rattle.trace_args.specs.Command.{split_view}
 use Rattle.dat_header.specs.declared.header.Header.{Header}
 use Rattle.subpage.specs.Arrangement.{CpusRise}
 use Rattle.page_pool.specs.declared.lane.Lane.{Lane}
-use Rattle.page_pool.specs.Fresh.{IsNew}
-use Rattle.trace_run.proofs.Lanes.{new_unused, unused_fresh, unused_in_order}
+use Rattle.trace_run.proofs.UnusedLanes.{new_unused, unused_fresh, unused_in_order}
 use Rattle.trace_run.proofs.Splits.{cut_ends}
 use Rattle.trace_run.proofs.Taken.{lanes_below, taken_rise}
 use Rattle.trace_run.proofs.split.cut_file.Goals as goal
 
 pub split-requires-clause-fresh : goal.split-requires-clause-fresh
 split-requires-clause-fresh g c =
-    let new = subst (λ (lanes : List Lane). All (IsNew c.drop_instances.new.self.layout.page 0) lanes) (sym c.lanes-lanes.ensures.value) c.in-Ok-Ok.ensures.lanes in
-    unused_fresh _ _ (c.set_lanes.ensures.unused _ (new_unused _ 0 _ new))
+    unused_fresh _ _ _ (c.set_lanes.ensures.unused _ _ (new_unused _ _ _ _ c.lanes-lanes.ensures.value c.in-Ok-Ok.ensures.lanes))
 
 pub split-requires-clause-in_order : goal.split-requires-clause-in_order
 split-requires-clause-in_order g c =
-    let new = subst (λ (lanes : List Lane). All (IsNew c.drop_instances.new.self.layout.page 0) lanes) (sym c.lanes-lanes.ensures.value) c.in-Ok-Ok.ensures.lanes in
-    unused_in_order c.drop_instances.new.self.layout _ (c.set_lanes.ensures.unused _ (new_unused _ 0 _ new))
+    unused_in_order c.drop_instances.new.self.layout _ _
+    (c.set_lanes.ensures.unused _ _ (new_unused _ _ _ _ c.lanes-lanes.ensures.value c.in-Ok-Ok.ensures.lanes))
 
 pub split-requires-clause-rise : goal.split-requires-clause-rise
 split-requires-clause-rise g c =

@@ -1,0 +1,67 @@
+-- Lanes that are given their processors, one after another.
+use Rattle.std.proofs.Common.{◌≡◌, ◌≢◌, ℕ, ◌+◌, ◌*◌, ◌-◌, ◌<◌, ◌≤◌, suc, zero, arith, List, [], ◌∷◌, ◌++◌, length, map, get_or, set, take, replicate, refl, sym, ap, subst, ◌∙◌}
+use Rattle.std.specs.List.{All, enumerate_from}
+use Rattle.std.proofs.lemmas.List.{length-replicate, length-map, length-set, map-append, take_all, take_more, take_more_set}
+use Rattle.std.proofs.lemmas.List.Elements.{All-set, All-get_or, All-weaker}
+use Rattle.trace_base.specs.declared.layout.Layout.{Layout}
+use Rattle.trace_base.specs.declared.part.Part.{Part}
+use Rattle.page_pool.specs.Fresh.{IsFresh, IsNew}
+use Rattle.page_pool.specs.declared.lane.Lane.{Lane}
+use Rattle.event_cursor.specs.Standing.{IsInOrder}
+use Rattle.time_merge.specs.LaneRows.{parts_of}
+use Rattle.time_merge.proofs.Starting.{fresh_in_order}
+use Rattle.report_print.specs.Given.{Given}
+use Rattle.report_print.specs.Line.{line}
+use Rattle.report_rounds.specs.Between.{HasRoom, IsAtStart}
+use Rattle.report_rounds.proofs.OpenLanes.{IsOpen, all_room, all_start}
+use Rattle.trace_run.specs.Lanes.{IsUnused}
+use Rattle.trace_run.proofs.LineLength.{line_short}
+
+-- one more lane has its processor and its part
+pub one_set : (lanes : List Lane) (parts : List (ℕ × Part)) (i : ℕ) (lane : Lane) (d : ℕ × Part) → i < length lanes → i < length parts
+    → lane.cpu ≡ (get_or parts i d).0 → lane.part ≡ (get_or parts i d).1 → parts_of (take i lanes) ≡ take i parts
+    → parts_of (take (i + 1) (set lanes i lane)) ≡ take (i + 1) parts
+one_set lanes parts i lane d inside within cpu there so_far =
+    ap parts_of (take_more_set lanes i lane inside)
+    ∙ map-append (λ (a : Lane). (a.cpu, a.part)) (take i lanes) (lane ∷ [])
+    ∙ ap (λ (ps : List (ℕ × Part)). ps ++ ((lane.cpu, lane.part) ∷ [])) so_far
+    ∙ ap (λ (n : ℕ). take i parts ++ ((n, lane.part) ∷ [])) cpu
+    ∙ ap (λ (p : Part). take i parts ++ (((get_or parts i d).0, p) ∷ [])) there
+    ∙ sym (take_more parts i d within)
+
+-- and is as unused as before
+pub still_unused : (len room : ℕ) (lanes : List Lane) (i : ℕ) (d lane : Lane) → i < length lanes → lane.cursor ≡ (get_or lanes i d).cursor → lane.page ≡ (get_or lanes i d).page
+    → lane.region ≡ (get_or lanes i d).region → All (IsUnused len room) lanes → All (IsUnused len room) (set lanes i lane)
+still_unused len room lanes i d lane inside cursor page region all =
+    let was : IsUnused len room (get_or lanes i d) = All-get_or (IsUnused len room) lanes i d inside all in
+    All-set (IsUnused len room) lanes i lane record { fresh = subst IsFresh (sym cursor) was.fresh; page = page ∙ was.page; region = region ∙ was.region } all
+
+pub all_set : (lanes : List Lane) (parts : List (ℕ × Part)) (i : ℕ) → length lanes ≡ length parts → length parts ≤ i → parts_of (take i lanes) ≡ take i parts → parts_of lanes ≡ parts
+all_set lanes parts i same past so_far =
+    ap parts_of (sym (take_all i lanes (omega arith))) ∙ so_far ∙ take_all i parts past
+
+-- a pool's lanes are unused
+pub new_unused : (len room : ℕ) (made lanes : List Lane) → lanes ≡ made → All (IsNew len room) made → All (IsUnused len room) lanes
+new_unused len room made lanes are all =
+    subst (λ (xs : List Lane). All (IsUnused len room) xs) (sym are)
+    (All-weaker (IsNew len room) (IsUnused len room) (λ a new. record { fresh = new.cursor; page = new.page; region = new.region }) made all)
+
+pub unused_fresh : (len room : ℕ) (lanes : List Lane) → All (IsUnused len room) lanes → All (λ (a : Lane). IsFresh a.cursor) lanes
+unused_fresh len room lanes all = All-weaker (IsUnused len room) (λ (a : Lane). IsFresh a.cursor) (λ a unused. unused.fresh) lanes all
+
+pub unused_in_order : (layout : Layout) (room : ℕ) (lanes : List Lane) → All (IsUnused layout.page room) lanes → All (IsInOrder layout) lanes
+unused_in_order layout room lanes all =
+    All-weaker (IsUnused layout.page room) (IsInOrder layout) (λ a unused. fresh_in_order layout a unused.fresh (ap length unused.page ∙ length-replicate layout.page 0)) lanes all
+
+unused_open : (len room : ℕ) (lanes : List Lane) → All (IsUnused len room) lanes → All (IsOpen len room) lanes
+unused_open len room lanes all =
+    All-weaker (IsUnused len room) (IsOpen len room) (λ a unused. record { cursor = unused.fresh; page = unused.page; region = unused.region }) lanes all
+
+pub unused_start : (layout : Layout) (room : ℕ) (lanes : List Lane) → All (IsUnused layout.page room) lanes → All (IsAtStart layout) lanes
+unused_start layout room lanes all = all_start layout layout.page room lanes refl (unused_open layout.page room lanes all)
+
+-- each has room for any line of a report
+pub unused_room : (given : Given) (len room : ℕ) (lanes : List Lane) → All (IsUnused len room) lanes → 65537 ≤ room → All (HasRoom (line given)) lanes
+unused_room given len room lanes all wide =
+    All-weaker (λ (lane : Lane). lane.region.room ≡ room) (HasRoom (line given)) (λ a is cpu item. omega (arith, line_short given cpu item, is, wide)) lanes
+    (all_room len room lanes (unused_open len room lanes all))
