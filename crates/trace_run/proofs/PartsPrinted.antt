@@ -44,7 +44,7 @@ first_text cpus given items count =
     report_text cpus given (take count items) ∙ ap (λ (lines : List (List ℕ)). text (cpus_line cpus ∷ lines)) (sym (take-map (entry_line given) count items))
 
 module _ (cpus : ℕ) (given : Given) (layout : Layout) (bytes : List ℕ) (parts : List (ℕ × Part)) where
-  items : List Keyed
+  abbrev items : List Keyed
   items = reached_of layout bytes parts
 
   whole : (old mid now : Option (List ℕ)) → Gained old mid (cpus_line cpus) → Gained mid now (lines_text (line given) items) → Gained old now (text (report_pieces cpus given items))

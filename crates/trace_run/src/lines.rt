@@ -12,8 +12,8 @@ use subpage::Item;
 use trace_base::Tail;
 use trace_outside::{Failed, Pending, Sink};
 
-/// How many bytes the longest line of an item has, with its newline.
-pub(crate) const LONGEST_LINE: u32 = 65_537;
+/// How many bytes of lines a processor keeps. The longest line has 65,537 with its newline.
+pub(crate) const LINES_ROOM: u32 = 131_072;
 
 /// Puts the first line of a report.
 pub(crate) fn put_cpus<O: Sink>(pending: &mut Pending, out: &mut O, cpus: u32) -> Result<(), Failed>

@@ -15,7 +15,7 @@ ghost use Rattle.trace_run.specs.Usage.{uses_in};
 
 use crate::context::context_of;
 use crate::lanes::{set_lanes, status_of};
-use crate::lines::{ItemLines, LONGEST_LINE, put_cpus};
+use crate::lines::{ItemLines, LINES_ROOM, put_cpus};
 use crate::list::print_list;
 use crate::rest::{CopyFault, copy_rest};
 use crate::select::select;
@@ -152,7 +152,7 @@ fn print_parts<R: Threads + Sync, I: File, O: Sink, G: Gate>(
     };
     let count = selected.len() as u32;
     let (Ok(mut pool), Ok(mut pending)) = (
-        Pool::new(alloc, count, header.layout.page, LONGEST_LINE),
+        Pool::new(alloc, count, header.layout.page, LINES_ROOM),
         Pending::new(alloc),
     ) else {
         return Status::NoMemory;

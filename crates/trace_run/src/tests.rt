@@ -2,14 +2,16 @@
 
 mod disk;
 mod filters;
+mod gates;
 mod known;
+mod rounds;
 mod selftests;
 mod splits;
 
 use crate::{Status, run};
 use dat_header::OpenFault;
 use disk::Disk;
-use known::{FUNCTION, SWITCH, Task, put_carried, put_function, put_switch};
+use known::{FUNCTION, SWITCH, Task, put_carried, put_function, put_switch, put_wide};
 use std::alloc::Global;
 use std::process::Abort;
 use std::test::Fail;
@@ -47,6 +49,8 @@ enum Carried {
     Nothing,
     /// The formats and names of `known`.
     Texts,
+    /// Formats of long lines.
+    Wide,
 }
 
 /// A sub-buffer.
@@ -575,14 +579,14 @@ fn put_page(alloc: Global, file: &mut Vec<u8>, page: &Page) -> Result<(), Fail> 
     Ok(())
 }
 
-// A header with a table of these parts, filled up to a whole sub-buffer.
-fn with_table(alloc: Global, carried: &Carried, parts: &[(u64, u64)]) -> Result<Vec<u8>, Fail> {
+// A header with a table of these parts.
+fn put_table(file: &mut Vec<u8>, carried: &Carried, parts: &[(u64, u64)]) -> Result<(), Fail> {
     let header: &[u8] = HEADER;
-    let mut file = Vec::new(alloc);
     file.extend_from_slice(&header[..59])?;
     match carried {
         Carried::Nothing => file.extend_from_slice(&header[59..83])?,
-        Carried::Texts => put_carried(&mut file)?,
+        Carried::Texts => put_carried(file)?,
+        Carried::Wide => put_wide(file)?,
     }
     file.extend_from_slice(&(parts.len() as u64).to_le_bytes()[..4])?;
     file.extend_from_slice(b"flyrecord\0")?;
@@ -590,6 +594,13 @@ fn with_table(alloc: Global, carried: &Carried, parts: &[(u64, u64)]) -> Result<
         file.extend_from_slice(&offset.to_le_bytes())?;
         file.extend_from_slice(&size.to_le_bytes())?;
     }
+    Ok(())
+}
+
+// The same, filled up to a whole sub-buffer.
+fn with_table(alloc: Global, carried: &Carried, parts: &[(u64, u64)]) -> Result<Vec<u8>, Fail> {
+    let mut file = Vec::new(alloc);
+    put_table(&mut file, carried, parts)?;
     file.resize(PAGE, 0)?;
     Ok(file)
 }

@@ -71,6 +71,35 @@ pub(super) fn put_carried(file: &mut Vec<u8>) -> Result<(), Fail> {
     put_format(file, COMMAND_LINES)
 }
 
+const WIDE_TEXT: &str = "name: wide
+ID: 7
+format:
+\tfield:unsigned short common_type;\toffset:0;\tsize:2;\tsigned:0;
+\tfield:int common_pid;\toffset:4;\tsize:4;\tsigned:1;
+
+print fmt: \"%30000d\", REC->common_pid
+";
+
+const WIDEST_TEXT: &str = "name: widest
+ID: 8
+format:
+\tfield:unsigned short common_type;\toffset:0;\tsize:2;\tsigned:0;
+\tfield:int common_pid;\toffset:4;\tsize:4;\tsigned:1;
+
+print fmt: \"%65535d\", REC->common_pid
+";
+
+/// The same for a file with two formats of long lines, and without names.
+pub(super) fn put_wide(file: &mut Vec<u8>) -> Result<(), Fail> {
+    file.extend_from_slice(&2u32.to_le_bytes())?;
+    put_format(file, WIDE_TEXT)?;
+    put_format(file, WIDEST_TEXT)?;
+    file.extend_from_slice(&0u32.to_le_bytes())?;
+    put_short(file, "")?;
+    put_short(file, "")?;
+    put_format(file, "")
+}
+
 /// A function that was called from another.
 pub(super) fn put_function(file: &mut Vec<u8>, ip: u64, parent: u64) -> Result<(), Fail> {
     file.extend_from_slice(&ip.to_le_bytes())?;

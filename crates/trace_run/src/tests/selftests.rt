@@ -1,11 +1,8 @@
 // Runs of self-tests. Each line is that of `scripts/selftest_line.py`, which makes no file.
 
-use super::{Input, Row, runs_as, words_of};
-use crate::{Status, run};
-use std::sync::atomic::AtomicU64;
-use std::sync::atomic::Ordering::SeqCst;
+use super::{Input, Row, runs_as};
+use crate::Status;
 use std::test::Fail;
-use trace_outside::{Gate, MemFolder, MemSink};
 
 const ROWS: &[Row] = &[
     Row {
@@ -70,37 +67,6 @@ const ROWS: &[Row] = &[
 fn self_tests(rt: HostRuntime) -> Result<(), Fail> {
     for row in ROWS {
         runs_as(&rt, row)?;
-    }
-    Ok(())
-}
-
-/// A gate that counts the lanes that pass.
-#[derive(Drop)]
-struct Counter {
-    passed: AtomicU64,
-}
-
-impl Gate for Counter {
-    fn enter(&self, _lane: u32) {
-        self.passed.fetch_add(1, SeqCst);
-    }
-}
-
-// Each of the four processors has sub-buffers, so that its lane passes at least once.
-#[test]
-fn each_lane_passes_the_gate(rt: HostRuntime) -> Result<(), Fail> {
-    for workers in ["1", "3", "64"] {
-        let words = words_of(rt.alloc(), &["selftest", "7", "2000", "--workers", workers])?;
-        let gate = Counter {
-            passed: AtomicU64::new(0),
-        };
-        let mut folder = MemFolder::new(rt.alloc());
-        let mut out = MemSink::new(rt.alloc());
-        let mut err = MemSink::new(rt.alloc());
-        let alloc = rt.alloc();
-        let status = run(&rt, alloc, &words, &mut folder, &mut out, &mut err, &gate);
-        assert_eq!(rt; status, Status::Done);
-        assert!(rt; gate.passed.load(SeqCst) >= 4, "{workers}");
     }
     Ok(())
 }

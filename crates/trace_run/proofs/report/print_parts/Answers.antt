@@ -12,15 +12,15 @@ use Rattle.trace_run.proofs.Splits.{cut_caused}
 use Rattle.trace_run.proofs.report.print_parts.Goals as goal
 
 pub report_rounds-requires-clause-start : goal.report_rounds-requires-clause-start
-report_rounds-requires-clause-start g c =
+report_rounds-requires-clause-start g c κs =
     unused_start c.args.header.now.layout _ _ (c.set_lanes.ensures.unused _ _ (new_unused _ _ _ _ c.lanes-lanes.ensures.value c.in-Ok-Ok.ensures.lanes))
 
 pub report_rounds-requires-clause-room : goal.report_rounds-requires-clause-room
-report_rounds-requires-clause-room g c =
+report_rounds-requires-clause-room g c κs =
     unused_room c.in-Ok.context _ _ _ (c.set_lanes.ensures.unused _ _ (new_unused _ _ _ _ c.lanes-lanes.ensures.value c.in-Ok-Ok.ensures.lanes)) (omega arith)
 
 pub report_rounds-requires-clause-rise : goal.report_rounds-requires-clause-rise
-report_rounds-requires-clause-rise g c =
+report_rounds-requires-clause-rise g c κs =
     let are = c.set_lanes.ensures.parts ∙ c.deref.ensures.value ∙ c.in-Ok-select.ensures.chosen in
     subst (λ (ps : List (ℕ × Part)). CpusRise ps) (sym are) (chosen_rise (λ part. is_chosen c.args.words.now.cpus part.0) 0 c.args.parts.now).1
 

@@ -1,0 +1,92 @@
+// Gates that see which lanes are formatted, and when.
+
+use super::{Carried, Input, Page, Record, bytes_of, words_of};
+use crate::{Status, run};
+use std::sync::atomic::AtomicU64;
+use std::sync::atomic::Ordering::SeqCst;
+use std::test::Fail;
+use trace_outside::{Gate, MemFolder, MemSink};
+
+/// A gate that counts the lanes that pass.
+#[derive(Drop)]
+struct Counter {
+    passed: AtomicU64,
+}
+
+impl Gate for Counter {
+    fn enter(&self, _lane: u32) {
+        self.passed.fetch_add(1, SeqCst);
+    }
+}
+
+// Each of the four processors has sub-buffers, so that its lane passes at least once.
+#[test]
+fn each_lane_passes_the_gate(rt: HostRuntime) -> Result<(), Fail> {
+    for workers in ["1", "3", "64"] {
+        let words = words_of(rt.alloc(), &["selftest", "7", "2000", "--workers", workers])?;
+        let gate = Counter {
+            passed: AtomicU64::new(0),
+        };
+        let mut folder = MemFolder::new(rt.alloc());
+        let mut out = MemSink::new(rt.alloc());
+        let mut err = MemSink::new(rt.alloc());
+        let alloc = rt.alloc();
+        let status = run(&rt, alloc, &words, &mut folder, &mut out, &mut err, &gate);
+        assert_eq!(rt; status, Status::Done);
+        assert!(rt; gate.passed.load(SeqCst) >= 4, "{workers}");
+    }
+    Ok(())
+}
+
+/// An event on each of two processors.
+const TWO: Input = Input::Processors(
+    Carried::Nothing,
+    &[
+        &[Page::Of(5, &[Record::Event(0, 58, 1, 0, 0)])],
+        &[Page::Of(5, &[Record::Event(0, 58, 2, 0, 0)])],
+    ],
+);
+
+/// How often lane 0 looks for lane 1 before it goes on alone.
+const TURNS: u32 = 1_000_000_000;
+
+/// A gate that keeps lane 0 until lane 1 has entered.
+#[derive(Drop)]
+struct Pair {
+    entered: AtomicU64,
+    alone: AtomicU64,
+}
+
+impl Gate for Pair {
+    fn enter(&self, lane: u32) {
+        if lane != 0 {
+            self.entered.store(1, SeqCst);
+            return;
+        }
+        for _ in 0..TURNS {
+            if self.entered.load(SeqCst) > 0 {
+                return;
+            }
+        }
+        self.alone.store(1, SeqCst);
+    }
+}
+
+// One thread would wait in lane 0 to the end.
+#[test]
+fn two_lanes_are_formatted_at_once(rt: HostRuntime) -> Result<(), Fail> {
+    let alloc = rt.alloc();
+    let words = words_of(alloc, &["report", "--workers", "2"])?;
+    let gate = Pair {
+        entered: AtomicU64::new(0),
+        alone: AtomicU64::new(0),
+    };
+    let mut folder = MemFolder::new(alloc);
+    folder.put("trace.dat", &bytes_of(alloc, &TWO)?)?;
+    let mut out = MemSink::new(alloc);
+    let mut err = MemSink::new(alloc);
+    let status = run(&rt, alloc, &words, &mut folder, &mut out, &mut err, &gate);
+    assert_eq!(rt; status, Status::Done);
+    assert_eq!(rt; gate.alone.load(SeqCst), 0);
+    Ok(())
+}

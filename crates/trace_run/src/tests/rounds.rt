@@ -1,0 +1,261 @@
+// Reports of many events and of long lines, on any number of threads.
+
+use super::{Carried, PAGE, put_common, put_head, put_table, words_of};
+use crate::{Status, run};
+use std::alloc::Global;
+use std::process::Abort;
+use std::test::Fail;
+use std::thread::Threads;
+use trace_outside::{MemFolder, MemSink, NoGate};
+
+/// A sub-buffer of events, each a step behind the one before.
+#[derive(Clone, Copy)]
+struct Events {
+    time: u64,
+    count: u32,
+    step: u32,
+    id: u16,
+}
+
+/// The ids of events whose lines have more than 30,000 and more than 65,536 bytes, and of one without a format.
+const WIDE: u16 = 7;
+
+const WIDEST: u16 = 8;
+
+const UNKNOWN: u16 = 58;
+
+// Each event of a processor has the task of the number behind its own.
+fn put_events(file: &mut Vec<u8>, cpu: u32, events: &Events) -> Result<(), Fail> {
+    let end = file.len().saturating_add(PAGE);
+    file.extend_from_slice(&events.time.to_le_bytes())?;
+    file.extend_from_slice(&u64::from(events.count).wrapping_mul(12).to_le_bytes())?;
+    for i in 0..events.count {
+        put_head(file, if i == 0 { 0 } else { events.step }, 2)?;
+        put_common(file, events.id, 0, 0, cpu.wrapping_add(1))?;
+    }
+    file.resize(end, 0)?;
+    Ok(())
+}
+
+// A file with these sub-buffers of each processor behind its first five.
+fn file_of(alloc: Global, processors: &[Vec<Events>]) -> Result<Vec<u8>, Fail> {
+    let mut parts = Vec::new(alloc);
+    let mut offset = 5 * PAGE as u64;
+    for pages in processors {
+        let size = (PAGE as u64).wrapping_mul(pages.len() as u64);
+        parts.push((offset, size))?;
+        offset = offset.wrapping_add(size);
+    }
+    let mut file = Vec::new(alloc);
+    put_table(&mut file, &Carried::Wide, &parts)?;
+    file.resize(5 * PAGE, 0)?;
+    let mut cpu = 0_u32;
+    for pages in processors {
+        for events in pages {
+            put_events(&mut file, cpu, events)?;
+        }
+        cpu = cpu.wrapping_add(1);
+    }
+    Ok(file)
+}
+
+// The line of an event of a processor, with all digits of its time.
+fn put_line(
+    alloc: Global,
+    text: &mut Vec<u8>,
+    cpu: u32,
+    time: u64,
+    rest: &str,
+) -> Result<(), Fail> {
+    let pid = cpu.wrapping_add(1);
+    let line = format!(in alloc; "           <...>-{pid:<5} [{cpu:03}]     0.{time:09}: {rest}\n")?;
+    text.extend_from_slice(line.as_bytes())?;
+    Ok(())
+}
+
+// Whether the report of these processors is this text on so many threads.
+fn reports_on<R: Alloc<A = Global> + Abort + Threads + Sync>(
+    rt: &R,
+    workers: &str,
+    processors: &[Vec<Events>],
+    text: &[u8],
+) -> Result<(), Fail> {
+    let alloc = rt.alloc();
+    let mut folder = MemFolder::new(alloc);
+    folder.put("trace.dat", &file_of(alloc, processors)?)?;
+    let words = words_of(alloc, &["report", "-t", "--workers", workers])?;
+    let mut out = MemSink::new(alloc);
+    let mut err = MemSink::new(alloc);
+    let status = run(rt, alloc, &words, &mut folder, &mut out, &mut err, &NoGate);
+    assert_eq!(rt; status, Status::Done);
+    assert!(rt; out.bytes() == text, "{workers}");
+    assert!(rt; err.bytes().is_empty(), "{workers}");
+    Ok(())
+}
+
+// Whether it is the same on one thread, on three and on sixty-four.
+fn reports<R: Alloc<A = Global> + Abort + Threads + Sync>(
+    rt: &R,
+    processors: &[Vec<Events>],
+    text: &[u8],
+) -> Result<(), Fail> {
+    for workers in ["1", "3", "64"] {
+        reports_on(rt, workers, processors, text)?;
+    }
+    Ok(())
+}
+
+fn one_page(alloc: Global, events: Events) -> Result<Vec<Events>, Fail> {
+    Ok(vec![in alloc; events]?)
+}
+
+#[test]
+fn many_events_of_one_processor_against_two_of_another(rt: HostRuntime) -> Result<(), Fail> {
+    let alloc = rt.alloc();
+    let rest = "[UNKNOWN EVENT 58]";
+    let mut first = Vec::new(alloc);
+    for i in 0..9_u64 {
+        first.push(Events {
+            time: 340 * i + 1,
+            count: if i == 8 { 280 } else { 340 },
+            step: 1,
+            id: UNKNOWN,
+        })?;
+    }
+    let second = one_page(
+        alloc,
+        Events {
+            time: 1,
+            count: 2,
+            step: 4999,
+            id: UNKNOWN,
+        },
+    )?;
+    let mut text = b"cpus=2\n".to_vec(alloc)?;
+    put_line(alloc, &mut text, 0, 1, rest)?;
+    put_line(alloc, &mut text, 1, 1, rest)?;
+    for time in 2..=3000 {
+        put_line(alloc, &mut text, 0, time, rest)?;
+    }
+    put_line(alloc, &mut text, 1, 5000, rest)?;
+    reports(&rt, &vec![in alloc; first, second]?, &text)
+}
+
+#[test]
+fn a_region_is_full_before_its_sub_buffer_ends(rt: HostRuntime) -> Result<(), Fail> {
+    let alloc = rt.alloc();
+    let first = one_page(
+        alloc,
+        Events {
+            time: 10,
+            count: 6,
+            step: 10,
+            id: WIDE,
+        },
+    )?;
+    let second = one_page(
+        alloc,
+        Events {
+            time: 15,
+            count: 4,
+            step: 15,
+            id: UNKNOWN,
+        },
+    )?;
+    let mut text = b"cpus=2\n".to_vec(alloc)?;
+    for (cpu, time) in [
+        (0, 10),
+        (1, 15),
+        (0, 20),
+        (0, 30),
+        (1, 30),
+        (0, 40),
+        (1, 45),
+        (0, 50),
+        (0, 60),
+        (1, 60),
+    ] {
+        if cpu == 0 {
+            let rest = format!(in alloc; "wide:                 {:>30000}", 1)?;
+            put_line(alloc, &mut text, cpu, time, rest.as_str())?;
+        } else {
+            put_line(alloc, &mut text, cpu, time, "[UNKNOWN EVENT 58]")?;
+        }
+    }
+    reports(&rt, &vec![in alloc; first, second]?, &text)
+}
+
+// The longest line: 65,533 bytes of its text, an ellipsis, and the newline.
+fn put_longest(alloc: Global, text: &mut Vec<u8>, cpu: u32, time: u64) -> Result<(), Fail> {
+    let end = text.len().saturating_add(65_533);
+    put_line(alloc, text, cpu, time, "widest:               ")?;
+    text.pop();
+    text.resize(end, b' ')?;
+    text.extend_from_slice(b"...\n")?;
+    Ok(())
+}
+
+#[test]
+fn lines_that_fill_their_regions(rt: HostRuntime) -> Result<(), Fail> {
+    let alloc = rt.alloc();
+    let mut processors = Vec::new(alloc);
+    for time in [10, 15] {
+        processors.push(one_page(
+            alloc,
+            Events {
+                time,
+                count: 3,
+                step: 10,
+                id: WIDEST,
+            },
+        )?)?;
+    }
+    let mut text = b"cpus=2\n".to_vec(alloc)?;
+    for (cpu, time) in [(0, 10), (1, 15), (0, 20), (1, 25), (0, 30), (1, 35)] {
+        put_longest(alloc, &mut text, cpu, time)?;
+    }
+    reports(&rt, &processors, &text)
+}
+
+// Whether the report of an event on each of 1,024 processors, the last one's first, is in the order of their times.
+fn all_processors<R: Alloc<A = Global> + Abort + Threads + Sync>(
+    rt: &R,
+    workers: &str,
+) -> Result<(), Fail> {
+    let alloc = rt.alloc();
+    let mut processors = Vec::new(alloc);
+    let mut text = b"cpus=1024\n".to_vec(alloc)?;
+    for i in 0..1024_u32 {
+        let events = Events {
+            time: u64::from(5000 - i),
+            count: 1,
+            step: 0,
+            id: UNKNOWN,
+        };
+        processors.push(one_page(alloc, events)?)?;
+        let cpu = 1023 - i;
+        put_line(
+            alloc,
+            &mut text,
+            cpu,
+            u64::from(3977 + i),
+            "[UNKNOWN EVENT 58]",
+        )?;
+    }
+    reports_on(rt, workers, &processors, &text)
+}
+
+#[test]
+fn all_processors_on_one_thread(rt: HostRuntime) -> Result<(), Fail> {
+    all_processors(&rt, "1")
+}
+
+#[test]
+fn all_processors_on_three_threads(rt: HostRuntime) -> Result<(), Fail> {
+    all_processors(&rt, "3")
+}
+
+#[test]
+fn all_processors_on_sixty_four_threads(rt: HostRuntime) -> Result<(), Fail> {
+    all_processors(&rt, "64")
+}
