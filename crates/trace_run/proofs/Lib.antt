@@ -21,3 +21,4 @@ pub mod Filters
 pub mod Numbers
 pub mod Workers
 pub mod Usages
+pub mod Shared

@@ -1,5 +1,6 @@
 use Rattle.std.proofs.Common.{◌≤◌, ℕ, List, subst, sym, ◌∙◌, arith}
 use Rattle.std.specs.Prelude.{sum_by}
+use denote.Param.Send.{param_sync}
 use Rattle.trace_base.specs.declared.part.Part.{Part}
 use Rattle.trace_outside.specs.Causes.{Rose, raised}
 use Rattle.trace_args.specs.Command.{report_view}
@@ -8,19 +9,23 @@ use Rattle.trace_run.specs.Report.{is_chosen}
 use Rattle.trace_run.proofs.UnusedLanes.{new_unused, unused_room, unused_start}
 use Rattle.trace_run.proofs.PartsPrinted.{parts_unbegun, parts_written}
 use Rattle.trace_run.proofs.Selection.{chosen_rise}
+use Rattle.trace_run.proofs.Shared.{lines_sync}
 use Rattle.trace_run.proofs.Splits.{cut_caused}
 use Rattle.trace_run.proofs.report.print_parts.Goals as goal
 
+pub report_rounds-requires-sync-L : goal.report_rounds-requires-sync-L
+report_rounds-requires-sync-L g c κs live = param_sync 2 _ (record { shared = lines_sync.shared })
+
 pub report_rounds-requires-clause-start : goal.report_rounds-requires-clause-start
-report_rounds-requires-clause-start g c κs =
+report_rounds-requires-clause-start g c κs live =
     unused_start c.args.header.now.layout _ _ (c.set_lanes.ensures.unused _ _ (new_unused _ _ _ _ c.lanes-lanes.ensures.value c.in-Ok-Ok.ensures.lanes))
 
 pub report_rounds-requires-clause-room : goal.report_rounds-requires-clause-room
-report_rounds-requires-clause-room g c κs =
+report_rounds-requires-clause-room g c κs live =
     unused_room c.in-Ok.context _ _ _ (c.set_lanes.ensures.unused _ _ (new_unused _ _ _ _ c.lanes-lanes.ensures.value c.in-Ok-Ok.ensures.lanes)) (omega arith)
 
 pub report_rounds-requires-clause-rise : goal.report_rounds-requires-clause-rise
-report_rounds-requires-clause-rise g c κs =
+report_rounds-requires-clause-rise g c κs live =
     let are = c.set_lanes.ensures.parts ∙ c.deref.ensures.value ∙ c.in-Ok-select.ensures.chosen in
     subst (λ (ps : List (ℕ × Part)). CpusRise ps) (sym are) (chosen_rise (λ part. is_chosen c.args.words.now.cpus part.0) 0 c.args.parts.now).1
 
