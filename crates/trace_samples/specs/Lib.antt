@@ -1,0 +1,2 @@
+pub mod SampleLayout
+pub mod Told

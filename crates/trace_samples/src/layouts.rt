@@ -1,0 +1,21 @@
+ghost use Rattle.std.specs.Prelude.{◌≡◌};
+ghost use Rattle.trace_base.specs.Layout.{IsLayout};
+ghost use Rattle.trace_samples.specs.SampleLayout.{sample_layout};
+
+use trace_base::{Layout, Order};
+
+/// The layout of sub-buffers of 4,096 bytes by a kernel of 64 bits, little end first.
+pub fn layout() -> Layout
+    ensures value { result ≡ sample_layout }
+    ensures allowed { IsLayout result }
+    ensures page { result.page ≡ 4096 }
+{
+    Layout {
+        order: Order::Little,
+        time_at: 0,
+        commit_at: 8,
+        commit_size: 8,
+        data_at: 16,
+        page: 4096,
+    }
+}
