@@ -1,8 +1,6 @@
 //! A lane gone through from several places, and places that are gone to. At each the key that the lane tells by itself is
 //! its head's.
 
-mod disk;
-
 ghost use Rattle.std.specs.Prelude.{◌≡◌, ◌≢◌, ◌<◌, false, IsTrue, [], length};
 ghost use Rattle.trace_base.specs.Layout.{IsLayout};
 ghost use Rattle.page_pool.specs.Fresh.{IsNew};
@@ -13,56 +11,56 @@ use crate::loading::{Loaded, load};
 use crate::places::Place;
 use crate::seeking::{Sought, place, seek};
 use crate::stepping::{head, head_key, step};
-use disk::Disk;
 use page_pool::{Lane, LaneState, Pool};
 use std::alloc::{AllocError, Global};
 use std::test::Fail;
 use subpage::Item;
-use trace_base::{Layout, Order, Part};
+use trace_base::{Layout, Part};
 use trace_outside::File;
-
-fn layout() -> Layout
-    ensures allowed { IsLayout result }
-    ensures page { result.page ≡ 4096 }
-{
-    Layout {
-        order: Order::Little,
-        time_at: 0,
-        commit_at: 8,
-        commit_size: 8,
-        data_at: 16,
-        page: 4096,
-    }
-}
-
-// A sub-buffer of 4,096 bytes: its time, its commit word, and the bytes that its data begin with.
-fn sub_buffer(alloc: Global, time: u64, commit: u64, data: &[u8]) -> Result<Vec<u8>, AllocError> {
-    let mut bytes = Vec::new(alloc);
-    bytes.extend_from_slice(&time.to_le_bytes())?;
-    bytes.extend_from_slice(&commit.to_le_bytes())?;
-    bytes.extend_from_slice(data)?;
-    bytes.resize(4096, 0)?;
-    Ok(bytes)
-}
+use trace_samples::Page::{Lossy, Malformed, Of};
+use trace_samples::{DamagedFile, layout, put_pages};
 
 // A file of five sub-buffers: two events; nothing; a loss of seven and two events, with a time before the last one; one
 // that commits more than it can hold; one event.
 fn file_bytes(alloc: Global) -> Result<Vec<u8>, AllocError> {
-    let mut bytes = sub_buffer(alloc, 10, 16, b"\x01\0\0\0aaaa\x81\x02\0\0bbbb")?;
-    for (time, commit, data) in [
-        (30, 0, b"\0\0\0\0\0\0\0\0\0\0\0\0\0\0\0\0\0"),
-        (25, 0xc000_0010, b"\x61\0\0\0cccc\x81\x01\0\0dddd\x07"),
-        (50, 5000, b"\0\0\0\0\0\0\0\0\0\0\0\0\0\0\0\0\0"),
-        (60, 8, b"\x01\0\0\0eeee\0\0\0\0\0\0\0\0\0"),
-    ] {
-        bytes.extend_from_slice(sub_buffer(alloc, time, commit, data)?.as_slice())?;
-    }
+    let mut bytes = Vec::new(alloc);
+    let third = Lossy(25, Some(7), &[28, 40]);
+    put_pages(
+        &mut bytes,
+        &[Of(&[10, 30]), Of(&[]), third, Malformed, Of(&[60])],
+    )?;
     Ok(bytes)
 }
 
-fn event(time: u64, payload: &'static [u8]) -> Item<'static> {
-    Item::Event { time, payload }
-}
+const A: Item<'static> = Item::Event {
+    time: 10,
+    payload: b"\x0a\0\0\0\0\0\0\0",
+};
+
+const B: Item<'static> = Item::Event {
+    time: 30,
+    payload: b"\x1e\0\0\0\0\0\0\0",
+};
+
+const LOSS: Item<'static> = Item::Loss {
+    time: 25,
+    count: Some(7),
+};
+
+const C: Item<'static> = Item::Event {
+    time: 28,
+    payload: b"\x1c\0\0\0\0\0\0\0",
+};
+
+const D: Item<'static> = Item::Event {
+    time: 40,
+    payload: b"\x28\0\0\0\0\0\0\0",
+};
+
+const E: Item<'static> = Item::Event {
+    time: 60,
+    payload: b"\x3c\0\0\0\0\0\0\0",
+};
 
 fn set_part(layout: &Layout, lane: &mut Lane, part: Part)
     requires page { layout.now.page ≡ 4096 }
@@ -172,7 +170,7 @@ fn stands_at(lane: &Lane, wanted: &Place) -> bool {
 // items, and then the malformed sub-buffer of this number.
 fn go_to(
     layout: &Layout,
-    file: &mut Disk,
+    file: &mut DamagedFile,
     lane: &mut Lane,
     to: &Place,
     items: &[(u64, Item<'_>)],
@@ -209,7 +207,7 @@ fn tells_part(
     end: Loaded,
 ) -> Result<bool, AllocError> {
     let layout = layout();
-    let mut file = Disk::new(file_bytes(alloc)?, from);
+    let mut file = DamagedFile::new(file_bytes(alloc)?, from);
     let mut pool = Pool::new(alloc, 1, 4096, 16)?;
     let lanes = pool.lanes();
     set_part(&layout, &mut lanes[0], part);
@@ -226,7 +224,7 @@ fn goes_to(
     behind: &[(u64, Item<'_>)],
 ) -> Result<Option<(Sought, u64)>, AllocError> {
     let layout = layout();
-    let mut file = Disk::new(file_bytes(alloc)?, u64::MAX);
+    let mut file = DamagedFile::new(file_bytes(alloc)?, u64::MAX);
     let mut pool = Pool::new(alloc, 1, 4096, 16)?;
     let lanes = pool.lanes();
     let part = Part {
@@ -241,16 +239,10 @@ fn goes_to(
 
 #[test]
 fn items_of_a_part_with_keys_that_never_fall(rt: HostRuntime) -> Result<(), Fail> {
-    let (a, b) = (event(10, b"aaaa"), event(30, b"bbbb"));
-    let loss = Item::Loss {
-        time: 25,
-        count: Some(7),
-    };
-    let (c, d) = (event(28, b"cccc"), event(40, b"dddd"));
-    let both = [(10, a), (30, b)];
-    let first = [(10, a), (30, b), (30, loss), (30, c), (40, d)];
-    let third = [(25, loss), (28, c), (40, d)];
-    let last = [(60, event(60, b"eeee"))];
+    let both = [(10, A), (30, B)];
+    let first = [(10, A), (30, B), (30, LOSS), (30, C), (40, D)];
+    let third = [(25, LOSS), (28, C), (40, D)];
+    let last = [(60, E)];
     let all = u64::MAX;
     for (name, offset, size, from, items, end) in [
         ("one", 0, 4096, all, &both[..], Loaded::End),
@@ -312,19 +304,7 @@ fn items_of_a_part_with_keys_that_never_fall(rt: HostRuntime) -> Result<(), Fail
 
 #[test]
 fn places_forth_and_back(rt: HostRuntime) -> Result<(), Fail> {
-    let items = [
-        (10, event(10, b"aaaa")),
-        (30, event(30, b"bbbb")),
-        (
-            30,
-            Item::Loss {
-                time: 25,
-                count: Some(7),
-            },
-        ),
-        (30, event(28, b"cccc")),
-        (40, event(40, b"dddd")),
-    ];
+    let items = [(10, A), (30, B), (30, LOSS), (30, C), (40, D)];
     let all = u64::MAX;
     for (used, page, at, high, from, behind, sought) in [
         (0, 2, 1, Some(30), all, &items[3..], (Sought::Held, 4096)),
