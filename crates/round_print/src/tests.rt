@@ -1,7 +1,5 @@
 //! Rounds over the lines of two processors.
 
-mod paper;
-
 ghost use Rattle.std.specs.Prelude.{◌≡◌, ◌≤◌, [], All, length};
 ghost use Rattle.subpage.specs.Arrangement.{CpusRise};
 ghost use Rattle.time_merge.specs.LaneRows.{parts_of};
@@ -10,11 +8,11 @@ ghost use Rattle.round_print.specs.Prints.{KeysRise, KeysUpTo};
 use crate::rounds::print_round;
 use Horizon::{All, Start, To};
 use page_pool::{Lane, Pool};
-use paper::Paper;
 use std::alloc::{AllocError, Global};
 use std::test::Fail;
 use time_merge::Horizon;
 use trace_outside::{Failed, MemSink, Pending, Sink};
+use trace_samples::BoundedSink;
 
 // Copies the text to the front of the bytes, as far as there is room.
 fn copy(into: &mut [u8], text: &[u8]) -> u32 {
@@ -133,7 +131,7 @@ fn lines_up_to_a_horizon(rt: HostRuntime) -> Result<(), Fail> {
 fn one_round_behind_another(rt: HostRuntime) -> Result<(), Fail> {
     for (room, result, text, writes) in [
         (7, Ok(()), "aebcfgd", 3),
-        (8, Ok(()), "aebcfgd\0", 3),
+        (8, Ok(()), "aebcfgd", 3),
         (3, Err(Failed), "aeb", 2),
         (0, Err(Failed), "", 0),
     ] {
@@ -141,7 +139,7 @@ fn one_round_behind_another(rt: HostRuntime) -> Result<(), Fail> {
         let lanes = pool.lanes();
         fill(lanes);
         let mut pending = Pending::new(rt.alloc())?;
-        let mut out = Paper::new(rt.alloc(), room)?;
+        let mut out = BoundedSink::new(rt.alloc(), room);
         let found = print_rounds(&[To(10, 3), To(30, 3), All], lanes, &mut pending, &mut out);
         assert!(rt; found == result, "{room}");
         assert!(rt;
