@@ -1,23 +1,20 @@
 //! Reports of processors in memory: their order, their ends, and what is written before a fault.
 
-mod disk;
 mod marks;
 mod pages;
-mod paper;
 
 use crate::reports::report_rounds;
 use End::{Done, Malformed, Read, Write};
-use disk::Disk;
 use marks::{Marks, len_of, mark};
 use page_pool::Pool;
-use pages::{Page, bytes_of, layout, open_lanes};
-use paper::Paper;
+use pages::{Page, bytes_of, open_lanes};
 use std::alloc::{AllocError, Global};
 use std::test::Fail;
 use std::thread::Threads;
 use time_merge::End;
 use trace_base::ByteText;
 use trace_outside::{File, MemFile, MemSink, NoGate, Pending, Sink};
+use trace_samples::{BoundedSink, DamagedFile, layout};
 
 // Reports processors from number 3 on, each with so many of the file's sub-buffers, in regions of `room` bytes. `None`:
 // there is no such call.
@@ -323,7 +320,7 @@ fn lines_are_whole_before_a_failed_read(rt: HostRuntime) -> Result<(), Fail> {
         (16_384, 2, all, Done, 16_384),
         (16_384, 65_537, all, Done, 16_384),
     ] {
-        let mut file = Disk::new(bytes_of(rt.alloc(), &FAILING)?, from);
+        let mut file = DamagedFile::new(bytes_of(rt.alloc(), &FAILING)?, from);
         let mut out = MemSink::new(rt.alloc());
         let found = report(&rt, rt.alloc(), &[2, 2], room, 2, &mut file, &mut out)?;
         assert!(rt; found == Some(end) && file.reads == reads, "{from}: {room}");
@@ -343,7 +340,7 @@ fn a_prefix_is_written_before_a_failed_write(rt: HostRuntime) -> Result<(), Fail
     ] {
         let bytes = bytes_of(rt.alloc(), &FAILING)?;
         let mut file = MemFile::new(ByteText::copy(rt.alloc(), bytes.as_slice())?);
-        let mut out = Paper::new(rt.alloc(), room)?;
+        let mut out = BoundedSink::new(rt.alloc(), room);
         let found = report(&rt, rt.alloc(), &[2, 2], 65_537, 2, &mut file, &mut out)?;
         assert!(rt; found == Some(end), "{room}");
         assert!(rt; out.bytes() == text.as_bytes(), "{room}");
