@@ -1,6 +1,6 @@
 //! Names, and fronts of files against headers that were written out.
 
-ghost use Rattle.std.specs.Prelude.{[], IfOk, None};
+ghost use Rattle.std.specs.Prelude.{IfOk};
 ghost use Rattle.dat_header.specs.Allowed.{IsHeader};
 
 use crate::{data_place, file_name, write_front};
@@ -9,6 +9,7 @@ use std::alloc::Global;
 use std::test::Fail;
 use trace_base::ByteText;
 use trace_outside::{Failed, MemFile, MemSink, Sink};
+use trace_samples::BoundedSink;
 
 const LITTLE: &[u8] =
     b"\x17\x08\x44tracing6\0\0\x08\0\x10\0\0header_page\0\0\0\0\0\0\0\0\0header_event\0\0\0\0\0\0\0\0\0\
@@ -17,28 +18,6 @@ const LITTLE: &[u8] =
 const BIG: &[u8] =
     b"\x17\x08\x44tracing6\0\x01\x04\0\x01\0\0header_page\0\0\0\0\0\0\0\0\0header_event\0\0\0\0\0\0\0\0\0\
 \0\0\0\0\0\0\0\0\0\0\0\0\0\0\0\0\0\0\0\0\0\0\0\0\0\0\0\0flyrecord\0";
-
-/// A sink that fails at its first byte.
-#[derive(Drop)]
-struct Full {
-    faults: u64,
-}
-
-impl Sink for Full {
-    ghost name = { λ sink. [] };
-
-    ghost written = { λ sink. None };
-
-    ghost faults = { λ sink. sink.faults };
-
-    fn write(&mut self, piece: &[u8]) -> Result<usize, Failed> {
-        if piece.is_empty() {
-            return Ok(0);
-        }
-        self.faults = self.faults.saturating_add(1);
-        Err(Failed)
-    }
-}
 
 fn open(alloc: Global, bytes: &[u8]) -> Result<Header, OpenFault>
     ensures { IfOk result IsHeader }
@@ -90,7 +69,7 @@ fn names_and_faults(rt: HostRuntime) -> Result<(), Fail> {
     ] {
         assert_eq!(rt; file_name(base, number).as_str(), name);
     }
-    let mut out = Full { faults: 0 };
+    let mut out = BoundedSink::new(alloc, 0);
     assert_eq!(rt; place_behind(alloc, BIG, &mut out), None);
     assert_eq!(rt; out.faults, 1);
     Ok(())
