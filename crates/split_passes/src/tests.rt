@@ -1,6 +1,5 @@
 //! Pieces of two processors' traces: measured, packed, and told from the bytes.
 
-mod traces;
 mod watched;
 
 ghost use Rattle.std.specs.Prelude.{◌≡◌, All, length};
@@ -21,11 +20,11 @@ use std::test::Fail;
 use subpage::{Item, check_page};
 use time_merge::{End, make_all_ready};
 use trace_args::{Moment, PieceUnit};
-use trace_base::{Layout, Order, Part};
+use trace_base::{Layout, Part};
 use trace_outside::{File, MemSink, Sink};
-use traces::Page::{Lossy, Malformed, Of};
-use traces::{PAGE, Page, put_page};
-use watched::{Then, WatchedFile, WatchedSink};
+use trace_samples::Page::{Lossy, Malformed, Of};
+use trace_samples::{BoundedSink, PAGE, Page, layout, put_pages};
+use watched::{Then, WatchedFile};
 
 /// The sub-buffers of two processors, what a piece takes, the items of all pieces, why the last one ends, and how many
 /// sub-buffers are read.
@@ -34,7 +33,7 @@ use watched::{Then, WatchedFile, WatchedSink};
 /// processor's items of a piece, `/` behind the piece.
 #[derive(Clone, Copy)]
 struct Row {
-    cpus: [&'static [Page]; 2],
+    cpus: [&'static [Page<'static>]; 2],
     unit: PieceUnit,
     stop: Option<Moment>,
     pieces: &'static str,
@@ -43,7 +42,7 @@ struct Row {
 }
 
 fn given(
-    cpus: [&'static [Page]; 2],
+    cpus: [&'static [Page<'static>]; 2],
     unit: PieceUnit,
     stop: Option<Moment>,
     pieces: &'static str,
@@ -79,20 +78,6 @@ fn malformed(cpu: u32, page: u64) -> PieceEnd {
     PieceEnd::Malformed { cpu, page }
 }
 
-fn layout() -> Layout
-    ensures allowed { IsLayout result }
-    ensures page { result.page ≡ 4096 }
-{
-    Layout {
-        order: Order::Little,
-        time_at: 0,
-        commit_at: 8,
-        commit_size: 8,
-        data_at: 16,
-        page: 4096,
-    }
-}
-
 fn set_lane(lane: &mut Lane, cpu: u32, part: Part)
     ensures cursor { lane.new.cursor ≡ lane.old.cursor }
     ensures page { lane.new.page ≡ lane.old.page }
@@ -103,7 +88,7 @@ fn set_lane(lane: &mut Lane, cpu: u32, part: Part)
 }
 
 // The first processor's sub-buffers are followed by the other's.
-fn set_lanes(layout: &Layout, lanes: &mut [Lane], cpus: [&[Page]; 2])
+fn set_lanes(layout: &Layout, lanes: &mut [Lane], cpus: [&[Page<'_>]; 2])
     requires two { length lanes.old ≡ 2 }
     requires page { layout.now.page ≡ 4096 }
     requires new { All (IsNew 4096 16) lanes.old }
@@ -123,12 +108,10 @@ fn set_lanes(layout: &Layout, lanes: &mut [Lane], cpus: [&[Page]; 2])
     );
 }
 
-fn bytes_of(alloc: Global, cpus: [&[Page]; 2]) -> Result<Vec<u8>, Fail> {
+fn bytes_of(alloc: Global, cpus: [&[Page<'_>]; 2]) -> Result<Vec<u8>, Fail> {
     let mut bytes = Vec::new(alloc);
     for pages in cpus {
-        for page in pages {
-            put_page(alloc, &mut bytes, *page)?;
-        }
+        put_pages(&mut bytes, pages)?;
     }
     Ok(bytes)
 }
@@ -205,7 +188,7 @@ fn put_item(text: &mut String, item: &Item<'_>) -> Result<(), Fail> {
 }
 
 // The items of so many sub-buffers at the front, and the bytes behind them.
-fn put_pages<'a>(text: &mut String, bytes: &'a [u8], pages: u64) -> Result<&'a [u8], Fail> {
+fn put_told<'a>(text: &mut String, bytes: &'a [u8], pages: u64) -> Result<&'a [u8], Fail> {
     let layout = layout();
     let mut rest = bytes;
     for _ in 0..pages {
@@ -245,8 +228,8 @@ fn put_piece<F: File>(
 {
     let mut out = MemSink::new(alloc);
     let passed = pass_piece(layout, file, lanes, row.unit, row.stop, &mut out);
-    let rest = put_pages(text, out.bytes(), passed.pages[0])?;
-    let rest = put_pages(text, rest, passed.pages[1])?;
+    let rest = put_told(text, out.bytes(), passed.pages[0])?;
+    let rest = put_told(text, rest, passed.pages[1])?;
     if passed.packed != End::Done || !rest.is_empty() {
         text.push_str("?")?;
     }
@@ -348,8 +331,8 @@ fn pieces_are_packed(rt: HostRuntime) -> Result<(), Fail> {
 
 const THREE: [&[Page]; 2] = [&[Of(&[10, 20]), Of(&[30])], &[Of(&[15])]];
 
-// How the passes over all items end, where so many reads and writes are good.
-fn passes(alloc: Global, reads: u64, then: Then, writes: u64) -> Result<(PieceEnd, End), Fail> {
+// How the passes over all items end, where so many reads are good and the sink has room for so many bytes.
+fn passes(alloc: Global, reads: u64, then: Then, room: usize) -> Result<(PieceEnd, End), Fail> {
     let mut file = WatchedFile {
         bytes: bytes_of(alloc, THREE)?,
         good: reads,
@@ -357,10 +340,7 @@ fn passes(alloc: Global, reads: u64, then: Then, writes: u64) -> Result<(PieceEn
         faults: 0,
         reads: 0,
     };
-    let mut out = WatchedSink {
-        good: writes,
-        faults: 0,
-    };
+    let mut out = BoundedSink::new(alloc, room);
     let mut pool = Pool::new(alloc, 2, 4096, 16)?;
     let lanes = pool.lanes();
     let layout = layout();
@@ -372,19 +352,31 @@ fn passes(alloc: Global, reads: u64, then: Then, writes: u64) -> Result<(PieceEn
 #[test]
 fn faults_and_other_bytes(rt: HostRuntime) -> Result<(), Fail> {
     // Three sub-buffers, each of which both passes read.
-    for (reads, then, writes, end, packed) in [
-        (6, Then::Fails, 2, Done, End::Done),
-        (0, Then::Fails, 2, PieceEnd::Read, End::Read),
-        (2, Then::Fails, 2, PieceEnd::Read, End::Read),
-        (3, Then::Fails, 2, Done, End::Read),
-        (5, Then::Fails, 2, Done, End::Read),
-        (3, Then::Zeros, 2, Done, End::Malformed { cpu: 0, page: 1 }),
-        (5, Then::Zeros, 2, Done, End::Malformed { cpu: 1, page: 0 }),
+    for (reads, then, room, end, packed) in [
+        (6, Then::Fails, 8192, Done, End::Done),
+        (0, Then::Fails, 8192, PieceEnd::Read, End::Read),
+        (2, Then::Fails, 8192, PieceEnd::Read, End::Read),
+        (3, Then::Fails, 8192, Done, End::Read),
+        (5, Then::Fails, 8192, Done, End::Read),
+        (
+            3,
+            Then::Zeros,
+            8192,
+            Done,
+            End::Malformed { cpu: 0, page: 1 },
+        ),
+        (
+            5,
+            Then::Zeros,
+            8192,
+            Done,
+            End::Malformed { cpu: 1, page: 0 },
+        ),
         (6, Then::Fails, 0, Done, End::Write),
-        (6, Then::Fails, 1, Done, End::Write),
+        (6, Then::Fails, 4096, Done, End::Write),
     ] {
         assert!(rt;
-            passes(rt.alloc(), reads, then, writes)? == (end, packed),
+            passes(rt.alloc(), reads, then, room)? == (end, packed),
             "{reads} reads"
         );
     }

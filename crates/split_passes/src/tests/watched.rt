@@ -1,8 +1,8 @@
-// A file and a sink that count their calls, and fail where that is asked.
+// A file that counts its calls, and fails where that is asked.
 
-ghost use Rattle.std.specs.Prelude.{None, length, [], ◌∷◌};
+ghost use Rattle.std.specs.Prelude.{None, length};
 
-use trace_outside::{Failed, File, Sink};
+use trace_outside::{Failed, File};
 
 /// What becomes of a call behind the good ones.
 #[derive(Clone, Copy, PartialEq, Eq)]
@@ -52,29 +52,5 @@ impl File for WatchedFile {
         self.good = self.good.saturating_sub(1);
         self.reads = self.reads.saturating_add(count as u64);
         Ok(count)
-    }
-}
-
-/// A sink of which so many writes are good.
-#[derive(Drop)]
-pub(super) struct WatchedSink {
-    pub(super) good: u64,
-    pub(super) faults: u64,
-}
-
-impl Sink for WatchedSink {
-    ghost name = { λ s. [] };
-
-    ghost written = { λ s. None };
-
-    ghost faults = { λ s. s.faults };
-
-    fn write(&mut self, piece: &[u8]) -> Result<usize, Failed> {
-        if self.good == 0 && !piece.is_empty() {
-            self.faults = self.faults.saturating_add(1);
-            return Err(Failed);
-        }
-        self.good = self.good.saturating_sub(1);
-        Ok(piece.len())
     }
 }
