@@ -22,8 +22,9 @@ use subpage::{Item, check_page};
 use trace_args::{Moment, PieceUnit, SplitWords};
 use trace_base::{ByteText, Layout, Part};
 use trace_outside::{MemFile, MemFolder};
-use traces::Page::{Lossy, Of};
-use traces::{Page, file_of};
+use trace_samples::Page;
+use trace_samples::Page::{Lossy, Of};
+use traces::file_of;
 
 /// The sub-buffers of processors, how they are split, the items of the new files, and how the split ends.
 ///
@@ -31,14 +32,14 @@ use traces::{Page, file_of};
 /// processor's items of a file, `/` behind the file.
 #[derive(Clone, Copy)]
 struct Row {
-    cpus: &'static [&'static [Page]],
+    cpus: &'static [&'static [Page<'static>]],
     words: SplitWords<'static>,
     files: &'static str,
     end: End,
 }
 
 fn given(
-    cpus: &'static [&'static [Page]],
+    cpus: &'static [&'static [Page<'static>]],
     words: SplitWords<'static>,
     files: &'static str,
     end: End,
