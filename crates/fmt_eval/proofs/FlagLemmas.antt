@@ -1,7 +1,9 @@
 -- The pieces of flags.
-use Rattle.std.proofs.Common.{◌≡◌, ℕ, ◌<◌, Bool, true, false, List, [], ◌∷◌, ◌++◌, sym, ap, ◌∙◌, arith}
+use Rattle.std.proofs.Common.{◌≡◌, ℕ, zero, suc, ◌<◌, Bool, true, false, List, [], ◌∷◌, ◌++◌, refl, sym, ap, ◌∙◌, arith}
 use Rattle.std.specs.Prelude.{◌==◌, if◌then◌else◌, bit_and}
 use Rattle.std.specs.Int.{w64, bit_not}
+use Rattle.std.specs.Int.Bits.{and_zero_l}
+use Rattle.std.proofs.Math.Bool.{and-false}
 use Rattle.std.proofs.lemmas.Bool.{ne_eqb}
 use Rattle.std.proofs.lemmas.List.{append-nil}
 use Rattle.trace_base.specs.Kept.{Kept, put}
@@ -45,3 +47,24 @@ one_left false between value left more = rw (ne_eqb left 0 (omega arith)) (appen
 pub rest_put : (k mid now : Kept) (some : Bool) (between : List ℕ) (value left : ℕ) → 0 < left → mid ≡ put k (if some then between else []) → now ≡ put mid (hexadecimal left) → now ≡ put k (flags_from between value left some [])
 rest_put k mid now some between value left more one two =
     two ∙ ap (λ (m : Kept). put m (hexadecimal left)) one ∙ put_put k (if some then between else []) (hexadecimal left) ∙ ap (put k) (sym (one_left some between value left more))
+
+-- ---- of nothing no mask is printed, where a piece was printed before
+
+no_flag : (value mask : ℕ) → is_flag value 0 true mask ≡ false
+no_flag value zero = and-false (value == 0)
+no_flag value (suc mask) = rw (ne_eqb (suc mask) 0 (omega arith)) (ap (λ (n : ℕ). n == suc mask) (and_zero_l (suc mask)) ∙ ne_eqb 0 (suc mask) (omega arith))
+
+no_pieces : (value : ℕ) (rows : List Row) → flag_pieces value 0 true rows ≡ []
+no_pieces value [] = refl
+no_pieces value (row ∷ rows) =
+    ap (λ (b : Bool). if b then row.1 ∷ flag_pieces value (bit_and 0 (bit_not w64 row.0)) true rows else flag_pieces value 0 true rows) (no_flag value row.0)
+    ∙ no_pieces value rows
+
+pub nothing_left : (t : Tail) (r : Kept) (between : List ℕ) (value left : ℕ) (some : Bool) (rows : List Row) → left ≡ 0 → some ≡ true → put (kept t) (flags_from between value left some rows) ≡ r → kept t ≡ r
+unfolding flags_from
+nothing_left t r between value left some rows none is before =
+    sym (put_nothing t)
+    ∙ ap (put (kept t)) (sym (ap (join_behind true between) (no_pieces value rows)))
+    ∙ ap (λ (n : ℕ). put (kept t) (join_behind true between (flag_pieces value n true rows))) (sym none)
+    ∙ ap (λ (b : Bool). put (kept t) (join_behind b between (flag_pieces value left b rows))) (sym is)
+    ∙ before

@@ -66,6 +66,7 @@ fn put_rest(value: u64, left: u64, some: bool, between: &[u8], into: &mut Tail<'
     put_hexadecimal(left, into);
 }
 
+#[tactic(auto, using(crate::proofs::FlagLemmas::nothing_left))]
 fn put_all_flags(value: u64, between: &[u8], entries: &[Entry], rec: &Rec<'_>, into: &mut Tail<'_>)
     ensures same_slice { lent into.new ≡ lent into.old }
     ensures value { kept into.new ≡ put (kept into.old) (flags_from between.now value value false (rows_in (given rec.now) entries.now)) }
@@ -73,6 +74,10 @@ fn put_all_flags(value: u64, between: &[u8], entries: &[Entry], rec: &Rec<'_>, i
     let mut left = value;
     let mut some = false;
     for entry in entries {
+        if left == 0 && some {
+            // Most values have few flags, and no further mask is printed of nothing.
+            return;
+        }
         let mask = mask_of(entry, rec);
         (left, some) = put_flag(
             value,

@@ -22,6 +22,13 @@ pub enough : (m k : ℕ) (copied behind digits rest : List ℕ) → copied ≡ t
 enough m k copied behind digits rest is_copied is_behind is_m le =
     omega (arith, is_m, le, ap length is_copied, length-take k behind, ap length is_behind, length-append digits rest)
 
+-- the first of what is copied from the front of a text
+pub first_copied : (m k : ℕ) (copied text : List ℕ) → copied ≡ take k text → m ≤ k → take m copied ≡ take m text
+first_copied m k copied text is_copied le = ap (take m) is_copied ∙ take-take m k text le
+
+pub enough_copied : (m k : ℕ) (copied text : List ℕ) → copied ≡ take k text → m ≤ k → k ≤ length text → m ≤ length copied
+enough_copied m k copied text is_copied le within = omega (arith, le, within, ap length is_copied, length-take k text)
+
 pub added : (len k m : ℕ) (room copied digits : List ℕ) → len ≤ length room → m ≤ length copied → take m copied ≡ digits → take (len + m) (put_mid len k room copied) ≡ take len room ++ digits
 added len k m room copied digits within le is =
     let whole = take-put_mid len k room copied (len + length copied) refl within in

@@ -1,6 +1,6 @@
 //! Pieces, plain numbers and plain texts, added to a text that waits to be put.
 
-ghost use Rattle.std.specs.Prelude.{◌≡◌, ◌≤◌, ◌+◌, ◌++◌, ◌&&◌, length, codes};
+ghost use Rattle.std.specs.Prelude.{◌≡◌, ◌≤◌, ◌+◌, ◌++◌, ◌&&◌, length, take, codes};
 ghost use Rattle.std.specs.Fmt.{decimal};
 ghost use Rattle.trace_base.specs.Kept.{put_held};
 ghost use Rattle.trace_base.specs.TailView.{lent};
@@ -27,7 +27,7 @@ use fmt_directives::{Length, PointerForm};
 use fmt_eval::{cast_bits, number, up_to_nul};
 use fmt_expr::{Expr, Kind, kind};
 use symbols::Symbols;
-use trace_base::{Rec, Tail};
+use trace_base::{Rec, Tail, text_len};
 
 fn plain_form() -> Form
     ensures { result ≡ plain_form }
@@ -53,6 +53,21 @@ pub fn add_piece(piece: &[u8], waiting: &mut Waiting, into: &mut Tail<'_>)
         waiting.text(piece);
     } else {
         put_apart(piece, waiting, into);
+    }
+}
+
+/// Adds the first bytes of a text.
+#[inline(always)]
+#[tactic(auto, using(trace_base::proofs::TailJoins::put_held_twice))]
+pub fn add_front(text: &[u8], len: usize, waiting: &mut Waiting, into: &mut Tail<'_>)
+    requires { len ≤ length text.now }
+    ensures same_slice { lent into.new ≡ lent into.old }
+    ensures value { held_with into.new waiting.new ≡ put_held (held_with into.old waiting.old) (take len text.now) }
+{
+    if len <= 16 && text.len() >= 16 && waiting.spare() >= 16 {
+        waiting.front(text, len);
+    } else {
+        add_piece(&text[..len], waiting, into);
     }
 }
 
@@ -186,7 +201,7 @@ pub fn add_text(
     ensures value { held_with into.new waiting.new ≡ put_held (held_with into.old waiting.old) (string_text (given rec.now) symbols.now plain_form (tree_of expr.now)) }
 {
     match text_at_once(expr, rec) {
-        Some(text) => add_piece(up_to_nul(text), waiting, into),
+        Some(text) => add_front(text, text_len(text), waiting, into),
         None => add_any_text(expr, rec, symbols, waiting, into),
     }
 }

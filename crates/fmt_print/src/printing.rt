@@ -18,7 +18,7 @@ use crate::address::put_pointer;
 use crate::arguments::{first_of, taken};
 use crate::form::Form;
 use crate::integer::put_integer;
-use crate::plain::{add_number, add_piece, add_pointer, add_text};
+use crate::plain::{add_front, add_number, add_pointer, add_text};
 use crate::plan::PrintPlan;
 use crate::step::Step;
 use crate::string::{put_letter, put_string};
@@ -296,7 +296,9 @@ fn add_step<'a>(
 {
     match step {
         Step::Literal { start, end } => {
-            add_piece(&plan.text()[*start as usize..*end as usize], waiting, into);
+            let start = *start as usize;
+            let len = *end as usize - start;
+            add_front(&plan.text()[start..], len, waiting, into);
             args
         }
         Step::Decimal { length, signed } => {

@@ -1,6 +1,6 @@
 //! Text that waits to be put.
 
-ghost use Rattle.std.specs.Prelude.{◌≡◌, [], ◌++◌, ◌+◌, ◌<◌, ◌≤◌, length};
+ghost use Rattle.std.specs.Prelude.{◌≡◌, [], ◌++◌, ◌+◌, ◌<◌, ◌≤◌, length, take};
 ghost use Rattle.std.specs.Fmt.{decimal};
 ghost use Rattle.trace_base.specs.Kept.{put_held};
 ghost use Rattle.trace_base.specs.TailView.{held, lent};
@@ -53,6 +53,18 @@ impl Waiting {
         let end = self.len + text.len();
         self.room[self.len..end].copy_from_slice(text);
         self.len = end;
+    }
+
+    /// Adds the first bytes of a longer text.
+    pub fn front(&mut self, text: &[u8], len: usize)
+        requires room { length self.old + 16 ≤ 192 }
+        requires longer { 16 ≤ length text.now }
+        requires short { len ≤ 16 }
+        ensures { self.new ≡ self.old ++ take len text.now }
+    {
+        // Sixteen bytes are copied, however many count: a copy of a fixed length needs no call.
+        self.room[self.len..self.len + 16].copy_from_slice(&text[..16]);
+        self.len += len;
     }
 
     /// Adds the sign of a number.

@@ -1,0 +1,12 @@
+use Rattle.std.proofs.Common.{List, ℕ, ◌++◌, take, ap, ◌∙◌, arith}
+use Rattle.fmt_print.proofs.WaitLemmas.{added, first_copied, enough_copied}
+use Rattle.fmt_print.proofs.waiting.Waiting.front.Goals as goal
+
+pub returns : goal.returns
+returns c =
+    let copied = c.copy_from_slice.new.self in
+    let text = c.args.text.now in
+    added c.self.inside.len _ c.args.len c.self.inside.room copied (take c.args.len text) (omega (arith, c.self.invariant, c.self.told))
+    (enough_copied c.args.len 16 copied text c.copy_from_slice.ensures.after c.requires.short c.requires.longer)
+    (first_copied c.args.len 16 copied text c.copy_from_slice.ensures.after c.requires.short)
+    ∙ ap (λ (l : List ℕ). l ++ take c.args.len text) c.self.view_is
