@@ -1,10 +1,11 @@
 // A folder whose one file cannot be read from a place on, and in which nothing can be made.
 
-ghost use Rattle.std.specs.Prelude.{None, length};
+ghost use Rattle.std.specs.Prelude.{None};
 
 use std::alloc::{AllocError, Global};
 use trace_base::ByteText;
-use trace_outside::{Counts, Failed, File, Folder, Sink};
+use trace_outside::{Counts, Failed, Folder, Sink};
+use trace_samples::DamagedFile;
 
 /// A folder with one file under every name. What is created in it, if anything, cannot be finished.
 #[derive(Drop)]
@@ -30,43 +31,6 @@ impl Disk {
 }
 
 #[derive(Drop)]
-pub(super) struct BadFile {
-    bytes: Vec<u8>,
-    from: u64,
-    faults: u64,
-    reads: u64,
-}
-
-impl File for BadFile {
-    ghost bytes = { λ f. None };
-
-    ghost size = { λ f. length f.bytes.items };
-
-    ghost faults = { λ f. f.faults };
-
-    ghost reads = { λ f. f.reads };
-
-    ghost size_is = { λ f. tt };
-
-    fn len(&self) -> u64 {
-        self.bytes.len() as u64
-    }
-
-    fn read_at(&mut self, at: u64, into: &mut [u8]) -> Result<usize, Failed> {
-        if at >= self.from {
-            self.faults = self.faults.saturating_add(1);
-            return Err(Failed);
-        }
-        let rest = &self.bytes[at as usize..];
-        let good = ((self.from - at) as usize).min(rest.len());
-        let count = good.min(into.len());
-        into[..count].copy_from_slice(&rest[..count]);
-        self.reads = self.reads.saturating_add(count as u64);
-        Ok(count)
-    }
-}
-
-#[derive(Drop)]
 pub(super) struct Nowhere {
     label: ByteText,
 }
@@ -84,7 +48,7 @@ impl Sink for Nowhere {
 }
 
 impl Folder for Disk {
-    type In = BadFile;
+    type In = DamagedFile;
 
     type Out = Nowhere;
 
@@ -92,16 +56,11 @@ impl Folder for Disk {
 
     ghost counts = { λ f. f.counts };
 
-    fn open_file(&mut self, _name: &str) -> Result<BadFile, Failed> {
+    fn open_file(&mut self, _name: &str) -> Result<DamagedFile, Failed> {
         match self.bytes.clone() {
             Ok(bytes) => {
                 self.counts.opened = self.counts.opened.saturating_add(1);
-                Ok(BadFile {
-                    bytes,
-                    from: self.from,
-                    faults: 0,
-                    reads: 0,
-                })
+                Ok(DamagedFile::new(bytes, self.from))
             }
             Err(_) => {
                 self.counts.reading = self.counts.reading.saturating_add(1);
@@ -110,7 +69,7 @@ impl Folder for Disk {
         }
     }
 
-    fn close_file(&mut self, file: BadFile) {
+    fn close_file(&mut self, file: DamagedFile) {
         if file.faults > 0 {
             self.counts.reading = self.counts.reading.saturating_add(1);
         }
