@@ -5,7 +5,7 @@ use Rattle.trace_run.proofs.Endings.{behind_header, header_unread}
 use Rattle.trace_run.proofs.command.run_on_file.Goals as goal
 
 pub run_on_header-requires-clause-read : goal.run_on_header-requires-clause-read
-run_on_header-requires-clause-read g c =
+run_on_header-requires-clause-read g c κs live =
     subst (λ (told : Option (List ℕ)). ReadsHeader told (Ok c.in-Ok.header)) (sym c.read_header.ensures.bytes) c.in-Ok.ensures.answer
 
 pub returns-in-Ok-clause-worked : goal.returns-in-Ok-clause-worked

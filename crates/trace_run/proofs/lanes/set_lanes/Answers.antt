@@ -1,6 +1,6 @@
 use Rattle.std.proofs.Common.{◌<◌, length, arith, ◌∙◌}
 use Rattle.std.proofs.lemmas.List.{length-set}
-use Rattle.trace_run.proofs.UnusedLanes.{all_set, one_set, still_unused}
+use Rattle.trace_run.proofs.UnusedLanes.{one_set, still_unused}
 use Rattle.trace_run.proofs.lanes.set_lanes.Goals as goal
 
 pub loop-i-preserved : goal.loop-i-preserved

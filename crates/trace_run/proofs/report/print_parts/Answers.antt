@@ -1,6 +1,5 @@
 use Rattle.std.proofs.Common.{◌≤◌, ℕ, List, subst, sym, ◌∙◌, arith}
 use Rattle.std.specs.Prelude.{sum_by}
-use denote.Param.Send.{param_sync}
 use Rattle.trace_base.specs.declared.part.Part.{Part}
 use Rattle.trace_outside.specs.Causes.{Rose, raised}
 use Rattle.trace_args.specs.Command.{report_view}
@@ -14,7 +13,7 @@ use Rattle.trace_run.proofs.Splits.{cut_caused}
 use Rattle.trace_run.proofs.report.print_parts.Goals as goal
 
 pub report_rounds-requires-sync-L : goal.report_rounds-requires-sync-L
-report_rounds-requires-sync-L g c κs live = param_sync 2 _ (record { shared = lines_sync.shared })
+report_rounds-requires-sync-L g c κs live = record { shared = lines_sync.shared }
 
 pub report_rounds-requires-clause-start : goal.report_rounds-requires-clause-start
 report_rounds-requires-clause-start g c κs live =

@@ -9,4 +9,4 @@ returns-in-Done g c =
     c.plain_words-plain.ensures c.in-Done.ensures.writes
 
 pub print_report-requires-clause-filters : goal.print_report-requires-clause-filters
-print_report-requires-clause-filters g c = no_uses _ c.args.words.now.workers _ c.plain_words-plain.ensures c.new-filters.ensures.items
+print_report-requires-clause-filters g c κs live = no_uses _ c.args.words.now.workers _ c.plain_words-plain.ensures c.new-filters.ensures.items
