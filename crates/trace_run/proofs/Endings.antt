@@ -28,6 +28,7 @@ use Rattle.trace_run.specs.Meaning.{Meaning, Target, on_out, on_folder, body_rep
 use Rattle.trace_run.specs.Work.{Writes, WritesFor, IsCaused, IsOfFile, Worked}
 use Rattle.trace_run.specs.Causes.{AnswersUsage, IsComplete, HasRisen, target_read}
 use Rattle.trace_run.specs.Counts.{MissesNothingElse, ReadsFor, JobReads}
+use Rattle.trace_run.specs.Due.{DueFor, JobDue}
 use Rattle.trace_run.specs.Ending.{Outside, SinkSeen, Ends, EndsBy, IsClaimed, IsClaimedJob, IsClaimedOf, Finished, write_faults}
 use Rattle.trace_run.specs.Text.{text}
 
@@ -405,6 +406,11 @@ pub read_reads : (job : Job) (read : Result Job UsageFault) (status : Status) (b
 read_reads job read status before now is reads =
     subst (λ (reading : Result Job UsageFault). ReadsFor reading status before now) (sym is) reads
 
+pub read_due : (job : Job) (read : Result Job UsageFault) (status : Status) (before now : Outside) → read ≡ Ok job
+    → JobDue job status before now → DueFor read status before now
+read_due job read status before now is due =
+    subst (λ (reading : Result Job UsageFault). DueFor reading status before now) (sym is) due
+
 not_usage : (status : Status) → IsOfFile status → status ≢ Usage
 not_usage Usage own = λ is. own
 not_usage Done own = λ is. cc
@@ -426,6 +432,9 @@ unread_usage fault read before is =
 pub unread_reads : (fault : UsageFault) (read : Result Job UsageFault) (before : Outside) → read ≡ Err fault → ReadsFor read Usage before before
 unread_reads fault read before is = subst (λ (reading : Result Job UsageFault). ReadsFor reading Usage before before) (sym is) refl
 
+pub unread_due : (fault : UsageFault) (read : Result Job UsageFault) (before : Outside) → read ≡ Err fault → DueFor read Usage before before
+unread_due fault read before is = subst (λ (reading : Result Job UsageFault). DueFor reading Usage before before) (sym is) tt
+
 -- there was no memory to read the words, and nothing was touched
 pub unknown_usage : (read : Result Job UsageFault) (before : Outside) → AnswersUsage read NoMemory before before
 unknown_usage (Ok job) before = λ is. cc
@@ -439,6 +448,15 @@ unknown_reads (Ok (OnFile command)) before = none before.files
     none None = tt
     none (Some files) = tt
 unknown_reads (Err fault) before = refl
+
+pub unknown_due : (read : Result Job UsageFault) (before : Outside) → DueFor read NoMemory before before
+unknown_due (Ok (SelfTest words)) before = tt
+unknown_due (Ok (OnFile command)) before = none before.files
+  where
+    none : (told : Option NamedFiles) → IfSome told (λ files. Unit {0})
+    none None = tt
+    none (Some files) = tt
+unknown_due (Err fault) before = tt
 
 -- the input could not be opened
 pub unopened_ends : (command : FileCommand) (told : Option NamedFiles) (before now : Outside) → before.files ≡ told → Rose before.counts.reading now.counts.reading

@@ -22,3 +22,4 @@ pub mod Numbers
 pub mod Workers
 pub mod Usages
 pub mod Shared
+pub mod DueReading

@@ -81,4 +81,5 @@ self_tested words status files counts before now writes caused = record {
   closes = λ opened closed. omega arith;
   opens = omega arith;
   reads = (never_read status before.faults now.faults caused, refl);
+  due = tt;
 }

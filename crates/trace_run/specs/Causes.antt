@@ -10,6 +10,7 @@ use Rattle.trace_run.specs.Ending.{Outside, IsClaimedOf, RunsJob, write_faults}
 use Rattle.trace_run.specs.Meaning.{Meaning, Target, on_out, job_target, meaning}
 use Rattle.trace_run.specs.Work.{IsOfFile}
 use Rattle.trace_run.specs.Counts.{ClosesAll, JobMisses, JobReads, OpensAtMostOne}
+use Rattle.trace_run.specs.Due.{JobDue}
 use Rattle.trace_run.specs.Usage.{asked}
 
 abbrev pub target_read : Result Job UsageFault → Target
@@ -48,3 +49,4 @@ pub record RanJob (job : Job) (status : Status) (before now : Outside) : Type 0 
   pub closes : ClosesAll before.counts now.counts
   pub opens : OpensAtMostOne before.counts now.counts
   pub reads : JobReads job status before now
+  pub due : JobDue job status before now

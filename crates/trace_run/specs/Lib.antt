@@ -16,3 +16,4 @@ pub mod Causes
 pub mod Messages
 pub mod StatusNumber
 pub mod Rest
+pub mod Due

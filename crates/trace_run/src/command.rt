@@ -1,7 +1,7 @@
 // One job. Where it is a command on a file, that is opened, its header read, the work done, and the file closed. This
 // stands here once for all such commands.
 
-ghost use Rattle.std.specs.Prelude.{Ok, ◌≡◌, ◌≤◌, map};
+ghost use Rattle.std.specs.Prelude.{Ok, ◌≡◌, ◌≤◌, map, IfSome};
 ghost use Rattle.trace_base.specs.Layout.{IsLayout};
 ghost use Rattle.trace_outside.specs.Causes.{raised};
 ghost use Rattle.dat_header.specs.Allowed.{IsHeader};
@@ -9,6 +9,7 @@ ghost use Rattle.dat_header.specs.Header.{ReadsHeader};
 ghost use Rattle.trace_run.specs.Allowed.{IsAllowed, IsAllowedJob};
 ghost use Rattle.trace_run.specs.Causes.{RanJob};
 ghost use Rattle.trace_run.specs.Counts.{ReadsInput, share};
+ghost use Rattle.trace_run.specs.Due.{DueInput, ReadsCommand};
 ghost use Rattle.trace_run.specs.Ending.{beside, sink_seen};
 ghost use Rattle.trace_run.specs.Job.{OnFile, command_view, job_view};
 ghost use Rattle.trace_run.specs.Meaning as spec;
@@ -115,6 +116,8 @@ fn run_on_file<R: Threads + Sync, F: Folder, O: Sink, G: Gate>(
         (beside F.files F.counts folder.old (sink_seen O.written O.faults out.old))
         (beside F.files F.counts folder.new (sink_seen O.written O.faults out.new)) }
     ensures reads { ReadsInput (command_view command.now) (F.In.bytes file.old) result (F.In.reads file.old) (F.In.reads file.new) }
+    ensures due { DueInput (command_view command.now) (F.In.bytes file.old) result (O.written out.old) (O.written out.new)
+        (F.In.reads file.old) (F.In.reads file.new) }
 {
     match read_header(alloc, file) {
         Ok(header) => {
@@ -149,6 +152,8 @@ fn run_on_header<R: Threads + Sync, F: Folder, O: Sink, G: Gate>(
         (beside F.files F.counts folder.old (sink_seen O.written O.faults out.old))
         (beside F.files F.counts folder.new (sink_seen O.written O.faults out.new)) }
     ensures reads { F.In.reads file.new ≤ raised (F.In.reads file.old) (share (command_view command.now) header (F.In.size file.old)) }
+    ensures due { IfSome (F.In.bytes file.old) (λ bytes. ReadsCommand (command_view command.now) header 0 bytes
+        (O.written out.old) (O.written out.new) (F.In.reads file.old) (F.In.reads file.new)) }
 {
     match command {
         FileCommand::Report(words) => {

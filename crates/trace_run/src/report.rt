@@ -1,4 +1,4 @@
-ghost use Rattle.std.specs.Prelude.{◌≡◌, ◌≤◌, ◌-◌, [], map, length, sum_by, IfOk, OnOk, OnErr};
+ghost use Rattle.std.specs.Prelude.{◌≡◌, ◌≤◌, ◌-◌, [], map, length, sum_by, IfOk, IfSome, OnOk, OnErr};
 ghost use Rattle.trace_outside.specs.Causes.{HasCause, raised};
 ghost use Rattle.trace_base.specs.Layout.{IsLayout};
 ghost use Rattle.trace_outside.specs.Writing.{Gained, GainedPrefix};
@@ -6,6 +6,7 @@ ghost use Rattle.dat_header.specs.Allowed.{IsBody};
 ghost use Rattle.trace_args.specs.Command.{report_view};
 ghost use Rattle.trace_run.specs.Allowed.{IsWorkers};
 ghost use Rattle.trace_run.specs.Counts.{body_share, share};
+ghost use Rattle.trace_run.specs.Due.{ReadsBody, ReadsEvents, ReadsParts};
 ghost use Rattle.trace_run.specs.Job.{Report};
 ghost use Rattle.trace_run.specs.Meaning.{body_report, latency_report, parts_report, report_by};
 ghost use Rattle.trace_run.specs.Report.{cpus_line, selected};
@@ -50,6 +51,8 @@ pub(crate) fn print_report<R: Threads + Sync, I: File, O: Sink, G: Gate>(
     ensures writes { WritesFor (report_by words.now.list (report_view words.now) header.now) (I.bytes file.old) result (O.written out.old) (O.written out.new) }
     ensures causes { IsCaused result (I.faults file.old) (I.faults file.new) (O.faults out.old) (O.faults out.new) }
     ensures reads { I.reads file.new ≤ raised (I.reads file.old) (share (Report (report_view words.now)) header.now (I.size file.old)) }
+    ensures due { IfSome (I.bytes file.old) (λ bytes. ReadsEvents words.now.list (report_view words.now) header.now 0 bytes
+        (O.written out.old) (O.written out.new) (I.reads file.old) (I.reads file.new)) }
 {
     match words.list {
         Listing::Nothing => print_events(rt, alloc, words, filters, header, file, out, gate),
@@ -80,6 +83,8 @@ fn print_events<R: Threads + Sync, I: File, O: Sink, G: Gate>(
     ensures writes { WritesFor (body_report (report_view words.now) header.now header.now.body) (I.bytes file.old) result (O.written out.old) (O.written out.new) }
     ensures causes { IsCaused result (I.faults file.old) (I.faults file.new) (O.faults out.old) (O.faults out.new) }
     ensures reads { I.reads file.new ≤ raised (I.reads file.old) (body_share words.now.cpus header.now.end (I.size file.old) header.now.body) }
+    ensures due { IfSome (I.bytes file.old) (λ bytes. ReadsBody (report_view words.now) header.now 0 bytes header.now.body
+        (O.written out.old) (O.written out.new) (I.reads file.old) (I.reads file.new)) }
 {
     match &header.body {
         Body::Latency => print_latency(alloc, header.cpus, header.end, file, out),
@@ -143,6 +148,8 @@ fn print_parts<R: Threads + Sync, I: File, O: Sink, G: Gate>(
     ensures writes { WritesFor (parts_report (report_view words.now) header.now parts.now) (I.bytes file.old) result (O.written out.old) (O.written out.new) }
     ensures causes { IsCaused result (I.faults file.old) (I.faults file.new) (O.faults out.old) (O.faults out.new) }
     ensures reads { I.reads file.new ≤ raised (I.reads file.old) (sum_by (λ part. part.1.size) (selected words.now.cpus parts.now)) }
+    ensures due { IfSome (I.bytes file.old) (λ bytes. ReadsParts (report_view words.now) header.now 0 bytes parts.now
+        (O.written out.old) (O.written out.new) (I.reads file.old) (I.reads file.new)) }
 {
     let Ok(context) = context_of(alloc, words, filters, header) else {
         return Status::NoMemory;

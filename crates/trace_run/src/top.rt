@@ -3,6 +3,7 @@ ghost use Rattle.trace_run.specs.Usage.{asked};
 ghost use Rattle.trace_run.specs.Ending.{Runs, beside, sink_seen};
 ghost use Rattle.trace_run.specs.Causes.{AnswersUsage, HasRisen, RunIsComplete, target_read};
 ghost use Rattle.trace_run.specs.Counts.{ClosesAll, OpensAtMostOne, RunMisses, RunReads};
+ghost use Rattle.trace_run.specs.Due.{RunDue};
 ghost use Rattle.trace_run.specs.Messages.{line_of, Says};
 
 use crate::command::{job_input, run_job};
@@ -49,6 +50,9 @@ pub fn run<R: Threads + Sync, F: Folder, O: Sink, E: Sink, G: Gate>(
     ensures closes { ClosesAll (F.counts folder.old) (F.counts folder.new) }
     ensures opens { OpensAtMostOne (F.counts folder.old) (F.counts folder.new) }
     ensures reads { RunReads words.now result
+        (beside F.files F.counts folder.old (sink_seen O.written O.faults out.old))
+        (beside F.files F.counts folder.new (sink_seen O.written O.faults out.new)) }
+    ensures due { RunDue words.now result
         (beside F.files F.counts folder.old (sink_seen O.written O.faults out.old))
         (beside F.files F.counts folder.new (sink_seen O.written O.faults out.new)) }
     ensures says { Says (line_of words.now result) (E.written err.old) (E.written err.new) (E.faults err.old) (E.faults err.new) }

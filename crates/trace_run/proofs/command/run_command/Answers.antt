@@ -2,7 +2,9 @@ use Rattle.std.proofs.Common.{◌∙◌, ap, subst, refl, rules, arith, ℕ}
 use Rattle.trace_outside.specs.Causes.{Rose, raised}
 use Rattle.trace_run.specs.Job.{command_view}
 use Rattle.trace_run.specs.Counts.{ReadsInput}
+use Rattle.trace_run.specs.Due.{DueInput}
 use Rattle.trace_run.specs.Ending.{beside, sink_seen}
+use Rattle.trace_run.proofs.DueReading.{command_due}
 use Rattle.trace_run.proofs.Endings.{Around, command_ends, command_misses, command_risen, unopened_ends}
 use Rattle.trace_run.proofs.Reading.{command_reads}
 use Rattle.trace_run.proofs.command.run_command.Goals as goal
@@ -16,6 +18,7 @@ returns-in-Err g c = record {
   closes = λ opened closed. omega (arith, c.in-Err.ensures.counts.opened, c.open_file.ensures.counts.closed);
   opens = omega (arith, c.in-Err.ensures.counts.opened);
   reads = search rules;
+  due = search rules;
 }
 
 pub returns-in-Ok : goal.returns-in-Ok
@@ -56,4 +59,7 @@ returns-in-Ok g c =
       reads = command_reads command _ _ status reads _ _ given
           (closes.bytes ∙ ap (λ (b : ℕ). raised b reads) (work.counts.bytes ∙ opens.bytes))
           (subst (λ (n : ℕ). ReadsInput command (g.F.In.File.bytes c.in-Ok.file) status n reads) c.in-Ok.ensures.no_reads c.run_on_file-status.ensures.reads);
+      due = command_due command _ _ status _ _ reads _ _ given
+          (closes.bytes ∙ ap (λ (b : ℕ). raised b reads) (work.counts.bytes ∙ opens.bytes))
+          (subst (λ (n : ℕ). DueInput command (g.F.In.File.bytes c.in-Ok.file) status out.written out_now.written n reads) c.in-Ok.ensures.no_reads c.run_on_file-status.ensures.due);
     }

@@ -1,6 +1,7 @@
 use Rattle.std.proofs.Common.{rules, ℕ, List, Option, Ok, subst, sym}
 use Rattle.dat_header.specs.Header.{ReadsHeader}
 use Rattle.trace_run.specs.Job.{command_view}
+use Rattle.trace_run.proofs.DueReading.{due_behind_header}
 use Rattle.trace_run.proofs.Endings.{behind_header, header_unread}
 use Rattle.trace_run.proofs.command.run_on_file.Goals as goal
 
@@ -12,6 +13,11 @@ pub returns-in-Ok-clause-worked : goal.returns-in-Ok-clause-worked
 returns-in-Ok-clause-worked g c =
     behind_header (command_view c.args.command.now) c.in-Ok.header _ _ _ _ _ c.run_on_header.result _ _ c.read_header.ensures.bytes c.in-Ok.ensures.answer
     c.read_header.ensures.later c.run_on_header.ensures.worked
+
+pub returns-in-Ok-clause-due : goal.returns-in-Ok-clause-due
+returns-in-Ok-clause-due g c =
+    due_behind_header (command_view c.args.command.now) c.in-Ok.header _ _ _ _ c.run_on_header.result _ _ _ c.read_header.ensures.bytes c.in-Ok.ensures.answer
+    c.in-Ok.ensures.reads c.run_on_header.ensures.due
 
 pub returns-in-Err-Read-clause-worked : goal.returns-in-Err-Read-clause-worked
 returns-in-Err-Read-clause-worked g c = header_unread (command_view c.args.command.now) _ _ _ _ (search rules)

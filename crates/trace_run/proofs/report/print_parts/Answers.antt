@@ -6,6 +6,7 @@ use Rattle.trace_args.specs.Command.{report_view}
 use Rattle.subpage.specs.Arrangement.{CpusRise}
 use Rattle.trace_run.specs.Report.{is_chosen}
 use Rattle.trace_run.proofs.UnusedLanes.{new_unused, unused_room, unused_start}
+use Rattle.trace_run.proofs.DueReading.{parts_read, parts_unbegun_unread}
 use Rattle.trace_run.proofs.PartsPrinted.{parts_unbegun, parts_written}
 use Rattle.trace_run.proofs.Selection.{chosen_rise}
 use Rattle.trace_run.proofs.Shared.{lines_sync}
@@ -48,3 +49,11 @@ pub returns-clause-reads : goal.returns-clause-reads
 returns-clause-reads g c =
     let are = c.set_lanes.ensures.parts ∙ c.deref.ensures.value ∙ c.in-Ok-select.ensures.chosen in
     subst (λ (parts : List (ℕ × Part)). g.I.File.reads c.report_rounds.new.file ≤ raised (g.I.File.reads c.args.file.now) (sum_by (λ part. part.1.size) parts)) are c.report_rounds.ensures.reads
+
+pub returns-in-Err-clause-due : goal.returns-in-Err-clause-due
+returns-in-Err-clause-due g c = parts_unbegun_unread (report_view c.args.words.now) c.args.header.now c.args.parts.now _ _ _ _ c.in-Err.ensures.prefix
+
+pub returns-clause-due : goal.returns-clause-due
+returns-clause-due g c =
+    let are = c.set_lanes.ensures.parts ∙ c.deref.ensures.value ∙ c.in-Ok-select.ensures.chosen in
+    parts_read (report_view c.args.words.now) c.args.header.now c.args.parts.now _ _ _ _ _ _ _ _ c.in-Ok.ensures are c.in-Ok-print_cpus.ensures.gained c.report_rounds.ensures.due
