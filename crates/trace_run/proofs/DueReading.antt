@@ -66,6 +66,7 @@ module _ (words : ReportData) (header : Header) (parts : List Part) where
           ap (due_bytes (line (context_of words header)) header.layout bytes (selected words.cpus parts)) (behind_line header.cpus due.0)
           ∙ ap (λ (ps : List (ℕ × Part)). due_bytes (line (context_of words header)) header.layout bytes ps due.0) (sym all)
           ∙ ap (λ (by : Given). due_bytes (line by) header.layout bytes chosen due.0) (sym shown)
+
       within : reads ≤ raised before (0 + due_of words header parts bytes (cpus_line header.cpus ++ due.0))
       within = subst (λ (n : ℕ). reads ≤ raised before (0 + n)) (sym there) (omega (arith, due.1.1))
 
@@ -76,6 +77,14 @@ module _ (words : ReportData) (header : Header) (parts : List Part) where
   parts_read given chosen None old mid now before reads shown all first due = tt
   parts_read given chosen (Some bytes) old mid now before reads shown all first due = parts_read_of given chosen bytes old mid now before reads shown all first due
 
+module _ (words : ReportData) (header : Header) where
+  pub body_read : (slice own : List Part) (told old now : Option (List ℕ)) (before reads : ℕ) → header.body ≡ Fly own → slice ≡ own
+      → IfSome told (λ bytes. ReadsParts words header 0 bytes slice old now before reads)
+      → IfSome told (λ bytes. ReadsBody words header 0 bytes header.body old now before reads)
+  body_read slice own told old now before reads body same due =
+      subst (λ (b : Body). IfSome told (λ bytes. ReadsBody words header 0 bytes b old now before reads)) (sym body)
+      (subst (λ (ps : List Part). IfSome told (λ bytes. ReadsParts words header 0 bytes ps old now before reads)) same due)
+
 -- the bound of what was read behind so many bytes
 behind_command : (command : FileCommand) (header : Header) (bytes : List ℕ) (old now : Option (List ℕ)) (n before mid reads : ℕ) → mid ≤ raised before n
     → ReadsCommand command header 0 bytes old now mid reads → ReadsCommand command header n bytes old now before reads
@@ -84,6 +93,7 @@ behind_command (Report words) header bytes old now n before mid reads first due 
     by_body : (body : Body) → ReadsBody words header 0 bytes body old now mid reads → ReadsBody words header n bytes body old now before reads
     by_body Latency some = tt
     by_body (Fly parts) some = (some.0, (some.1.0, omega (arith, first, some.1.1)))
+
     by_list : (list : Listing) → ReadsEvents list words header 0 bytes old now mid reads → ReadsEvents list words header n bytes old now before reads
     by_list Nothing some = by_body header.body some
     by_list Names some = tt
@@ -127,6 +137,7 @@ counted_command (Report words) header n bytes old now reads before last is due =
     by_body : (body : Body) → ReadsBody words header n bytes body old now 0 reads → ReadsBody words header n bytes body old now before last
     by_body Latency some = tt
     by_body (Fly parts) some = (some.0, (some.1.0, omega (arith, is, some.1.1)))
+
     by_list : (list : Listing) → ReadsEvents list words header n bytes old now 0 reads → ReadsEvents list words header n bytes old now before last
     by_list Nothing some = by_body header.body some
     by_list Names some = tt
