@@ -6,6 +6,7 @@ use Rattle.trace_base.specs.Number.{num, bytes_of}
 use Rattle.trace_base.specs.declared.order.Order.{Order}
 use Rattle.trace_base.specs.declared.order.Order.TheVariants.{Little}
 use Rattle.trace_base.specs.declared.layout.Layout.{Layout}
+use Rattle.trace_base.specs.Layout.{plain_layout}
 use Rattle.dat_options.specs.declared.fault.OpenFault.{OpenFault}
 use Rattle.dat_options.specs.declared.fault.OpenFault.TheVariants.{Truncated, BadEndian, BadLong, BadPageSize, BadHeaderPage}
 use Rattle.dat_options.proofs.Numbers.{limit}
@@ -15,7 +16,7 @@ use Rattle.dat_header.specs.declared.pieces.PageText.{PageText}
 use Rattle.dat_header.specs.declared.pieces.Carried.{Carried}
 use Rattle.dat_header.specs.Allowed.{AreFormats, AreSystems}
 use Rattle.dat_header.specs.Pieces.{IsMachine, IsPageText, IsCarried}
-use Rattle.dat_header.specs.PageText.{plain_layout, layout_of}
+use Rattle.dat_header.specs.PageText.{layout_of}
 use Rattle.dat_header.specs.Items.{Item, value, page_text, carried, order_byte, sized, formats_text, systems_text}
 use Rattle.dat_header.specs.Refusal.{fault_at}
 use Rattle.dat_header.specs.ItemsAt.{bytes_at, number_at, value_at, text_at, formats_at, systems_at, order_of, long_of, page_of}

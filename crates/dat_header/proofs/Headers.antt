@@ -17,7 +17,7 @@ use Rattle.dat_header.specs.declared.pieces.Carried.{Carried}
 use Rattle.dat_header.specs.declared.pieces.Sections.{Sections}
 use Rattle.dat_header.specs.Allowed.{IsHeader, IsLong, IsPageSize}
 use Rattle.dat_header.specs.Pieces.{IsMachine, IsPageText, IsCarried, AreSections}
-use Rattle.dat_header.specs.PageText.{plain_layout, may_be, layout_by, line_named, field_lines, layout_of}
+use Rattle.dat_header.specs.PageText.{may_be, layout_by, line_named, field_lines, layout_of}
 use Rattle.dat_header.specs.Header.{joined}
 
 abbrev pub found_header : Header → Result Header OpenFault

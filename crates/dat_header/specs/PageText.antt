@@ -10,10 +10,7 @@ use Rattle.trace_base.specs.OptionSteps.{◌>>=◌}
 use Rattle.text_lines.specs.Lines.{lines_of}
 use Rattle.trace_base.specs.declared.order.Order.{Order}
 use Rattle.trace_base.specs.declared.layout.Layout.{Layout}
-
--- an empty text: the timestamp, a commit word of the user's long, and the data behind it
-abbrev pub plain_layout : Order → ℕ → ℕ → Layout
-plain_layout order long page = record { order = order; time_at = 0; commit_at = 8; commit_size = long; data_at = 8 + long; page = page }
+use Rattle.trace_base.specs.Layout.{plain_layout}
 
 -- the field lines of a text
 abbrev pub field_lines : List ℕ → List FieldData
@@ -46,7 +43,7 @@ layout_by_lines order page lines = do
   content ← line_named (codes "data") lines
   layout_by order page time commit content
 
--- the layout of a file with this order, user's long, page size and header_page text
+-- the layout of a file with this order, user's long, page size and header_page text; an empty text stands for the plain one
 unfoldable pub layout_of : Order → ℕ → ℕ → List ℕ → Option Layout
 layout_of order long page [] = Some (plain_layout order long page)
 layout_of order long page (byte ∷ text) = layout_by_lines order page (field_lines (byte ∷ text))

@@ -4,7 +4,7 @@ ghost use Rattle.std.specs.Prelude.{◌≡◌, ◌≤◌, IfOk};
 ghost use Rattle.std.specs.Option.{option_map};
 ghost use Rattle.trace_base.specs.FieldReading.{field_view};
 ghost use Rattle.trace_base.specs.Layout.{IsLayout};
-ghost use Rattle.dat_header.specs.PageText.{field_lines, layout_of, layout_by, line_named, may_be, plain_layout};
+ghost use Rattle.dat_header.specs.PageText.{field_lines, layout_of, layout_by, line_named, may_be};
 ghost use Rattle.dat_header.specs.Pieces.{IsMachine, IsPageText};
 ghost use Rattle.dat_header.specs.Header.{page_text_at};
 ghost use Rattle.dat_header.specs.Steps.{Steps, seen};
@@ -43,26 +43,12 @@ fn layout_of(machine: &Machine, text: &[u8]) -> Option<Layout>
     ensures { result ≡ layout_of machine.now.order machine.now.long machine.now.page text.now }
 {
     if text.is_empty() {
-        return Some(plain_layout(machine));
+        return Some(Layout::plain(machine.order, machine.long, machine.page));
     }
     let time = line_named(text, b"timestamp")?;
     let commit = line_named(text, b"commit")?;
     let content = line_named(text, b"data")?;
     layout_by(machine, &time, &commit, &content)
-}
-
-fn plain_layout(machine: &Machine) -> Layout
-    requires { IsMachine machine.now }
-    ensures { result ≡ plain_layout machine.now.order machine.now.long machine.now.page }
-{
-    Layout {
-        order: machine.order,
-        time_at: 0,
-        commit_at: 8,
-        commit_size: machine.long,
-        data_at: 8 + machine.long,
-        page: machine.page,
-    }
 }
 
 // The first field line of this name.

@@ -55,14 +55,6 @@ const FULL: &[(Section, &str)] = &[
 ];
 
 fn plain(alloc: Global) -> Result<Header, AllocError> {
-    let layout = Layout {
-        order: Order::Little,
-        time_at: 0,
-        commit_at: 8,
-        commit_size: 8,
-        data_at: 16,
-        page: 4096,
-    };
     let part = Part {
         offset: 4096,
         size: 4096,
@@ -71,7 +63,7 @@ fn plain(alloc: Global) -> Result<Header, AllocError> {
         order: Order::Little,
         long: 8,
         page: 4096,
-        layout,
+        layout: Layout::plain(Order::Little, 8, 4096),
         page_text: text(alloc, b"")?,
         event_text: text(alloc, b"")?,
         ftrace: ListOf::from_vec(Vec::new(alloc)),

@@ -17,14 +17,7 @@ fn layout() -> Layout
     ensures allowed { IsLayout result }
     ensures page { result.page ≡ 4096 }
 {
-    Layout {
-        order: Order::Big,
-        time_at: 0,
-        commit_at: 8,
-        commit_size: 4,
-        data_at: 12,
-        page: 4096,
-    }
+    Layout::plain(Order::Big, 4, 4096)
 }
 
 fn event(time: u64) -> Item<'static>

@@ -28,14 +28,7 @@ fn layout_of(order: Order) -> Layout
     ensures page { result.page ≡ 4096 }
     ensures data_at { result.data_at ≡ 16 }
 {
-    Layout {
-        order,
-        time_at: 0,
-        commit_at: 8,
-        commit_size: 8,
-        data_at: 16,
-        page: 4096,
-    }
+    Layout::plain(order, 8, 4096)
 }
 
 fn bytes_of(alloc: Global, buffer: &SubBuffer) -> Result<Vec<u8>, AllocError>

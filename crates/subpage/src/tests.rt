@@ -41,14 +41,7 @@ fn layout_of(order: Order, is_64_bit: bool) -> Layout
     ensures data_at { result.data_at ≤ 16 }
 {
     let commit_size = if is_64_bit { 8 } else { 4 };
-    Layout {
-        order,
-        time_at: 0,
-        commit_at: 8,
-        commit_size,
-        data_at: 8 + commit_size,
-        page: 4096,
-    }
+    Layout::plain(order, commit_size, 4096)
 }
 
 fn write(alloc: Global, layout: &Layout, page: &SubPage) -> Result<Vec<u8>, AllocError>

@@ -1,6 +1,7 @@
 -- The layouts that a file's header may give to its sub-buffers.
 -- Source: trace-cmd.dat.v6(5), `header_page`; the kernel's ring_buffer_print_page_header.
-use Rattle.std.specs.Prelude.{◌≡◌, ◌+◌, ◌≤◌, ◌%◌, ◌⊎◌}
+use Rattle.std.specs.Prelude.{◌≡◌, ℕ, ◌+◌, ◌≤◌, ◌%◌, ◌⊎◌}
+use Rattle.trace_base.specs.declared.order.Order.{Order}
 use Rattle.trace_base.specs.declared.layout.Layout.{Layout}
 
 pub record IsLayout (layout : Layout) : Type 0 where
@@ -12,3 +13,7 @@ pub record IsLayout (layout : Layout) : Type 0 where
   pub data_aligned : layout.data_at % 4 ≡ 0
   pub page_least : 4096 ≤ layout.page
   pub page_most : layout.page ≤ 65536
+
+-- the timestamp, a commit word of a long, and the data behind it
+abbrev pub plain_layout : Order → ℕ → ℕ → Layout
+plain_layout order long page = record { order = order; time_at = 0; commit_at = 8; commit_size = long; data_at = 8 + long; page = page }

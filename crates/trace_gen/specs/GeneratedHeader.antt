@@ -3,6 +3,7 @@
 use Rattle.std.specs.Prelude.{ℕ, List, [], ◌∷◌, ◌++◌, map, codes, None}
 use Rattle.std.specs.List.{flat_map, range_with_len}
 use Rattle.std.specs.Fmt.{decimal}
+use Rattle.trace_base.specs.Layout.{plain_layout}
 use Rattle.trace_base.specs.declared.layout.Layout.{Layout}
 use Rattle.trace_base.specs.declared.order.Order.TheVariants.{Little}
 use Rattle.dat_header.specs.declared.header.Header.{Header}
@@ -37,7 +38,7 @@ abbrev pub task_lines : List (List ℕ)
 task_lines = map task_line (range_with_len 1 99)
 
 abbrev pub generated_layout : Layout
-generated_layout = record { order = Little; time_at = 0; commit_at = 8; commit_size = 8; data_at = 16; page = 4096 }
+generated_layout = plain_layout Little 8 4096
 
 -- the header, but for its own length and the table of the processors' parts, in whose place another body stands
 abbrev pub header_but_parts : Header

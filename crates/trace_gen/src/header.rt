@@ -20,14 +20,7 @@ pub(crate) fn layout() -> Layout
     ensures value { result ≡ generated_layout }
     ensures allowed { IsLayout result }
 {
-    Layout {
-        order: Order::Little,
-        time_at: 0,
-        commit_at: 8,
-        commit_size: 8,
-        data_at: 16,
-        page: PAGE,
-    }
+    Layout::plain(Order::Little, 8, PAGE)
 }
 
 // The text of the one event format.

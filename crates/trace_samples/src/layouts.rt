@@ -10,12 +10,5 @@ pub fn layout() -> Layout
     ensures allowed { IsLayout result }
     ensures page { result.page ≡ 4096 }
 {
-    Layout {
-        order: Order::Little,
-        time_at: 0,
-        commit_at: 8,
-        commit_size: 8,
-        data_at: 16,
-        page: 4096,
-    }
+    Layout::plain(Order::Little, 8, 4096)
 }
