@@ -6,7 +6,7 @@ use Rattle.std.specs.Prelude.{option_and_then, codes, if◌then◌else◌}
 use Rattle.dat_options.proofs.Steps.{some_is}
 use Rattle.trace_base.specs.FieldLine.{FieldData}
 use Rattle.trace_outside.specs.Causes.{raised}
-use Rattle.trace_base.specs.Layout.{IsLayout}
+use Rattle.trace_base.specs.Layout.{IsLayout, plain_layout}
 use Rattle.trace_base.specs.declared.order.Order.{Order}
 use Rattle.trace_base.specs.declared.layout.Layout.{Layout}
 use Rattle.dat_options.specs.declared.fault.OpenFault.{OpenFault}
@@ -52,7 +52,7 @@ either false two e = inr e
 long_is : (size : ℕ) → (eqb size 4 || eqb size 8) ≡ true → IsLong size
 long_is size e = elim (either (eqb size 4) (eqb size 8) e) [ inl four ↦ inl (eqb-true size 4 four) | inr eight ↦ inr (eqb-true size 8 eight) ]
 
-page_is : (page : ℕ) → IsPageSize page → (4096 ≤ page) × (page ≤ 65536)
+pub page_is : (page : ℕ) → IsPageSize page → (4096 ≤ page) × (page ≤ 65536)
 page_is page size = (omega (arith, size.3, pow_mono size.1), omega (arith, size.3, pow_mono size.2))
 
 long_fits : (long : ℕ) → IsLong long → (long ≤ 8) × ((8 + long) % 4 ≡ 0)
