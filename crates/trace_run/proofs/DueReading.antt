@@ -25,12 +25,12 @@ use Rattle.trace_args.specs.Command.{ReportData}
 use Rattle.trace_args.specs.declared.listing.Listing.{Listing}
 use Rattle.trace_args.specs.declared.listing.Listing.TheVariants.{Nothing, Names, Formats, Symbols, Printk}
 use Rattle.trace_run.specs.declared.status.Status.{Status}
-use Rattle.trace_run.specs.declared.status.Status.TheVariants.{Done, Usage, Refused, Malformed, ReadFault, WriteFault, NoMemory}
 use Rattle.trace_run.specs.Context.{context_of}
 use Rattle.trace_run.specs.Due.{behind_first, due_of, ReadsParts, ReadsBody, ReadsEvents, ReadsCommand, ReadsFile, DueInput}
 use Rattle.trace_run.specs.Job.{FileCommand, Report, Dump, Split}
 use Rattle.trace_run.specs.Meaning.{input_of}
 use Rattle.trace_run.specs.Report.{cpus_line, selected}
+use Rattle.trace_run.proofs.Reading.{any_answer, behind_header_map}
 
 begins : (first rest : List ℕ) → starts_with nat_eq (first ++ rest) first ≡ true
 begins first rest = ap (pointwise nat_eq first) (take_at first rest (length first) refl) ∙ nat_list_eq_equiv.refl first
@@ -103,17 +103,6 @@ behind_command (Report words) header bytes old now n before mid reads first due 
 behind_command (Dump words) header bytes old now n before mid reads first due = tt
 behind_command (Split words) header bytes old now n before mid reads first due = tt
 
--- the bound holds for any answer
-any_answer : (command : FileCommand) (told : Option (List ℕ)) (status : Status) (old now : Option (List ℕ)) (before reads : ℕ)
-    → ReadsFile command told old now before reads → DueInput command told status old now before reads
-any_answer command told Done old now before reads due = due
-any_answer command told (Malformed cpu page) old now before reads due = due
-any_answer command told WriteFault old now before reads due = due
-any_answer command told Usage old now before reads due = tt
-any_answer command told (Refused fault) old now before reads due = tt
-any_answer command told ReadFault old now before reads due = tt
-any_answer command told NoMemory old now before reads due = tt
-
 due_behind : (command : FileCommand) (header : Header) (told same old now : Option (List ℕ)) (before mid reads : ℕ) → same ≡ told
     → ReadsHeader told (Ok header) → mid ≤ raised before header.end → IfSome same (λ bytes. ReadsCommand command header 0 bytes old now mid reads)
     → ReadsFile command told old now before reads
@@ -128,7 +117,7 @@ pub due_behind_header : (command : FileCommand) (header : Header) (told same old
     → ReadsHeader told (Ok header) → mid ≤ raised before header.end → IfSome same (λ bytes. ReadsCommand command header 0 bytes old now mid reads)
     → DueInput command told status old now before reads
 due_behind_header command header told same old now status before mid reads kept found first due =
-    any_answer command told status old now before reads (due_behind command header told same old now before mid reads kept found first due)
+    any_answer status (due_behind command header told same old now before mid reads kept found first due)
 
 counted_command : (command : FileCommand) (header : Header) (n : ℕ) (bytes : List ℕ) (old now : Option (List ℕ)) (reads before last : ℕ) → last ≡ raised before reads
     → ReadsCommand command header n bytes old now 0 reads → ReadsCommand command header n bytes old now before last
@@ -160,13 +149,7 @@ due_counted command (Some bytes) old now reads before last is due = by_header (h
 -- what was read from a file is what the folder counts when it is closed
 closed : (command : FileCommand) (told : Option (List ℕ)) (status : Status) (old now : Option (List ℕ)) (reads before last : ℕ) → last ≡ raised before reads
     → DueInput command told status old now 0 reads → DueInput command told status old now before last
-closed command told Done old now reads before last is due = due_counted command told old now reads before last is due
-closed command told (Malformed cpu page) old now reads before last is due = due_counted command told old now reads before last is due
-closed command told WriteFault old now reads before last is due = due_counted command told old now reads before last is due
-closed command told Usage old now reads before last is due = tt
-closed command told (Refused fault) old now reads before last is due = tt
-closed command told ReadFault old now reads before last is due = tt
-closed command told NoMemory old now reads before last is due = tt
+closed command told status old now reads before last is = behind_header_map status (due_counted command told old now reads before last is)
 
 pub command_due : (command : FileCommand) (told : Option NamedFiles) (bytes : Option (List ℕ)) (status : Status) (old now : Option (List ℕ)) (reads before last : ℕ)
     → IsFileOf told (input_of command) bytes → last ≡ raised before reads → DueInput command bytes status old now 0 reads

@@ -11,17 +11,27 @@ use Rattle.dat_header.specs.Header.{header_of, ReadsHeader}
 use Rattle.trace_run.specs.declared.status.Status.{Status}
 use Rattle.trace_run.specs.declared.status.Status.TheVariants.{Done, Usage, Refused, Malformed, ReadFault, WriteFault, NoMemory}
 use Rattle.trace_run.specs.Meaning.{input_of}
-use Rattle.trace_run.specs.Counts.{ReadsAtMost, ReadsInput, share}
+use Rattle.trace_run.specs.Counts.{BehindHeader, ReadsAtMost, ReadsInput, share}
 
--- the bound holds for any answer
-any_answer : (command : FileCommand) (told : Option (List ℕ)) (status : Status) (before now : ℕ) → ReadsAtMost command told before now → ReadsInput command told status before now
-any_answer command told Done before now most = most
-any_answer command told (Malformed cpu page) before now most = most
-any_answer command told WriteFault before now most = most
-any_answer command told Usage before now most = tt
-any_answer command told (Refused fault) before now most = tt
-any_answer command told ReadFault before now most = tt
-any_answer command told NoMemory before now most = tt
+-- what follows from a claim for the answers behind a header
+pub behind_header_map : {one two : Type 0} → (status : Status) → (one → two) → BehindHeader status one → BehindHeader status two
+behind_header_map Done follows claim = follows claim
+behind_header_map (Malformed cpu page) follows claim = follows claim
+behind_header_map WriteFault follows claim = follows claim
+behind_header_map Usage follows claim = tt
+behind_header_map (Refused fault) follows claim = tt
+behind_header_map ReadFault follows claim = tt
+behind_header_map NoMemory follows claim = tt
+
+-- what holds for any answer
+pub any_answer : {claim : Type 0} → (status : Status) → claim → BehindHeader status claim
+any_answer Done holds = holds
+any_answer (Malformed cpu page) holds = holds
+any_answer WriteFault holds = holds
+any_answer Usage holds = tt
+any_answer (Refused fault) holds = tt
+any_answer ReadFault holds = tt
+any_answer NoMemory holds = tt
 
 -- a header and behind it the command's share
 header_and_share : (command : FileCommand) (header : Header) (told : Option (List ℕ)) (size before mid now : ℕ) → IfSome told (λ bytes. length bytes ≡ size)
@@ -34,7 +44,7 @@ header_and_share command header (Some bytes) size before mid now is found first 
 pub read_behind_header : (command : FileCommand) (header : Header) (told : Option (List ℕ)) (status : Status) (size before mid now : ℕ) → IfSome told (λ bytes. length bytes ≡ size)
     → ReadsHeader told (Ok header) → mid ≤ raised before header.end → now ≤ raised mid (share command header size) → ReadsInput command told status before now
 read_behind_header command header told status size before mid now is found first then =
-    any_answer command told status before now (header_and_share command header told size before mid now is found first then)
+    any_answer status (header_and_share command header told size before mid now is found first then)
 
 most_closed : (command : FileCommand) (told : Option (List ℕ)) (reads before now : ℕ) → now ≡ raised before reads → ReadsAtMost command told 0 reads → ReadsAtMost command told before now
 most_closed command None reads before now is most = tt
@@ -48,13 +58,7 @@ most_closed command (Some bytes) reads before now is most = by_header (header_of
 -- what was read from a file is what the folder counts when it is closed
 closed : (command : FileCommand) (told : Option (List ℕ)) (status : Status) (reads before now : ℕ) → now ≡ raised before reads → ReadsInput command told status 0 reads
     → ReadsInput command told status before now
-closed command told Done reads before now is most = most_closed command told reads before now is most
-closed command told (Malformed cpu page) reads before now is most = most_closed command told reads before now is most
-closed command told WriteFault reads before now is most = most_closed command told reads before now is most
-closed command told Usage reads before now is most = tt
-closed command told (Refused fault) reads before now is most = tt
-closed command told ReadFault reads before now is most = tt
-closed command told NoMemory reads before now is most = tt
+closed command told status reads before now is = behind_header_map status (most_closed command told reads before now is)
 
 pub command_reads : (command : FileCommand) (told : Option NamedFiles) (bytes : Option (List ℕ)) (status : Status) (reads before now : ℕ)
     → IsFileOf told (input_of command) bytes → now ≡ raised before reads → ReadsInput command bytes status 0 reads

@@ -61,12 +61,15 @@ share (Split words) header size = split_share words.cpu header.body
 abbrev pub ReadsAtMost : FileCommand → Option (List ℕ) → ℕ → ℕ → Type 0
 ReadsAtMost command told before now = IfSome told (λ bytes. IfOk (header_of bytes) (λ header. now ≤ raised before (header.end + share command header (length bytes))))
 
--- the same for the answers behind a header
+-- a claim for the answers behind a header: the work is done, the file is malformed, or the output could not be written
+abbrev pub BehindHeader : Status → Type 0 → Type 0
+BehindHeader Done claim = claim
+BehindHeader (Malformed cpu page) claim = claim
+BehindHeader WriteFault claim = claim
+BehindHeader status claim = Unit {0}
+
 abbrev pub ReadsInput : FileCommand → Option (List ℕ) → Status → ℕ → ℕ → Type 0
-ReadsInput command told Done before now = ReadsAtMost command told before now
-ReadsInput command told (Malformed cpu page) before now = ReadsAtMost command told before now
-ReadsInput command told WriteFault before now = ReadsAtMost command told before now
-ReadsInput command told status before now = Unit {0}
+ReadsInput command told status before now = BehindHeader status (ReadsAtMost command told before now)
 
 abbrev pub CommandReads : FileCommand → Status → Outside → Outside → Type 0
 CommandReads command status before now = IfSome before.files (λ files. ReadsInput command (get files (input_of command)) status before.counts.bytes now.counts.bytes)

@@ -16,9 +16,9 @@ use Rattle.trace_args.specs.Command.{ReportData}
 use Rattle.trace_args.specs.declared.listing.Listing.{Listing}
 use Rattle.trace_args.specs.declared.listing.Listing.TheVariants.{Nothing}
 use Rattle.trace_run.specs.declared.status.Status.{Status}
-use Rattle.trace_run.specs.declared.status.Status.TheVariants.{Done, Malformed, WriteFault}
 use Rattle.trace_run.specs.declared.usage.UsageFault.{UsageFault}
 use Rattle.trace_run.specs.Context.{context_of}
+use Rattle.trace_run.specs.Counts.{BehindHeader}
 use Rattle.trace_run.specs.Ending.{Outside}
 use Rattle.trace_run.specs.Job.{FileCommand, Report, Dump, Split, Job, OnFile, SelfTest}
 use Rattle.trace_run.specs.Meaning.{input_of}
@@ -61,12 +61,8 @@ abbrev pub ReadsFile : FileCommand → Option (List ℕ) → Option (List ℕ) �
 ReadsFile command told old new before now =
     IfSome told (λ bytes. IfOk (header_of bytes) (λ header. ReadsCommand command header header.end bytes old new before now))
 
--- the same for the answers behind a header
 abbrev pub DueInput : FileCommand → Option (List ℕ) → Status → Option (List ℕ) → Option (List ℕ) → ℕ → ℕ → Type 0
-DueInput command told Done old new before now = ReadsFile command told old new before now
-DueInput command told (Malformed cpu page) old new before now = ReadsFile command told old new before now
-DueInput command told WriteFault old new before now = ReadsFile command told old new before now
-DueInput command told status old new before now = Unit {0}
+DueInput command told status old new before now = BehindHeader status (ReadsFile command told old new before now)
 
 abbrev pub JobDue : Job → Status → Outside → Outside → Type 0
 JobDue (OnFile command) status before now = IfSome before.files (λ files.

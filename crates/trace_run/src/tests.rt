@@ -17,7 +17,7 @@ use std::process::Abort;
 use std::test::Fail;
 use std::thread::Threads;
 use trace_base::Words;
-use trace_outside::{MemFolder, MemSink, NoGate};
+use trace_outside::{Folder, Gate, MemFolder, MemSink, NoGate};
 
 /// A header without processors. The count of processors stands at its byte 83.
 const HEADER: &[u8; 97] =
@@ -643,6 +643,49 @@ fn words_of(alloc: Global, all: &[&str]) -> Result<Words, Fail> {
     Ok(words)
 }
 
+// A folder that has this file, if any, under the name trace.dat.
+fn folder_of(alloc: Global, file: &Input) -> Result<MemFolder, Fail> {
+    let mut folder = MemFolder::new(alloc);
+    if !matches!(file, Input::Missing) {
+        folder.put("trace.dat", &bytes_of(alloc, file)?)?;
+    }
+    Ok(folder)
+}
+
+// How a run ended, and what it wrote.
+#[derive(Drop)]
+struct Ran {
+    status: Status,
+    out: MemSink,
+    err: MemSink,
+}
+
+fn ran<R: Alloc<A = Global> + Threads + Sync, F: Folder, G: Gate>(
+    rt: &R,
+    words: &Words,
+    folder: &mut F,
+    gate: &G,
+) -> Ran {
+    let alloc = rt.alloc();
+    let mut out = MemSink::new(alloc);
+    let mut err = MemSink::new(alloc);
+    let status = run(rt, alloc, words, folder, &mut out, &mut err, gate);
+    Ran { status, out, err }
+}
+
+// Runs words without a gate. They end so, and write this.
+fn ends_as<R: Alloc<A = Global> + Abort + Threads + Sync, F: Folder>(
+    rt: &R,
+    words: &Words,
+    folder: &mut F,
+    expected: (Status, &str, &str),
+) {
+    let ran = ran(rt, words, folder, &NoGate);
+    assert_eq!(rt; ran.status, expected.0);
+    assert_eq!(rt; ran.out.bytes(), expected.1.as_bytes());
+    assert_eq!(rt; ran.err.bytes(), expected.2.as_bytes());
+}
+
 // Runs a row's words with these behind them.
 fn runs_with<R: Alloc<A = Global> + Abort + Threads + Sync>(
     rt: &R,
@@ -654,16 +697,8 @@ fn runs_with<R: Alloc<A = Global> + Abort + Threads + Sync>(
     for word in more {
         words.push(word)?;
     }
-    let mut folder = MemFolder::new(alloc);
-    if !matches!(&row.file, Input::Missing) {
-        folder.put("trace.dat", &bytes_of(alloc, &row.file)?)?;
-    }
-    let mut out = MemSink::new(alloc);
-    let mut err = MemSink::new(alloc);
-    let status = run(rt, alloc, &words, &mut folder, &mut out, &mut err, &NoGate);
-    assert_eq!(rt; status, row.status);
-    assert_eq!(rt; out.bytes(), row.out.as_bytes());
-    assert_eq!(rt; err.bytes(), row.err.as_bytes());
+    let mut folder = folder_of(alloc, &row.file)?;
+    ends_as(rt, &words, &mut folder, (row.status, row.out, row.err));
     Ok(())
 }
 
@@ -712,13 +747,9 @@ fn fails_as<R: Alloc<A = Global> + Abort + Threads + Sync>(
 ) -> Result<(), Fail> {
     let alloc = rt.alloc();
     let words = words_of(alloc, &["report"])?;
-    let mut disk = Disk::new(alloc, bytes_of(alloc, &ONE)?, from, false);
-    let mut out = MemSink::new(alloc);
-    let mut err = MemSink::new(alloc);
-    let status = run(rt, alloc, &words, &mut disk, &mut out, &mut err, &NoGate);
-    assert_eq!(rt; status, expected.0);
-    assert_eq!(rt; out.bytes(), expected.1.as_bytes());
-    assert_eq!(rt; err.bytes(), expected.2.as_bytes());
+    let mut disk = Disk::new(alloc, bytes_of(alloc, &ONE)?, from, true);
+    ends_as(rt, &words, &mut disk, expected);
+    assert_eq!(rt; disk.created(), 0);
     Ok(())
 }
 

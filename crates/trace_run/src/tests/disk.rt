@@ -28,6 +28,11 @@ impl Disk {
             counts: Counts::NONE,
         }
     }
+
+    /// How many files were created, finished or not.
+    pub(super) fn created(&self) -> u64 {
+        self.counts.created
+    }
 }
 
 #[derive(Drop)]

@@ -1,11 +1,11 @@
 // Gates that see which lanes are formatted, and when.
 
-use super::{Carried, Input, Page, Record, bytes_of, words_of};
-use crate::{Status, run};
+use super::{Carried, Input, Page, Record, folder_of, ran, words_of};
+use crate::Status;
 use std::sync::atomic::AtomicU64;
 use std::sync::atomic::Ordering::SeqCst;
 use std::test::Fail;
-use trace_outside::{Gate, MemFolder, MemSink};
+use trace_outside::{Gate, MemFolder};
 
 /// A gate that counts the lanes that pass.
 #[derive(Drop)]
@@ -28,11 +28,8 @@ fn each_lane_passes_the_gate(rt: HostRuntime) -> Result<(), Fail> {
             passed: AtomicU64::new(0),
         };
         let mut folder = MemFolder::new(rt.alloc());
-        let mut out = MemSink::new(rt.alloc());
-        let mut err = MemSink::new(rt.alloc());
-        let alloc = rt.alloc();
-        let status = run(&rt, alloc, &words, &mut folder, &mut out, &mut err, &gate);
-        assert_eq!(rt; status, Status::Done);
+        let ran = ran(&rt, &words, &mut folder, &gate);
+        assert_eq!(rt; ran.status, Status::Done);
         assert!(rt; gate.passed.load(SeqCst) >= 4, "{workers}");
     }
     Ok(())
@@ -81,12 +78,9 @@ fn two_lanes_are_formatted_at_once(rt: HostRuntime) -> Result<(), Fail> {
         entered: AtomicU64::new(0),
         alone: AtomicU64::new(0),
     };
-    let mut folder = MemFolder::new(alloc);
-    folder.put("trace.dat", &bytes_of(alloc, &TWO)?)?;
-    let mut out = MemSink::new(alloc);
-    let mut err = MemSink::new(alloc);
-    let status = run(&rt, alloc, &words, &mut folder, &mut out, &mut err, &gate);
-    assert_eq!(rt; status, Status::Done);
+    let mut folder = folder_of(alloc, &TWO)?;
+    let ran = ran(&rt, &words, &mut folder, &gate);
+    assert_eq!(rt; ran.status, Status::Done);
     assert_eq!(rt; gate.alone.load(SeqCst), 0);
     Ok(())
 }

@@ -7,29 +7,33 @@ pub(super) const FUNCTION: u16 = 1;
 
 pub(super) const SWITCH: u16 = 316;
 
-const FUNCTION_TEXT: &str = "name: function
-ID: 1
-format:
-\tfield:unsigned short common_type;\toffset:0;\tsize:2;\tsigned:0;
+/// A format's text, but for the common fields.
+struct FormatText {
+    head: &'static str,
+    fields: &'static str,
+    print: &'static str,
+}
+
+const COMMON_FIELDS: &str = "\tfield:unsigned short common_type;\toffset:0;\tsize:2;\tsigned:0;
 \tfield:unsigned char common_flags;\toffset:2;\tsize:1;\tsigned:0;
 \tfield:unsigned char common_preempt_count;\toffset:3;\tsize:1;\tsigned:0;
 \tfield:int common_pid;\toffset:4;\tsize:4;\tsigned:1;
 
-\tfield:unsigned long ip;\toffset:8;\tsize:8;\tsigned:0;
-\tfield:unsigned long parent_ip;\toffset:16;\tsize:8;\tsigned:0;
-
-print fmt: \" %ps <-- %ps\", (void *)REC->ip, (void *)REC->parent_ip
 ";
 
-const SWITCH_TEXT: &str = "name: sched_switch
-ID: 316
-format:
-\tfield:unsigned short common_type;\toffset:0;\tsize:2;\tsigned:0;
-\tfield:unsigned char common_flags;\toffset:2;\tsize:1;\tsigned:0;
-\tfield:unsigned char common_preempt_count;\toffset:3;\tsize:1;\tsigned:0;
-\tfield:int common_pid;\toffset:4;\tsize:4;\tsigned:1;
+const FUNCTION_TEXT: FormatText = FormatText {
+    head: "name: function\nID: 1\nformat:\n",
+    fields: "\tfield:unsigned long ip;\toffset:8;\tsize:8;\tsigned:0;
+\tfield:unsigned long parent_ip;\toffset:16;\tsize:8;\tsigned:0;
 
-\tfield:char prev_comm[16];\toffset:8;\tsize:16;\tsigned:0;
+",
+    print: "print fmt: \" %ps <-- %ps\", (void *)REC->ip, (void *)REC->parent_ip
+",
+};
+
+const SWITCH_TEXT: FormatText = FormatText {
+    head: "name: sched_switch\nID: 316\nformat:\n",
+    fields: "\tfield:char prev_comm[16];\toffset:8;\tsize:16;\tsigned:0;
 \tfield:pid_t prev_pid;\toffset:24;\tsize:4;\tsigned:1;
 \tfield:int prev_prio;\toffset:28;\tsize:4;\tsigned:1;
 \tfield:long prev_state;\toffset:32;\tsize:8;\tsigned:1;
@@ -37,8 +41,10 @@ format:
 \tfield:pid_t next_pid;\toffset:56;\tsize:4;\tsigned:1;
 \tfield:int next_prio;\toffset:60;\tsize:4;\tsigned:1;
 
-print fmt: \"prev_comm=%s prev_pid=%d prev_prio=%d prev_state=%s%s ==> next_comm=%s next_pid=%d next_prio=%d\", REC->prev_comm, REC->prev_pid, REC->prev_prio, (REC->prev_state & ((((0x00 | 0x01 | 0x02 | 0x04 | 0x08 | 0x10 | 0x20 | 0x40) + 1) << 1) - 1)) ? __print_flags(REC->prev_state & ((((0x00 | 0x01 | 0x02 | 0x04 | 0x08 | 0x10 | 0x20 | 0x40) + 1) << 1) - 1), \"|\", { 0x01, \"S\" }, { 0x02, \"D\" }, { 0x04, \"T\" }, { 0x08, \"t\" }, { 0x10, \"X\" }, { 0x20, \"Z\" }, { 0x40, \"P\" }, { 0x80, \"I\" }) : \"R\", REC->prev_state & (((0x00 | 0x01 | 0x02 | 0x04 | 0x08 | 0x10 | 0x20 | 0x40) + 1) << 1) ? \"+\" : \"\", REC->next_comm, REC->next_pid, REC->next_prio
-";
+",
+    print: "print fmt: \"prev_comm=%s prev_pid=%d prev_prio=%d prev_state=%s%s ==> next_comm=%s next_pid=%d next_prio=%d\", REC->prev_comm, REC->prev_pid, REC->prev_prio, (REC->prev_state & ((((0x00 | 0x01 | 0x02 | 0x04 | 0x08 | 0x10 | 0x20 | 0x40) + 1) << 1) - 1)) ? __print_flags(REC->prev_state & ((((0x00 | 0x01 | 0x02 | 0x04 | 0x08 | 0x10 | 0x20 | 0x40) + 1) << 1) - 1), \"|\", { 0x01, \"S\" }, { 0x02, \"D\" }, { 0x04, \"T\" }, { 0x08, \"t\" }, { 0x10, \"X\" }, { 0x20, \"Z\" }, { 0x40, \"P\" }, { 0x80, \"I\" }) : \"R\", REC->prev_state & (((0x00 | 0x01 | 0x02 | 0x04 | 0x08 | 0x10 | 0x20 | 0x40) + 1) << 1) ? \"+\" : \"\", REC->next_comm, REC->next_pid, REC->next_prio
+",
+};
 
 const KALLSYMS: &str = "ffffffff81000000 T schedule\nffffffff81000100 t do_idle\n";
 
@@ -47,10 +53,18 @@ const COMMAND_LINES: &str = "1234 bash\n42 kworker/0:1\n";
 /// A task at a switch: its name, pid and priority.
 pub(super) struct Task(pub &'static str, pub u32, pub u32);
 
-fn put_format(file: &mut Vec<u8>, text: &str) -> Result<(), Fail> {
+fn put_long(file: &mut Vec<u8>, text: &[u8]) -> Result<(), Fail> {
     file.extend_from_slice(&(text.len() as u64).to_le_bytes())?;
-    file.extend_from_slice(text.as_bytes())?;
+    file.extend_from_slice(text)?;
     Ok(())
+}
+
+fn put_format(file: &mut Vec<u8>, format: &FormatText) -> Result<(), Fail> {
+    let mut text = Vec::new(*file.allocator());
+    for piece in [format.head, COMMON_FIELDS, format.fields, format.print] {
+        text.extend_from_slice(piece.as_bytes())?;
+    }
+    put_long(file, &text)
 }
 
 fn put_short(file: &mut Vec<u8>, text: &str) -> Result<(), Fail> {
@@ -62,42 +76,38 @@ fn put_short(file: &mut Vec<u8>, text: &str) -> Result<(), Fail> {
 /// What a header carries between its header_event text and its number of processors.
 pub(super) fn put_carried(file: &mut Vec<u8>) -> Result<(), Fail> {
     file.extend_from_slice(&1u32.to_le_bytes())?;
-    put_format(file, FUNCTION_TEXT)?;
+    put_format(file, &FUNCTION_TEXT)?;
     file.extend_from_slice(&1u32.to_le_bytes())?;
     file.extend_from_slice(b"sched\0\x01\0\0\0")?;
-    put_format(file, SWITCH_TEXT)?;
+    put_format(file, &SWITCH_TEXT)?;
     put_short(file, KALLSYMS)?;
     put_short(file, "")?;
-    put_format(file, COMMAND_LINES)
+    put_long(file, COMMAND_LINES.as_bytes())
 }
 
-const WIDE_TEXT: &str = "name: wide
-ID: 7
-format:
-\tfield:unsigned short common_type;\toffset:0;\tsize:2;\tsigned:0;
-\tfield:int common_pid;\toffset:4;\tsize:4;\tsigned:1;
+const WIDE_TEXT: FormatText = FormatText {
+    head: "name: wide\nID: 7\nformat:\n",
+    fields: "",
+    print: "print fmt: \"%30000d\", REC->common_pid
+",
+};
 
-print fmt: \"%30000d\", REC->common_pid
-";
-
-const WIDEST_TEXT: &str = "name: widest
-ID: 8
-format:
-\tfield:unsigned short common_type;\toffset:0;\tsize:2;\tsigned:0;
-\tfield:int common_pid;\toffset:4;\tsize:4;\tsigned:1;
-
-print fmt: \"%65535d\", REC->common_pid
-";
+const WIDEST_TEXT: FormatText = FormatText {
+    head: "name: widest\nID: 8\nformat:\n",
+    fields: "",
+    print: "print fmt: \"%65535d\", REC->common_pid
+",
+};
 
 /// The same for a file with two formats of long lines, and without names.
 pub(super) fn put_wide(file: &mut Vec<u8>) -> Result<(), Fail> {
     file.extend_from_slice(&2u32.to_le_bytes())?;
-    put_format(file, WIDE_TEXT)?;
-    put_format(file, WIDEST_TEXT)?;
+    put_format(file, &WIDE_TEXT)?;
+    put_format(file, &WIDEST_TEXT)?;
     file.extend_from_slice(&0u32.to_le_bytes())?;
     put_short(file, "")?;
     put_short(file, "")?;
-    put_format(file, "")
+    put_long(file, b"")
 }
 
 /// A function that was called from another.

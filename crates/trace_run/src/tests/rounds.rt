@@ -1,12 +1,12 @@
 // Reports of many events and of long lines, on any number of threads.
 
-use super::{Carried, PAGE, put_common, put_head, put_table, words_of};
-use crate::{Status, run};
+use super::{Carried, PAGE, put_common, put_head, put_table, ran, words_of};
+use crate::Status;
 use std::alloc::Global;
 use std::process::Abort;
 use std::test::Fail;
 use std::thread::Threads;
-use trace_outside::{MemFolder, MemSink, NoGate};
+use trace_outside::{MemFolder, NoGate};
 
 /// A sub-buffer of events, each a step behind the one before.
 #[derive(Clone, Copy)]
@@ -84,12 +84,10 @@ fn reports_on<R: Alloc<A = Global> + Abort + Threads + Sync>(
     let mut folder = MemFolder::new(alloc);
     folder.put("trace.dat", &file_of(alloc, processors)?)?;
     let words = words_of(alloc, &["report", "-t", "--workers", workers])?;
-    let mut out = MemSink::new(alloc);
-    let mut err = MemSink::new(alloc);
-    let status = run(rt, alloc, &words, &mut folder, &mut out, &mut err, &NoGate);
-    assert_eq!(rt; status, Status::Done);
-    assert!(rt; out.bytes() == text, "{workers}");
-    assert!(rt; err.bytes().is_empty(), "{workers}");
+    let ran = ran(rt, &words, &mut folder, &NoGate);
+    assert_eq!(rt; ran.status, Status::Done);
+    assert!(rt; ran.out.bytes() == text, "{workers}");
+    assert!(rt; ran.err.bytes().is_empty(), "{workers}");
     Ok(())
 }
 

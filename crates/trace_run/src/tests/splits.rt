@@ -2,15 +2,16 @@
 
 use super::disk::Disk;
 use super::{
-    Carried, Input, MALFORMED_FIRST, MALFORMED_LATER, ONE, Page, Record, bytes_of, words_of,
+    Carried, Input, MALFORMED_FIRST, MALFORMED_LATER, ONE, Page, Record, bytes_of, ends_as,
+    folder_of, ran, words_of,
 };
-use crate::{Status, run};
+use crate::Status;
 use dat_header::OpenFault;
 use std::alloc::Global;
 use std::process::Abort;
 use std::test::Fail;
 use std::thread::Threads;
-use trace_outside::{MemFolder, MemSink, NoGate};
+use trace_outside::{MemFolder, NoGate};
 
 struct Row {
     words: &'static [&'static str],
@@ -261,25 +262,15 @@ fn is_reported_as<R: Alloc<A = Global> + Abort + Threads + Sync>(
 ) -> Result<bool, Fail> {
     let alloc = rt.alloc();
     let words = words_of(alloc, &["report", "-t", name])?;
-    let mut out = MemSink::new(alloc);
-    let mut err = MemSink::new(alloc);
-    let status = run(rt, alloc, &words, folder, &mut out, &mut err, &NoGate);
-    Ok(status == Status::Done && out.bytes() == report.as_bytes())
+    let ran = ran(rt, &words, folder, &NoGate);
+    Ok(ran.status == Status::Done && ran.out.bytes() == report.as_bytes())
 }
 
 fn splits_as<R: Alloc<A = Global> + Abort + Threads + Sync>(rt: &R, row: &Row) -> Result<(), Fail> {
     let alloc = rt.alloc();
     let words = words_of(alloc, row.words)?;
-    let mut folder = MemFolder::new(alloc);
-    if !matches!(&row.file, Input::Missing) {
-        folder.put("trace.dat", &bytes_of(alloc, &row.file)?)?;
-    }
-    let mut out = MemSink::new(alloc);
-    let mut err = MemSink::new(alloc);
-    let status = run(rt, alloc, &words, &mut folder, &mut out, &mut err, &NoGate);
-    assert_eq!(rt; status, row.status);
-    assert!(rt; out.bytes().is_empty());
-    assert_eq!(rt; err.bytes(), row.err.as_bytes());
+    let mut folder = folder_of(alloc, &row.file)?;
+    ends_as(rt, &words, &mut folder, (row.status, "", row.err));
     assert!(rt; folder.get(row.absent).is_none());
     for (name, size, report) in row.files {
         assert!(rt; folder.get(name).is_some_and(|bytes| bytes.len() == *size));
@@ -312,24 +303,20 @@ fn fails_as<R: Alloc<A = Global> + Abort + Threads + Sync>(
     rt: &R,
     from: u64,
     creates: bool,
-    expected: (Status, &str),
+    status: Status,
+    err: &str,
 ) -> Result<(), Fail> {
     let alloc = rt.alloc();
     let words = words_of(alloc, &["split"])?;
     let mut disk = Disk::new(alloc, bytes_of(alloc, &ONE)?, from, creates);
-    let mut out = MemSink::new(alloc);
-    let mut err = MemSink::new(alloc);
-    let status = run(rt, alloc, &words, &mut disk, &mut out, &mut err, &NoGate);
-    assert_eq!(rt; status, expected.0);
-    assert!(rt; out.bytes().is_empty());
-    assert_eq!(rt; err.bytes(), expected.1.as_bytes());
+    ends_as(rt, &words, &mut disk, (status, "", err));
     Ok(())
 }
 
 #[test]
 fn failing_splits(rt: HostRuntime) -> Result<(), Fail> {
     for (from, creates, status, err) in DISKS {
-        fails_as(&rt, *from, *creates, (*status, err))?;
+        fails_as(&rt, *from, *creates, *status, err)?;
     }
     Ok(())
 }
