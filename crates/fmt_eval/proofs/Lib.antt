@@ -3,4 +3,5 @@ pub mod Elements
 pub mod Rows
 pub mod PieceLemmas
 pub mod FlagLemmas
+pub mod FlagSteps
 pub mod ReducedLaws

@@ -8,6 +8,7 @@ use Rattle.trace_base.specs.Fields.{signed_of}
 use Rattle.fmt_literal.specs.declared.ckind.CKind.{CKind}
 use Rattle.fmt_literal.specs.declared.ckind.CKind.TheVariants.{I32, U32, I64, U64}
 use Rattle.fmt_eval.specs.Numbers.{reduced, pattern}
+use Rattle.fmt_eval.specs.NumView.{exact_bits}
 
 pub reduced_i32 : (z : ℤ) (low bits : ℕ) → low ≡ unsigned_abs (int_rem_euclid z (pos (2 ^ 32))) → cast_signed w64 bits ≡ cast_signed w32 low → cast_signed w64 bits ≡ reduced I32 z
 unfolding reduced int_wrap
@@ -112,3 +113,42 @@ signed_whole bytes small =
 pub unsigned_whole : (bytes : ℕ) → bytes < 2 ^ 64 → pos bytes ≡ reduced U64 (pos bytes)
 unfolding reduced
 unsigned_whole bytes small = ap pos (omega arith)
+
+-- ---- 64 bits stand for a number
+
+low_of_pattern_32 : (z : ℤ) → int_rem_euclid (pos (pattern z)) (pos (2 ^ 32)) ≡ int_rem_euclid z (pos (2 ^ 32))
+low_of_pattern_32 (pos a) = ap pos (omega arith)
+low_of_pattern_32 (negsuc a) = ap pos (omega arith)
+
+low_of_pattern_64 : (z : ℤ) → int_rem_euclid (pos (pattern z)) (pos (2 ^ 64)) ≡ int_rem_euclid z (pos (2 ^ 64))
+low_of_pattern_64 (pos a) = ap pos (omega arith)
+low_of_pattern_64 (negsuc a) = ap pos (omega arith)
+
+-- what a kind leaves of a number is what it leaves of its pattern
+reduced_pattern : (kind : CKind) (z : ℤ) → reduced kind (pos (pattern z)) ≡ reduced kind z
+unfolding reduced int_wrap
+reduced_pattern I32 z = ap (λ (n : ℤ). cast_signed w32 (unsigned_abs n)) (low_of_pattern_32 z)
+reduced_pattern U32 z = low_of_pattern_32 z
+reduced_pattern I64 z = ap (λ (n : ℤ). cast_signed w64 (unsigned_abs n)) (low_of_pattern_64 z)
+reduced_pattern U64 z = low_of_pattern_64 z
+
+pattern_by : (kind : CKind) (bits : ℕ) → bits < 2 ^ 64 → bits ≡ pattern (exact_bits kind bits)
+pattern_by I32 bits small = pattern_signed bits small
+pattern_by U32 bits small = pattern_unsigned bits small
+pattern_by I64 bits small = pattern_signed bits small
+pattern_by U64 bits small = pattern_unsigned bits small
+
+pub narrowed_i32 : (bits low made : ℕ) → low ≡ bits % 2 ^ 32 → cast_signed w64 made ≡ cast_signed w32 low → cast_signed w64 made ≡ reduced I32 (pos bits)
+unfolding reduced int_wrap
+narrowed_i32 bits low made is_low is_made = is_made ∙ ap (cast_signed w32) is_low
+
+pub narrowed_i64 : (bits : ℕ) → bits < 2 ^ 64 → cast_signed w64 bits ≡ reduced I64 (pos bits)
+unfolding reduced int_wrap
+narrowed_i64 bits small = let is : bits ≡ bits % 2 ^ 64 = omega arith in ap (cast_signed w64) is
+
+pub converted_is : (kind own : CKind) (bits made : ℕ) → bits < 2 ^ 64 → exact_bits kind made ≡ reduced kind (pos bits) → exact_bits kind made ≡ reduced kind (exact_bits own bits)
+converted_is kind own bits made small is =
+    is ∙ ap (λ (n : ℕ). reduced kind (pos n)) (pattern_by own bits small) ∙ reduced_pattern kind (exact_bits own bits)
+
+pub pattern_is : (kind : CKind) (bits : ℕ) (z : ℤ) → bits < 2 ^ 64 → exact_bits kind bits ≡ z → bits ≡ pattern z
+pattern_is kind bits z small is = pattern_by kind bits small ∙ ap pattern is

@@ -9,8 +9,8 @@ ghost use Rattle.fmt_eval.specs.Values.{given, sized_kind, nothing, field_number
 
 use crate::cast::cast;
 use crate::num::{Num, sign_extended};
-use crate::operators::{applied, common, prefixed};
-use fmt_expr::{CKind, Expr, Operand};
+use crate::operators::{applied, bit_and, common, prefixed};
+use fmt_expr::{CKind, Expr, Op, Operand};
 use trace_base::{Field, FieldKind, Rec, bytes_of, number_of, sized, unsigned_at};
 
 /// The number 0 of kind I32.
@@ -68,23 +68,33 @@ fn whole_number(signed: bool, bytes: u64) -> Num
     }
 }
 
-/// The number of a field. Most have four or eight bytes, and these need no wider numbers.
+/// The number of a field of four or eight bytes, which needs no wider number; none of any other.
 #[inline(always)]
 #[tactic(auto, unfolding(trace_base::specs::Fields::number_in))]
-fn field_number(rec: &Rec<'_>, field: &Field) -> Num
-    ensures { num_view result ≡ field_number (given rec.now) field.now }
+fn usual_number(rec: &Rec<'_>, field: &Field) -> Option<Num>
+    ensures { IfSome result (λ n. num_view n ≡ field_number (given rec.now) field.now) }
 {
     let signed = field.kind == FieldKind::Number && field.signed;
     let at = field.offset as usize;
     match (field.kind, field.size) {
-        (FieldKind::Number | FieldKind::Pointer, 4) => {
-            half_number(signed, unsigned_at(rec.order, rec.payload, at, 4))
-        }
-        (FieldKind::Number | FieldKind::Pointer, 8) => {
-            whole_number(signed, unsigned_at(rec.order, rec.payload, at, 8))
-        }
-        _ => Num::reduced(sized_kind(signed, field.size), number_of(rec, field)),
+        (FieldKind::Number | FieldKind::Pointer, 4) => Some(half_number(
+            signed,
+            unsigned_at(rec.order, rec.payload, at, 4),
+        )),
+        (FieldKind::Number | FieldKind::Pointer, 8) => Some(whole_number(
+            signed,
+            unsigned_at(rec.order, rec.payload, at, 8),
+        )),
+        _ => None,
     }
+}
+
+/// The number of a field.
+fn field_number(rec: &Rec<'_>, field: &Field) -> Num
+    ensures { num_view result ≡ field_number (given rec.now) field.now }
+{
+    let signed = field.kind == FieldKind::Number && field.signed;
+    Num::reduced(sized_kind(signed, field.size), number_of(rec, field))
 }
 
 #[tactic(auto, using(crate::proofs::Elements::past_element, crate::proofs::Elements::past_index))]
@@ -132,7 +142,7 @@ fn chosen(holds: bool, a: Num, b: Num) -> Num
     Num::reduced(common(a.kind, b.kind), exact)
 }
 
-/// The number of a tree without operands, which most are.
+/// The number of a tree that is a number or a usual field, as most are.
 #[inline(always)]
 fn at_once(expr: &Expr, rec: &Rec<'_>) -> Option<Num>
     ensures { IfSome result (λ n. num_view n ≡ number_of (given rec.now) (tree_of expr.now)) }
@@ -142,7 +152,7 @@ fn at_once(expr: &Expr, rec: &Rec<'_>) -> Option<Num>
             bits: *bits,
             kind: *kind,
         }),
-        Expr::FieldNumber { field } => Some(field_number(rec, field)),
+        Expr::FieldNumber { field } => usual_number(rec, field),
         _ => None,
     }
 }
@@ -158,10 +168,61 @@ pub fn number(expr: &Expr, rec: &Rec<'_>) -> Num
     }
 }
 
-/// The same, by way of its operands.
+/// The number of a usual field with one operator and a written number behind it.
+#[inline(always)]
+#[tactic(auto, using(crate::proofs::Rows::operands_row))]
+fn field_with(first: &Expr, rest: &[Operand], rec: &Rec<'_>) -> Option<Num>
+    ensures { IfSome result (λ n. num_view n ≡ folded (given rec.now) (number_of (given rec.now) (tree_of first.now)) (operands_of rest.now)) }
+{
+    let Expr::FieldNumber { field } = first else {
+        return None;
+    };
+    if rest.len() != 1 {
+        return None;
+    }
+    let Expr::Number { bits, kind } = &rest[0].value else {
+        return None;
+    };
+    let number = usual_number(rec, field)?;
+    let operand = Num {
+        bits: *bits,
+        kind: *kind,
+    };
+    Some(match rest[0].op {
+        // Most flags and states are masked.
+        Op::BitAnd => bit_and(number, operand),
+        op => applied(op, number, operand),
+    })
+}
+
+/// The number of a tree that reads at most one field and has at most one operator, as flags and states have.
+#[inline(always)]
+fn short(expr: &Expr, rec: &Rec<'_>) -> Option<Num>
+    ensures { IfSome result (λ n. num_view n ≡ number_of (given rec.now) (tree_of expr.now)) }
+{
+    match expr {
+        Expr::FieldNumber { field } => usual_number(rec, field),
+        Expr::Chain { first, rest } => field_with(first, rest.as_slice(), rec),
+        _ => None,
+    }
+}
+
+/// The number of a tree, of which most are short.
+#[cycle(walk)]
+pub(crate) fn walked(expr: &Expr, rec: &Rec<'_>) -> Num
+    ensures { num_view result ≡ number_of (given rec.now) (tree_of expr.now) }
+{
+    match short(expr, rec) {
+        Some(number) => number,
+        None => by_operands(expr, rec),
+    }
+}
+
+/// The number of a tree, by way of its operands.
+#[inline(never)]
 #[cycle(walk)]
 #[tactic(auto, using(crate::proofs::Rows::operands_row))]
-fn walked(expr: &Expr, rec: &Rec<'_>) -> Num
+fn by_operands(expr: &Expr, rec: &Rec<'_>) -> Num
     ensures { num_view result ≡ number_of (given rec.now) (tree_of expr.now) }
 {
     match expr {

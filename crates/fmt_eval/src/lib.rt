@@ -7,6 +7,7 @@ mod eval;
 mod field_bytes;
 mod flags;
 mod laws;
+mod narrow;
 mod num;
 mod operators;
 mod pieces;

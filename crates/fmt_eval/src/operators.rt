@@ -1,11 +1,12 @@
 //! C's operators on numbers.
 
-ghost use Rattle.std.specs.Prelude.{◌≡◌, ◌^◌, ◌<◌, unsigned_abs, pos, ◌+ℤ◌, ◌-ℤ◌, ◌*ℤ◌, IfSome, bit_or};
+ghost use Rattle.std.specs.Prelude.{◌≡◌, ◌^◌, ◌<◌, unsigned_abs, pos, ◌+ℤ◌, ◌-ℤ◌, ◌*ℤ◌, IfSome, bit_or, bit_and};
 ghost use Rattle.fmt_eval.specs.Numbers.{number, reduced, width};
-ghost use Rattle.fmt_eval.specs.Operators.{common, shift_count, signed, quotient, remainder, shifted_left, shifted_right, applied, prefixed};
+ghost use Rattle.fmt_eval.specs.Operators.{common, bitwise, shift_count, signed, quotient, remainder, shifted_left, shifted_right, applied, prefixed};
 ghost use Rattle.fmt_eval.specs.NumView.{num_view};
 
-use crate::num::{Num, low};
+use crate::narrow::{at_most, converted, equal, exact, less, narrowed};
+use crate::num::Num;
 use fmt_expr::{CKind, Op, PrefixOp};
 
 /// The kind to which two operands are converted.
@@ -28,14 +29,6 @@ fn width(kind: CKind) -> i128
         CKind::I32 | CKind::U32 => 32,
         CKind::I64 | CKind::U64 => 64,
     }
-}
-
-/// A number, converted to a kind.
-fn converted(kind: CKind, n: Num) -> i128
-    ensures value { result ≡ reduced kind (num_view n).exact }
-    ensures bound { unsigned_abs result < 2 ^ 64 }
-{
-    Num::reduced(kind, n.exact()).exact()
 }
 
 /// What a kind leaves of a sum.
@@ -142,6 +135,15 @@ fn either(a: u64, b: u64) -> u64
     a | b
 }
 
+/// The bits that two numbers have both.
+#[inline(always)]
+pub fn bit_and(a: Num, b: Num) -> Num
+    ensures { num_view result ≡ bitwise bit_and (num_view a) (num_view b) }
+{
+    let kind = common(a.kind, b.kind);
+    narrowed(kind, converted(kind, a) & converted(kind, b))
+}
+
 /// A binary operator on two numbers.
 pub fn applied(op: Op, a: Num, b: Num) -> Num
     ensures { num_view result ≡ applied op (num_view a) (num_view b) }
@@ -152,22 +154,22 @@ pub fn applied(op: Op, a: Num, b: Num) -> Num
     match op {
         Op::LogicOr => Num::truth(a.is_true() || b.is_true()),
         Op::LogicAnd => Num::truth(a.is_true() && b.is_true()),
-        Op::BitOr => Num::reduced(kind, either(low(x), low(y)) as i128),
-        Op::BitXor => Num::reduced(kind, (low(x) ^ low(y)) as i128),
-        Op::BitAnd => Num::reduced(kind, (low(x) & low(y)) as i128),
-        Op::Equal => Num::truth(x == y),
-        Op::NotEqual => Num::truth(x != y),
-        Op::Less => Num::truth(x < y),
-        Op::LessEqual => Num::truth(x <= y),
-        Op::Greater => Num::truth(x > y),
-        Op::GreaterEqual => Num::truth(x >= y),
+        Op::BitOr => narrowed(kind, either(x, y)),
+        Op::BitXor => narrowed(kind, x ^ y),
+        Op::BitAnd => bit_and(a, b),
+        Op::Equal => Num::truth(equal(kind, x, y)),
+        Op::NotEqual => Num::truth(!equal(kind, x, y)),
+        Op::Less => Num::truth(less(kind, x, y)),
+        Op::LessEqual => Num::truth(at_most(kind, x, y)),
+        Op::Greater => Num::truth(less(kind, y, x)),
+        Op::GreaterEqual => Num::truth(at_most(kind, y, x)),
         Op::ShiftLeft => shifted_left(a, b.exact()),
         Op::ShiftRight => shifted_right(a, b.exact()),
-        Op::Plus => sum(kind, x, y),
-        Op::Minus => difference(kind, x, y),
-        Op::Times => product(kind, x, y),
-        Op::Divide => Num::reduced(kind, quotient(x, y)),
-        Op::Remainder => Num::reduced(kind, remainder(x, y)),
+        Op::Plus => sum(kind, exact(kind, x), exact(kind, y)),
+        Op::Minus => difference(kind, exact(kind, x), exact(kind, y)),
+        Op::Times => product(kind, exact(kind, x), exact(kind, y)),
+        Op::Divide => Num::reduced(kind, quotient(exact(kind, x), exact(kind, y))),
+        Op::Remainder => Num::reduced(kind, remainder(exact(kind, x), exact(kind, y))),
     }
 }
 

@@ -8,7 +8,7 @@ ghost use Rattle.fmt_eval.specs.Values.{given};
 ghost use Rattle.fmt_eval.specs.Texts.{up_to_nul, text_of};
 
 use crate::array::{put_array, put_hex};
-use crate::eval::number;
+use crate::eval::walked;
 use crate::field_bytes::bytes;
 use crate::flags::{put_flags, put_symbol};
 use fmt_expr::Expr;
@@ -33,7 +33,7 @@ pub fn put_text(expr: &Expr, rec: &Rec<'_>, into: &mut Tail<'_>)
         Expr::FieldText { field } => into.put(up_to_nul(bytes_of(rec, field))),
         Expr::Cast { of, .. } => put_text(of, rec, into),
         Expr::Choice { test, yes, no } => {
-            if number(test, rec).is_true() {
+            if walked(test, rec).is_true() {
                 put_text(yes, rec, into);
             } else {
                 put_text(no, rec, into);
@@ -44,20 +44,20 @@ pub fn put_text(expr: &Expr, rec: &Rec<'_>, into: &mut Tail<'_>)
             between,
             entries,
         } => {
-            let value = number(value, rec).pattern();
+            let value = walked(value, rec).pattern();
             put_flags(value, between.as_bytes(), entries.as_slice(), rec, into);
         }
         Expr::Symbolic { value, entries } => {
-            put_symbol(number(value, rec).pattern(), entries.as_slice(), rec, into);
+            put_symbol(walked(value, rec).pattern(), entries.as_slice(), rec, into);
         }
-        Expr::Hex { bytes: of, count } => put_hex(number(count, rec).exact(), bytes(of, rec), into),
+        Expr::Hex { bytes: of, count } => put_hex(walked(count, rec).exact(), bytes(of, rec), into),
         Expr::Array {
             bytes: of,
             count,
             size,
         } => {
-            let count = number(count, rec).exact();
-            let size = number(size, rec).exact();
+            let count = walked(count, rec).exact();
+            let size = walked(size, rec).exact();
             put_array(rec.order, count, size, bytes(of, rec), into);
         }
         Expr::Number { .. }
