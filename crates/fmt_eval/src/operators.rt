@@ -6,7 +6,8 @@ ghost use Rattle.fmt_eval.specs.Operators.{common, shift_count, signed, quotient
 ghost use Rattle.fmt_eval.specs.NumView.{num_view};
 
 use crate::num::{Num, low};
-use fmt_expr::{CKind, Op, PrefixOp};
+use c_operators::BinaryOp;
+use fmt_expr::{CKind, PrefixOp};
 
 /// The kind to which two operands are converted.
 pub fn common(a: CKind, b: CKind) -> CKind
@@ -143,31 +144,31 @@ fn either(a: u64, b: u64) -> u64
 }
 
 /// A binary operator on two numbers.
-pub fn applied(op: Op, a: Num, b: Num) -> Num
+pub fn applied(op: BinaryOp, a: Num, b: Num) -> Num
     ensures { num_view result ≡ applied op (num_view a) (num_view b) }
 {
     let kind = common(a.kind, b.kind);
     let x = converted(kind, a);
     let y = converted(kind, b);
     match op {
-        Op::LogicOr => Num::truth(a.is_true() || b.is_true()),
-        Op::LogicAnd => Num::truth(a.is_true() && b.is_true()),
-        Op::BitOr => Num::reduced(kind, either(low(x), low(y)) as i128),
-        Op::BitXor => Num::reduced(kind, (low(x) ^ low(y)) as i128),
-        Op::BitAnd => Num::reduced(kind, (low(x) & low(y)) as i128),
-        Op::Equal => Num::truth(x == y),
-        Op::NotEqual => Num::truth(x != y),
-        Op::Less => Num::truth(x < y),
-        Op::LessEqual => Num::truth(x <= y),
-        Op::Greater => Num::truth(x > y),
-        Op::GreaterEqual => Num::truth(x >= y),
-        Op::ShiftLeft => shifted_left(a, b.exact()),
-        Op::ShiftRight => shifted_right(a, b.exact()),
-        Op::Plus => sum(kind, x, y),
-        Op::Minus => difference(kind, x, y),
-        Op::Times => product(kind, x, y),
-        Op::Divide => Num::reduced(kind, quotient(x, y)),
-        Op::Remainder => Num::reduced(kind, remainder(x, y)),
+        BinaryOp::LogicOr => Num::truth(a.is_true() || b.is_true()),
+        BinaryOp::LogicAnd => Num::truth(a.is_true() && b.is_true()),
+        BinaryOp::BitOr => Num::reduced(kind, either(low(x), low(y)) as i128),
+        BinaryOp::BitXor => Num::reduced(kind, (low(x) ^ low(y)) as i128),
+        BinaryOp::BitAnd => Num::reduced(kind, (low(x) & low(y)) as i128),
+        BinaryOp::Equal => Num::truth(x == y),
+        BinaryOp::NotEqual => Num::truth(x != y),
+        BinaryOp::Less => Num::truth(x < y),
+        BinaryOp::LessEqual => Num::truth(x <= y),
+        BinaryOp::Greater => Num::truth(x > y),
+        BinaryOp::GreaterEqual => Num::truth(x >= y),
+        BinaryOp::ShiftLeft => shifted_left(a, b.exact()),
+        BinaryOp::ShiftRight => shifted_right(a, b.exact()),
+        BinaryOp::Plus => sum(kind, x, y),
+        BinaryOp::Minus => difference(kind, x, y),
+        BinaryOp::Times => product(kind, x, y),
+        BinaryOp::Divide => Num::reduced(kind, quotient(x, y)),
+        BinaryOp::Remainder => Num::reduced(kind, remainder(x, y)),
     }
 }
 
