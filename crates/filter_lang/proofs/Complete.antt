@@ -1,35 +1,24 @@
 -- Each tree that is derived is computed.
-use Rattle.std.proofs.Common.{◌≡◌, ◌≢◌, ℕ, zero, suc, ◌≤◌, true, false, List, [], ◌∷◌, length, Option, Some, None, refl, ◌∙◌, arith, rules, ◌==◌}
-use Rattle.filter_lang.specs.PlainToken.{PlainToken, mark, opening, closing, name, comma, slash, colon, digits, quoted, identifier}
+use Rattle.std.proofs.Common.{◌≡◌, ℕ, zero, suc, ◌≤◌, true, List, ◌∷◌, length, Option, Some, None, refl, ◌∙◌, arith, rules, ◌==◌}
+use Rattle.c_operators.specs.Operators.{level_of}
+use Rattle.filter_lang.specs.PlainToken.{PlainToken, mark, opening, closing, digits, quoted, identifier}
 use Rattle.filter_lang.specs.Tree.{Tree, prefix, Operands, no_operands, operand}
-use Rattle.filter_lang.specs.Ops.{level_of, first_level, is_prefix, op_first}
+use Rattle.filter_lang.specs.Ops.{prefix_in, op_first}
 use Rattle.filter_lang.specs.ConditionReading.{Outcome, found, Read, row, row_behind, in_chain, level_by, unary_by, unary_from, unary_at, level_at}
 use Rattle.filter_lang.specs.Condition.{IsLevel, alone, single, several, IsRow, no_more, goes_on, IsUnary, prefixed, bracketed, a_number, a_text, a_field}
-use Rattle.filter_lang.specs.declared.expr.FilterOp.{FilterOp}
+use Rattle.c_operators.specs.declared.binary.BinaryOp.{BinaryOp}
+use Rattle.filter_lang.specs.declared.expr.FilterPrefix.{FilterPrefix}
 use Rattle.filter_lang.proofs.Moves.{level_moves}
 
-pub op_other : (l : ℕ) (ts : List PlainToken) → first_level ts ≢ suc l → op_first (suc l) ts ≡ None
-op_other l [] never = refl
-op_other l (mark op ∷ ts) never = let same : (level_of op == suc l) ≡ false = search (rules, never) in rw same refl
-op_other l (name x ∷ ts) never = refl
-op_other l (comma ∷ ts) never = refl
-op_other l (slash ∷ ts) never = refl
-op_other l (colon ∷ ts) never = refl
-op_other l (digits x ∷ ts) never = refl
-op_other l (quoted x ∷ ts) never = refl
-op_other l (identifier x ∷ ts) never = refl
-op_other l (opening ∷ ts) never = refl
-op_other l (closing ∷ ts) never = refl
-
-pub op_same : (l : ℕ) (op : FilterOp) (ts : List PlainToken) → level_of op ≡ l → op_first l (mark op ∷ ts) ≡ Some (op, ts)
+pub op_same : (l : ℕ) (op : BinaryOp) (ts : List PlainToken) → level_of op ≡ l → op_first l (mark op ∷ ts) ≡ Some (op, ts)
 op_same l op ts e = let same : (level_of op == l) ≡ true = search (rules, e) in rw same refl
 
-pub row_over : (read : Read) (l m : ℕ) (ts : List PlainToken) → first_level ts ≢ suc l → row read (suc l) m ts ≡ found no_operands ts
+pub row_over : (read : Read) (l m : ℕ) (ts : List PlainToken) → op_first (suc l) ts ≡ None → row read (suc l) m ts ≡ found no_operands ts
 unfolding row
-row_over read l zero ts never = refl
-row_over read l (suc m) ts never = rw (op_other l ts never) refl
+row_over read l zero ts none = refl
+row_over read l (suc m) ts none = rw none refl
 
-pub row_more : (read : Read) (l m : ℕ) (op : FilterOp) (us vs rs : List PlainToken) (u : Tree) (os : Operands) → level_of op ≡ suc l → read us ≡ found u vs → row read (suc l) m vs ≡ found os rs
+pub row_more : (read : Read) (l m : ℕ) (op : BinaryOp) (us vs rs : List PlainToken) (u : Tree) (os : Operands) → level_of op ≡ suc l → read us ≡ found u vs → row read (suc l) m vs ≡ found os rs
     → row read (suc l) (suc m) (mark op ∷ us) ≡ found (operand op u os) rs
 unfolding row
 row_more read l m op us vs rs u os is there behind = rw (op_same (suc l) op us is, there, behind) refl
@@ -51,16 +40,16 @@ pub unary_opens : (n : ℕ) (ts rs : List PlainToken) (x : Tree) → level_at n 
 unfolding unary_at unary_by
 unary_opens n ts rs x there = rw there refl
 
-under_there : (inner : Read) (op : FilterOp) (ts rs : List PlainToken) (x : Tree) → is_prefix op ≡ true → inner ts ≡ found x rs → unary_by (Some inner) (mark op ∷ ts) ≡ found (prefix op x) rs
+under_there : (inner : Read) (t : PlainToken) (op : FilterPrefix) (ts rs : List PlainToken) (x : Tree) → prefix_in t ≡ Some op → inner ts ≡ found x rs → unary_by (Some inner) (t ∷ ts) ≡ found (prefix op x) rs
 unfolding unary_by
-under_there inner op ts rs x is there = rw (is, there) refl
+under_there inner t op ts rs x is there = rw (is, there) refl
 
 pub unary_is : (n : ℕ) (ts : List PlainToken) → unary_at (suc n) ts ≡ unary_by (Some (unary_at n)) ts
 unfolding unary_at
 unary_is n ts = refl
 
-pub unary_under : (n : ℕ) (op : FilterOp) (ts rs : List PlainToken) (x : Tree) → is_prefix op ≡ true → unary_at n ts ≡ found x rs → unary_at (suc n) (mark op ∷ ts) ≡ found (prefix op x) rs
-unary_under n op ts rs x is there = unary_is n (mark op ∷ ts) ∙ under_there (unary_at n) op ts rs x is there
+pub unary_under : (n : ℕ) (t : PlainToken) (op : FilterPrefix) (ts rs : List PlainToken) (x : Tree) → prefix_in t ≡ Some op → unary_at n ts ≡ found x rs → unary_at (suc n) (t ∷ ts) ≡ found (prefix op x) rs
+unary_under n t op ts rs x is there = unary_is n (t ∷ ts) ∙ under_there (unary_at n) t op ts rs x is there
 
 mutual
   pub level_again : {n l : ℕ} {ts rs : List PlainToken} {t : Tree} → IsLevel n l ts t rs → level_at n l ts ≡ found t rs
@@ -77,7 +66,7 @@ mutual
       row_more (level_at n l) l m op us vs rs u rest is (level_again d) (row_again r m (let lt = level_moves d in omega arith))
 
   pub unary_again : {n : ℕ} {ts rs : List PlainToken} {t : Tree} → IsUnary n ts t rs → unary_at n ts ≡ found t rs
-  unary_again {n} {ts} {rs} (prefixed {n = m} {ts = us} {t = t} {op = op} is d) = unary_under m op us rs t (search (rules, is)) (unary_again d)
+  unary_again {n} {ts} {rs} (prefixed {n = m} {token = token} {ts = us} {t = t} {op = op} is d) = unary_under m token op us rs t is (unary_again d)
   unary_again {n} {ts} {rs} {t} (bracketed {n = m} {ts = us} d) = unary_opens m us rs t (level_again d)
   unary_again {n} {ts} {rs} {t} (a_number {value = value}) = unary_leaf n (digits value) rs (found t rs) (λ inner. refl)
   unary_again {n} {ts} {rs} {t} (a_text {bytes = bytes}) = unary_leaf n (quoted bytes) rs (found t rs) (λ inner. refl)

@@ -5,10 +5,11 @@ use Rattle.std.specs.Char.{is_ascii_digit}
 use Rattle.std.proofs.lemmas.Bool.{lt-ltb, ltb-true}
 use Rattle.std.proofs.lemmas.List.{take-append-le, length-append}
 use Rattle.std.proofs.lemmas.List.Sums.{prefix_len-le-length}
+use Rattle.c_operators.specs.Operators.{op_of}
 use Rattle.fmt_lexer.specs.Bytes.{is_word, quote, apostrophe}
 use Rattle.filter_lang.specs.PlainToken.{PlainToken, name, comma, slash, colon, identifier, mark, quoted, digits}
 use Rattle.filter_lang.specs.Lexing.{is_name_byte, Cut, number_in, number_cut, text_cut, long_at, short_at, marked, before_colon, behind_colon, token_in}
-use Rattle.filter_lang.specs.declared.expr.FilterOp.{FilterOp}
+use Rattle.c_operators.specs.declared.binary.BinaryOp.{BinaryOp}
 
 abbrev pub cut : PlainToken → ℕ → Cut
 cut t n = (t, n)
@@ -82,14 +83,14 @@ and_none true = refl
 and_none false = refl
 
 blank_ends : (c : ℕ) (more : List ℕ) → long_at c (32 ∷ more) ≡ None
-unfolding long_at
+unfolding long_at op_of
 blank_ends c more = simp and_none
 
-marked_len : (op : FilterOp) (o : Option PlainToken) (t : PlainToken) (n : ℕ) → marked (Some op) o ≡ Some (t, n) → 1 ≡ n
+marked_len : (op : BinaryOp) (o : Option PlainToken) (t : PlainToken) (n : ℕ) → marked (Some op) o ≡ Some (t, n) → 1 ≡ n
 marked_len op o t n e = len_is (mark op) t 1 n e
 
-again_marked : (c : ℕ) (tail more : List ℕ) (o : Option FilterOp) (t : PlainToken) (n : ℕ) → marked o (short_at c) ≡ Some (t, n) → n ≤ 0 → marked (long_at c (32 ∷ more)) (short_at c) ≡ Some (t, n)
-again_marked c tail more None t n e le = ap (λ (o : Option FilterOp). marked o (short_at c)) (blank_ends c more) ∙ e
+again_marked : (c : ℕ) (tail more : List ℕ) (o : Option BinaryOp) (t : PlainToken) (n : ℕ) → marked o (short_at c) ≡ Some (t, n) → n ≤ 0 → marked (long_at c (32 ∷ more)) (short_at c) ≡ Some (t, n)
+again_marked c tail more None t n e le = ap (λ (o : Option BinaryOp). marked o (short_at c)) (blank_ends c more) ∙ e
 again_marked c tail more (Some op) t n e le = absurd (omega (arith, marked_len op (short_at c) t n e))
 
 long_same : (c d : ℕ) (bytes back : List ℕ) → long_at c (d ∷ bytes) ≡ long_at c (d ∷ back)
@@ -98,7 +99,7 @@ long_same c d bytes back = refl
 
 again_mark : (c : ℕ) (front tail more : List ℕ) (t : PlainToken) (n : ℕ) → marked (long_at c (front ++ tail)) (short_at c) ≡ Some (t, n) → n ≤ length front → marked (long_at c (front ++ 32 ∷ more)) (short_at c) ≡ Some (t, n)
 again_mark c [] tail more t n e le = again_marked c tail more (long_at c tail) t n e le
-again_mark c (d ∷ front) tail more t n e le = ap (λ (o : Option FilterOp). marked o (short_at c)) (long_same c d (front ++ 32 ∷ more) (front ++ tail)) ∙ e
+again_mark c (d ∷ front) tail more t n e le = ap (λ (o : Option BinaryOp). marked o (short_at c)) (long_same c d (front ++ 32 ∷ more) (front ++ tail)) ∙ e
 
 abbrev behind_by : Bool → Bool → Bool → ℕ → List ℕ → Option Cut
 behind_by a w q c bytes =
@@ -151,7 +152,7 @@ short_len : (o : Option PlainToken) (t : PlainToken) (n : ℕ) → marked None o
 short_len None t n e = absurd cc
 short_len (Some u) t n e = len_is u t 0 n e
 
-in_marked : (o : Option FilterOp) (s : Option PlainToken) (k : ℕ) (t : PlainToken) (n : ℕ) → marked o s ≡ Some (t, n) → n ≤ suc k
+in_marked : (o : Option BinaryOp) (s : Option PlainToken) (k : ℕ) (t : PlainToken) (n : ℕ) → marked o s ≡ Some (t, n) → n ≤ suc k
 in_marked None s k t n e = omega (arith, short_len s t n e)
 in_marked (Some op) s k t n e = omega (arith, marked_len op s t n e)
 
@@ -160,7 +161,7 @@ unfolding long_at
 never_long c = refl
 
 in_mark : (c : ℕ) (bytes : List ℕ) (t : PlainToken) (n : ℕ) → marked (long_at c bytes) (short_at c) ≡ Some (t, n) → n ≤ length bytes
-in_mark c [] t n e = omega (arith, short_len (short_at c) t n (ap (λ (o : Option FilterOp). marked o (short_at c)) (sym (never_long c)) ∙ e))
+in_mark c [] t n e = omega (arith, short_len (short_at c) t n (ap (λ (o : Option BinaryOp). marked o (short_at c)) (sym (never_long c)) ∙ e))
 in_mark c (d ∷ bytes) t n e = in_marked (long_at c (d ∷ bytes)) (short_at c) (length bytes) t n e
 
 in_behind : (a w q : Bool) (c : ℕ) (bytes : List ℕ) (t : PlainToken) (n : ℕ) → behind_by a w q c bytes ≡ Some (t, n) → n ≤ length bytes

@@ -1,6 +1,6 @@
 -- The names of events, one step after another.
 use Rattle.std.proofs.Common.{◌≡◌, ◌≢◌, ℕ, zero, suc, ◌<◌, false, List, [], ◌∷◌, drop, length, Some, None, refl, ap, sym, ◌∙◌, arith}
-use Rattle.filter_lang.specs.PlainToken.{PlainToken, mark, opening, closing, name, comma, slash, colon, digits, quoted, identifier}
+use Rattle.filter_lang.specs.PlainToken.{PlainToken, mark, exclamation, tilde, opening, closing, name, comma, slash, colon, digits, quoted, identifier}
 use Rattle.filter_lang.specs.Tree.{Tree}
 use Rattle.filter_lang.specs.TokenView.{plain_tokens}
 use Rattle.filter_lang.specs.Ops.{first_name, has_comma, has_slash, has_colon}
@@ -15,6 +15,8 @@ use Rattle.filter_lang.proofs.Filters.{stuck, goes, at_end, with_none, a_name}
 naming_stops : (ts : List PlainToken) → first_name ts ≡ None → names ts naming ≡ refused ts
 naming_stops [] e = at_end naming
 naming_stops (mark op ∷ ts) e = stuck naming (mark op) ts refl
+naming_stops (exclamation ∷ ts) e = stuck naming exclamation ts refl
+naming_stops (tilde ∷ ts) e = stuck naming tilde ts refl
 naming_stops (name x ∷ ts) e = absurd cc
 naming_stops (comma ∷ ts) e = stuck naming comma ts refl
 naming_stops (slash ∷ ts) e = stuck naming slash ts refl
@@ -28,6 +30,8 @@ naming_stops (closing ∷ ts) e = stuck naming closing ts refl
 slashed_stops : (a : List ℕ) (ts : List PlainToken) → first_name ts ≡ None → names ts (slashed a) ≡ refused ts
 slashed_stops a [] e = at_end (slashed a)
 slashed_stops a (mark op ∷ ts) e = stuck (slashed a) (mark op) ts refl
+slashed_stops a (exclamation ∷ ts) e = stuck (slashed a) exclamation ts refl
+slashed_stops a (tilde ∷ ts) e = stuck (slashed a) tilde ts refl
 slashed_stops a (name x ∷ ts) e = absurd cc
 slashed_stops a (comma ∷ ts) e = stuck (slashed a) comma ts refl
 slashed_stops a (slash ∷ ts) e = stuck (slashed a) slash ts refl
@@ -41,6 +45,8 @@ slashed_stops a (closing ∷ ts) e = stuck (slashed a) closing ts refl
 first_ends : (a : List ℕ) (ts : List PlainToken) → has_slash ts ≡ false → names ts (first a) ≡ closing_with (named a None ∷ []) ts
 first_ends a [] e = at_end (first a)
 first_ends a (mark op ∷ ts) e = stuck (first a) (mark op) ts refl
+first_ends a (exclamation ∷ ts) e = stuck (first a) exclamation ts refl
+first_ends a (tilde ∷ ts) e = stuck (first a) tilde ts refl
 first_ends a (name x ∷ ts) e = stuck (first a) (name x) ts refl
 first_ends a (comma ∷ ts) e = goes (first a) comma ts (named a None ∷ []) naming refl
 first_ends a (slash ∷ ts) e = absurd cc
@@ -54,6 +60,8 @@ first_ends a (closing ∷ ts) e = stuck (first a) closing ts refl
 both_end : (a b : List ℕ) (ts : List PlainToken) → names ts (both a b) ≡ closing_with (named a (Some b) ∷ []) ts
 both_end a b [] = at_end (both a b)
 both_end a b (mark op ∷ ts) = stuck (both a b) (mark op) ts refl
+both_end a b (exclamation ∷ ts) = stuck (both a b) exclamation ts refl
+both_end a b (tilde ∷ ts) = stuck (both a b) tilde ts refl
 both_end a b (name x ∷ ts) = stuck (both a b) (name x) ts refl
 both_end a b (comma ∷ ts) = goes (both a b) comma ts (named a (Some b) ∷ []) naming refl
 both_end a b (slash ∷ ts) = stuck (both a b) slash ts refl
@@ -85,6 +93,8 @@ two_names_there ts us vs ws a b is mark' there =
 pub over_here : (es : List EventNameData) (ts : List PlainToken) → has_comma ts ≡ false → closing_with es ts ≡ found es ts
 over_here es [] e = refl
 over_here es (mark op ∷ ts) e = refl
+over_here es (exclamation ∷ ts) e = refl
+over_here es (tilde ∷ ts) e = refl
 over_here es (name x ∷ ts) e = refl
 over_here es (comma ∷ ts) e = absurd cc
 over_here es (slash ∷ ts) e = refl
@@ -113,6 +123,8 @@ events_only ts us es e none = with_them ts us es e ∙ ap (behind_events es) non
 no_colon : (es : List EventNameData) (us : List PlainToken) → us ≢ [] → has_colon us ≡ false → behind_events es us ≡ refused us
 no_colon es [] some e = absurd (some refl)
 no_colon es (mark op ∷ ts) some e = refl
+no_colon es (exclamation ∷ ts) some e = refl
+no_colon es (tilde ∷ ts) some e = refl
 no_colon es (name x ∷ ts) some e = refl
 no_colon es (comma ∷ ts) some e = refl
 no_colon es (slash ∷ ts) some e = refl

@@ -1,8 +1,8 @@
 -- All of a filter: what is computed is what is derived, and where computing stops no filter goes on.
-use Rattle.std.proofs.Common.{◌≡◌, ℕ, Bool, true, false, List, [], ◌∷◌, ◌++◌, Option, Some, None, refl, ap, sym, ◌∙◌, subst, arith, ◌⊎◌, inl, inr}
+use Rattle.std.proofs.Common.{◌≡◌, ℕ, Bool, true, false, List, [], ◌∷◌, ◌++◌, Option, Some, None, refl, ap, sym, ◌∙◌, subst, ◌⊎◌, inl, inr}
 use Rattle.std.specs.List.{list_any}
 use Rattle.std.proofs.lemmas.List.{append_assoc}
-use Rattle.filter_lang.specs.PlainToken.{PlainToken, mark, opening, closing, name, comma, slash, colon, digits, quoted, identifier}
+use Rattle.filter_lang.specs.PlainToken.{PlainToken, mark, exclamation, tilde, opening, closing, name, comma, slash, colon, digits, quoted, identifier}
 use Rattle.filter_lang.specs.Tree.{Tree}
 use Rattle.filter_lang.specs.Filter.{EventNameData, FilterData, named, filter}
 use Rattle.filter_lang.specs.ConditionReading.{Outcome, found, refused, ◌>>=◌, cond_at}
@@ -12,7 +12,7 @@ use Rattle.filter_lang.specs.FilterReading.{Mode, naming, first, slashed, both, 
 use Rattle.filter_lang.specs.Lexing.{is_colon, AreWritten}
 use Rattle.filter_lang.proofs.Written.{name_written, written_more, either_true}
 use Rattle.filter_lang.proofs.Complete.{level_again}
-use Rattle.filter_lang.proofs.Viable.{Quiet, found_is, refused_is, bind_found, bind_refused}
+use Rattle.filter_lang.proofs.Viable.{Quiet, quiet_again, first_is, found_is, refused_is, bind_found, bind_refused}
 use Rattle.filter_lang.proofs.Levels.{cond_viable}
 use Rattle.filter_lang.proofs.Sound.{cond_derived}
 
@@ -58,9 +58,6 @@ record Ran (ts : List PlainToken) (m : Mode) : Type 0 where
   pub halts : (t : PlainToken) (vs : List PlainToken) → rs ≡ t ∷ vs → step at t ≡ None
   pub law : (vs : List PlainToken) → names (us ++ vs) m ≡ names vs at >>= with_events es
 
-first_is : (t u : PlainToken) (ts us : List PlainToken) → t ∷ ts ≡ u ∷ us → t ≡ u
-first_is t u ts us e = cc
-
 halted : (t : PlainToken) (ts : List PlainToken) (m : Mode) → step m t ≡ None → Ran (t ∷ ts) m
 halted t ts m none = record {
   us = [];
@@ -76,6 +73,8 @@ halted t ts m none = record {
 -- a colon is no part of the names
 steps_on : (m n : Mode) (es : Events) (t : PlainToken) → step m t ≡ Some (es, n) → is_colon t ≡ false
 steps_on m n es (mark op) e = refl
+steps_on m n es exclamation e = refl
+steps_on m n es tilde e = refl
 steps_on m n es (name x) e = refl
 steps_on m n es comma e = refl
 steps_on m n es slash e = refl
@@ -147,6 +146,8 @@ step_is fs m es n e = let same = some_is (pair fs m) (pair es n) e in (ap (λ (x
 -- a step, told by its mode and token
 stepped : (m n : Mode) (t : PlainToken) (es fs : Events) (ts rs : List PlainToken) → step m t ≡ Some (es, n) → Rest n ts fs rs → Rest m (t ∷ ts) (es ++ fs) rs
 stepped naming n (mark op) es fs ts rs e d = absurd cc
+stepped naming n exclamation es fs ts rs e d = absurd cc
+stepped naming n tilde es fs ts rs e d = absurd cc
 stepped naming n (name x) es fs ts rs e d = let s = step_is [] (first x) es n e in subst (λ (zs : Events). AreEvents (name x ∷ ts) (zs ++ fs) rs) s.0 (subst (λ (k : Mode). Rest k ts fs rs) (sym s.1) d)
 stepped naming n comma es fs ts rs e d = absurd cc
 stepped naming n slash es fs ts rs e d = absurd cc
@@ -157,6 +158,8 @@ stepped naming n (identifier x) es fs ts rs e d = absurd cc
 stepped naming n opening es fs ts rs e d = absurd cc
 stepped naming n closing es fs ts rs e d = absurd cc
 stepped (first a) n (mark op) es fs ts rs e d = absurd cc
+stepped (first a) n exclamation es fs ts rs e d = absurd cc
+stepped (first a) n tilde es fs ts rs e d = absurd cc
 stepped (first a) n (name x) es fs ts rs e d = absurd cc
 stepped (first a) n comma es fs ts rs e d = let s = step_is (named a None ∷ []) naming es n e in subst (λ (zs : Events). AreEvents (name a ∷ comma ∷ ts) (zs ++ fs) rs) s.0 (further one_name (subst (λ (k : Mode). Rest k ts fs rs) (sym s.1) d))
 stepped (first a) n slash es fs ts rs e d = let s = step_is [] (slashed a) es n e in subst (λ (zs : Events). AreEvents (name a ∷ slash ∷ ts) (zs ++ fs) rs) s.0 (subst (λ (k : Mode). Rest k ts fs rs) (sym s.1) d)
@@ -167,6 +170,8 @@ stepped (first a) n (identifier x) es fs ts rs e d = absurd cc
 stepped (first a) n opening es fs ts rs e d = absurd cc
 stepped (first a) n closing es fs ts rs e d = absurd cc
 stepped (slashed a) n (mark op) es fs ts rs e d = absurd cc
+stepped (slashed a) n exclamation es fs ts rs e d = absurd cc
+stepped (slashed a) n tilde es fs ts rs e d = absurd cc
 stepped (slashed a) n (name x) es fs ts rs e d = let s = step_is [] (both a x) es n e in subst (λ (zs : Events). AreEvents (name a ∷ slash ∷ name x ∷ ts) (zs ++ fs) rs) s.0 (subst (λ (k : Mode). Rest k ts fs rs) (sym s.1) d)
 stepped (slashed a) n comma es fs ts rs e d = absurd cc
 stepped (slashed a) n slash es fs ts rs e d = absurd cc
@@ -177,6 +182,8 @@ stepped (slashed a) n (identifier x) es fs ts rs e d = absurd cc
 stepped (slashed a) n opening es fs ts rs e d = absurd cc
 stepped (slashed a) n closing es fs ts rs e d = absurd cc
 stepped (both a b) n (mark op) es fs ts rs e d = absurd cc
+stepped (both a b) n exclamation es fs ts rs e d = absurd cc
+stepped (both a b) n tilde es fs ts rs e d = absurd cc
 stepped (both a b) n (name x) es fs ts rs e d = absurd cc
 stepped (both a b) n comma es fs ts rs e d = let s = step_is (named a (Some b) ∷ []) naming es n e in subst (λ (zs : Events). AreEvents (name a ∷ slash ∷ name b ∷ comma ∷ ts) (zs ++ fs) rs) s.0 (further two_names (subst (λ (k : Mode). Rest k ts fs rs) (sym s.1) d))
 stepped (both a b) n slash es fs ts rs e d = absurd cc
@@ -259,6 +266,8 @@ given ts es (colon ∷ us) f rs d e =
     let c = cond_derived deepest us b.0 b.1 b.2 in
     (subst (λ (z : FilterData). IsFilter ts z) w.1 (with_condition d (subst (λ zs. IsLevel deepest 10 us b.0 zs) w.0 c)), w.2)
 given ts es (mark op ∷ us) f rs d e = absurd cc
+given ts es (exclamation ∷ us) f rs d e = absurd cc
+given ts es (tilde ∷ us) f rs d e = absurd cc
 given ts es (name x ∷ us) f rs d e = absurd cc
 given ts es (comma ∷ us) f rs d e = absurd cc
 given ts es (slash ∷ us) f rs d e = absurd cc
@@ -372,7 +381,7 @@ module _ (ts : List PlainToken) (r : Ran ts naming) where
           refusal_of ts rs (r.us ++ colon ∷ s.us) (s.more ++ []) (filter (r.es ++ event ∷ []) (Some s.tree)) (subst (λ (b : Bool). AreWritten b (s.more ++ [])) (sym (past_colon r.us s.us)) (written_more s.more [] s.written tt))
           (r.is ∙ ap (λ zs. r.us ++ zs) (is ∙ ap (λ zs. colon ∷ zs) s.whole) ∙ sym (joined rs)) here
           (ap filter_in (joined (s.more ++ [])) ∙ behind (colon ∷ (s.us ++ (s.more ++ []))) (colon_stuck (s.us ++ (s.more ++ [])))
-          ∙ cond_whole (r.es ++ event ∷ []) (s.us ++ (s.more ++ [])) s.tree (s.goes_on [] (omega arith)))
+          ∙ cond_whole (r.es ++ event ∷ []) (s.us ++ (s.more ++ [])) s.tree (s.goes_on [] (λ k le. refl)))
           (λ t us ws same. ap filter_in (joined (t ∷ ws)) ∙ behind (colon ∷ (s.us ++ t ∷ ws)) (colon_stuck (s.us ++ t ∷ ws)) ∙ in_cond (s.us ++ t ∷ ws) ws t (s.stops t us ws same))
       | inr there ↦
           let x = there.0 in
@@ -381,15 +390,17 @@ module _ (ts : List PlainToken) (r : Ran ts naming) where
           let joined : (zs : List PlainToken) → (r.us ++ colon ∷ a.us) ++ zs ≡ r.us ++ colon ∷ (a.us ++ zs) = λ zs. append_assoc r.us (colon ∷ a.us) zs in
           refusal_of ts rs (r.us ++ colon ∷ a.us) [] (filter (r.es ++ event ∷ []) (Some x)) tt
           (r.is ∙ ap (λ zs. r.us ++ zs) (is ∙ ap (λ zs. colon ∷ zs) (a.whole ∙ ap (λ zs. a.us ++ zs) stay)) ∙ sym (joined rs)) here
-          (ap filter_in (joined []) ∙ behind (colon ∷ (a.us ++ [])) (colon_stuck (a.us ++ [])) ∙ cond_whole (r.es ++ event ∷ []) (a.us ++ []) x (a.again [] (omega arith)))
+          (ap filter_in (joined []) ∙ behind (colon ∷ (a.us ++ [])) (colon_stuck (a.us ++ [])) ∙ cond_whole (r.es ++ event ∷ []) (a.us ++ []) x (a.again [] (λ k le. refl)))
           (λ t us ws same. ap filter_in (joined (t ∷ ws)) ∙ behind (colon ∷ (a.us ++ t ∷ ws)) (colon_stuck (a.us ++ t ∷ ws))
-          ∙ past_cond (a.us ++ t ∷ ws) ws x t (a.again (t ∷ ws) (subst (λ zs. Quiet 10 zs) (stay ∙ same) a.quiet)))
+          ∙ past_cond (a.us ++ t ∷ ws) ws x t (a.again (t ∷ ws) (quiet_again 10 t us ws (subst (λ zs. Quiet 10 zs) (stay ∙ same) a.quiet))))
     ]
 
     by_rest : (vs rs : List PlainToken) → r.rs ≡ vs → filter_in ts ≡ refused rs → behind_events (r.es ++ event ∷ []) vs ≡ refused rs → RefusedBefore ts rs
     by_rest [] rs is here e = absurd cc
     by_rest (colon ∷ vs) rs is here e = with_colon vs rs is here e
     by_rest (mark op ∷ vs) rs is here e = other (mark op) vs rs is (λ ws. refl) e
+    by_rest (exclamation ∷ vs) rs is here e = other exclamation vs rs is (λ ws. refl) e
+    by_rest (tilde ∷ vs) rs is here e = other tilde vs rs is (λ ws. refl) e
     by_rest (name x ∷ vs) rs is here e = other (name x) vs rs is (λ ws. refl) e
     by_rest (comma ∷ vs) rs is here e = other comma vs rs is (λ ws. refl) e
     by_rest (slash ∷ vs) rs is here e = other slash vs rs is (λ ws. refl) e

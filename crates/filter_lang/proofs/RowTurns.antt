@@ -12,7 +12,7 @@ use Rattle.filter_lang.specs.declared.reader.Reader.{Reader}
 use Rattle.filter_lang.specs.declared.token.Token.{Token}
 use Rattle.filter_lang.specs.declared.stop.Stop.{Stop}
 use Rattle.filter_lang.specs.declared.stop.Stop.TheVariants.{Memory, Before}
-use Rattle.filter_lang.specs.declared.expr.FilterOp.{FilterOp}
+use Rattle.c_operators.specs.declared.binary.BinaryOp.{BinaryOp}
 use Rattle.filter_lang.specs.declared.expr.FilterOperand.{FilterOperand}
 
 abbrev pub append : Operands → Operands → Operands
@@ -28,7 +28,7 @@ append_none : (os : Operands) → append os no_operands ≡ os
 append_none no_operands = refl
 append_none (operand op t rest) = ap (operand op t) (append_none rest)
 
-append_more : (os : Operands) (op : FilterOp) (t : Tree) (rest : Operands) → append os (operand op t rest) ≡ append (append os (operand op t no_operands)) rest
+append_more : (os : Operands) (op : BinaryOp) (t : Tree) (rest : Operands) → append os (operand op t rest) ≡ append (append os (operand op t no_operands)) rest
 append_more no_operands op t rest = refl
 append_more (operand o u os) op t rest = ap (operand o u) (append_more os op t rest)
 
@@ -46,16 +46,16 @@ module _ (G : Read) (l : ℕ) (ts : List PlainToken) (x : Tree) (os : Operands) 
   row_over zero none = ap (λ (o : Operands). found (chained x o) ts) (append_none os)
   row_over (suc m) none = rw none (ap (λ (o : Operands). found (chained x o) ts) (append_none os))
 
-  pub row_stops : (m : ℕ) (op : FilterOp) (us rs : List PlainToken) → 0 < m → op_first l ts ≡ Some (op, us) → G us ≡ refused rs → ends x os (row G l m ts) ≡ refused rs
+  pub row_stops : (m : ℕ) (op : BinaryOp) (us rs : List PlainToken) → 0 < m → op_first l ts ≡ Some (op, us) → G us ≡ refused rs → ends x os (row G l m ts) ≡ refused rs
   unfolding row
   row_stops zero op us rs some is there = absurd (omega arith)
   row_stops (suc m) op us rs some is there = rw (is, there) refl
 
-  more_behind : (op : FilterOp) (y : Tree) (r : Outcome Operands) → ends x os (r >>= with_operand op y) ≡ ends x (append os (operand op y no_operands)) r
+  more_behind : (op : BinaryOp) (y : Tree) (r : Outcome Operands) → ends x os (r >>= with_operand op y) ≡ ends x (append os (operand op y no_operands)) r
   more_behind op y (found r rs) = ap (λ (o : Operands). found (chained x o) rs) (append_more os op y r)
   more_behind op y (refused rs) = refl
 
-  pub row_goes_on : (m : ℕ) (op : FilterOp) (y : Tree) (us vs : List PlainToken) → 0 < m → op_first l ts ≡ Some (op, us) → G us ≡ found y vs
+  pub row_goes_on : (m : ℕ) (op : BinaryOp) (y : Tree) (us vs : List PlainToken) → 0 < m → op_first l ts ≡ Some (op, us) → G us ≡ found y vs
       → ends x os (row G l m ts) ≡ ends x (append os (operand op y no_operands)) (row G l (m - 1) vs)
   unfolding row
   row_goes_on zero op y us vs some is there = absurd (omega arith)

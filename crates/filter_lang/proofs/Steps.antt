@@ -1,11 +1,12 @@
 -- One step of reading after another.
-use Rattle.std.proofs.Common.{◌≡◌, ℕ, zero, suc, ◌-◌, ◌<◌, true, false, List, [], ◌∷◌, Option, Some, None, refl, ap, ◌∙◌, sym, arith}
+use Rattle.std.proofs.Common.{◌≡◌, ℕ, zero, suc, ◌-◌, ◌<◌, List, [], ◌∷◌, Option, Some, None, refl, ap, ◌∙◌, sym, arith}
 use Rattle.filter_lang.specs.PlainToken.{PlainToken, name, comma, slash, colon, digits, quoted, identifier, mark, opening, closing}
 use Rattle.filter_lang.specs.Tree.{Tree, number, text, field}
-use Rattle.filter_lang.specs.Ops.{is_prefix}
+use Rattle.filter_lang.specs.Ops.{as_prefix, prefix_in}
 use Rattle.filter_lang.specs.ConditionReading.{Outcome, found, refused, Read, level_by, row_behind, unary_by, unary_from, unary_at, level_at, bracket_in, under}
-use Rattle.filter_lang.specs.declared.expr.FilterOp.{FilterOp}
-use Rattle.filter_lang.proofs.Levels.{no_room, no_prefix}
+use Rattle.c_operators.specs.declared.binary.BinaryOp.{BinaryOp}
+use Rattle.filter_lang.specs.declared.expr.FilterPrefix.{FilterPrefix}
+use Rattle.filter_lang.proofs.Levels.{no_room, no_prefix, prefix_there}
 
 pub level_zero : (n l : ℕ) (ts : List PlainToken) → l ≡ 0 → level_at n l ts ≡ unary_at n ts
 unfolding level_by
@@ -57,8 +58,8 @@ unary_identifier n ts us bytes e = alike n ts us (identifier bytes) (found (fiel
 pub unary_bracket : (n : ℕ) (ts us : List PlainToken) → ts ≡ opening ∷ us → 0 < n → unary_at n ts ≡ bracket_in (unary_at (n - 1)) us
 unary_bracket n ts us e lt = unary_open n ts us opening e lt
 
-pub unary_under : (n : ℕ) (ts us : List PlainToken) (op : FilterOp) → ts ≡ mark op ∷ us → 0 < n → is_prefix op ≡ true → unary_at n ts ≡ under (unary_at (n - 1)) op us
-unary_under n ts us op e lt is = unary_open n ts us (mark op) e lt ∙ rw is refl
+pub unary_under : (n : ℕ) (ts us : List PlainToken) (t : PlainToken) (op : FilterPrefix) → ts ≡ t ∷ us → 0 < n → prefix_in t ≡ Some op → unary_at n ts ≡ under (unary_at (n - 1)) op us
+unary_under n ts us t op e lt is = unary_open n ts us t e lt ∙ prefix_there (unary_at (n - 1)) t op is us
 
 -- what may not stand there, whatever the room
 unlike : (n : ℕ) (ts us : List PlainToken) (t : PlainToken) → ((inner : Option Read) → unary_from inner t us ≡ refused (t ∷ us)) → ts ≡ t ∷ us → unary_at n ts ≡ refused ts
@@ -67,10 +68,10 @@ unlike n ts us t same e = alike n ts us t (refused (t ∷ us)) same e ∙ ap ref
 pub unary_no_bracket : (n : ℕ) (ts us : List PlainToken) → ts ≡ opening ∷ us → n ≡ 0 → unary_at n ts ≡ refused ts
 unary_no_bracket n ts us e z = unary_closed n ts us opening e z ∙ ap refused (sym e)
 
-pub unary_no_room : (n : ℕ) (ts us : List PlainToken) (op : FilterOp) → ts ≡ mark op ∷ us → n ≡ 0 → unary_at n ts ≡ refused ts
-unary_no_room n ts us op e z = unary_closed n ts us (mark op) e z ∙ no_room op us ∙ ap refused (sym e)
+pub unary_no_room : (n : ℕ) (ts us : List PlainToken) (t : PlainToken) (op : FilterPrefix) → ts ≡ t ∷ us → n ≡ 0 → prefix_in t ≡ Some op → unary_at n ts ≡ refused ts
+unary_no_room n ts us t op e z is = unary_closed n ts us t e z ∙ no_room t op is us ∙ ap refused (sym e)
 
-pub unary_no_prefix : (n : ℕ) (ts us : List PlainToken) (op : FilterOp) → ts ≡ mark op ∷ us → is_prefix op ≡ false → unary_at n ts ≡ refused ts
+pub unary_no_prefix : (n : ℕ) (ts us : List PlainToken) (op : BinaryOp) → ts ≡ mark op ∷ us → as_prefix op ≡ None → unary_at n ts ≡ refused ts
 unary_no_prefix n ts us op e never = unlike n ts us (mark op) (λ inner. no_prefix inner op never us) e
 
 pub unary_name : (n : ℕ) (ts us : List PlainToken) (bytes : List ℕ) → ts ≡ name bytes ∷ us → unary_at n ts ≡ refused ts

@@ -1,19 +1,36 @@
 -- What a read took, it takes before everything that can't go on with it; where it stopped, more tokens make it whole,
 -- and the token where it stopped never does.
-use Rattle.std.proofs.Common.{◌≡◌, ◌≢◌, ℕ, zero, suc, ◌<◌, ◌≤◌, true, List, [], ◌∷◌, ◌++◌, length, None, refl, ap, sym, ◌∙◌, subst, arith, rules, ◌==◌, ◌⊎◌, inl, inr}
+use Rattle.std.proofs.Common.{◌≡◌, ◌≢◌, ℕ, zero, suc, ◌<◌, ◌≤◌, true, false, List, [], ◌∷◌, ◌++◌, length, None, refl, ap, sym, ◌∙◌, subst, arith, rules, ◌==◌, ◌⊎◌, inl, inr}
 use Rattle.std.proofs.lemmas.List.{append_assoc, length-append}
-use Rattle.std.proofs.lemmas.Bool.{cases_Bool}
-use Rattle.filter_lang.specs.PlainToken.{PlainToken, mark, opening, closing, name, comma, slash, colon, digits, quoted, identifier}
+use Rattle.std.proofs.lemmas.Bool.{cases_Bool, cases_lt}
+use Rattle.c_operators.specs.Operators.{level_of}
+use Rattle.filter_lang.specs.PlainToken.{PlainToken, mark, exclamation, tilde, opening, closing, name, comma, slash, colon, digits, quoted, identifier}
 use Rattle.filter_lang.specs.Tree.{Tree, Operands, no_operands, operand}
 use Rattle.filter_lang.specs.Lexing.{AreWritten}
-use Rattle.filter_lang.specs.Ops.{level_of, first_level, op_first}
+use Rattle.filter_lang.specs.Ops.{op_first}
 use Rattle.filter_lang.specs.ConditionReading.{Outcome, found, refused, ◌>>=◌, Read, row, behind_operand, with_operand}
-use Rattle.filter_lang.specs.declared.expr.FilterOp.{FilterOp}
+use Rattle.c_operators.specs.declared.binary.BinaryOp.{BinaryOp}
 use Rattle.filter_lang.proofs.Complete.{row_over, op_same}
 
 -- no operator of the level, or of one that binds tighter, stands first
 abbrev pub Quiet : ℕ → List PlainToken → Type 0
-Quiet l ts = l < first_level ts
+Quiet l ts = (k : ℕ) → k ≤ l → op_first k ts ≡ None
+
+pub quieter : (l : ℕ) (ts : List PlainToken) → Quiet (suc l) ts → Quiet l ts
+quieter l ts quiet = λ k le. quiet k (omega arith)
+
+pub quiet_next : (l : ℕ) (ts : List PlainToken) → op_first (suc l) ts ≡ None → Quiet l ts → Quiet (suc l) ts
+quiet_next l ts none quiet = λ k le. elim (cases_lt l k) [
+  | inl above ↦ let same : k ≡ suc l = omega arith in ap (λ j. op_first j ts) same ∙ none
+  | inr below ↦ quiet k below
+]
+
+-- an operator of a looser level stands first
+quiet_before : (l : ℕ) (op : BinaryOp) (ts : List PlainToken) → level_of op ≡ suc l → Quiet l (mark op ∷ ts)
+quiet_before l op ts is = λ k le.
+    let never : level_of op ≢ k = λ same. absurd (omega arith) in
+    let other : (level_of op == k) ≡ false = search (rules, never) in
+    rw other refl
 
 pub found_is : {A : Type 0} (x y : A) (rs vs : List PlainToken) → found x rs ≡ found y vs → (x ≡ y) × (rs ≡ vs)
 found_is x y rs vs e = (cc, cc)
@@ -76,12 +93,14 @@ pub record RowStopped (F : Read) (l : ℕ) (ts rs : List PlainToken) : Type 0 wh
   pub stops : (t : PlainToken) (vs ws : List PlainToken) (m : ℕ) → rs ≡ t ∷ vs → length (us ++ t ∷ ws) ≤ m → row F (suc l) m (us ++ t ∷ ws) ≡ refused (t ∷ ws)
 
 -- the operator of a level that stands first, or none
-pub op_cases : (l : ℕ) (ts : List PlainToken) → (op_first l ts ≡ None) ⊎ ((op : FilterOp) × (us : List PlainToken) × (ts ≡ mark op ∷ us) × (level_of op ≡ l))
+pub op_cases : (l : ℕ) (ts : List PlainToken) → (op_first l ts ≡ None) ⊎ ((op : BinaryOp) × (us : List PlainToken) × (ts ≡ mark op ∷ us) × (level_of op ≡ l))
 op_cases l [] = inl refl
 op_cases l (mark op ∷ ts) = elim (cases_Bool (level_of op == l)) [
   | inl same ↦ inr (op, ts, refl, search (rules, same))
   | inr never ↦ inl (rw never refl)
 ]
+op_cases l (exclamation ∷ ts) = inl refl
+op_cases l (tilde ∷ ts) = inl refl
 op_cases l (name x ∷ ts) = inl refl
 op_cases l (comma ∷ ts) = inl refl
 op_cases l (slash ∷ ts) = inl refl
@@ -92,28 +111,29 @@ op_cases l (identifier x ∷ ts) = inl refl
 op_cases l (opening ∷ ts) = inl refl
 op_cases l (closing ∷ ts) = inl refl
 
-pub not_level : (l : ℕ) (ts : List PlainToken) → l ≤ 10 → op_first l ts ≡ None → first_level ts ≢ l
-not_level l [] top e = λ same. absurd (omega arith)
-not_level l (mark op ∷ ts) top e = λ same. absurd (let there = op_same l op ts same in cc)
-not_level l (name x ∷ ts) top e = λ same. absurd (omega arith)
-not_level l (comma ∷ ts) top e = λ same. absurd (omega arith)
-not_level l (slash ∷ ts) top e = λ same. absurd (omega arith)
-not_level l (colon ∷ ts) top e = λ same. absurd (omega arith)
-not_level l (digits x ∷ ts) top e = λ same. absurd (omega arith)
-not_level l (quoted x ∷ ts) top e = λ same. absurd (omega arith)
-not_level l (identifier x ∷ ts) top e = λ same. absurd (omega arith)
-not_level l (opening ∷ ts) top e = λ same. absurd (omega arith)
-not_level l (closing ∷ ts) top e = λ same. absurd (omega arith)
+pub first_is : (t u : PlainToken) (ts us : List PlainToken) → t ∷ ts ≡ u ∷ us → t ≡ u
+first_is t u ts us e = cc
+
+-- the first token decides it
+pub quiet_again : (l : ℕ) (t : PlainToken) (us ws : List PlainToken) → Quiet l (t ∷ us) → Quiet l (t ∷ ws)
+quiet_again l t us ws quiet = λ k le. elim (op_cases k (t ∷ ws)) [
+  | inl none ↦ none
+  | inr there ↦
+      let same : t ≡ mark there.0 = first_is t (mark there.0) ws there.1 there.2 in
+      let here : op_first k (t ∷ us) ≡ op_first k (mark there.0 ∷ us) = ap (λ (z : PlainToken). op_first k (z ∷ us)) same in
+      let never = sym (op_same k there.0 us there.3) ∙ sym here ∙ quiet k le in
+      absurd cc
+]
 
 -- nothing of a level stands first: then the row is over
 pub over : (F : Read) (l m : ℕ) (ts : List PlainToken) → Quiet (suc l) ts → row F (suc l) m ts ≡ found no_operands ts
-over F l m ts quiet = row_over F l m ts (λ same. absurd (omega arith))
+over F l m ts quiet = row_over F l m ts (quiet (suc l) (omega arith))
 
-module _ (F : Read) (l : ℕ) (low : suc l ≤ 10) (v : Viable F l) where
+module _ (F : Read) (l : ℕ) (v : Viable F l) where
   no_turn : (m : ℕ) (ts : List PlainToken) → op_first (suc l) ts ≡ None → row F (suc l) m ts ≡ found no_operands ts
-  no_turn m ts e = row_over F l m ts (not_level (suc l) ts low e)
+  no_turn m ts e = row_over F l m ts e
 
-  turn : (m : ℕ) (op : FilterOp) (us : List PlainToken) → level_of op ≡ suc l → row F (suc l) (suc m) (mark op ∷ us) ≡ F us >>= behind_operand (row F (suc l) m) op
+  turn : (m : ℕ) (op : BinaryOp) (us : List PlainToken) → level_of op ≡ suc l → row F (suc l) (suc m) (mark op ∷ us) ≡ F us >>= behind_operand (row F (suc l) m) op
   unfolding row
   turn m op us is = rw (op_same (suc l) op us is) refl
 
@@ -122,12 +142,12 @@ module _ (F : Read) (l : ℕ) (low : suc l ≤ 10) (v : Viable F l) where
     us = [];
     whole = refl;
     shorter = omega arith;
-    quiet = let never = not_level (suc l) ts low none in omega arith;
-    before = λ vs q. omega arith;
+    quiet = quiet_next l ts none quiet;
+    before = λ vs q. quieter l vs q;
     again = λ vs m q enough. over F l m vs q;
   }
 
-  again_turn : (op : FilterOp) (x : Tree) (os : Operands) (cs bs ws vs : List PlainToken) (m : ℕ) → level_of op ≡ suc l → F (cs ++ (bs ++ ws)) ≡ found x (bs ++ ws)
+  again_turn : (op : BinaryOp) (x : Tree) (os : Operands) (cs bs ws vs : List PlainToken) (m : ℕ) → level_of op ≡ suc l → F (cs ++ (bs ++ ws)) ≡ found x (bs ++ ws)
       → ((k : ℕ) → length (bs ++ ws) ≤ k → row F (suc l) k (bs ++ ws) ≡ found os vs) → length (mark op ∷ cs ++ bs ++ ws) ≤ m → row F (suc l) m (mark op ∷ cs ++ bs ++ ws) ≡ found (operand op x os) vs
   again_turn op x os cs bs ws vs zero is there behind enough = absurd (omega arith)
   again_turn op x os cs bs ws vs (suc m) is there behind enough =
@@ -135,13 +155,13 @@ module _ (F : Read) (l : ℕ) (low : suc l ≤ 10) (v : Viable F l) where
       let fits : length (bs ++ ws) ≤ m = omega (arith, ap length same, enough, length-append cs (bs ++ ws)) in
       turn m op (cs ++ bs ++ ws) is ∙ ap (λ zs. F zs >>= behind_operand (row F (suc l) m) op) same ∙ rw (there, behind m fits) refl
 
-  joined : (op : FilterOp) (ts rs : List PlainToken) (x : Tree) (os : Operands) (vs : List PlainToken) → level_of op ≡ suc l → Took F l ts x vs → RowTook F l vs os rs → RowTook F l (mark op ∷ ts) (operand op x os) rs
+  joined : (op : BinaryOp) (ts rs : List PlainToken) (x : Tree) (os : Operands) (vs : List PlainToken) → level_of op ≡ suc l → Took F l ts x vs → RowTook F l vs os rs → RowTook F l (mark op ∷ ts) (operand op x os) rs
   joined op ts rs x os vs is a b = record {
     us = mark op ∷ (a.us ++ b.us);
     whole = ap (λ zs. mark op ∷ zs) (a.whole ∙ ap (λ zs. a.us ++ zs) b.whole ∙ sym (append_assoc a.us b.us rs));
     shorter = let s = a.shorter in let t = b.shorter in omega arith;
     quiet = b.quiet;
-    before = λ ws q. omega (arith, is);
+    before = λ ws q. quiet_before l op ((a.us ++ b.us) ++ ws) is;
     again = λ ws m q enough. again_turn op x os a.us b.us ws ws m is (a.again (b.us ++ ws) (b.before ws q)) (λ k fits. b.again ws k q fits) enough;
   }
 
@@ -153,7 +173,7 @@ module _ (F : Read) (l : ℕ) (low : suc l ≤ 10) (v : Viable F l) where
       let here = found_is no_operands os ts rs (sym (no_turn m ts none) ∙ e) in
       subst (λ zs. RowTook F l ts os zs) here.1 (subst (λ (o : Operands). RowTook F l ts o ts) here.0 (nothing ts none quiet))
 
-  rows_turn : (m : ℕ) → Rows m → (op : FilterOp) (us ts : List PlainToken) (os : Operands) (rs : List PlainToken) → length ts ≤ suc m → ts ≡ mark op ∷ us → level_of op ≡ suc l → row F (suc l) (suc m) ts ≡ found os rs → RowTook F l ts os rs
+  rows_turn : (m : ℕ) → Rows m → (op : BinaryOp) (us ts : List PlainToken) (os : Operands) (rs : List PlainToken) → length ts ≤ suc m → ts ≡ mark op ∷ us → level_of op ≡ suc l → row F (suc l) (suc m) ts ≡ found os rs → RowTook F l ts os rs
   rows_turn m rows op us ts os rs enough is level e =
       let first = bind_found (F us) (behind_operand (row F (suc l) m) op) os rs (sym (turn m op us level) ∙ ap (row F (suc l) (suc m)) (sym is) ∙ e) in
       let x = first.0 in
@@ -175,27 +195,27 @@ module _ (F : Read) (l : ℕ) (low : suc l ≤ 10) (v : Viable F l) where
     | inr there ↦ rows_turn m (rows_take m) there.0 there.1 ts os rs enough there.2 there.3 e
   ]
 
-  last_operand : (op : FilterOp) (x : Tree) (cs vs : List PlainToken) (m : ℕ) → level_of op ≡ suc l → F cs ≡ found x vs → Quiet (suc l) vs → length (mark op ∷ cs) ≤ m → row F (suc l) m (mark op ∷ cs) ≡ found (operand op x no_operands) vs
+  last_operand : (op : BinaryOp) (x : Tree) (cs vs : List PlainToken) (m : ℕ) → level_of op ≡ suc l → F cs ≡ found x vs → Quiet (suc l) vs → length (mark op ∷ cs) ≤ m → row F (suc l) m (mark op ∷ cs) ≡ found (operand op x no_operands) vs
   last_operand op x cs vs zero is there q enough = absurd (omega arith)
   last_operand op x cs vs (suc m) is there q enough = turn m op cs is ∙ rw (there, over F l m vs q) refl
 
-  first_stops : (op : FilterOp) (cs vs : List PlainToken) (m : ℕ) → level_of op ≡ suc l → F cs ≡ refused vs → length (mark op ∷ cs) ≤ m → row F (suc l) m (mark op ∷ cs) ≡ refused vs
+  first_stops : (op : BinaryOp) (cs vs : List PlainToken) (m : ℕ) → level_of op ≡ suc l → F cs ≡ refused vs → length (mark op ∷ cs) ≤ m → row F (suc l) m (mark op ∷ cs) ≡ refused vs
   first_stops op cs vs zero is there enough = absurd (omega arith)
   first_stops op cs vs (suc m) is there enough = turn m op cs is ∙ rw there refl
 
-  stopped : (op : FilterOp) (ts rs : List PlainToken) → level_of op ≡ suc l → Stopped F l ts rs → RowStopped F l (mark op ∷ ts) rs
+  stopped : (op : BinaryOp) (ts rs : List PlainToken) → level_of op ≡ suc l → Stopped F l ts rs → RowStopped F l (mark op ∷ ts) rs
   stopped op ts rs is s = record {
     us = mark op ∷ s.us;
     whole = ap (λ zs. mark op ∷ zs) s.whole;
     more = s.more;
     written = s.written;
     operands = operand op s.tree no_operands;
-    before = λ ws. omega (arith, is);
-    goes_on = λ ws m q enough. last_operand op s.tree (s.us ++ (s.more ++ ws)) ws m is (s.goes_on ws (omega arith)) q enough;
+    before = λ ws. quiet_before l op (s.us ++ ws) is;
+    goes_on = λ ws m q enough. last_operand op s.tree (s.us ++ (s.more ++ ws)) ws m is (s.goes_on ws (quieter l ws q)) q enough;
     stops = λ t vs ws m same enough. first_stops op (s.us ++ t ∷ ws) (t ∷ ws) m is (s.stops t vs ws same) enough;
   }
 
-  then_stops : (op : FilterOp) (x : Tree) (cs bs ws vs : List PlainToken) (m : ℕ) → level_of op ≡ suc l → F (cs ++ (bs ++ ws)) ≡ found x (bs ++ ws)
+  then_stops : (op : BinaryOp) (x : Tree) (cs bs ws vs : List PlainToken) (m : ℕ) → level_of op ≡ suc l → F (cs ++ (bs ++ ws)) ≡ found x (bs ++ ws)
       → ((k : ℕ) → length (bs ++ ws) ≤ k → row F (suc l) k (bs ++ ws) ≡ refused vs) → length (mark op ∷ cs ++ bs ++ ws) ≤ m → row F (suc l) m (mark op ∷ cs ++ bs ++ ws) ≡ refused vs
   then_stops op x cs bs ws vs zero is there behind enough = absurd (omega arith)
   then_stops op x cs bs ws vs (suc m) is there behind enough =
@@ -203,14 +223,14 @@ module _ (F : Read) (l : ℕ) (low : suc l ≤ 10) (v : Viable F l) where
       let fits : length (bs ++ ws) ≤ m = omega (arith, ap length same, enough, length-append cs (bs ++ ws)) in
       turn m op (cs ++ bs ++ ws) is ∙ ap (λ zs. F zs >>= behind_operand (row F (suc l) m) op) same ∙ rw (there, behind m fits) refl
 
-  behind : (op : FilterOp) (ts rs : List PlainToken) (x : Tree) (vs : List PlainToken) → level_of op ≡ suc l → Took F l ts x vs → RowStopped F l vs rs → RowStopped F l (mark op ∷ ts) rs
+  behind : (op : BinaryOp) (ts rs : List PlainToken) (x : Tree) (vs : List PlainToken) → level_of op ≡ suc l → Took F l ts x vs → RowStopped F l vs rs → RowStopped F l (mark op ∷ ts) rs
   behind op ts rs x vs is a b = record {
     us = mark op ∷ (a.us ++ b.us);
     whole = ap (λ zs. mark op ∷ zs) (a.whole ∙ ap (λ zs. a.us ++ zs) b.whole ∙ sym (append_assoc a.us b.us rs));
     more = b.more;
     written = b.written;
     operands = operand op x b.operands;
-    before = λ ws. omega (arith, is);
+    before = λ ws. quiet_before l op ((a.us ++ b.us) ++ ws) is;
     goes_on = λ ws m q enough. again_turn op x b.operands a.us b.us (b.more ++ ws) ws m is (a.again (b.us ++ (b.more ++ ws)) (b.before (b.more ++ ws))) (λ k fits. b.goes_on ws k q fits) enough;
     stops = λ t us ws m same enough. then_stops op x a.us b.us (t ∷ ws) (t ∷ ws) m is (a.again (b.us ++ t ∷ ws) (b.before (t ∷ ws))) (λ k fits. b.stops t us ws k same fits) enough;
   }
@@ -218,7 +238,7 @@ module _ (F : Read) (l : ℕ) (low : suc l ≤ 10) (v : Viable F l) where
   abbrev Halts : ℕ → Type 0
   Halts m = (ts rs : List PlainToken) → length ts ≤ m → row F (suc l) m ts ≡ refused rs → RowStopped F l ts rs
 
-  halt_turn : (m : ℕ) → Halts m → (op : FilterOp) (us ts rs : List PlainToken) → length ts ≤ suc m → ts ≡ mark op ∷ us → level_of op ≡ suc l → row F (suc l) (suc m) ts ≡ refused rs → RowStopped F l ts rs
+  halt_turn : (m : ℕ) → Halts m → (op : BinaryOp) (us ts rs : List PlainToken) → length ts ≤ suc m → ts ≡ mark op ∷ us → level_of op ≡ suc l → row F (suc l) (suc m) ts ≡ refused rs → RowStopped F l ts rs
   halt_turn m halts' op us ts rs enough is level e =
       subst (λ zs. RowStopped F l zs rs) (sym is) (elim (bind_refused (F us) (behind_operand (row F (suc l) m) op) rs (sym (turn m op us level) ∙ ap (row F (suc l) (suc m)) (sym is) ∙ e)) [
         | inl first ↦ stopped op us rs level (v.halts us rs first)

@@ -1,5 +1,6 @@
 -- Tokens that text can write.
 use Rattle.std.proofs.Common.{◌≡◌, Bool, true, false, ◌||◌, List, [], ◌∷◌, ◌++◌, refl}
+use Rattle.c_operators.specs.Operators.{op_of}
 use Rattle.filter_lang.specs.PlainToken.{PlainToken, name, identifier, closing}
 use Rattle.filter_lang.specs.Lexing.{before_colon, behind_colon, long_at, short_at, AreWritten}
 
@@ -16,7 +17,7 @@ unfolding behind_colon
 word_written = (record { first = 97; bytes = []; begins = refl; is = refl }, tt)
 
 pub closing_written : AreWritten true (closing ∷ [])
-unfolding behind_colon long_at short_at
+unfolding behind_colon long_at short_at op_of
 closing_written = (record { first = 41; bytes = []; begins = refl; is = refl }, tt)
 
 pub written_more : (ts us : List PlainToken) → AreWritten true ts → AreWritten true us → AreWritten true (ts ++ us)

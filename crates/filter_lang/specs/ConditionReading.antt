@@ -1,9 +1,10 @@
 -- The tree of a condition, computed, or the tokens before which it is refused.
-use Rattle.std.specs.Prelude.{ℕ, zero, suc, List, [], ◌∷◌, length, Option, Some, None, if◌then◌else◌}
-use Rattle.filter_lang.specs.PlainToken.{PlainToken, digits, quoted, identifier, mark, opening, closing}
+use Rattle.std.specs.Prelude.{ℕ, zero, suc, List, [], ◌∷◌, length, Option, Some, None}
+use Rattle.filter_lang.specs.PlainToken.{PlainToken, digits, quoted, identifier, opening, closing}
 use Rattle.filter_lang.specs.Tree.{Tree, number, text, field, prefix, chain, Operands, no_operands, operand}
-use Rattle.filter_lang.specs.Ops.{op_first, is_prefix}
-use Rattle.filter_lang.specs.declared.expr.FilterOp.{FilterOp}
+use Rattle.filter_lang.specs.Ops.{op_first, prefix_in}
+use Rattle.c_operators.specs.declared.binary.BinaryOp.{BinaryOp}
+use Rattle.filter_lang.specs.declared.expr.FilterPrefix.{FilterPrefix}
 
 -- what was found and the tokens behind it, or the tokens that nothing goes on with
 pub data Outcome (A : Type 0) : Type 0 where
@@ -18,13 +19,13 @@ refused rs >>= f = refused rs
 abbrev pub Read : Type 0
 Read = List PlainToken → Outcome Tree
 
-abbrev pub with_operand : FilterOp → Tree → Operands → List PlainToken → Outcome Operands
+abbrev pub with_operand : BinaryOp → Tree → Operands → List PlainToken → Outcome Operands
 with_operand op t os rs = found (operand op t os) rs
 
-abbrev pub behind_operand : (List PlainToken → Outcome Operands) → FilterOp → Tree → List PlainToken → Outcome Operands
+abbrev pub behind_operand : (List PlainToken → Outcome Operands) → BinaryOp → Tree → List PlainToken → Outcome Operands
 behind_operand more op t rs = more rs >>= with_operand op t
 
-abbrev pub row_step : Read → (List PlainToken → Outcome Operands) → List PlainToken → Option (FilterOp × List PlainToken) → Outcome Operands
+abbrev pub row_step : Read → (List PlainToken → Outcome Operands) → List PlainToken → Option (BinaryOp × List PlainToken) → Outcome Operands
 row_step read more ts None = found no_operands ts
 row_step read more ts (Some o) = read o.1 >>= behind_operand more o.0
 
@@ -53,31 +54,35 @@ abbrev pub close : Tree → List PlainToken → Outcome Tree
 close t (closing ∷ rs) = found t rs
 close t rs = refused rs
 
-abbrev pub below : FilterOp → Tree → List PlainToken → Outcome Tree
+abbrev pub below : FilterPrefix → Tree → List PlainToken → Outcome Tree
 below op t rs = found (prefix op t) rs
 
 -- what may open a bracket or stand behind a prefix operator: nothing, or a reader of what a prefix operator applies to
 abbrev pub bracket_in : Read → Read
 bracket_in inner ts = level_by inner 10 ts >>= close
 
-abbrev pub under : Read → FilterOp → Read
+abbrev pub under : Read → FilterPrefix → Read
 under inner op ts = inner ts >>= below op
 
 abbrev pub bracket_by : Option Read → List PlainToken → Outcome Tree
 bracket_by None ts = refused (opening ∷ ts)
 bracket_by (Some inner) ts = bracket_in inner ts
 
-abbrev pub prefix_by : Option Read → FilterOp → List PlainToken → Outcome Tree
-prefix_by None op ts = refused (mark op ∷ ts)
-prefix_by (Some inner) op ts = under inner op ts
+abbrev pub value_from : Option Read → PlainToken → List PlainToken → Outcome Tree
+value_from inner (digits value) ts = found (number value) ts
+value_from inner (quoted bytes) ts = found (text bytes) ts
+value_from inner (identifier bytes) ts = found (field bytes) ts
+value_from inner opening ts = bracket_by inner ts
+value_from inner t ts = refused (t ∷ ts)
+
+-- a prefix operator and what it applies to, or a value or a bracket
+abbrev pub prefix_by : Option FilterPrefix → Option Read → PlainToken → List PlainToken → Outcome Tree
+prefix_by None inner t ts = value_from inner t ts
+prefix_by (Some op) None t ts = refused (t ∷ ts)
+prefix_by (Some op) (Some inner) t ts = under inner op ts
 
 abbrev pub unary_from : Option Read → PlainToken → List PlainToken → Outcome Tree
-unary_from inner (digits value) ts = found (number value) ts
-unary_from inner (quoted bytes) ts = found (text bytes) ts
-unary_from inner (identifier bytes) ts = found (field bytes) ts
-unary_from inner opening ts = bracket_by inner ts
-unary_from inner (mark op) ts = if is_prefix op then prefix_by inner op ts else refused (mark op ∷ ts)
-unary_from inner t ts = refused (t ∷ ts)
+unary_from inner t ts = prefix_by (prefix_in t) inner t ts
 
 unfoldable pub unary_by : Option Read → Read
 unary_by inner [] = refused []

@@ -4,13 +4,13 @@ use Rattle.std.specs.Prelude.{◌≡◌, ℕ, ◌+◌, ◌==◌, Bool, true, fal
 use Rattle.std.specs.List.{prefix_len}
 use Rattle.std.specs.Char.{is_ascii_digit}
 use Rattle.std.specs.Str.Parse.{digits_value}
+use Rattle.c_operators.specs.Operators.{op_of}
+use Rattle.c_operators.specs.declared.binary.BinaryOp.{BinaryOp}
 use Rattle.fmt_lexer.specs.declared.number.Base.{Base}
 use Rattle.fmt_lexer.specs.Bytes.{is_word, quote, apostrophe}
 use Rattle.fmt_lexer.specs.Number.{radix_of}
 use Rattle.fmt_lexer.specs.Reading.{number_parts}
-use Rattle.filter_lang.specs.PlainToken.{PlainToken, name, comma, slash, colon, digits, quoted, identifier, mark, opening, closing}
-use Rattle.filter_lang.specs.declared.expr.FilterOp.{FilterOp}
-use Rattle.filter_lang.specs.declared.expr.FilterOp.TheVariants.{LogicOr, LogicAnd, BitOr, BitXor, BitAnd, Equal, NotEqual, Less, LessEqual, Greater, GreaterEqual, ShiftLeft, ShiftRight, Plus, Minus, Times, Divide, Remainder, LogicNot, Invert}
+use Rattle.filter_lang.specs.PlainToken.{PlainToken, name, comma, slash, colon, digits, quoted, identifier, mark, exclamation, tilde, opening, closing}
 
 abbrev pub is_blank : ℕ → Bool
 is_blank c = c == 32 || c == 9
@@ -53,48 +53,31 @@ abbrev pub text_cut : ℕ → List ℕ → Option Cut
 text_cut mark' bytes =
     let n = prefix_len (λ c. not (c == mark')) bytes in if nat_lt n (length bytes) then Some (quoted (take n bytes), n + 1) else None
 
--- an operator of two bytes
-abbrev pub long_mark : List ℕ → Option FilterOp
-long_mark m =
-    if bytes_eq m (codes "||") then Some LogicOr
-    else if bytes_eq m (codes "&&") then Some LogicAnd
-    else if bytes_eq m (codes "==") then Some Equal
-    else if bytes_eq m (codes "!=") then Some NotEqual
-    else if bytes_eq m (codes "<=") then Some LessEqual
-    else if bytes_eq m (codes ">=") then Some GreaterEqual
-    else if bytes_eq m (codes "<<") then Some ShiftLeft
-    else if bytes_eq m (codes ">>") then Some ShiftRight
-    else None
-
--- an operator of one byte, or another mark
-abbrev pub short_mark : List ℕ → Option PlainToken
-short_mark m =
-    if bytes_eq m (codes "|") then Some (mark BitOr)
-    else if bytes_eq m (codes "^") then Some (mark BitXor)
-    else if bytes_eq m (codes "&") then Some (mark BitAnd)
-    else if bytes_eq m (codes "<") then Some (mark Less)
-    else if bytes_eq m (codes ">") then Some (mark Greater)
-    else if bytes_eq m (codes "+") then Some (mark Plus)
-    else if bytes_eq m (codes "-") then Some (mark Minus)
-    else if bytes_eq m (codes "*") then Some (mark Times)
-    else if bytes_eq m (codes "/") then Some (mark Divide)
-    else if bytes_eq m (codes "%") then Some (mark Remainder)
-    else if bytes_eq m (codes "!") then Some (mark LogicNot)
-    else if bytes_eq m (codes "~") then Some (mark Invert)
+-- a mark that is no operator between two operands
+abbrev pub other_mark : List ℕ → Option PlainToken
+other_mark m =
+    if bytes_eq m (codes "!") then Some exclamation
+    else if bytes_eq m (codes "~") then Some tilde
     else if bytes_eq m (codes "(") then Some opening
     else if bytes_eq m (codes ")") then Some closing
     else if bytes_eq m (codes ":") then Some colon
     else None
 
-unfoldable pub long_at : ℕ → List ℕ → Option FilterOp
-long_at c [] = None
-long_at c (d ∷ bytes) = long_mark (c ∷ d ∷ [])
+abbrev pub op_or : Option BinaryOp → Option PlainToken → Option PlainToken
+op_or (Some op) other = Some (mark op)
+op_or None other = other
 
+-- an operator of two bytes
+unfoldable pub long_at : ℕ → List ℕ → Option BinaryOp
+long_at c [] = None
+long_at c (d ∷ bytes) = op_of (c ∷ d ∷ [])
+
+-- an operator of one byte, or another mark
 unfoldable pub short_at : ℕ → Option PlainToken
-short_at c = short_mark (c ∷ [])
+short_at c = op_or (op_of (c ∷ [])) (other_mark (c ∷ []))
 
 -- the longer one, where both are there
-abbrev pub marked : Option FilterOp → Option PlainToken → Option Cut
+abbrev pub marked : Option BinaryOp → Option PlainToken → Option Cut
 marked (Some op) short = Some (mark op, 1)
 marked None None = None
 marked None (Some t) = Some (t, 0)

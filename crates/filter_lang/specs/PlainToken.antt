@@ -1,6 +1,6 @@
 -- The tokens of a filter, without where they stand.
 use Rattle.std.specs.Prelude.{ℕ, List}
-use Rattle.filter_lang.specs.declared.expr.FilterOp.{FilterOp}
+use Rattle.c_operators.specs.declared.binary.BinaryOp.{BinaryOp}
 
 pub data PlainToken : Type 0 where
   -- before the first `:`
@@ -12,6 +12,9 @@ pub data PlainToken : Type 0 where
   digits : ℕ → PlainToken
   quoted : List ℕ → PlainToken
   identifier : List ℕ → PlainToken
-  mark : FilterOp → PlainToken
+  -- an operator between two operands; `-` may stand before one too
+  mark : BinaryOp → PlainToken
+  exclamation : PlainToken
+  tilde : PlainToken
   opening : PlainToken
   closing : PlainToken

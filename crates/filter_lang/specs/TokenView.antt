@@ -1,8 +1,8 @@
 -- The plain tokens that tokens stand for.
 use Rattle.std.specs.Prelude.{ℕ, List, map}
-use Rattle.filter_lang.specs.PlainToken.{PlainToken, name, comma, slash, colon, digits, quoted, identifier, mark, opening, closing}
+use Rattle.filter_lang.specs.PlainToken.{PlainToken, name, comma, slash, colon, digits, quoted, identifier, mark, exclamation, tilde, opening, closing}
 use Rattle.filter_lang.specs.declared.token.Word.{Word}
-use Rattle.filter_lang.specs.declared.token.Word.TheVariants.{Name, Comma, Slash, Colon, Number, Text, Field, Op, Open, Close}
+use Rattle.filter_lang.specs.declared.token.Word.TheVariants.{Name, Comma, Slash, Colon, Number, Text, Field, Op, Not, Invert, Open, Close}
 use Rattle.filter_lang.specs.declared.token.Token.{Token}
 
 abbrev pub plain_token : Word → PlainToken
@@ -14,6 +14,8 @@ plain_token (Number value) = digits value
 plain_token (Text bytes) = quoted bytes.now
 plain_token (Field bytes) = identifier bytes.now
 plain_token (Op op) = mark op
+plain_token Not = exclamation
+plain_token Invert = tilde
 plain_token Open = opening
 plain_token Close = closing
 

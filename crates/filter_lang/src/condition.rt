@@ -6,9 +6,8 @@ ghost use Rattle.filter_lang.specs.ReaderView.{from};
 ghost use Rattle.filter_lang.specs.ConditionReading.{unary_at, level_at, row_behind, bracket_in, under};
 ghost use Rattle.filter_lang.specs.TakenView.{taken, Gives};
 
-use crate::expr::{FilterOp, FilterOperand};
+use crate::expr::{FilterOperand, FilterPrefix};
 use crate::make::{chained, counted, named, prefixed, quoted};
-use crate::ops::is_prefix;
 use crate::reader::Reader;
 use crate::stop::Stop;
 use crate::taken::Taken;
@@ -72,6 +71,12 @@ impl<'a> Reader<'a> {
         ensures bound { IfOk result (λ t. (at < t.next) × (t.next ≤ length self.now.tokens.now)) }
     {
         let word = self.word(at).ok_or(Stop::Before(at))?;
+        if let Some(op) = word.prefix() {
+            if room == 0 {
+                return Err(Stop::Before(at));
+            }
+            return self.under(room - 1, op, at + 1);
+        }
         let expr = match word {
             Word::Number(value) => counted(self.alloc, value)?,
             Word::Text(bytes) => quoted(self.alloc, bytes)?,
@@ -82,12 +87,9 @@ impl<'a> Reader<'a> {
                 }
                 return self.bracket(room - 1, at + 1);
             }
-            Word::Op(op) => {
-                if room == 0 || !is_prefix(op) {
-                    return Err(Stop::Before(at));
-                }
-                return self.under(room - 1, op, at + 1);
-            }
+            Word::Op(_) => return Err(Stop::Before(at)),
+            Word::Not => return Err(Stop::Before(at)),
+            Word::Invert => return Err(Stop::Before(at)),
             Word::Name(_) => return Err(Stop::Before(at)),
             Word::Comma => return Err(Stop::Before(at)),
             Word::Slash => return Err(Stop::Before(at)),
@@ -117,7 +119,7 @@ impl<'a> Reader<'a> {
 
     /// What a prefix operator applies to.
     #[cycle(parser)]
-    fn under(&self, room: u32, op: FilterOp, at: usize) -> Result<Taken, Stop>
+    fn under(&self, room: u32, op: FilterPrefix, at: usize) -> Result<Taken, Stop>
         requires inside { at ≤ length self.now.tokens.now }
         requires room { room < 2 ^ 32 - 1 }
         ensures value { Gives self.now taken result (under (unary_at room) op (from self.now at)) }

@@ -1,49 +1,16 @@
 //! The tree of a filter's condition.
 
+use c_operators::BinaryOp;
 use trace_base::ByteText;
 
-/// An operator of a condition, by its mark. They are those of C.
+/// An operator before its operand, as in C11 6.5.3.3.
 #[derive(Clone, Copy, Debug, PartialEq, Eq)]
-pub enum FilterOp {
-    /// `||`
-    LogicOr,
-    /// `&&`
-    LogicAnd,
-    /// `|`
-    BitOr,
-    /// `^`
-    BitXor,
-    /// `&`
-    BitAnd,
-    /// `==`
-    Equal,
-    /// `!=`
-    NotEqual,
-    /// `<`
-    Less,
-    /// `<=`
-    LessEqual,
-    /// `>`
-    Greater,
-    /// `>=`
-    GreaterEqual,
-    /// `<<`
-    ShiftLeft,
-    /// `>>`
-    ShiftRight,
-    /// `+`
-    Plus,
-    /// `-`, between two operands and before one
+pub enum FilterPrefix {
+    /// `!`
+    Not,
+    /// `-`
     Minus,
-    /// `*`
-    Times,
-    /// `/`
-    Divide,
-    /// `%`
-    Remainder,
-    /// `!`, before an operand
-    LogicNot,
-    /// `~`, before an operand
+    /// `~`
     Invert,
 }
 
@@ -56,9 +23,9 @@ pub enum FilterExpr {
     Text(ByteText),
     /// A name, of a field mostly.
     Field(ByteText),
-    /// An operator that stands before what it applies to: `!`, `-` or `~`.
+    /// An operator before its operand.
     Prefix {
-        op: FilterOp,
+        op: FilterPrefix,
         of: Box<FilterExpr>,
     },
     /// Operators of one level, applied from the left. There is at least one.
@@ -72,6 +39,6 @@ pub enum FilterExpr {
 #[derive(Drop)]
 #[cycle(expr)]
 pub struct FilterOperand {
-    pub op: FilterOp,
+    pub op: BinaryOp,
     pub value: FilterExpr,
 }

@@ -3,13 +3,13 @@
 ghost use Rattle.std.specs.Prelude.{◌≡◌, ◌≤◌, ◌<◌, ◌==◌, ◌||◌, ◌∷◌, [], not, length, take, Some, option_map, IfSome};
 ghost use Rattle.std.specs.List.{prefix_len};
 ghost use Rattle.fmt_lexer.specs.Bytes.{is_word};
-ghost use Rattle.filter_lang.specs.Lexing.{is_blank, is_name_byte, is_colon, long_mark, short_mark, long_at, short_at, marked, number_in, number_cut, text_cut, before_colon, behind_colon, token_in};
+ghost use Rattle.filter_lang.specs.Lexing.{is_blank, is_name_byte, is_colon, other_mark, long_at, short_at, marked, number_in, number_cut, text_cut, before_colon, behind_colon, token_in};
 ghost use Rattle.filter_lang.specs.PlainToken.{name, identifier};
 ghost use Rattle.filter_lang.specs.TokenView.{plain_token, cut_of};
 
-use crate::expr::FilterOp;
 use crate::number::number;
 use crate::token::Word;
+use c_operators::BinaryOp;
 
 /// Whether a byte may stand between tokens: space or tab.
 pub fn is_blank(byte: u8) -> bool
@@ -54,39 +54,13 @@ fn len_before(mark: u8, bytes: &[u8]) -> usize
     bytes.iter().take_while(|byte| **byte != mark).count()
 }
 
-fn long_mark(mark: &[u8]) -> Option<FilterOp>
-    ensures { result ≡ long_mark mark.now }
-{
-    let op = match mark {
-        b"||" => FilterOp::LogicOr,
-        b"&&" => FilterOp::LogicAnd,
-        b"==" => FilterOp::Equal,
-        b"!=" => FilterOp::NotEqual,
-        b"<=" => FilterOp::LessEqual,
-        b">=" => FilterOp::GreaterEqual,
-        b"<<" => FilterOp::ShiftLeft,
-        b">>" => FilterOp::ShiftRight,
-        _ => return None,
-    };
-    Some(op)
-}
-
-fn short_mark(mark: &[u8]) -> Option<Word<'static>>
-    ensures { option_map plain_token result ≡ short_mark mark.now }
+/// The mark that is no operator between two operands.
+fn other_mark(mark: &[u8]) -> Option<Word<'static>>
+    ensures { option_map plain_token result ≡ other_mark mark.now }
 {
     let word = match mark {
-        b"|" => Word::Op(FilterOp::BitOr),
-        b"^" => Word::Op(FilterOp::BitXor),
-        b"&" => Word::Op(FilterOp::BitAnd),
-        b"<" => Word::Op(FilterOp::Less),
-        b">" => Word::Op(FilterOp::Greater),
-        b"+" => Word::Op(FilterOp::Plus),
-        b"-" => Word::Op(FilterOp::Minus),
-        b"*" => Word::Op(FilterOp::Times),
-        b"/" => Word::Op(FilterOp::Divide),
-        b"%" => Word::Op(FilterOp::Remainder),
-        b"!" => Word::Op(FilterOp::LogicNot),
-        b"~" => Word::Op(FilterOp::Invert),
+        b"!" => Word::Not,
+        b"~" => Word::Invert,
         b"(" => Word::Open,
         b")" => Word::Close,
         b":" => Word::Colon,
@@ -96,12 +70,12 @@ fn short_mark(mark: &[u8]) -> Option<Word<'static>>
 }
 
 #[tactic(auto, unfolding(crate::specs::Lexing::long_at))]
-fn long_at(first: u8, rest: &[u8]) -> Option<FilterOp>
+fn long_at(first: u8, rest: &[u8]) -> Option<BinaryOp>
     ensures value { result ≡ long_at first rest.now }
     ensures within { IfSome result (λ op. 1 ≤ length rest.now) }
 {
     match rest {
-        [second, ..] => long_mark(&[first, *second]),
+        [second, ..] => BinaryOp::from_mark(&[first, *second]),
         [] => None,
     }
 }
@@ -110,7 +84,10 @@ fn long_at(first: u8, rest: &[u8]) -> Option<FilterOp>
 fn short_at(first: u8) -> Option<Word<'static>>
     ensures { option_map plain_token result ≡ short_at first }
 {
-    short_mark(&[first])
+    match BinaryOp::from_mark(&[first]) {
+        Some(op) => Some(Word::Op(op)),
+        None => other_mark(&[first]),
+    }
 }
 
 /// The longer mark that begins here, and how many bytes of it stand behind its first.

@@ -14,7 +14,6 @@ pub mod laws;
 mod lexer;
 mod make;
 mod number;
-mod ops;
 mod parser;
 mod reader;
 mod stop;
@@ -23,7 +22,7 @@ mod taken;
 mod tests;
 mod token;
 
-pub use expr::{FilterExpr, FilterOp, FilterOperand};
+pub use expr::{FilterExpr, FilterOperand, FilterPrefix};
 pub use fault::FilterFault;
 pub use filter::{EventName, Filter};
 pub use parser::parse_filter;

@@ -6,9 +6,8 @@ ghost use Rattle.filter_lang.specs.PlainToken.{name, comma, slash, colon};
 ghost use Rattle.filter_lang.specs.TokenView.{plain_token};
 ghost use Rattle.filter_lang.specs.ReaderView.{from, op_view};
 
-use crate::expr::FilterOp;
-use crate::ops::level_of;
 use crate::token::{Token, Word};
+use c_operators::BinaryOp;
 use std::alloc::Global;
 
 /// The tokens of a filter.
@@ -33,12 +32,12 @@ impl<'a> Reader<'a> {
     }
 
     /// The operator at a place, if it is of the level.
-    pub fn op(&self, level: u32, at: usize) -> Option<FilterOp>
+    pub fn op(&self, level: u32, at: usize) -> Option<BinaryOp>
         ensures value { option_map (op_view self.now at) result ≡ op_first level (from self.now at) }
         ensures within { IfSome result (λ op. at < length self.now.tokens.now) }
     {
         match self.word(at)? {
-            Word::Op(op) if level_of(op) == level => Some(op),
+            Word::Op(op) if op.level() == level => Some(op),
             _ => None,
         }
     }

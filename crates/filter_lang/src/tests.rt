@@ -1,6 +1,7 @@
 //! Texts, and the filters that they are or the places where they are refused.
 
-use crate::{EventName, Filter, FilterExpr, FilterFault, FilterOp, parse_filter};
+use crate::{EventName, Filter, FilterExpr, FilterFault, FilterPrefix, parse_filter};
+use c_operators::BinaryOp;
 use std::alloc::{AllocError, Global};
 use std::test::Fail;
 
@@ -156,28 +157,34 @@ const REFUSALS: [(&[u8], u64); 66] = [
     (b"a b :\"", 2),
 ];
 
-fn mark(op: FilterOp) -> &'static [u8] {
+fn mark(op: BinaryOp) -> &'static [u8] {
     match op {
-        FilterOp::LogicOr => b"||",
-        FilterOp::LogicAnd => b"&&",
-        FilterOp::BitOr => b"|",
-        FilterOp::BitXor => b"^",
-        FilterOp::BitAnd => b"&",
-        FilterOp::Equal => b"==",
-        FilterOp::NotEqual => b"!=",
-        FilterOp::Less => b"<",
-        FilterOp::LessEqual => b"<=",
-        FilterOp::Greater => b">",
-        FilterOp::GreaterEqual => b">=",
-        FilterOp::ShiftLeft => b"<<",
-        FilterOp::ShiftRight => b">>",
-        FilterOp::Plus => b"+",
-        FilterOp::Minus => b"-",
-        FilterOp::Times => b"*",
-        FilterOp::Divide => b"/",
-        FilterOp::Remainder => b"%",
-        FilterOp::LogicNot => b"!",
-        FilterOp::Invert => b"~",
+        BinaryOp::LogicOr => b"||",
+        BinaryOp::LogicAnd => b"&&",
+        BinaryOp::BitOr => b"|",
+        BinaryOp::BitXor => b"^",
+        BinaryOp::BitAnd => b"&",
+        BinaryOp::Equal => b"==",
+        BinaryOp::NotEqual => b"!=",
+        BinaryOp::Less => b"<",
+        BinaryOp::LessEqual => b"<=",
+        BinaryOp::Greater => b">",
+        BinaryOp::GreaterEqual => b">=",
+        BinaryOp::ShiftLeft => b"<<",
+        BinaryOp::ShiftRight => b">>",
+        BinaryOp::Plus => b"+",
+        BinaryOp::Minus => b"-",
+        BinaryOp::Times => b"*",
+        BinaryOp::Divide => b"/",
+        BinaryOp::Remainder => b"%",
+    }
+}
+
+fn prefix_mark(op: FilterPrefix) -> &'static [u8] {
+    match op {
+        FilterPrefix::Not => b"!",
+        FilterPrefix::Minus => b"-",
+        FilterPrefix::Invert => b"~",
     }
 }
 
@@ -196,7 +203,7 @@ fn write_condition(alloc: Global, expr: &FilterExpr, out: &mut Vec<u8>) -> Resul
         FilterExpr::Field(name) => out.extend_from_slice(name.as_bytes())?,
         FilterExpr::Prefix { op, of } => {
             out.extend_from_slice(b"(")?;
-            out.extend_from_slice(mark(*op))?;
+            out.extend_from_slice(prefix_mark(*op))?;
             out.extend_from_slice(b" ")?;
             write_condition(alloc, of, out)?;
             out.extend_from_slice(b")")?;

@@ -3,7 +3,7 @@ use Rattle.std.proofs.Common.{◌≡◌, ℕ, zero, suc, ◌+◌, ◌<◌, ◌�
 use Rattle.trace_base.specs.declared.field.Field.{Field}
 use Rattle.filter_lang.specs.Tree.{Tree, number, text, field, prefix, chain, Operands, no_operands, operand}
 use Rattle.filter_lang.specs.TreeView.{tree_of, operands_of}
-use Rattle.filter_lang.specs.declared.expr.FilterOp.{FilterOp}
+use Rattle.c_operators.specs.declared.binary.BinaryOp.{BinaryOp}
 use Rattle.filter_lang.specs.declared.expr.FilterOperand.{FilterOperand}
 use Rattle.filter_truth.specs.Values.{ValueData, binary, prefixed, value_of, along}
 use Rattle.filter_truth.specs.Naming.{EventData, first_named, named_value}
@@ -52,7 +52,7 @@ added_none : (ps : BoundRow) → added ps b_end ≡ ps
 added_none b_end = refl
 added_none (b_more op t ps) = ap (b_more op t) (added_none ps)
 
-added_more : (ps : BoundRow) (op : FilterOp) (t : BoundTree) (qs : BoundRow) → added ps (b_more op t qs) ≡ added (added ps (b_more op t b_end)) qs
+added_more : (ps : BoundRow) (op : BinaryOp) (t : BoundTree) (qs : BoundRow) → added ps (b_more op t qs) ≡ added (added ps (b_more op t b_end)) qs
 added_more b_end op t qs = refl
 added_more (b_more o u ps) op t qs = ap (b_more o u) (added_more ps op t qs)
 
@@ -63,7 +63,7 @@ bound_pushed (p ∷ os) o = ap (b_more p.op (bound_of p.value)) (bound_pushed os
 pub row_ends : (ps : BoundRow) → added ps b_end ≡ ps
 row_ends ps = added_none ps
 
-pub row_next : (ps : BoundRow) (op : FilterOp) (t : BoundTree) (qs : BoundRow) → added (added ps (b_more op t b_end)) qs ≡ added ps (b_more op t qs)
+pub row_next : (ps : BoundRow) (op : BinaryOp) (t : BoundTree) (qs : BoundRow) → added (added ps (b_more op t b_end)) qs ≡ added ps (b_more op t qs)
 row_next ps op t qs = sym (added_more ps op t qs)
 
 row_step : (fields : List Field) (rest : List FilterOperand) (i : ℕ) (o : FilterOperand) → i < length rest → get_or rest i o ≡ o

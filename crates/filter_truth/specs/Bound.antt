@@ -1,7 +1,8 @@
 -- A condition for the events of one format, with the fields in the places of their names.
 use Rattle.std.specs.Prelude.{ℕ, List, [], ◌∷◌, pos, bytes_eq, codes, if◌then◌else◌}
 use Rattle.trace_base.specs.declared.field.Field.{Field}
-use Rattle.filter_lang.specs.declared.expr.FilterOp.{FilterOp}
+use Rattle.c_operators.specs.declared.binary.BinaryOp.{BinaryOp}
+use Rattle.filter_lang.specs.declared.expr.FilterPrefix.{FilterPrefix}
 use Rattle.filter_lang.specs.Tree.{Tree, number, text, field, prefix, chain, Operands, no_operands, operand}
 use Rattle.filter_truth.specs.Values.{ValueData, a_number, a_text, absent, binary, prefixed}
 use Rattle.filter_truth.specs.Naming.{EventData, field_value}
@@ -14,12 +15,12 @@ mutual
     b_cpu : BoundTree
     b_absent : BoundTree
     b_field : Field → BoundTree
-    b_prefix : FilterOp → BoundTree → BoundTree
+    b_prefix : FilterPrefix → BoundTree → BoundTree
     b_chain : BoundTree → BoundRow → BoundTree
 
   pub data BoundRow : Type 0 where
     b_end : BoundRow
-    b_more : FilterOp → BoundTree → BoundRow → BoundRow
+    b_more : BinaryOp → BoundTree → BoundRow → BoundRow
 
 -- its value at an event of the format
 abbrev mutual

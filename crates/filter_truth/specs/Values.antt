@@ -3,9 +3,11 @@
 use Rattle.std.specs.Prelude.{ℕ, Bool, true, false, not, ◌&&◌, ◌||◌, List, bytes_eq, if◌then◌else◌, ℤ, pos, int_lt, int_rem}
 use Rattle.std.specs.Int.{w128, int_wrapping_add, int_wrapping_sub, int_wrapping_mul, int_wrapping_div, int_wrapping_neg, int_shl, int_shr, int_bit_and, int_bit_or, int_bit_xor, int_bit_not, cast_unsigned}
 use Rattle.std.specs.Ordering.{int_eq}
+use Rattle.c_operators.specs.declared.binary.BinaryOp.{BinaryOp}
+use Rattle.c_operators.specs.declared.binary.BinaryOp.TheVariants.{LogicOr, LogicAnd, BitOr, BitXor, BitAnd, Equal, NotEqual, Less, LessEqual, Greater, GreaterEqual, ShiftLeft, ShiftRight, Plus, Minus, Times, Divide, Remainder}
 use Rattle.filter_lang.specs.Tree.{Tree, number, text, field, prefix, chain, Operands, no_operands, operand}
-use Rattle.filter_lang.specs.declared.expr.FilterOp.{FilterOp}
-use Rattle.filter_lang.specs.declared.expr.FilterOp.TheVariants.{LogicOr, LogicAnd, BitOr, BitXor, BitAnd, Equal, NotEqual, Less, LessEqual, Greater, GreaterEqual, ShiftLeft, ShiftRight, Plus, Minus, Times, Divide, Remainder, LogicNot, Invert}
+use Rattle.filter_lang.specs.declared.expr.FilterPrefix.{FilterPrefix}
+use Rattle.filter_lang.specs.declared.expr.FilterPrefix.TheVariants as before
 
 -- a signed number of 128 bits, a text, or what a field has that the event lacks
 pub data ValueData : Type 0 where
@@ -32,7 +34,7 @@ unfoldable pub shift_right : ℤ → ℤ → ℤ
 shift_right a by = if is_count by then int_shr a (cast_unsigned w128 by) else pos 0
 
 -- the operators of C on numbers; a division by 0 gives 0
-unfoldable pub arithmetic : FilterOp → ℤ → ℤ → ℤ
+unfoldable pub arithmetic : BinaryOp → ℤ → ℤ → ℤ
 arithmetic BitOr a b = int_bit_or w128 a b
 arithmetic BitXor a b = int_bit_xor w128 a b
 arithmetic BitAnd a b = int_bit_and w128 a b
@@ -45,7 +47,7 @@ arithmetic Divide a b = if int_eq b (pos 0) then pos 0 else int_wrapping_div w12
 arithmetic Remainder a b = if int_eq b (pos 0) then pos 0 else int_rem a b
 arithmetic op a b = pos 0
 
-abbrev pub is_comparison : FilterOp → Bool
+abbrev pub is_comparison : BinaryOp → Bool
 is_comparison Equal = true
 is_comparison NotEqual = true
 is_comparison Less = true
@@ -54,7 +56,7 @@ is_comparison Greater = true
 is_comparison GreaterEqual = true
 is_comparison op = false
 
-abbrev pub compared : FilterOp → ℤ → ℤ → Bool
+abbrev pub compared : BinaryOp → ℤ → ℤ → Bool
 compared Equal a b = int_eq a b
 compared NotEqual a b = not (int_eq a b)
 compared Less a b = int_lt a b
@@ -64,24 +66,24 @@ compared GreaterEqual a b = not (int_lt a b)
 compared op a b = false
 
 -- texts are the same or not, and have no order
-abbrev pub same_text : FilterOp → List ℕ → List ℕ → Bool
+abbrev pub same_text : BinaryOp → List ℕ → List ℕ → Bool
 same_text Equal a b = bytes_eq a b
 same_text NotEqual a b = not (bytes_eq a b)
 same_text op a b = false
 
 -- with an absent value, or of a text with a number, nothing holds
-abbrev pub comparison : FilterOp → ValueData → ValueData → Bool
+abbrev pub comparison : BinaryOp → ValueData → ValueData → Bool
 comparison op (a_number a) (a_number b) = compared op a b
 comparison op (a_text a) (a_text b) = same_text op a b
 comparison op a b = false
 
 -- only numbers are computed with
-abbrev pub computed : FilterOp → ValueData → ValueData → ValueData
+abbrev pub computed : BinaryOp → ValueData → ValueData → ValueData
 computed op (a_number a) (a_number b) = a_number (arithmetic op a b)
 computed op a b = absent
 
 -- the operators of logic look at truth alone
-abbrev pub binary : FilterOp → ValueData → ValueData → ValueData
+abbrev pub binary : BinaryOp → ValueData → ValueData → ValueData
 binary LogicOr a b = bit (is_true a || is_true b)
 binary LogicAnd a b = bit (is_true a && is_true b)
 binary op a b = if is_comparison op then bit (comparison op a b) else computed op a b
@@ -94,12 +96,10 @@ abbrev pub inverted : ValueData → ValueData
 inverted (a_number a) = a_number (int_bit_not w128 a)
 inverted v = absent
 
--- no other operator stands before its operand
-abbrev pub prefixed : FilterOp → ValueData → ValueData
-prefixed LogicNot v = bit (not (is_true v))
-prefixed Minus v = negated v
-prefixed Invert v = inverted v
-prefixed op v = absent
+abbrev pub prefixed : FilterPrefix → ValueData → ValueData
+prefixed before.Not v = bit (not (is_true v))
+prefixed before.Minus v = negated v
+prefixed before.Invert v = inverted v
 
 -- the value of a condition, where every name of a field has a value
 abbrev mutual

@@ -6,7 +6,7 @@ ghost use Rattle.filter_truth.specs.Bound.{bind_field, bind_name, bind_tree, bin
 ghost use Rattle.filter_truth.specs.BoundView.{bound_of, bound_row};
 
 use crate::bound_expr::{BoundExpr, BoundOperand};
-use filter_lang::{FilterExpr, FilterOp, FilterOperand};
+use filter_lang::{FilterExpr, FilterOperand, FilterPrefix};
 use std::alloc::{AllocError, Global};
 use trace_base::{ByteText, Field};
 
@@ -38,7 +38,7 @@ fn bound_text(alloc: Global, bytes: &[u8]) -> Result<Box<BoundExpr>, AllocError>
 
 fn bound_prefix(
     alloc: Global,
-    op: FilterOp,
+    op: FilterPrefix,
     of: Box<BoundExpr>,
 ) -> Result<Box<BoundExpr>, AllocError>
     ensures { IfOk result (λ e. bound_of e.value ≡ b_prefix op (bound_of of.value)) }

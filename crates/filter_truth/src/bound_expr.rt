@@ -1,6 +1,7 @@
 //! Conditions for the events of one format, with its fields in the places of their names.
 
-use filter_lang::FilterOp;
+use c_operators::BinaryOp;
+use filter_lang::FilterPrefix;
 use trace_base::{ByteText, Field};
 
 /// A condition for the events of one format.
@@ -17,7 +18,7 @@ pub enum BoundExpr {
     Absent,
     Field(Field),
     Prefix {
-        op: FilterOp,
+        op: FilterPrefix,
         of: Box<BoundExpr>,
     },
     Chain {
@@ -30,7 +31,7 @@ pub enum BoundExpr {
 #[derive(Drop)]
 #[cycle(bound)]
 pub struct BoundOperand {
-    pub op: FilterOp,
+    pub op: BinaryOp,
     pub value: BoundExpr,
 }
 

@@ -4,7 +4,8 @@ ghost use Rattle.std.specs.Prelude.{◌≡◌};
 ghost use Rattle.filter_truth.specs.Values.{is_true, bit, arithmetic, compared, same_text, is_comparison, comparison, computed, binary, prefixed, shift_left, shift_right};
 ghost use Rattle.filter_truth.specs.ValueView.{data_of};
 
-use filter_lang::FilterOp;
+use c_operators::BinaryOp;
+use filter_lang::FilterPrefix;
 
 /// A value.
 #[derive(Clone, Copy, Debug)]
@@ -55,25 +56,25 @@ fn shift_right(a: i128, by: i128) -> i128
 
 /// An operator of arithmetic on two numbers. All wrap; a division by 0 gives 0.
 #[tactic(auto, unfolding(crate::specs::Values::arithmetic))]
-pub fn arithmetic(op: FilterOp, a: i128, b: i128) -> i128
+pub fn arithmetic(op: BinaryOp, a: i128, b: i128) -> i128
     ensures { result ≡ arithmetic op a b }
 {
     match op {
-        FilterOp::BitOr => a | b,
-        FilterOp::BitXor => a ^ b,
-        FilterOp::BitAnd => a & b,
-        FilterOp::ShiftLeft => shift_left(a, b),
-        FilterOp::ShiftRight => shift_right(a, b),
-        FilterOp::Plus => a.wrapping_add(b),
-        FilterOp::Minus => a.wrapping_sub(b),
-        FilterOp::Times => a.wrapping_mul(b),
-        FilterOp::Divide => {
+        BinaryOp::BitOr => a | b,
+        BinaryOp::BitXor => a ^ b,
+        BinaryOp::BitAnd => a & b,
+        BinaryOp::ShiftLeft => shift_left(a, b),
+        BinaryOp::ShiftRight => shift_right(a, b),
+        BinaryOp::Plus => a.wrapping_add(b),
+        BinaryOp::Minus => a.wrapping_sub(b),
+        BinaryOp::Times => a.wrapping_mul(b),
+        BinaryOp::Divide => {
             if b == 0 {
                 return 0;
             }
             a.wrapping_div(b)
         }
-        FilterOp::Remainder => {
+        BinaryOp::Remainder => {
             if b == 0 {
                 return 0;
             }
@@ -84,47 +85,47 @@ pub fn arithmetic(op: FilterOp, a: i128, b: i128) -> i128
 }
 
 /// A comparison of two numbers.
-fn compared(op: FilterOp, a: i128, b: i128) -> bool
+fn compared(op: BinaryOp, a: i128, b: i128) -> bool
     ensures { result ≡ compared op a b }
 {
     match op {
-        FilterOp::Equal => a == b,
-        FilterOp::NotEqual => a != b,
-        FilterOp::Less => a < b,
-        FilterOp::LessEqual => a <= b,
-        FilterOp::Greater => a > b,
-        FilterOp::GreaterEqual => a >= b,
+        BinaryOp::Equal => a == b,
+        BinaryOp::NotEqual => a != b,
+        BinaryOp::Less => a < b,
+        BinaryOp::LessEqual => a <= b,
+        BinaryOp::Greater => a > b,
+        BinaryOp::GreaterEqual => a >= b,
         _ => false,
     }
 }
 
 /// A comparison of two texts.
-fn same_text(op: FilterOp, a: &[u8], b: &[u8]) -> bool
+fn same_text(op: BinaryOp, a: &[u8], b: &[u8]) -> bool
     ensures { result ≡ same_text op a.now b.now }
 {
     match op {
-        FilterOp::Equal => a == b,
-        FilterOp::NotEqual => a != b,
+        BinaryOp::Equal => a == b,
+        BinaryOp::NotEqual => a != b,
         _ => false,
     }
 }
 
-fn is_comparison(op: FilterOp) -> bool
+fn is_comparison(op: BinaryOp) -> bool
     ensures { result ≡ is_comparison op }
 {
     matches!(
         op,
-        FilterOp::Equal
-            | FilterOp::NotEqual
-            | FilterOp::Less
-            | FilterOp::LessEqual
-            | FilterOp::Greater
-            | FilterOp::GreaterEqual
+        BinaryOp::Equal
+            | BinaryOp::NotEqual
+            | BinaryOp::Less
+            | BinaryOp::LessEqual
+            | BinaryOp::Greater
+            | BinaryOp::GreaterEqual
     )
 }
 
 /// A comparison; one with an absent value, or of a text with a number, is false.
-fn comparison(op: FilterOp, a: Value<'_>, b: Value<'_>) -> bool
+fn comparison(op: BinaryOp, a: Value<'_>, b: Value<'_>) -> bool
     ensures { result ≡ comparison op (data_of a.entry) (data_of b.entry) }
 {
     match (a, b) {
@@ -134,7 +135,7 @@ fn comparison(op: FilterOp, a: Value<'_>, b: Value<'_>) -> bool
     }
 }
 
-fn computed<'a>(op: FilterOp, a: Value<'a>, b: Value<'a>) -> Value<'a>
+fn computed<'a>(op: BinaryOp, a: Value<'a>, b: Value<'a>) -> Value<'a>
     ensures { data_of result ≡ computed op (data_of a.entry) (data_of b.entry) }
 {
     match (a, b) {
@@ -144,25 +145,25 @@ fn computed<'a>(op: FilterOp, a: Value<'a>, b: Value<'a>) -> Value<'a>
 }
 
 /// An operator on two values.
-pub fn binary<'a>(op: FilterOp, a: Value<'a>, b: Value<'a>) -> Value<'a>
+pub fn binary<'a>(op: BinaryOp, a: Value<'a>, b: Value<'a>) -> Value<'a>
     ensures { data_of result ≡ binary op (data_of a.entry) (data_of b.entry) }
 {
     match op {
-        FilterOp::LogicOr => bit(is_true(a) || is_true(b)),
-        FilterOp::LogicAnd => bit(is_true(a) && is_true(b)),
+        BinaryOp::LogicOr => bit(is_true(a) || is_true(b)),
+        BinaryOp::LogicAnd => bit(is_true(a) && is_true(b)),
         _ if is_comparison(op) => bit(comparison(op, a, b)),
         _ => computed(op, a, b),
     }
 }
 
 /// An operator before its operand.
-pub fn prefixed<'a>(op: FilterOp, of: Value<'a>) -> Value<'a>
+pub fn prefixed<'a>(op: FilterPrefix, of: Value<'a>) -> Value<'a>
     ensures { data_of result ≡ prefixed op (data_of of.entry) }
 {
     match (op, of) {
-        (FilterOp::LogicNot, _) => bit(!is_true(of)),
-        (FilterOp::Minus, Value::Number(n)) => Value::Number(n.wrapping_neg()),
-        (FilterOp::Invert, Value::Number(n)) => Value::Number(!n),
+        (FilterPrefix::Not, _) => bit(!is_true(of)),
+        (FilterPrefix::Minus, Value::Number(n)) => Value::Number(n.wrapping_neg()),
+        (FilterPrefix::Invert, Value::Number(n)) => Value::Number(!n),
         _ => Value::Absent,
     }
 }

@@ -9,8 +9,8 @@ use Rattle.fmt_literal.specs.declared.ckind.CKind.{CKind}
 use Rattle.fmt_literal.specs.declared.ckind.CKind.TheVariants.{I32, U32, I64, U64}
 use Rattle.fmt_literal.specs.declared.cast_to.CastTo.{CastTo}
 use Rattle.fmt_literal.specs.declared.cast_to.CastTo.TheVariants.{Bits, Truth, Same}
-use Rattle.fmt_expr.specs.declared.expr.Op.{Op}
-use Rattle.fmt_expr.specs.declared.expr.Op.TheVariants as op
+use Rattle.c_operators.specs.declared.binary.BinaryOp.{BinaryOp}
+use Rattle.c_operators.specs.declared.binary.BinaryOp.TheVariants as op
 use Rattle.fmt_expr.specs.declared.expr.PrefixOp.{PrefixOp}
 use Rattle.fmt_expr.specs.declared.expr.PrefixOp.TheVariants as prefix
 use Rattle.fmt_eval.specs.Numbers.{Number, number, width, reduced, pattern, truth, is_zero, is_true}
@@ -68,7 +68,7 @@ shifted_left a count = number a.kind (reduced a.kind (scaled (λ x y. x *ℤ y) 
 abbrev pub shifted_right : Number → ℤ → Number
 shifted_right a count = number a.kind (reduced a.kind (scaled int_div_euclid a.exact (shift_count a.kind count)))
 
-abbrev pub applied : Op → Number → Number → Number
+abbrev pub applied : BinaryOp → Number → Number → Number
 applied op.LogicOr a b = truth (is_true a || is_true b)
 applied op.LogicAnd a b = truth (is_true a && is_true b)
 applied op.BitOr a b = bitwise bit_or a b

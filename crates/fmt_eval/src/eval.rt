@@ -10,7 +10,8 @@ ghost use Rattle.fmt_eval.specs.Values.{given, sized_kind, nothing, field_number
 use crate::cast::cast;
 use crate::num::{Num, sign_extended};
 use crate::operators::{applied, bit_and, common, prefixed};
-use fmt_expr::{CKind, Expr, Op, Operand};
+use c_operators::BinaryOp;
+use fmt_expr::{CKind, Expr, Operand};
 use trace_base::{Field, FieldKind, Rec, bytes_of, number_of, sized, unsigned_at};
 
 /// The number 0 of kind I32.
@@ -190,7 +191,7 @@ fn field_with(first: &Expr, rest: &[Operand], rec: &Rec<'_>) -> Option<Num>
     };
     Some(match rest[0].op {
         // Most flags and states are masked.
-        Op::BitAnd => bit_and(number, operand),
+        BinaryOp::BitAnd => bit_and(number, operand),
         op => applied(op, number, operand),
     })
 }

@@ -7,7 +7,8 @@ ghost use Rattle.fmt_eval.specs.NumView.{num_view};
 
 use crate::narrow::{at_most, converted, equal, exact, less, narrowed};
 use crate::num::Num;
-use fmt_expr::{CKind, Op, PrefixOp};
+use c_operators::BinaryOp;
+use fmt_expr::{CKind, PrefixOp};
 
 /// The kind to which two operands are converted.
 pub fn common(a: CKind, b: CKind) -> CKind
@@ -145,31 +146,31 @@ pub fn bit_and(a: Num, b: Num) -> Num
 }
 
 /// A binary operator on two numbers.
-pub fn applied(op: Op, a: Num, b: Num) -> Num
+pub fn applied(op: BinaryOp, a: Num, b: Num) -> Num
     ensures { num_view result ≡ applied op (num_view a) (num_view b) }
 {
     let kind = common(a.kind, b.kind);
     let x = converted(kind, a);
     let y = converted(kind, b);
     match op {
-        Op::LogicOr => Num::truth(a.is_true() || b.is_true()),
-        Op::LogicAnd => Num::truth(a.is_true() && b.is_true()),
-        Op::BitOr => narrowed(kind, either(x, y)),
-        Op::BitXor => narrowed(kind, x ^ y),
-        Op::BitAnd => bit_and(a, b),
-        Op::Equal => Num::truth(equal(kind, x, y)),
-        Op::NotEqual => Num::truth(!equal(kind, x, y)),
-        Op::Less => Num::truth(less(kind, x, y)),
-        Op::LessEqual => Num::truth(at_most(kind, x, y)),
-        Op::Greater => Num::truth(less(kind, y, x)),
-        Op::GreaterEqual => Num::truth(at_most(kind, y, x)),
-        Op::ShiftLeft => shifted_left(a, b.exact()),
-        Op::ShiftRight => shifted_right(a, b.exact()),
-        Op::Plus => sum(kind, exact(kind, x), exact(kind, y)),
-        Op::Minus => difference(kind, exact(kind, x), exact(kind, y)),
-        Op::Times => product(kind, exact(kind, x), exact(kind, y)),
-        Op::Divide => Num::reduced(kind, quotient(exact(kind, x), exact(kind, y))),
-        Op::Remainder => Num::reduced(kind, remainder(exact(kind, x), exact(kind, y))),
+        BinaryOp::LogicOr => Num::truth(a.is_true() || b.is_true()),
+        BinaryOp::LogicAnd => Num::truth(a.is_true() && b.is_true()),
+        BinaryOp::BitOr => narrowed(kind, either(x, y)),
+        BinaryOp::BitXor => narrowed(kind, x ^ y),
+        BinaryOp::BitAnd => bit_and(a, b),
+        BinaryOp::Equal => Num::truth(equal(kind, x, y)),
+        BinaryOp::NotEqual => Num::truth(!equal(kind, x, y)),
+        BinaryOp::Less => Num::truth(less(kind, x, y)),
+        BinaryOp::LessEqual => Num::truth(at_most(kind, x, y)),
+        BinaryOp::Greater => Num::truth(less(kind, y, x)),
+        BinaryOp::GreaterEqual => Num::truth(at_most(kind, y, x)),
+        BinaryOp::ShiftLeft => shifted_left(a, b.exact()),
+        BinaryOp::ShiftRight => shifted_right(a, b.exact()),
+        BinaryOp::Plus => sum(kind, exact(kind, x), exact(kind, y)),
+        BinaryOp::Minus => difference(kind, exact(kind, x), exact(kind, y)),
+        BinaryOp::Times => product(kind, exact(kind, x), exact(kind, y)),
+        BinaryOp::Divide => Num::reduced(kind, quotient(exact(kind, x), exact(kind, y))),
+        BinaryOp::Remainder => Num::reduced(kind, remainder(exact(kind, x), exact(kind, y))),
     }
 }
 

@@ -1,8 +1,9 @@
 //! Values of trees.
 
 use crate::{Num, bytes, number, put_text};
+use c_operators::BinaryOp as Op;
 use fmt_expr::CKind::{I32, I64, U32, U64};
-use fmt_expr::{CKind, CastTo, Entry, Expr, Op, Operand, PrefixOp};
+use fmt_expr::{CKind, CastTo, Entry, Expr, Operand, PrefixOp};
 use std::alloc::{AllocError, Global};
 use trace_base::{ByteText, Field, FieldKind, FieldPlace, Order, Rec, Tail};
 

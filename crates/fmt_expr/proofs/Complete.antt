@@ -12,7 +12,7 @@ use Rattle.fmt_expr.specs.Types.{TypeName, closed_type}
 use Rattle.fmt_expr.specs.Fields.{field_tree, got_tree, is_indexed, named_at, dynamic_at}
 use Rattle.fmt_expr.specs.Parsing.{Found, found, Row, row, Read, Inner, row_at, row_step, row_behind, level_at, choice_at, cond_at, unary_at, inner_of, inner_unary, inner_cond, Valued, valued, Listed, listed, with_entry, entry_at, tail_at, entries_behind, entries_at, argument_at, flags_at, symbolic_at, hex_at, array_at, sized_at, got_at, leaf_at, open_at, open_by, element_at, field_at, cast_at, bracket_at, prefixed_at}
 use Rattle.fmt_expr.specs.Derivation.{IsCond, plain, conditional, IsLevel, unary, single, several, IsRow, no_more, goes_on, IsUnary, prefixed, bracketed, casted, field, indexed, constant, texts, sized, got, flagged, symbolized, in_hex, in_array, IsEntry, braced, AreEntries, last, further}
-use Rattle.fmt_expr.specs.declared.expr.Op.{Op}
+use Rattle.c_operators.specs.declared.binary.BinaryOp.{BinaryOp}
 use Rattle.fmt_expr.specs.declared.expr.PrefixOp.{PrefixOp}
 use Rattle.fmt_expr.specs.declared.head.Got.{Got}
 use Rattle.fmt_expr.specs.declared.head.Call.TheVariants.{Get, SizeOf, Flags, Symbolic, Hex, Array}
@@ -190,7 +190,7 @@ array_there s inner i x y z there bytes count number comma size sizes close = rw
 row_ended : (s : Source) (read : Read) (l m i : ℕ) → 0 < m → op_at s l i ≡ None → row_at s read l m i ≡ Some (row no_operands 0 i)
 row_ended s read l m i some none = turn s read l m i some ∙ ap (row_step read (row_at s read l (m - 1)) i) none
 
-row_more : (s : Source) (read : Read) (l m i : ℕ) (op : Op) (x : Found) (r : Row) → 0 < m → op_at s l i ≡ Some op → read (i + 1) ≡ Some x → is_number x.tree ≡ true → row_at s read l (m - 1) x.next ≡ Some r
+row_more : (s : Source) (read : Read) (l m i : ℕ) (op : BinaryOp) (x : Found) (r : Row) → 0 < m → op_at s l i ≡ Some op → read (i + 1) ≡ Some x → is_number x.tree ≡ true → row_at s read l (m - 1) x.next ≡ Some r
     → row_at s read l m i ≡ Some (row (operand op x.tree r.operands) (max x.nest r.nest) r.next)
 row_more s read l m i op x r some is there number behind = turn s read l m i some ∙ ap (row_step read (row_at s read l (m - 1)) i) is ∙ rw (there, number, behind) refl
 
@@ -202,7 +202,7 @@ level_single : (s : Source) (read : Read) (l i : ℕ) (x : Found) → level_at s
 unfolding level_at row_behind
 level_single s read l i x there none = rw (there, none) refl
 
-level_several : (s : Source) (read : Read) (l i : ℕ) (x : Found) (op : Op) (u : Tree) (rest : Operands) (g k : ℕ) → level_at s read l i ≡ Some x → is_number x.tree ≡ true
+level_several : (s : Source) (read : Read) (l i : ℕ) (x : Found) (op : BinaryOp) (u : Tree) (rest : Operands) (g k : ℕ) → level_at s read l i ≡ Some x → is_number x.tree ≡ true
     → row_at s (level_at s read l) (suc l) (length s.tokens + 1) x.next ≡ Some (row (operand op u rest) g k) → level_at s read (suc l) i ≡ Some (found (chain x.tree (operand op u rest)) (max x.nest g) k)
 unfolding level_at row_behind
 level_several s read l i x op u rest g k there number behind = rw (there, behind, number) refl

@@ -11,9 +11,10 @@ use Rattle.fmt_lexer.specs.Tokens.{bytes_of}
 use Rattle.fmt_literal.specs.declared.ckind.CKind.{CKind}
 use Rattle.fmt_expr.specs.Source.{Source, as_mark, as_name, as_text, as_constant, mark_at, name_at, literal_at, constant_at, is_text, is_mark}
 use Rattle.fmt_expr.specs.Heads.{call_of, name_head, token_head, some_head, head_at}
-use Rattle.fmt_expr.specs.Ops.{op_of, if_level, op_at}
+use Rattle.c_operators.specs.Operators.{op_of}
+use Rattle.fmt_expr.specs.Ops.{if_level, op_at}
 use Rattle.fmt_expr.specs.Kinds.{same_kind}
-use Rattle.fmt_expr.specs.declared.expr.Op.{Op}
+use Rattle.c_operators.specs.declared.binary.BinaryOp.{BinaryOp}
 use Rattle.fmt_expr.specs.declared.expr.PrefixOp.{PrefixOp}
 use Rattle.fmt_expr.specs.declared.head.Call.{Call}
 use Rattle.fmt_expr.specs.declared.head.Head.TheVariants.{Operator, Open, Record, Call as Called, Other}
@@ -160,7 +161,7 @@ pub mark_within : (s : Source) (i : ℕ) (m : List ℕ) → mark_at s i ≡ Some
 unfolding mark_at
 mark_within s i m e = option_and_then_some (λ t. as_mark t.kind (bytes_of s.text t)) (slice_get s.tokens i) m e (λ t there marks. slice_get_within s.tokens i t there)
 
-pub op_within : (s : Source) (l i : ℕ) (op : Op) → op_at s l i ≡ Some op → i < length s.tokens
+pub op_within : (s : Source) (l i : ℕ) (op : BinaryOp) → op_at s l i ≡ Some op → i < length s.tokens
 unfolding op_at
 op_within s l i op e = option_and_then_some (if_level l) (option_and_then op_of (mark_at s i)) op e (λ o of level. option_and_then_some op_of (mark_at s i) o of (λ m there marks. mark_within s i m there))
 

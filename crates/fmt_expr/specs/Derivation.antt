@@ -13,7 +13,7 @@ use Rattle.fmt_expr.specs.Texts.{AreTexts}
 use Rattle.fmt_expr.specs.Types.{TypeName, type_at}
 use Rattle.fmt_expr.specs.Fields.{field_tree, got_tree, named_at, dynamic_at, is_indexed}
 use Rattle.fmt_expr.specs.Parsing.{FmtData}
-use Rattle.fmt_expr.specs.declared.expr.Op.{Op}
+use Rattle.c_operators.specs.declared.binary.BinaryOp.{BinaryOp}
 use Rattle.fmt_expr.specs.declared.expr.PrefixOp.{PrefixOp}
 use Rattle.fmt_expr.specs.declared.head.Got.{Got}
 use Rattle.fmt_expr.specs.declared.head.Call.TheVariants.{Get, SizeOf, Flags, Symbolic, Hex, Array}
@@ -31,13 +31,13 @@ mutual
   pub data IsLevel (s : Source) : ℕ → ℕ → Tree → ℕ → ℕ → Type 0 where
     unary : {i j h : ℕ} {t : Tree} → IsUnary s i t h j → IsLevel s zero i t h j
     single : {l i j h : ℕ} {t : Tree} → IsLevel s l i t h j → op_at s (suc l) j ≡ None → IsLevel s (suc l) i t h j
-    several : {l i j k h g : ℕ} {t u : Tree} {op : Op} {rest : Operands} → IsLevel s l i t h j → kind_of t ≡ Number
+    several : {l i j k h g : ℕ} {t u : Tree} {op : BinaryOp} {rest : Operands} → IsLevel s l i t h j → kind_of t ≡ Number
         → IsRow s l j (operand op u rest) g k → IsLevel s (suc l) i (chain t (operand op u rest)) (max h g) k
 
   -- operators with what stands behind each, for as long as the next token is one of them
   pub data IsRow (s : Source) : ℕ → ℕ → Operands → ℕ → ℕ → Type 0 where
     no_more : {l i : ℕ} → op_at s (suc l) i ≡ None → IsRow s l i no_operands 0 i
-    goes_on : {l i j k h g : ℕ} {t : Tree} {op : Op} {rest : Operands} → op_at s (suc l) i ≡ Some op → IsLevel s l (i + 1) t h j → kind_of t ≡ Number
+    goes_on : {l i j k h g : ℕ} {t : Tree} {op : BinaryOp} {rest : Operands} → op_at s (suc l) i ≡ Some op → IsLevel s l (i + 1) t h j → kind_of t ≡ Number
         → IsRow s l j rest g k → IsRow s l i (operand op t rest) (max h g) k
 
   pub data IsUnary (s : Source) : ℕ → Tree → ℕ → ℕ → Type 0 where

@@ -1,55 +1,12 @@
--- The operators by their marks, after C11 6.5.
-use Rattle.std.specs.Prelude.{ℕ, List, Option, Some, None, option_and_then, if◌then◌else◌, ◌==◌, bytes_eq, codes}
+-- The operators at a place.
+use Rattle.std.specs.Prelude.{ℕ, Option, Some, None, option_and_then, if◌then◌else◌, ◌==◌}
+use Rattle.c_operators.specs.Operators.{op_of, level_of}
+use Rattle.c_operators.specs.declared.binary.BinaryOp.{BinaryOp}
 use Rattle.fmt_expr.specs.Source.{Source, mark_at}
-use Rattle.fmt_expr.specs.declared.expr.Op.{Op}
-use Rattle.fmt_expr.specs.declared.expr.Op.TheVariants.{LogicOr, LogicAnd, BitOr, BitXor, BitAnd, Equal, NotEqual, Less, LessEqual, Greater, GreaterEqual, ShiftLeft, ShiftRight, Plus, Minus, Times, Divide, Remainder}
-
-unfoldable pub op_of : List ℕ → Option Op
-op_of m =
-    if bytes_eq m (codes "||") then Some LogicOr
-    else if bytes_eq m (codes "&&") then Some LogicAnd
-    else if bytes_eq m (codes "|") then Some BitOr
-    else if bytes_eq m (codes "^") then Some BitXor
-    else if bytes_eq m (codes "&") then Some BitAnd
-    else if bytes_eq m (codes "==") then Some Equal
-    else if bytes_eq m (codes "!=") then Some NotEqual
-    else if bytes_eq m (codes "<") then Some Less
-    else if bytes_eq m (codes "<=") then Some LessEqual
-    else if bytes_eq m (codes ">") then Some Greater
-    else if bytes_eq m (codes ">=") then Some GreaterEqual
-    else if bytes_eq m (codes "<<") then Some ShiftLeft
-    else if bytes_eq m (codes ">>") then Some ShiftRight
-    else if bytes_eq m (codes "+") then Some Plus
-    else if bytes_eq m (codes "-") then Some Minus
-    else if bytes_eq m (codes "*") then Some Times
-    else if bytes_eq m (codes "/") then Some Divide
-    else if bytes_eq m (codes "%") then Some Remainder
-    else None
-
--- the levels of C, the tightest first
-abbrev pub level_of : Op → ℕ
-level_of Times = 1
-level_of Divide = 1
-level_of Remainder = 1
-level_of Plus = 2
-level_of Minus = 2
-level_of ShiftLeft = 3
-level_of ShiftRight = 3
-level_of Less = 4
-level_of LessEqual = 4
-level_of Greater = 4
-level_of GreaterEqual = 4
-level_of Equal = 5
-level_of NotEqual = 5
-level_of BitAnd = 6
-level_of BitXor = 7
-level_of BitOr = 8
-level_of LogicAnd = 9
-level_of LogicOr = 10
 
 -- the operator that is the token at a place, if it is of the level
-abbrev pub if_level : ℕ → Op → Option Op
+abbrev pub if_level : ℕ → BinaryOp → Option BinaryOp
 if_level level op = if level_of op == level then Some op else None
 
-unfoldable pub op_at : Source → ℕ → ℕ → Option Op
+unfoldable pub op_at : Source → ℕ → ℕ → Option BinaryOp
 op_at s level i = option_and_then (if_level level) (option_and_then op_of (mark_at s i))

@@ -13,7 +13,7 @@ use Rattle.fmt_expr.specs.Types.{TypeName, closed_type}
 use Rattle.fmt_expr.specs.Fields.{field_tree, got_tree, is_indexed, named_at, dynamic_at}
 use Rattle.trace_base.specs.OptionSteps.{◌>>=◌}
 use Rattle.fmt_expr.specs.Steps.{◌>>◌}
-use Rattle.fmt_expr.specs.declared.expr.Op.{Op}
+use Rattle.c_operators.specs.declared.binary.BinaryOp.{BinaryOp}
 use Rattle.fmt_expr.specs.declared.expr.PrefixOp.{PrefixOp}
 use Rattle.fmt_expr.specs.declared.head.Got.{Got}
 use Rattle.fmt_expr.specs.declared.head.Call.{Call}
@@ -42,11 +42,11 @@ row operands nest next = record { operands = operands; nest = nest; next = next 
 abbrev pub Read : Type 0
 Read = ℕ → Option Found
 
-abbrev pub with_operand : Op → Found → Row → Row
+abbrev pub with_operand : BinaryOp → Found → Row → Row
 with_operand op x r = row (operand op x.tree r.operands) (max x.nest r.nest) r.next
 
 -- a row goes on as long as there is an operator of the level
-abbrev pub row_step : Read → (ℕ → Option Row) → ℕ → Option Op → Option Row
+abbrev pub row_step : Read → (ℕ → Option Row) → ℕ → Option BinaryOp → Option Row
 row_step read more i None = Some (row no_operands 0 i)
 row_step read more i (Some op) = do
   x ← read (i + 1)

@@ -2,7 +2,7 @@
 use Rattle.std.specs.Prelude.{ℕ, List}
 use Rattle.fmt_literal.specs.declared.ckind.CKind.{CKind}
 use Rattle.fmt_literal.specs.declared.cast_to.CastTo.{CastTo}
-use Rattle.fmt_expr.specs.declared.expr.Op.{Op}
+use Rattle.c_operators.specs.declared.binary.BinaryOp.{BinaryOp}
 use Rattle.fmt_expr.specs.declared.expr.PrefixOp.{PrefixOp}
 use Rattle.trace_base.specs.declared.field.Field.{Field}
 
@@ -27,7 +27,7 @@ mutual
   -- the operators of one level, each with what stands behind it
   pub data Operands : Type 0 where
     no_operands : Operands
-    operand : Op → Tree → Operands → Operands
+    operand : BinaryOp → Tree → Operands → Operands
 
   -- values with their texts
   pub data Entries : Type 0 where

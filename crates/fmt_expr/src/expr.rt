@@ -1,5 +1,6 @@
 //! Typed trees.
 
+use c_operators::BinaryOp;
 use fmt_literal::{CKind, CastTo};
 use trace_base::{ByteText, Field};
 
@@ -14,47 +15,6 @@ pub enum PrefixOp {
     LogicNot,
     /// `~`
     Invert,
-}
-
-/// An operator between two operands (C11 6.5.5 to 6.5.14).
-#[derive(Clone, Copy, Debug, PartialEq, Eq)]
-pub enum Op {
-    /// `||`
-    LogicOr,
-    /// `&&`
-    LogicAnd,
-    /// `|`
-    BitOr,
-    /// `^`
-    BitXor,
-    /// `&`
-    BitAnd,
-    /// `==`
-    Equal,
-    /// `!=`
-    NotEqual,
-    /// `<`
-    Less,
-    /// `<=`
-    LessEqual,
-    /// `>`
-    Greater,
-    /// `>=`
-    GreaterEqual,
-    /// `<<`
-    ShiftLeft,
-    /// `>>`
-    ShiftRight,
-    /// `+`
-    Plus,
-    /// `-`
-    Minus,
-    /// `*`
-    Times,
-    /// `/`
-    Divide,
-    /// `%`
-    Remainder,
 }
 
 /// A typed tree: what one argument of a print fmt computes from a record.
@@ -140,7 +100,7 @@ pub enum Expr {
 #[derive(Drop)]
 #[cycle(expr)]
 pub struct Operand {
-    pub op: Op,
+    pub op: BinaryOp,
     pub value: Expr,
 }
 

@@ -29,7 +29,7 @@ mod types;
 mod words;
 
 pub use args::parse_args;
-pub use expr::{Entry, Expr, Op, Operand, PrefixOp};
+pub use expr::{Entry, Expr, Operand, PrefixOp};
 pub use fmt_literal::{CKind, CastTo};
 pub use judge::kind;
 pub use kinds::Kind;

@@ -2,7 +2,8 @@
 
 ghost use Rattle.std.specs.Prelude.{◌≡◌, ◌⊎◌};
 
-use crate::{CKind, CastTo, Entry, Expr, Op, Operand, PrefixOp, parse_args};
+use crate::{CKind, CastTo, Entry, Expr, Operand, PrefixOp, parse_args};
+use c_operators::BinaryOp;
 use fmt_lexer::tokens;
 use std::alloc::{AllocError, Global};
 use std::test::Fail;
@@ -191,26 +192,26 @@ fn prefix_text(op: PrefixOp) -> &'static [u8] {
     }
 }
 
-fn op_text(op: Op) -> &'static [u8] {
+fn op_text(op: BinaryOp) -> &'static [u8] {
     match op {
-        Op::LogicOr => b" || ",
-        Op::LogicAnd => b" && ",
-        Op::BitOr => b" | ",
-        Op::BitXor => b" ^ ",
-        Op::BitAnd => b" & ",
-        Op::Equal => b" == ",
-        Op::NotEqual => b" != ",
-        Op::Less => b" < ",
-        Op::LessEqual => b" <= ",
-        Op::Greater => b" > ",
-        Op::GreaterEqual => b" >= ",
-        Op::ShiftLeft => b" << ",
-        Op::ShiftRight => b" >> ",
-        Op::Plus => b" + ",
-        Op::Minus => b" - ",
-        Op::Times => b" * ",
-        Op::Divide => b" / ",
-        Op::Remainder => b" % ",
+        BinaryOp::LogicOr => b" || ",
+        BinaryOp::LogicAnd => b" && ",
+        BinaryOp::BitOr => b" | ",
+        BinaryOp::BitXor => b" ^ ",
+        BinaryOp::BitAnd => b" & ",
+        BinaryOp::Equal => b" == ",
+        BinaryOp::NotEqual => b" != ",
+        BinaryOp::Less => b" < ",
+        BinaryOp::LessEqual => b" <= ",
+        BinaryOp::Greater => b" > ",
+        BinaryOp::GreaterEqual => b" >= ",
+        BinaryOp::ShiftLeft => b" << ",
+        BinaryOp::ShiftRight => b" >> ",
+        BinaryOp::Plus => b" + ",
+        BinaryOp::Minus => b" - ",
+        BinaryOp::Times => b" * ",
+        BinaryOp::Divide => b" / ",
+        BinaryOp::Remainder => b" % ",
     }
 }
 

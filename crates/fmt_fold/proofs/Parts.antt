@@ -5,7 +5,7 @@ use Rattle.trace_base.specs.Fields.{number_in, bytes_in, place_in}
 use Rattle.fmt_expr.specs.Tree as tree
 use Rattle.fmt_expr.specs.Tree.{Tree}
 use Rattle.fmt_expr.specs.TreeView.{tree_of, operands_of, entries_of}
-use Rattle.fmt_expr.specs.declared.expr.Op.{Op}
+use Rattle.c_operators.specs.declared.binary.BinaryOp.{BinaryOp}
 use Rattle.fmt_expr.specs.declared.expr.PrefixOp.{PrefixOp}
 use Rattle.fmt_expr.specs.declared.expr.Operand.{Operand}
 use Rattle.fmt_expr.specs.declared.expr.Entry.{Entry}
@@ -61,7 +61,7 @@ cast_of to m = record { kind = m.kind; number = cast to m.number; text = m.text;
 pub same_cast : (to : CastTo) (t u : Tree) → IsSame t u → IsSame (tree.cast to t) (tree.cast to u)
 same_cast to t u h = record { each = λ g. ap (cast_of to) (h.each g) }
 
-abbrev steps : Number → List (Op × Number) → Number
+abbrev steps : Number → List (BinaryOp × Number) → Number
 steps n [] = n
 steps n (s ∷ ss) = steps (applied s.0 n s.1) ss
 

@@ -4,7 +4,7 @@ use Rattle.std.proofs.lemmas.List.{append-nil, map-append, drop_more, drop_all}
 use Rattle.fmt_expr.specs.Tree.{Tree}
 use Rattle.fmt_expr.specs.TreeView.{tree_of}
 use Rattle.fmt_expr.specs.declared.expr.Expr.{Expr}
-use Rattle.fmt_expr.specs.declared.expr.Op.{Op}
+use Rattle.c_operators.specs.declared.binary.BinaryOp.{BinaryOp}
 use Rattle.fmt_expr.specs.declared.expr.Operand.{Operand}
 use Rattle.fmt_expr.specs.declared.expr.Entry.{Entry}
 use Rattle.fmt_eval.specs.Numbers.{Number, pattern}
@@ -29,7 +29,7 @@ all {A} {B} f xs ys i le e = sym (append-nil (map f xs)) ∙ ap (λ (l : List A)
 none : {A B : Type 0} (f : A → B) (xs ys : List A) → xs ≡ [] → map f xs ++ map f (drop 0 ys) ≡ map f ys
 none {A} f xs ys e = ap (λ (l : List A). map f l ++ map f ys) e
 
-abbrev pair : Op → Number → Op × Number
+abbrev pair : BinaryOp → Number → BinaryOp × Number
 pair op n = (op, n)
 
 abbrev row : ℕ → List ℕ → Row
@@ -48,7 +48,7 @@ operands_none os ps e = record { each = λ g. none (step_of g) os ps e }
 
 same_step : (g : Given) (o p : Operand) → o.op ≡ p.op → IsSame (tree_of o.value) (tree_of p.value) → step_of g o ≡ step_of g p
 same_step g o p e h =
-    ap (λ (op : Op). pair op (number_of g (tree_of o.value))) e ∙ ap (λ (m : Meaning). pair p.op m.number) (h.each g)
+    ap (λ (op : BinaryOp). pair op (number_of g (tree_of o.value))) e ∙ ap (λ (m : Meaning). pair p.op m.number) (h.each g)
 
 pub operands_more : (os ps : List Operand) (i : ℕ) (d o : Operand) → i < length ps → o.op ≡ (get_or ps i d).op → IsSame (tree_of o.value) (tree_of (get_or ps i d).value)
     → OperandsTo os ps i → OperandsTo (os ++ o ∷ []) ps (i + 1)

@@ -5,7 +5,7 @@ use Rattle.fmt_expr.specs.Tree.{Tree}
 use Rattle.fmt_expr.specs.Kinds.{kind_of}
 use Rattle.fmt_expr.specs.TreeView.{tree_of}
 use Rattle.fmt_expr.specs.declared.kinds.Kind.{Kind}
-use Rattle.fmt_expr.specs.declared.expr.Op.{Op}
+use Rattle.c_operators.specs.declared.binary.BinaryOp.{BinaryOp}
 use Rattle.fmt_expr.specs.declared.expr.Operand.{Operand}
 use Rattle.fmt_expr.specs.declared.expr.Entry.{Entry}
 use Rattle.fmt_eval.specs.Numbers.{Number}
@@ -32,7 +32,7 @@ abbrev pub nameless : Field → Field
 nameless f = record f { name = [] }
 
 -- an operator with the number behind it
-abbrev pub step_of : Given → Operand → Op × Number
+abbrev pub step_of : Given → Operand → BinaryOp × Number
 step_of g o = (o.op, number_of g (tree_of o.value))
 
 -- the same one by one, over every record

@@ -1,9 +1,10 @@
 //! Trees with constant parts.
 
 use crate::{all_folded, folded};
+use c_operators::BinaryOp;
 use fmt_eval::number;
 use fmt_expr::CKind::I32;
-use fmt_expr::{Expr, Op, Operand};
+use fmt_expr::{Expr, Operand};
 use std::alloc::{AllocError, Global};
 use trace_base::{ByteText, Field, FieldKind, FieldPlace, Order, Rec};
 
@@ -11,7 +12,7 @@ fn int(bits: u64) -> Expr {
     Expr::Number { bits, kind: I32 }
 }
 
-fn chain(alloc: Global, first: Expr, op: Op, value: Expr) -> Result<Expr, AllocError> {
+fn chain(alloc: Global, first: Expr, op: BinaryOp, value: Expr) -> Result<Expr, AllocError> {
     let mut rest = Vec::new(alloc);
     rest.push(Operand { op, value })?;
     Ok(Expr::Chain {
@@ -22,10 +23,10 @@ fn chain(alloc: Global, first: Expr, op: Op, value: Expr) -> Result<Expr, AllocE
 
 /// `(((1 | 2) + 1) << 1) - 1`
 fn mask(alloc: Global) -> Result<Expr, AllocError> {
-    let flags = chain(alloc, int(1), Op::BitOr, int(2))?;
-    let next = chain(alloc, flags, Op::Plus, int(1))?;
-    let doubled = chain(alloc, next, Op::ShiftLeft, int(1))?;
-    chain(alloc, doubled, Op::Minus, int(1))
+    let flags = chain(alloc, int(1), BinaryOp::BitOr, int(2))?;
+    let next = chain(alloc, flags, BinaryOp::Plus, int(1))?;
+    let doubled = chain(alloc, next, BinaryOp::ShiftLeft, int(1))?;
+    chain(alloc, doubled, BinaryOp::Minus, int(1))
 }
 
 /// `REC->state`, a byte
@@ -61,7 +62,7 @@ fn a_mask_is_written_out(rt: HostRuntime) -> Result<(), AllocError> {
 fn a_field_under_a_mask_keeps_its_number(rt: HostRuntime) -> Result<(), AllocError> {
     let alloc = rt.alloc();
     let mut args = Vec::new(alloc);
-    args.push(chain(alloc, state(alloc)?, Op::BitAnd, mask(alloc)?)?)?;
+    args.push(chain(alloc, state(alloc)?, BinaryOp::BitAnd, mask(alloc)?)?)?;
     let rec = Rec {
         order: Order::Little,
         payload: &[0, 0x85],

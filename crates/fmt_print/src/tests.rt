@@ -1,8 +1,9 @@
 //! Printed texts.
 
 use crate::{compile, print};
+use c_operators::BinaryOp;
 use fmt_expr::CKind::{I32, I64};
-use fmt_expr::{Entry, Expr, Op, Operand, PrefixOp, PrintFmt};
+use fmt_expr::{Entry, Expr, Operand, PrefixOp, PrintFmt};
 use std::alloc::{AllocError, Global};
 use symbols::Symbols;
 use trace_base::{ByteText, Field, FieldKind, FieldPlace, Order, Rec, Tail};
@@ -371,7 +372,7 @@ fn minus(alloc: Global, bits: u64) -> Result<Expr, AllocError> {
     })
 }
 
-fn chain(alloc: Global, first: Expr, op: Op, value: Expr) -> Result<Expr, AllocError> {
+fn chain(alloc: Global, first: Expr, op: BinaryOp, value: Expr) -> Result<Expr, AllocError> {
     let mut rest = Vec::new(alloc);
     rest.push(Operand { op, value })?;
     Ok(Expr::Chain {
@@ -439,15 +440,20 @@ fn negative_amounts(alloc: Global) -> Result<Vec<Expr>, AllocError> {
 /// `REC->v / 0` and `1 << 32`
 fn undefined(alloc: Global) -> Result<Vec<Expr>, AllocError> {
     let mut args = answers(alloc, 1)?;
-    args.push(chain(alloc, int(7), Op::Divide, int(0))?)?;
-    args.push(chain(alloc, int(1), Op::ShiftLeft, int(32))?)?;
+    args.push(chain(alloc, int(7), BinaryOp::Divide, int(0))?)?;
+    args.push(chain(alloc, int(1), BinaryOp::ShiftLeft, int(32))?)?;
     Ok(args)
 }
 
 /// `-7 >> 1`, of a field
 fn half(alloc: Global) -> Result<Vec<Expr>, AllocError> {
     let field = field(alloc, FieldKind::Number, 12, 4)?;
-    let halved = chain(alloc, Expr::FieldNumber { field }, Op::ShiftRight, int(1))?;
+    let halved = chain(
+        alloc,
+        Expr::FieldNumber { field },
+        BinaryOp::ShiftRight,
+        int(1),
+    )?;
     one(alloc, halved)
 }
 

@@ -72,8 +72,8 @@ row-returns-clause-value t c =
     i.2 ∙ row_over G c.args.level (from s l.next) x (operands_of l.rest.items) i.0 (sym c.in_default.ensures.value) ∙ several x (from s l.next) l.rest.items some
     ∙ ap (λ tree. found tree (from s l.next)) (sym c.in_ok-expr.ensures)
 
-pub unary-returns-then-room-eq0-clause-value : goal.unary-returns-then-room-eq0-clause-value
-unary-returns-then-room-eq0-clause-value t c =
+pub unary-returns-then-room-eq0-2-clause-value : goal.unary-returns-then-room-eq0-2-clause-value
+unary-returns-then-room-eq0-2-clause-value t c =
     unary_no_bracket c.args.room (from c.args.self.now c.args.at) (from c.args.self.now (c.args.at + 1)) (search rules) (search rules)
 
 pub unary-returns-in-Comma-clause-value : goal.unary-returns-in-Comma-clause-value
