@@ -44,21 +44,21 @@ pub fn cast(to: CastTo, a: Num) -> Num
             _ => a,
         };
     };
-    cast_bits(width, signed, a.exact())
+    cast_bits(width, signed, a)
 }
 
-/// An exact number modulo a width of 8, 16, 32 or 64 bits, with a sign or without, and then promoted.
-pub fn cast_bits(width: u32, signed: bool, exact: i128) -> Num
-    ensures { num_view result ≡ cast_bits width signed exact }
+/// A number modulo a width of 8, 16, 32 or 64 bits, with a sign or without, and then promoted.
+pub fn cast_bits(width: u32, signed: bool, a: Num) -> Num
+    ensures { num_view result ≡ cast_bits width signed (num_view a).exact }
 {
     match (width, signed) {
-        (8, true) => Num::reduced(CKind::I32, signed_byte(exact) as i128),
-        (8, false) => Num::reduced(CKind::I32, low_byte(exact) as i128),
-        (16, true) => Num::reduced(CKind::I32, signed_quarter(exact) as i128),
-        (16, false) => Num::reduced(CKind::I32, low_quarter(exact) as i128),
-        (32, true) => Num::reduced(CKind::I32, exact),
-        (32, false) => Num::reduced(CKind::U32, exact),
-        (_, true) => Num::reduced(CKind::I64, exact),
-        (_, false) => Num::reduced(CKind::U64, exact),
+        (8, true) => Num::reduced(CKind::I32, signed_byte(a.exact()) as i128),
+        (8, false) => Num::reduced(CKind::I32, low_byte(a.exact()) as i128),
+        (16, true) => Num::reduced(CKind::I32, signed_quarter(a.exact()) as i128),
+        (16, false) => Num::reduced(CKind::I32, low_quarter(a.exact()) as i128),
+        (32, true) => a.converted(CKind::I32),
+        (32, false) => a.converted(CKind::U32),
+        (_, true) => a.converted(CKind::I64),
+        (_, false) => a.converted(CKind::U64),
     }
 }

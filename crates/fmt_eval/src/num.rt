@@ -1,4 +1,4 @@
-ghost use Rattle.std.specs.Prelude.{◌≡◌, ◌^◌, ◌<◌, unsigned_abs, pos};
+ghost use Rattle.std.specs.Prelude.{◌≡◌, ◌^◌, ◌<◌, unsigned_abs, pos, int_lt};
 ghost use Rattle.std.specs.Int.{w32, w64, cast_signed, int_rem_euclid};
 ghost use Rattle.fmt_eval.specs.Numbers.{number, reduced, pattern, truth, is_true};
 ghost use Rattle.fmt_eval.specs.NumView.{num_view, exact_bits};
@@ -32,6 +32,46 @@ impl Num {
     {
         let bits = reduced_bits(kind, exact);
         Num { bits, kind }
+    }
+
+    /// What a kind leaves of the number.
+    #[tactic(auto, using(crate::proofs::Reductions::half_i32, crate::proofs::Reductions::half_u32, crate::proofs::Reductions::reduced_i64, crate::proofs::Reductions::reduced_u64))]
+    pub fn converted(self, kind: CKind) -> Num
+        ensures { num_view result ≡ number kind (reduced kind (num_view self).exact) }
+    {
+        let bits = self.pattern();
+        let half = (bits % 4_294_967_296) as u32;
+        match kind {
+            CKind::I32 => Num {
+                bits: sign_extended(half),
+                kind,
+            },
+            CKind::U32 => Num {
+                bits: half as u64,
+                kind,
+            },
+            CKind::I64 | CKind::U64 => Num { bits, kind },
+        }
+    }
+
+    /// Whether it is below 0.
+    pub fn is_negative(self) -> bool
+        ensures { result ≡ int_lt (num_view self).exact (pos 0) }
+    {
+        match self.kind {
+            CKind::I32 | CKind::I64 => self.bits.cast_signed() < 0,
+            CKind::U32 | CKind::U64 => false,
+        }
+    }
+
+    /// The number without its sign.
+    pub fn magnitude(self) -> u64
+        ensures { result ≡ unsigned_abs (num_view self).exact }
+    {
+        match self.kind {
+            CKind::I32 | CKind::I64 => self.bits.cast_signed().unsigned_abs(),
+            CKind::U32 | CKind::U64 => self.bits,
+        }
     }
 
     /// 1 or 0, of kind I32.

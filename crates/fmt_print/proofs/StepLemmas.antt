@@ -1,15 +1,16 @@
 -- Plain conversions, and the steps of directives.
-use Rattle.std.proofs.Common.{◌≡◌, ℕ, ◌+◌, ◌<◌, ◌≤◌, ◌^◌, Bool, true, false, List, [], ◌∷◌, ◌++◌, length, map, drop, get_or, Option, Some, None, refl, sym, ap, ◌∙◌, append_assoc}
-use Rattle.std.specs.Prelude.{◌&&◌}
-use Rattle.std.specs.List.{All}
+use Rattle.std.proofs.Common.{◌≡◌, ℕ, ◌+◌, ◌-◌, ◌<◌, ◌≤◌, ◌^◌, Bool, true, false, List, [], ◌∷◌, ◌++◌, length, length-append, take, drop, replicate, get_or, Option, Some, None, refl, sym, ap, ◌∙◌, append_assoc, arith}
+use Rattle.std.specs.Prelude.{◌&&◌, IfSome, slice_range}
+use Rattle.std.specs.List.{All, flat_map}
 use Rattle.std.specs.Fmt.{decimal}
-use Rattle.std.specs.Option.{option_map}
-use Rattle.std.proofs.lemmas.List.{append-nil, map-append, drop_more, drop_all}
+use Rattle.std.specs.Option.{option_map, option_to_list}
+use Rattle.std.proofs.lemmas.List.{append-nil, drop_more, drop_all, flat_map_more, length-take, length-drop, take_all, drop-append-le, take-append-le}
 use Rattle.std.proofs.lemmas.List.Elements.{All-nil, All-cons, All-head, All-tail, All-same}
 use Rattle.trace_base.specs.Kept.{Held, put_held}
 use Rattle.trace_base.specs.declared.tail.Tail.{Tail}
 use Rattle.trace_base.proofs.TailJoins.{put_held_twice}
 use Rattle.symbols.specs.Maps.{Maps}
+use Rattle.fmt_directives.specs.Directives.{IsWithin}
 use Rattle.fmt_directives.specs.declared.directive.Directive.{Directive}
 use Rattle.fmt_directives.specs.declared.directive.Length.{Length}
 use Rattle.fmt_directives.specs.declared.directive.PointerForm.{PointerForm}
@@ -20,14 +21,16 @@ use Rattle.fmt_expr.specs.declared.kinds.Kind.TheVariants.{Text}
 use Rattle.fmt_eval.specs.Values.{Given}
 use Rattle.fmt_eval.specs.Texts.{up_to_nul, text_of}
 use Rattle.fmt_print.specs.declared.form.Form.{Form}
+use Rattle.fmt_print.specs.declared.step.Literal.{Literal}
+use Rattle.fmt_print.specs.declared.step.Shown.{Shown}
 use Rattle.fmt_print.specs.declared.step.Step.{Step}
 use Rattle.fmt_print.specs.Arguments.{Taken, first_of, taken, form_of, by}
 use Rattle.fmt_print.specs.Addresses.{address_text, pointer_text}
 use Rattle.fmt_print.specs.Integers.{integer_text}
 use Rattle.fmt_print.specs.Plain.{minus}
-use Rattle.fmt_print.specs.Printed.{is_signed, printed, printed_one}
+use Rattle.fmt_print.specs.Printed.{is_signed, printed}
 use Rattle.fmt_print.specs.Strings.{string_by, string_text}
-use Rattle.fmt_print.specs.Steps.{plain_spec, plain_form, decimal_base, directive_of, held_with}
+use Rattle.fmt_print.specs.Steps.{plain_spec, plain_form, decimal_base, literal_directive, shown_directive, directives_of, IsPlaced, printed_some, printed_step, held_with}
 use Rattle.fmt_print.proofs.PlainLemmas.{plain_signed, plain_unsigned, padded_bare}
 use Rattle.fmt_print.proofs.WaitLemmas.{held_with_nothing}
 
@@ -65,43 +68,83 @@ unfolding taken
 shown_none f g len ts is = ap (λ (o : Option (Tree × List Tree)). by f (option_map (plain_taken len) o)) is
 
 -- steps that were made of the first of some directives
-pub steps_more : (steps : List Step) (ds : List Directive) (i : ℕ) (d : Directive) (step : Step) → i < length ds → directive_of step ≡ get_or ds i d → map directive_of steps ++ drop i ds ≡ ds
-    → map directive_of (steps ++ step ∷ []) ++ drop (i + 1) ds ≡ ds
-steps_more steps ds i d step lt is before =
-    ap (λ (l : List Directive). l ++ drop (i + 1) ds) (map-append directive_of steps (step ∷ []))
-    ∙ append_assoc (map directive_of steps) (directive_of step ∷ []) (drop (i + 1) ds)
-    ∙ ap (λ (e : Directive). map directive_of steps ++ (e ∷ drop (i + 1) ds)) is
-    ∙ ap (λ (l : List Directive). map directive_of steps ++ l) (sym (drop_more ds i d lt))
+abbrev made : Option Literal → Shown → Step
+made l s = record { literal = l; shown = s }
+
+pub steps_more : (steps : List Step) (left behind rest ds : List Directive) (l : Option Literal) (s : Shown) → option_to_list (literal_directive l) ++ behind ≡ left → option_to_list (shown_directive s) ++ rest ≡ behind → flat_map directives_of steps ++ left ≡ ds
+    → flat_map directives_of (steps ++ made l s ∷ []) ++ rest ≡ ds
+steps_more steps left behind rest ds l s is_left is_behind before =
+    ap (λ (es : List Directive). es ++ rest) (sym (flat_map_more directives_of [] steps (made l s)))
+    ∙ append_assoc (flat_map directives_of steps) (directives_of (made l s)) rest
+    ∙ ap (λ (es : List Directive). flat_map directives_of steps ++ es)
+    (append_assoc (option_to_list (literal_directive l)) (option_to_list (shown_directive s)) rest ∙ ap (λ (es : List Directive). option_to_list (literal_directive l) ++ es) is_behind ∙ is_left)
     ∙ before
 
-pub steps_all : (steps : List Step) (ds : List Directive) (i : ℕ) → length ds ≤ i → map directive_of steps ++ drop i ds ≡ ds → map directive_of steps ≡ ds
-steps_all steps ds i le before =
-    sym (append-nil (map directive_of steps)) ∙ ap (λ (l : List Directive). map directive_of steps ++ l) (sym (drop_all i ds le)) ∙ before
+pub steps_all : (steps : List Step) (left ds : List Directive) → length left ≡ 0 → flat_map directives_of steps ++ left ≡ ds → flat_map directives_of steps ≡ ds
+steps_all steps [] ds none before = sym (append-nil (flat_map directives_of steps)) ∙ before
+steps_all steps (d ∷ left) ds none before = absurd (omega arith)
 
 -- the texts of steps, one after another
 module _ (g : Given) (maps : Maps) (long : ℕ) (text : List ℕ) where
+  printed_behind : (o : Option Directive) (ds : List Directive) (args : List Tree)
+      → printed g maps long text (option_to_list o ++ ds) args ≡ (printed_some g maps long text o args).0 ++ printed g maps long text ds (printed_some g maps long text o args).1
+  printed_behind None ds args = refl
+  printed_behind (Some d) ds args = refl
+
+  printed_first : (s : Step) (ds : List Directive) (args : List Tree)
+      → printed g maps long text (directives_of s ++ ds) args ≡ (printed_step g maps long text s args).0 ++ printed g maps long text ds (printed_step g maps long text s args).1
+  printed_first s ds args =
+      let first = printed_some g maps long text (literal_directive s.literal) args in
+      let second = printed_some g maps long text (shown_directive s.shown) first.1 in
+      ap (λ (es : List Directive). printed g maps long text es args) (append_assoc (option_to_list (literal_directive s.literal)) (option_to_list (shown_directive s.shown)) ds)
+      ∙ printed_behind (literal_directive s.literal) (option_to_list (shown_directive s.shown) ++ ds) args
+      ∙ ap (λ (l : List ℕ). first.0 ++ l) (printed_behind (shown_directive s.shown) ds first.1)
+      ∙ sym (append_assoc first.0 second.0 (printed g maps long text ds second.1))
+
   pub added_more : (k now r : Held) (steps : List Step) (i : ℕ) (d : Step) (args rest : List Tree) → i < length steps
-      → now ≡ put_held k (printed_one g maps long text (directive_of (get_or steps i d)) args).0 → rest ≡ (printed_one g maps long text (directive_of (get_or steps i d)) args).1
-      → put_held k (printed g maps long text (map directive_of (drop i steps)) args) ≡ r → put_held now (printed g maps long text (map directive_of (drop (i + 1) steps)) rest) ≡ r
+      → now ≡ put_held k (printed_step g maps long text (get_or steps i d) args).0 → rest ≡ (printed_step g maps long text (get_or steps i d) args).1
+      → put_held k (printed g maps long text (flat_map directives_of (drop i steps)) args) ≡ r → put_held now (printed g maps long text (flat_map directives_of (drop (i + 1) steps)) rest) ≡ r
   added_more k now r steps i d args rest lt is_now is_rest before =
-      let one = printed_one g maps long text (directive_of (get_or steps i d)) args in
-      let behind = map directive_of (drop (i + 1) steps) in
+      let first = printed_step g maps long text (get_or steps i d) args in
+      let behind = flat_map directives_of (drop (i + 1) steps) in
       ap (λ (h : Held). put_held h (printed g maps long text behind rest)) is_now
-      ∙ ap (λ (es : List Tree). put_held (put_held k one.0) (printed g maps long text behind es)) is_rest
-      ∙ put_held_twice k one.0 (printed g maps long text behind one.1)
-      ∙ ap (λ (es : List Step). put_held k (printed g maps long text (map directive_of es) args)) (sym (drop_more steps i d lt))
+      ∙ ap (λ (es : List Tree). put_held (put_held k first.0) (printed g maps long text behind es)) is_rest
+      ∙ put_held_twice k first.0 (printed g maps long text behind first.1)
+      ∙ ap (put_held k) (sym (printed_first (get_or steps i d) behind args))
+      ∙ ap (λ (es : List Step). put_held k (printed g maps long text (flat_map directives_of es) args)) (sym (drop_more steps i d lt))
       ∙ before
 
   pub added_all : (t : Tail) (waiting : List ℕ) (r : Held) (steps : List Step) (i : ℕ) (args : List Tree) → length steps ≤ i
-      → put_held (held_with t waiting) (printed g maps long text (map directive_of (drop i steps)) args) ≡ r → held_with t waiting ≡ r
+      → put_held (held_with t waiting) (printed g maps long text (flat_map directives_of (drop i steps)) args) ≡ r → held_with t waiting ≡ r
   added_all t waiting r steps i args le before =
-      held_with_nothing t waiting ∙ ap (λ (es : List Step). put_held (held_with t waiting) (printed g maps long text (map directive_of es) args)) (sym (drop_all i steps le)) ∙ before
+      held_with_nothing t waiting ∙ ap (λ (es : List Step). put_held (held_with t waiting) (printed g maps long text (flat_map directives_of es) args)) (sym (drop_all i steps le)) ∙ before
 
--- what holds of each directive holds of that of each step
-steps_each : (P : Directive → Type 0) (steps : List Step) → All P (map directive_of steps) → All (λ s. P (directive_of s)) steps
-steps_each P [] each = All-nil (λ s. P (directive_of s))
-steps_each P (s ∷ steps) each =
-    All-cons (λ s. P (directive_of s)) s steps (All-head P (directive_of s) (map directive_of steps) each) (steps_each P steps (All-tail P (directive_of s) (map directive_of steps) each))
+-- what holds of each directive holds of those of each step
+both_of : (P : Directive → Type 0) (a b : Option Directive) (ds : List Directive) → All P ((option_to_list a ++ option_to_list b) ++ ds) → (IfSome a P × IfSome b P) × All P ds
+both_of P None None ds each = ((tt, tt), each)
+both_of P None (Some b) ds each = ((tt, All-head P b ds each), All-tail P b ds each)
+both_of P (Some a) None ds each = ((All-head P a ds each, tt), All-tail P a ds each)
+both_of P (Some a) (Some b) ds each =
+    let rest = All-tail P a (b ∷ ds) each in ((All-head P a (b ∷ ds) each, All-head P b ds rest), All-tail P b ds rest)
 
-pub steps_within : (P : Directive → Type 0) (steps : List Step) (ds : List Directive) → map directive_of steps ≡ ds → All P ds → All (λ s. P (directive_of s)) steps
-steps_within P steps ds is each = steps_each P steps (All-same P (map directive_of steps) ds is each)
+steps_each : (len : ℕ) (steps : List Step) → All (IsWithin len) (flat_map directives_of steps) → All (IsPlaced len) steps
+steps_each len [] each = All-nil (IsPlaced len)
+steps_each len (s ∷ steps) each =
+    let both = both_of (IsWithin len) (literal_directive s.literal) (shown_directive s.shown) (flat_map directives_of steps) each in
+    All-cons (IsPlaced len) s steps both.0 (steps_each len steps both.1)
+
+pub steps_within : (len : ℕ) (steps : List Step) (ds : List Directive) → flat_map directives_of steps ≡ ds → All (IsWithin len) ds → All (IsPlaced len) steps
+steps_within len steps ds is each = steps_each len steps (All-same (IsWithin len) (flat_map directives_of steps) ds is each)
+
+-- a literal in a text with zeros behind it
+pub literal_room : (text padded : List ℕ) (start end : ℕ) → padded ≡ text ++ replicate 16 0 → start ≤ end → end ≤ length text → (end - start) + 16 ≤ length (take (length padded - start) (drop start padded))
+literal_room text padded start end is le within =
+    omega (arith, le, within, ap length is, length-append text (replicate 16 0), length-drop start padded, length-take (length padded - start) (drop start padded))
+
+pub literal_front : (text padded : List ℕ) (start end : ℕ) → padded ≡ text ++ replicate 16 0 → start ≤ end → end ≤ length text
+    → take (end - start) (take (length padded - start) (drop start padded)) ≡ slice_range text start end
+literal_front text padded start end is le within =
+    ap (take (end - start)) (take_all (length padded - start) (drop start padded) (omega (arith, length-drop start padded)))
+    ∙ ap (λ (l : List ℕ). take (end - start) (drop start l)) is
+    ∙ ap (take (end - start)) (drop-append-le start text (replicate 16 0) (omega (arith, le, within)))
+    ∙ take-append-le (end - start) (drop start text) (replicate 16 0) (omega (arith, le, within, length-drop start text))

@@ -56,15 +56,16 @@ pub fn add_piece(piece: &[u8], waiting: &mut Waiting, into: &mut Tail<'_>)
     }
 }
 
-/// Adds the first bytes of a text.
+/// Adds the first bytes of a longer text.
 #[inline(always)]
 #[tactic(auto, using(trace_base::proofs::TailJoins::put_held_twice))]
 pub fn add_front(text: &[u8], len: usize, waiting: &mut Waiting, into: &mut Tail<'_>)
-    requires { len ≤ length text.now }
+    requires within { len ≤ length text.now }
+    requires longer { 16 ≤ length text.now }
     ensures same_slice { lent into.new ≡ lent into.old }
     ensures value { held_with into.new waiting.new ≡ put_held (held_with into.old waiting.old) (take len text.now) }
 {
-    if len <= 16 && text.len() >= 16 && waiting.spare() >= 16 {
+    if len <= 16 && waiting.spare() >= 16 {
         waiting.front(text, len);
     } else {
         add_piece(&text[..len], waiting, into);
@@ -142,11 +143,11 @@ pub fn add_number(
     ensures value { held_with into.new waiting.new ≡ put_held (held_with into.old waiting.old) (number_text (given rec.now) long (plain_spec length) (decimal_base signed) plain_form (tree_of expr.now)) }
 {
     let bits = bits_of(length, long);
-    let exact = cast_bits(bits, signed, number(expr, rec).exact()).exact();
+    let shown = cast_bits(bits, signed, number(expr, rec));
     add_integer(
         signed,
-        exact < 0,
-        exact.unsigned_abs() as u64,
+        shown.is_negative(),
+        shown.magnitude(),
         waiting,
         into,
     );
@@ -201,8 +202,8 @@ pub fn add_text(
     ensures value { held_with into.new waiting.new ≡ put_held (held_with into.old waiting.old) (string_text (given rec.now) symbols.now plain_form (tree_of expr.now)) }
 {
     match text_at_once(expr, rec) {
-        Some(text) => add_front(text, text_len(text), waiting, into),
-        None => add_any_text(expr, rec, symbols, waiting, into),
+        Some(text) if text.len() >= 16 => add_front(text, text_len(text), waiting, into),
+        _ => add_any_text(expr, rec, symbols, waiting, into),
     }
 }
 

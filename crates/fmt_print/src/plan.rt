@@ -1,11 +1,11 @@
-ghost use Rattle.std.specs.Prelude.{◌≡◌, length, map};
-ghost use Rattle.std.specs.List.{All};
+ghost use Rattle.std.specs.Prelude.{◌≡◌, ◌++◌, length, map, replicate};
+ghost use Rattle.std.specs.List.{All, flat_map};
 ghost use Rattle.std.proofs.Props.{props};
 ghost use Rattle.fmt_directives.specs.Directives.{IsWithin};
 ghost use Rattle.fmt_directives.proofs.Withins.{within_prop};
 ghost use Rattle.fmt_expr.specs.TreeView.{tree_of};
 ghost use Rattle.fmt_fold.specs.Same.{SameTrees};
-ghost use Rattle.fmt_print.specs.Steps.{directive_of};
+ghost use Rattle.fmt_print.specs.Steps.{directives_of, IsPlaced};
 ghost use Rattle.std.specs.Coded.{codes};
 
 use crate::step::Step;
@@ -17,6 +17,8 @@ use trace_base::ByteText;
 #[derive(Drop)]
 pub struct PrintPlan {
     pub(crate) text: ByteText,
+    /// The format text with 16 zeros behind it, so that 16 bytes stand wherever a literal begins.
+    pub(crate) padded: Vec<u8>,
     pub(crate) directives: Vec<Directive>,
     /// The directives, by how they are shown.
     pub(crate) steps: Vec<Step>,
@@ -25,7 +27,8 @@ pub struct PrintPlan {
     pub(crate) folded: Vec<Expr>,
     pub(crate) long: u32,
     ghost within: { All (IsWithin (length text)) directives.items } by { Prim.hlevel (props, within_prop) },
-    ghost shown: { map directive_of steps.items ≡ directives.items } by { Prim.hlevel (props, codes) },
+    ghost zeros: { padded.items ≡ text ++ replicate 16 0 } by { Prim.hlevel (props, codes) },
+    ghost shown: { flat_map directives_of steps.items ≡ directives.items } by { Prim.hlevel (props, codes) },
     ghost same: { SameTrees (map tree_of folded.items) (map tree_of args.items) } by { Prim.hlevel props },
 }
 
@@ -47,10 +50,17 @@ impl PrintPlan {
         self.directives.as_slice()
     }
 
+    /// The format text, and 16 zeros.
+    pub(crate) fn padded(&self) -> &[u8]
+        ensures { result.now ≡ (plan_view self.now).text ++ replicate 16 0 }
+    {
+        self.padded.as_slice()
+    }
+
     /// The steps that show the directives, in order.
     pub(crate) fn steps(&self) -> &[Step]
-        ensures value { map directive_of result.now ≡ (plan_view self.now).directives }
-        ensures within { All (λ s. IsWithin (length (plan_view self.now).text) (directive_of s)) result.now }
+        ensures value { flat_map directives_of result.now ≡ (plan_view self.now).directives }
+        ensures within { All (IsPlaced (length (plan_view self.now).text)) result.now }
     {
         self.steps.as_slice()
     }

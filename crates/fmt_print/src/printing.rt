@@ -1,6 +1,6 @@
 //! Directives over arguments.
 
-ghost use Rattle.std.specs.Prelude.{◌≡◌, length, map};
+ghost use Rattle.std.specs.Prelude.{◌≡◌, length, map, slice_range, IfSome};
 ghost use Rattle.trace_base.specs.Kept.{put, put_held};
 ghost use Rattle.trace_base.specs.TailView.{kept, held, lent};
 ghost use Rattle.fmt_directives.specs.Directives.{IsWithin};
@@ -10,7 +10,7 @@ ghost use Rattle.fmt_print.specs.Strings.{letter_text, string_text};
 ghost use Rattle.fmt_print.specs.Addresses.{pointer_text};
 ghost use Rattle.fmt_print.specs.Arguments.{taken, by};
 ghost use Rattle.fmt_print.specs.PlanView.{plan_view};
-ghost use Rattle.fmt_print.specs.Steps.{plain_spec, decimal_base, directive_of, held_with};
+ghost use Rattle.fmt_print.specs.Steps.{plain_spec, decimal_base, a_literal, shown_directive, printed_some, printed_step, IsPlaced, held_with};
 ghost use Rattle.fmt_directives.specs.declared.directive.Length.TheVariants as len;
 ghost use Rattle.fmt_print.specs.Printed.{long_bits, bits_of, is_signed, number_text, printed_one, printed, print_text};
 
@@ -20,7 +20,7 @@ use crate::form::Form;
 use crate::integer::put_integer;
 use crate::plain::{add_front, add_number, add_pointer, add_text};
 use crate::plan::PrintPlan;
-use crate::step::Step;
+use crate::step::{Literal, Shown, Step};
 use crate::string::{put_letter, put_string};
 use crate::waiting::Waiting;
 use fmt_directives::{Base, Directive, Length, PointerForm, Spec};
@@ -35,8 +35,19 @@ fn long_bits(long: u32) -> u32
     if long == 4 { 32 } else { 64 }
 }
 
-/// How many bits a length asks for.
+/// How many bits a length asks for. Most numbers are ints.
 pub fn bits_of(length: Length, long: u32) -> u32
+    ensures { result ≡ bits_of length long }
+{
+    if length == Length::Usual {
+        32
+    } else {
+        given_bits(length, long)
+    }
+}
+
+#[inline(never)]
+fn given_bits(length: Length, long: u32) -> u32
     ensures { result ≡ bits_of length long }
 {
     match length {
@@ -71,8 +82,8 @@ fn put_number(
     ensures value { kept into.new ≡ put (kept into.old) (number_text (given rec.now) long spec base form.now (tree_of argument.now)) }
 {
     let bits = bits_of(spec.length, long);
-    let exact = cast_bits(bits, is_signed(base), number(argument, rec).exact()).exact();
-    put_integer(base, form, exact < 0, exact.unsigned_abs() as u64, into);
+    let shown = cast_bits(bits, is_signed(base), number(argument, rec));
+    put_integer(base, form, shown.is_negative(), shown.magnitude(), into);
 }
 
 /// Puts the text of a conversion of numbers, and gives the arguments behind it.
@@ -180,6 +191,7 @@ fn put_pointer_directive<'a>(
 }
 
 /// Puts the text of one directive, and gives the arguments behind it.
+#[inline(never)]
 #[tactic(auto, using(trace_base::proofs::TailJoins::held_put))]
 fn put_directive<'a>(
     long: u32,
@@ -278,35 +290,41 @@ fn add_pointer_step<'a>(
     }
 }
 
-/// Adds the text of a step, and gives the arguments behind it.
-#[tactic(auto, using(crate::proofs::PrintLemmas::held_nothing))]
-fn add_step<'a>(
+/// Adds a literal.
+fn add_literal(plan: &PrintPlan, literal: Literal, waiting: &mut Waiting, into: &mut Tail<'_>)
+    requires { IsWithin (length (plan_view plan.now).text) (a_literal literal) }
+    ensures same_slice { lent into.new ≡ lent into.old }
+    ensures value { held_with into.new waiting.new ≡ put_held (held_with into.old waiting.old) (slice_range (plan_view plan.now).text literal.start literal.end) }
+{
+    let start = literal.start as usize;
+    let len = literal.end as usize - start;
+    add_front(&plan.padded()[start..], len, waiting, into);
+}
+
+/// Adds what is shown behind a literal, and gives the arguments behind it.
+#[tactic(auto, using(crate::proofs::PrintLemmas::held_nothing, crate::proofs::WaitLemmas::held_with_nothing))]
+fn add_shown<'a>(
     plan: &PrintPlan,
-    step: &Step,
+    shown: &Shown,
     args: &'a [Expr],
     rec: &Rec<'_>,
     symbols: &Symbols,
     waiting: &mut Waiting,
     into: &mut Tail<'_>,
 ) -> &'a [Expr]
-    requires { IsWithin (length (plan_view plan.now).text) (directive_of step.now) }
+    requires { IfSome (shown_directive shown.now) (IsWithin (length (plan_view plan.now).text)) }
     ensures same_slice { lent into.new ≡ lent into.old }
-    ensures value { held_with into.new waiting.new ≡ put_held (held_with into.old waiting.old) (printed_one (given rec.now) symbols.now (plan_view plan.now).long (plan_view plan.now).text (directive_of step.now) (map tree_of args.now)).0 }
-    ensures rest { map tree_of result.now ≡ (printed_one (given rec.now) symbols.now (plan_view plan.now).long (plan_view plan.now).text (directive_of step.now) (map tree_of args.now)).1 }
+    ensures value { held_with into.new waiting.new ≡ put_held (held_with into.old waiting.old) (printed_some (given rec.now) symbols.now (plan_view plan.now).long (plan_view plan.now).text (shown_directive shown.now) (map tree_of args.now)).0 }
+    ensures rest { map tree_of result.now ≡ (printed_some (given rec.now) symbols.now (plan_view plan.now).long (plan_view plan.now).text (shown_directive shown.now) (map tree_of args.now)).1 }
 {
-    match step {
-        Step::Literal { start, end } => {
-            let start = *start as usize;
-            let len = *end as usize - start;
-            add_front(&plan.text()[start..], len, waiting, into);
-            args
-        }
-        Step::Decimal { length, signed } => {
+    match shown {
+        Shown::Nothing => args,
+        Shown::Decimal { length, signed } => {
             add_number_step(plan.long(), *length, *signed, args, rec, waiting, into)
         }
-        Step::Text => add_text_step(args, rec, symbols, waiting, into),
-        Step::Pointer { form } => add_pointer_step(*form, args, rec, symbols, waiting, into),
-        Step::Other { directive } => {
+        Shown::Text => add_text_step(args, rec, symbols, waiting, into),
+        Shown::Pointer { form } => add_pointer_step(*form, args, rec, symbols, waiting, into),
+        Shown::Other { directive } => {
             waiting.put_into(into);
             put_directive(
                 plan.long(),
@@ -319,6 +337,28 @@ fn add_step<'a>(
             )
         }
     }
+}
+
+/// Adds the text of a step, and gives the arguments behind it.
+#[tactic(auto, using(trace_base::proofs::TailJoins::put_held_twice))]
+fn add_step<'a>(
+    plan: &PrintPlan,
+    step: &Step,
+    args: &'a [Expr],
+    rec: &Rec<'_>,
+    symbols: &Symbols,
+    waiting: &mut Waiting,
+    into: &mut Tail<'_>,
+) -> &'a [Expr]
+    requires { IsPlaced (length (plan_view plan.now).text) step.now }
+    ensures same_slice { lent into.new ≡ lent into.old }
+    ensures value { held_with into.new waiting.new ≡ put_held (held_with into.old waiting.old) (printed_step (given rec.now) symbols.now (plan_view plan.now).long (plan_view plan.now).text step.now (map tree_of args.now)).0 }
+    ensures rest { map tree_of result.now ≡ (printed_step (given rec.now) symbols.now (plan_view plan.now).long (plan_view plan.now).text step.now (map tree_of args.now)).1 }
+{
+    if let Some(literal) = step.literal {
+        add_literal(plan, literal, waiting, into);
+    }
+    add_shown(plan, &step.shown, args, rec, symbols, waiting, into)
 }
 
 /// Adds the texts of a plan's steps, one after another.

@@ -1,6 +1,6 @@
 //! Format texts, read into plans.
 
-ghost use Rattle.std.specs.Prelude.{◌≡◌, IfOk, IfSome, IfNone};
+ghost use Rattle.std.specs.Prelude.{◌≡◌, ◌++◌, IfOk, IfSome, IfNone, replicate};
 ghost use Rattle.std.specs.Option.{option_map};
 ghost use Rattle.fmt_print.specs.Plan.{IsPlanOf, IsUnread, plan_of};
 ghost use Rattle.fmt_print.specs.PlanView.{plan_view};
@@ -11,6 +11,15 @@ use fmt_directives::directives;
 use fmt_expr::PrintFmt;
 use fmt_fold::all_folded;
 use std::alloc::{AllocError, Global};
+
+/// A text with 16 zeros behind it.
+fn padded(alloc: Global, text: &[u8]) -> Result<Vec<u8>, AllocError>
+    ensures { IfOk result (λ all. all.items ≡ text.now ++ replicate 16 0) }
+{
+    let mut all = text.to_vec(alloc)?;
+    all.extend_from_slice(&[0; 16])?;
+    Ok(all)
+}
 
 /// Reads the format text of a print fmt. None exactly where a conversion in it is not listed, or where it is longer than
 /// 2^32 - 1 bytes.
@@ -32,9 +41,11 @@ pub fn compile(alloc: Global, fmt: PrintFmt) -> Result<Option<PrintPlan>, AllocE
         return Ok(None);
     };
     let steps = steps_of(alloc, directives.as_slice())?;
+    let padded = padded(alloc, text.as_bytes())?;
     let folded = all_folded(alloc, args.as_slice())?;
     Ok(Some(PrintPlan {
         text,
+        padded,
         directives,
         steps,
         args,

@@ -1,25 +1,41 @@
 //! Directives by how they are shown.
 
-ghost use Rattle.std.specs.Prelude.{◌≡◌, true, map, IfOk};
+ghost use Rattle.std.specs.Prelude.{◌≡◌, ◌≤◌, ◌-◌, ◌++◌, true, length, Some, IfOk};
+ghost use Rattle.std.specs.List.{flat_map};
+ghost use Rattle.std.specs.Option.{option_to_list};
 ghost use Rattle.fmt_directives.specs.declared.directive.Length.TheVariants as len;
-ghost use Rattle.fmt_print.specs.Steps.{plain_spec, directive_of};
+ghost use Rattle.fmt_print.specs.Steps.{plain_spec, literal_directive, shown_directive, directives_of};
 
 use fmt_directives::{Amount, Base, Directive, Length, PointerForm, Spec};
 use std::alloc::{AllocError, Global};
 
-/// A directive, by how it is shown. Most conversions are plain: they have no flag, no width and no precision.
-#[derive(Clone, Copy, Debug, PartialEq, Eq)]
-pub enum Step {
-    /// The bytes of the format text from one place up to another, as they stand there.
-    Literal { start: u32, end: u32 },
+/// A literal: the bytes of the format text from one place up to another, as they stand there.
+#[derive(Clone, Copy)]
+pub struct Literal {
+    pub start: u32,
+    pub end: u32,
+}
+
+/// What is shown behind a literal. Most conversions are plain: they have no flag, no width and no precision.
+#[derive(Clone, Copy)]
+pub enum Shown {
+    /// Nothing.
+    Nothing,
     /// A plain decimal number.
     Decimal { length: Length, signed: bool },
     /// A plain text.
     Text,
     /// A plain address.
     Pointer { form: PointerForm },
-    /// Any other conversion.
+    /// Any other directive.
     Other { directive: Directive },
+}
+
+/// One literal or none, and what is shown behind it.
+#[derive(Clone, Copy)]
+pub struct Step {
+    pub literal: Option<Literal>,
+    pub shown: Shown,
 }
 
 fn is_plain(spec: Spec) -> bool
@@ -35,40 +51,71 @@ fn is_usual(spec: Spec) -> bool
     is_plain(spec) && spec.length == Length::Usual
 }
 
-/// The step that shows a directive.
-fn step_of(directive: Directive) -> Step
-    ensures { directive_of result ≡ directive }
+/// How a directive is shown.
+fn shown_of(directive: Directive) -> Shown
+    ensures { shown_directive result ≡ Some directive }
 {
     match directive {
-        Directive::Literal { start, end } => Step::Literal { start, end },
         Directive::Number {
             spec,
             base: Base::Signed,
-        } if is_plain(spec) => Step::Decimal {
+        } if is_plain(spec) => Shown::Decimal {
             length: spec.length,
             signed: true,
         },
         Directive::Number {
             spec,
             base: Base::Unsigned,
-        } if is_plain(spec) => Step::Decimal {
+        } if is_plain(spec) => Shown::Decimal {
             length: spec.length,
             signed: false,
         },
-        Directive::Text { spec } if is_usual(spec) => Step::Text,
-        Directive::Pointer { spec, form } if is_usual(spec) => Step::Pointer { form },
-        _ => Step::Other { directive },
+        Directive::Text { spec } if is_usual(spec) => Shown::Text,
+        Directive::Pointer { spec, form } if is_usual(spec) => Shown::Pointer { form },
+        _ => Shown::Other { directive },
     }
 }
 
-/// The steps that show directives, one each.
+/// The literal that directives begin with, and the directives behind it.
+fn first_literal(directives: &[Directive]) -> (Option<Literal>, &[Directive])
+    ensures value { option_to_list (literal_directive result.0) ++ result.1.now ≡ directives.now }
+    ensures within { length result.1.now ≤ length directives.now }
+{
+    match directives {
+        [Directive::Literal { start, end }, rest @ ..] => {
+            let literal = Literal {
+                start: *start,
+                end: *end,
+            };
+            (Some(literal), rest)
+        }
+        _ => (None, directives),
+    }
+}
+
+/// How the first directive is shown, and the directives behind it.
+fn first_shown(directives: &[Directive]) -> (Shown, &[Directive])
+    ensures value { option_to_list (shown_directive result.0) ++ result.1.now ≡ directives.now }
+    ensures less { length result.1.now ≡ length directives.now - 1 }
+{
+    match directives {
+        [first, rest @ ..] => (shown_of(*first), rest),
+        [] => (Shown::Nothing, directives),
+    }
+}
+
+/// The steps that show directives.
 #[tactic(auto, using(crate::proofs::StepLemmas::steps_more, crate::proofs::StepLemmas::steps_all))]
 pub fn steps_of(alloc: Global, directives: &[Directive]) -> Result<Vec<Step>, AllocError>
-    ensures { IfOk result (λ steps. map directive_of steps.items ≡ directives.now) }
+    ensures { IfOk result (λ steps. flat_map directives_of steps.items ≡ directives.now) }
 {
     let mut steps = Vec::new(alloc);
-    for directive in directives {
-        steps.push(step_of(*directive))?;
+    let mut left = directives;
+    while !left.is_empty() {
+        let (literal, behind) = first_literal(left);
+        let (shown, rest) = first_shown(behind);
+        steps.push(Step { literal, shown })?;
+        left = rest;
     }
     Ok(steps)
 }

@@ -1,6 +1,10 @@
-use Rattle.std.proofs.Common.{◌≡◌, ◌++◌, map, drop}
-use Rattle.fmt_print.specs.Steps.{directive_of}
+use Rattle.std.proofs.Common.{◌≡◌, ◌++◌, length}
+use Rattle.std.specs.List.{flat_map}
+use Rattle.fmt_print.specs.Steps.{directives_of}
 use Rattle.fmt_print.proofs.step.steps_of.Given as goal
 
-abbrev pub invariant-loop-directive : goal.invariant-loop-directive
-invariant-loop-directive l = map directive_of l.steps.items ++ drop l.directive-index l.fn.directives ≡ l.fn.directives
+abbrev pub invariant-loop-left : goal.invariant-loop-left
+invariant-loop-left l = flat_map directives_of l.steps.items ++ l.left ≡ l.fn.directives
+
+abbrev pub decreases-loop-left : goal.decreases-loop-left
+decreases-loop-left l = length l.left
