@@ -1,4 +1,5 @@
 pub mod Closing
+pub mod CommonNumbers
 pub mod FieldPuts
 pub mod FrontLemmas
 pub mod Heads

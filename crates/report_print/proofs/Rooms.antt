@@ -1,5 +1,6 @@
 -- A text at the end of a room of spaces.
-use Rattle.std.proofs.Common.{◌≡◌, ℕ, ◌-◌, ◌<◌, ◌≤◌, List, ◌∷◌, ◌++◌, length, take, drop, set, replicate, sym, ap, ◌∙◌, arith}
+use Rattle.std.proofs.Common.{◌≡◌, ℕ, zero, suc, ◌-◌, ◌<◌, ◌≤◌, List, [], ◌∷◌, ◌++◌, length, take, drop, set, replicate, sym, ap, ◌∙◌, arith}
+use Rattle.report_print.specs.Columns.{left}
 use Rattle.std.proofs.lemmas.List.{take-append-drop, drop-append-le, drop-drop, drop-set, drop-replicate, take-take, take-replicate, length-take}
 
 -- the text with spaces before it that are there
@@ -16,3 +17,13 @@ fewer room at to le spaces = sym (take-take to at room le) ∙ ap (take to) spac
 pub marked : (room : List ℕ) (at mark first : ℕ) (rest : List ℕ) → at < length room → drop at room ≡ first ∷ rest → drop at (set room at mark) ≡ mark ∷ rest
 marked room at mark first rest within is =
     drop-set room at mark within ∙ ap (λ (l : List ℕ). mark ∷ l) (sym (drop-drop 1 at room) ∙ ap (drop 1) is)
+
+-- the first bytes of a text with enough spaces behind it
+pub column : (width : ℕ) (text : List ℕ) → length text ≤ width → take width (text ++ replicate width 32) ≡ left width text
+column width text le =
+    take_append width text (replicate width 32) le ∙ ap (λ (l : List ℕ). text ++ l) (take-replicate (width - length text) width 32 (omega arith))
+  where
+    take_append : (n : ℕ) (xs ys : List ℕ) → length xs ≤ n → take n (xs ++ ys) ≡ xs ++ take (n - length xs) ys
+    take_append n [] ys le = ap (λ (k : ℕ). take k ys) (omega arith)
+    take_append zero (x ∷ xs) ys le = absurd (omega (arith, le))
+    take_append (suc n) (x ∷ xs) ys le = ap (λ (l : List ℕ). x ∷ l) (take_append n xs ys (omega (arith, le)) ∙ ap (λ (k : ℕ). xs ++ take k ys) (omega arith))

@@ -60,3 +60,18 @@ behind (suc w) p n is lt small =
 pub behind_power : (w p n : ℕ) → 0 < w → p ≡ 10 ^ w → n < p → p + n < 2 ^ 64 → decimal (p + n) ≡ 49 ∷ zeros w (decimal n)
 behind_power zero p n some is lt small = absurd (omega arith)
 behind_power (suc w) p n some is lt small = behind w p n is lt small
+
+one_column : (n : ℕ) → n < 10 → zeros 1 (decimal n) ≡ (48 + n) ∷ []
+one_column n small = rw (decimal_digit n small) refl
+
+-- a number of at most three digits in a column of three
+three_columns : (n : ℕ) → n < 1000 → zeros 3 (decimal n) ≡ (48 + n / 100) ∷ (48 + n / 10 % 10) ∷ (48 + n % 10) ∷ []
+three_columns n small =
+    let front : n / 10 / 10 ≡ n / 100 = omega arith in
+    sym (column_more 1 n (omega (arith, small)))
+    ∙ ap (λ (l : List ℕ). l ++ ((48 + n % 10) ∷ [])) (sym (column_more 0 (n / 10) (omega (arith, small))))
+    ∙ ap (λ (l : List ℕ). (l ++ ((48 + n / 10 % 10) ∷ [])) ++ ((48 + n % 10) ∷ [])) (one_column (n / 10 / 10) (omega (arith, small)))
+    ∙ ap (λ (d : ℕ). (48 + d) ∷ (48 + n / 10 % 10) ∷ (48 + n % 10) ∷ []) front
+
+pub three : (n : ℕ) (more : List ℕ) → n < 1000 → (48 + n / 100) ∷ (48 + n / 10 % 10) ∷ (48 + n % 10) ∷ more ≡ zeros 3 (decimal n) ++ more
+three n more small = ap (λ (l : List ℕ). l ++ more) (sym (three_columns n small))

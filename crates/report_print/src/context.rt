@@ -1,4 +1,4 @@
-ghost use Rattle.std.specs.Prelude.{◌≡◌, ◌⊎◌, map, IfOk};
+ghost use Rattle.std.specs.Prelude.{◌≡◌, ◌⊎◌, Some, map, IfOk, IfSome};
 ghost use Rattle.std.specs.Option.{option_map};
 ghost use Rattle.std.specs.Int.{w32};
 ghost use Rattle.std.specs.Prelude.{FitsSigned};
@@ -10,13 +10,13 @@ ghost use Rattle.report_print.specs.Line.{id_of, flags_of, preempt_count_of, pid
 ghost use Rattle.report_print.specs.HeadView.{known_view, known_of};
 
 use crate::common::CommonFields;
-use crate::head::{Head, Known, heads_of};
+use crate::head::{Head, Known, heads_of, places_of};
 use crate::show::Show;
 use filter_truth::{Event, FilterUse, Filters};
 use format_parse::FormatTable;
 use std::alloc::{AllocError, Global};
 use std::marker::Model;
-use symbols::Symbols;
+use symbols::{Places, Symbols};
 use trace_base::Rec;
 
 /// What the lines of a report stand on. Contracts see the formats, the names, the filters and what is to be shown.
@@ -28,6 +28,7 @@ pub struct Context {
     show: Show,
     commons: CommonFields,
     heads: Vec<Head>,
+    places: Places,
     bound: Filters,
 }
 
@@ -66,6 +67,7 @@ impl Context {
         ensures { IfOk result (λ context. context ≡ record { formats = formats; symbols = symbols; filters = map use_of filters.items; show = show }) }
     {
         let heads = heads_of(alloc, &show, &formats)?;
+        let places = places_of(alloc, &formats)?;
         let bound = Filters::bind(alloc, &filters, &formats)?;
         let commons = CommonFields::find(match formats.get(0) {
             Some(first) => first.fields.as_slice(),
@@ -78,6 +80,7 @@ impl Context {
             show,
             commons,
             heads,
+            places,
             bound,
         })
     }
@@ -147,9 +150,36 @@ impl Context {
         shows(&self.bound, format, &self.symbols, pid, cpu, rec)
     }
 
-    /// The format with this number, and what was made of it.
-    #[tactic(auto, using(crate::proofs::Heads::no_place, crate::proofs::Heads::no_format, crate::proofs::Heads::no_head, crate::proofs::Heads::known_is))]
+    /// The format with this number, and what was made of it. It is looked for first at the place that was noted for the number.
     pub(crate) fn known(&self, id: u32) -> Option<Known<'_>>
+        ensures { option_map known_view result ≡ option_map (known_of self.now.show) (format_at id self.now.formats) }
+    {
+        match self.known_at(self.places.of(id as u64), id) {
+            Some(known) => Some(known),
+            None => self.known_by_search(id),
+        }
+    }
+
+    /// The format at this place, if it has this number, and what was made of it.
+    fn known_at(&self, place: usize, id: u32) -> Option<Known<'_>>
+        ensures { IfSome result (λ known. Some (known_view known) ≡ option_map (known_of self.now.show) (format_at id self.now.formats)) }
+    {
+        if self.formats.len() <= place {
+            return None;
+        }
+        let format = self.formats.get(place)?;
+        let head = self.heads.get(place)?;
+        if format.id == id {
+            Some(Known { head, format })
+        } else {
+            None
+        }
+    }
+
+    /// The format with this number, found by a search, and what was made of it.
+    #[inline(never)]
+    #[tactic(auto, using(crate::proofs::Heads::no_place, crate::proofs::Heads::no_format, crate::proofs::Heads::no_head, crate::proofs::Heads::known_is))]
+    fn known_by_search(&self, id: u32) -> Option<Known<'_>>
         ensures { option_map known_view result ≡ option_map (known_of self.now.show) (format_at id self.now.formats) }
     {
         let place = self.formats.by_id(id)?;

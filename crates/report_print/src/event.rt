@@ -1,8 +1,7 @@
 // The text of an item, without the line's end.
 
-ghost use Rattle.std.specs.Prelude.{◌≡◌, ◌≤◌, ◌+◌, ◌++◌, [], length, FitsSigned};
+ghost use Rattle.std.specs.Prelude.{◌≡◌, ◌≤◌, ◌+◌, ◌++◌, length, FitsSigned};
 ghost use Rattle.std.specs.Int.{w32};
-ghost use Rattle.format_parse.specs.Table.{format_at};
 ghost use Rattle.trace_base.specs.Kept.{put_held};
 ghost use Rattle.trace_base.specs.TailView.{held, lent};
 ghost use Rattle.subpage.specs.ItemView.{item_view};
@@ -31,32 +30,98 @@ pub(crate) fn put_item(context: &Context, cpu: u32, item: &Item<'_>, into: &mut 
     }
 }
 
-#[tactic(auto, unfolding(crate::specs::Line::event_text), using(trace_base::proofs::TailJoins::put_held_twice))]
+#[tactic(auto, unfolding(crate::specs::Line::event_text), using(trace_base::proofs::TailJoins::put_held_twice, crate::proofs::FrontLemmas::known_text, crate::proofs::FrontLemmas::unknown_is))]
 fn put_event(context: &Context, cpu: u32, time: u64, payload: &[u8], into: &mut Tail<'_>)
     ensures same_slice { lent into.new ≡ lent into.old }
     ensures value { held into.new ≡ put_held (held into.old) (spec.event_text context.now cpu time payload.now) }
 {
-    put_front(context, cpu, time, payload, into);
-    put_text(context, context.id(payload), payload, into);
+    let id = context.id(payload);
+    match context.known(id) {
+        Some(known) => {
+            put_start(
+                context,
+                cpu,
+                time,
+                payload,
+                known.head.label.as_bytes(),
+                into,
+            );
+            put_body(context, &known, payload, into);
+        }
+        None => {
+            put_front(context, cpu, time, payload, b"", into);
+            put_unknown(id, into);
+        }
+    }
 }
 
-/// Puts the columns before the event's name.
-#[tactic(auto, unfolding(crate::specs::Line::front_text), using(crate::proofs::FrontLemmas::wide_task, trace_base::proofs::TailJoins::put_held_twice))]
-fn put_front(context: &Context, cpu: u32, time: u64, payload: &[u8], into: &mut Tail<'_>)
+/// Puts the columns before the event's name, and the name in its column.
+#[tactic(auto, using(trace_base::proofs::TailJoins::put_held_twice))]
+fn put_start(
+    context: &Context,
+    cpu: u32,
+    time: u64,
+    payload: &[u8],
+    label: &[u8],
+    into: &mut Tail<'_>,
+)
     ensures same_slice { lent into.new ≡ lent into.old }
-    ensures value { held into.new ≡ put_held (held into.old) (spec.front_text context.now cpu time payload.now) }
+    ensures value { held into.new ≡ put_held (put_held (held into.old) (spec.front_text context.now cpu time payload.now)) label.now }
+{
+    if label.len() <= 40 {
+        put_front(context, cpu, time, payload, label, into);
+    } else {
+        put_front(context, cpu, time, payload, b"", into);
+        into.put(label);
+    }
+}
+
+/// Puts the columns before the event's name, and a short text behind them.
+#[tactic(auto, unfolding(crate::specs::Line::front_text), using(crate::proofs::FrontLemmas::wide_task, crate::proofs::FrontLemmas::behind_front, trace_base::proofs::TailJoins::put_held_twice))]
+fn put_front(
+    context: &Context,
+    cpu: u32,
+    time: u64,
+    payload: &[u8],
+    behind: &[u8],
+    into: &mut Tail<'_>,
+)
+    requires short { length behind.now ≤ 40 }
+    ensures same_slice { lent into.new ≡ lent into.old }
+    ensures value { held into.new ≡ put_held (put_held (held into.old) (spec.front_text context.now cpu time payload.now)) behind.now }
 {
     let pid = context.pid(payload);
     let name = context.symbols().comm_of(pid);
     let mut front = Front::new();
+    front.start(behind);
     put_columns(context, cpu, time, pid, payload, &mut front);
     let width = task_width(context.show());
     if name.len() <= 40 {
         front.task(width, name);
-        into.put(front.as_bytes());
+        put_known_length(front.as_bytes(), into);
     } else {
         put_pair(name, front.as_bytes(), into);
     }
+}
+
+/// Puts the front of a line. Most have the same length: a text of a length that is known beforehand needs no call.
+fn put_known_length(front: &[u8], into: &mut Tail<'_>)
+    ensures same_slice { lent into.new ≡ lent into.old }
+    ensures value { held into.new ≡ put_held (held into.old) front.now }
+{
+    if front.len() == 65 {
+        into.put(&front[..65]);
+    } else {
+        put_piece(front, into);
+    }
+}
+
+#[inline(never)]
+fn put_piece(piece: &[u8], into: &mut Tail<'_>)
+    ensures same_slice { lent into.new ≡ lent into.old }
+    ensures value { held into.new ≡ put_held (held into.old) piece.now }
+{
+    into.put(piece);
 }
 
 fn task_width(show: &Show) -> usize
@@ -66,16 +131,17 @@ fn task_width(show: &Show) -> usize
     if show.latency { 8 } else { 16 }
 }
 
-/// Puts the columns behind the task's name, of the task with this pid, in an empty front.
+/// Puts the columns behind the task's name in front, of the task with this pid.
 #[tactic(auto, unfolding(crate::specs::Line::columns_text))]
 fn put_columns(context: &Context, cpu: u32, time: u64, pid: i32, payload: &[u8], front: &mut Front)
-    requires empty { front.old ≡ [] }
+    requires room { length front.old ≤ 40 }
     requires pid { pid ≡ spec.pid_of context.now payload.now }
     requires range { FitsSigned w32 pid }
-    ensures value { front.new ≡ spec.columns_text context.now cpu time payload.now }
-    ensures short { length front.new ≤ 115 }
+    ensures value { front.new ≡ spec.columns_text context.now cpu time payload.now ++ front.old }
+    ensures longer { length front.new ≤ length front.old + 115 }
 {
-    front.text(b": ");
+    front.byte(b' ');
+    front.byte(b':');
     front.time(context.show().full, time);
     put_place(context, cpu, payload, front);
     front.pid(pid);
@@ -85,7 +151,7 @@ fn put_columns(context: &Context, cpu: u32, time: u64, pid: i32, payload: &[u8],
 /// Puts the processor in front, and with the latency columns what the event says of its context.
 #[tactic(auto, unfolding(crate::specs::Line::place_text))]
 fn put_place(context: &Context, cpu: u32, payload: &[u8], front: &mut Front)
-    requires { length front.old ≤ 49 }
+    requires { length front.old ≤ 89 }
     ensures longer { length front.new ≤ length front.old + 26 }
     ensures value { front.new ≡ spec.place_text context.now.show cpu (spec.flags_of context.now payload.now) (spec.preempt_count_of context.now payload.now) ++ front.old }
 {
@@ -94,21 +160,6 @@ fn put_place(context: &Context, cpu: u32, payload: &[u8], front: &mut Front)
         front.latency(cpu, flags, context.preempt_count(payload));
     } else {
         front.processor(cpu);
-    }
-}
-
-/// Puts the event's name and what is said of it.
-#[tactic(auto, using(trace_base::proofs::TailJoins::put_held_twice, crate::proofs::FrontLemmas::known_text, crate::proofs::FrontLemmas::unknown_is))]
-fn put_text(context: &Context, id: u32, payload: &[u8], into: &mut Tail<'_>)
-    ensures same_slice { lent into.new ≡ lent into.old }
-    ensures value { held into.new ≡ put_held (held into.old) (spec.text_by context.now payload.now id (format_at id context.now.formats)) }
-{
-    match context.known(id) {
-        None => put_unknown(id, into),
-        Some(known) => {
-            into.put(known.head.label.as_bytes());
-            put_body(context, &known, payload, into);
-        }
     }
 }
 

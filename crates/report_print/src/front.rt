@@ -10,10 +10,10 @@ use crate::marks::latency_marks;
 use itoa::{Buffer, write_digits};
 use std::marker::Model;
 
-/// A text of at most 160 bytes that grows at its front, in a room of spaces. Contracts see the text.
+/// A text of at most 200 bytes that grows at its front, in a room of spaces. Contracts see the text.
 #[derive(Drop)]
 pub(crate) struct Front {
-    buffer: [u8; 160],
+    buffer: [u8; 200],
     at: usize,
 }
 
@@ -24,7 +24,7 @@ impl Model for Front {
 
     ghost view = { λ f. drop f.at f.buffer };
 
-    ghost invariant = { λ f. (f.at ≤ 160) × (take f.at f.buffer ≡ replicate f.at 32) };
+    ghost invariant = { λ f. (f.at ≤ 200) × (take f.at f.buffer ≡ replicate f.at 32) };
 }
 
 impl Front {
@@ -33,9 +33,31 @@ impl Front {
         ensures { result ≡ [] }
     {
         Front {
-            buffer: [b' '; 160],
-            at: 160,
+            buffer: [b' '; 200],
+            at: 200,
         }
+    }
+
+    /// Puts the first text.
+    pub fn start(&mut self, text: &[u8])
+        requires empty { self.old ≡ [] }
+        requires short { length text.now ≤ 200 }
+        ensures { self.new ≡ text.now }
+    {
+        if text.len() == 22 {
+            // The name of most events in its column. A text of a known length needs no call.
+            self.text(&text[..22]);
+        } else {
+            self.any_text(text);
+        }
+    }
+
+    #[inline(never)]
+    fn any_text(&mut self, text: &[u8])
+        requires { length self.old + length text.now ≤ 200 }
+        ensures { self.new ≡ text.now ++ self.old }
+    {
+        self.text(text);
     }
 
     /// The text.
@@ -48,14 +70,14 @@ impl Front {
     /// Its length.
     pub fn len(&self) -> usize
         ensures value { result ≡ length self.now }
-        ensures small { result ≤ 160 }
+        ensures small { result ≤ 200 }
     {
-        160 - self.at
+        200 - self.at
     }
 
     /// Puts one byte in front.
     pub fn byte(&mut self, byte: u8)
-        requires { length self.old < 160 }
+        requires { length self.old < 200 }
         ensures longer { length self.new ≡ length self.old + 1 }
         ensures value { self.new ≡ byte ∷ self.old }
     {
@@ -65,7 +87,7 @@ impl Front {
 
     /// Puts a text in front.
     pub fn text(&mut self, text: &[u8])
-        requires { length self.old + length text.now ≤ 160 }
+        requires { length self.old + length text.now ≤ 200 }
         ensures longer { length self.new ≡ length self.old + length text.now }
         ensures value { self.new ≡ text.now ++ self.old }
     {
@@ -76,17 +98,18 @@ impl Front {
 
     /// Puts spaces in front until the text is as long as this.
     pub fn fill(&mut self, len: usize)
-        requires { len ≤ 160 }
+        requires { len ≤ 200 }
         ensures longer { length self.new ≡ max len (length self.old) }
         ensures value { self.new ≡ replicate (len - length self.old) 32 ++ self.old }
     {
-        self.at = self.at.min(160 - len);
+        self.at = self.at.min(200 - len);
     }
 
     /// Puts a number in front.
+    #[inline(always)]
     #[tactic(auto, using(crate::proofs::Lengths::short))]
     pub fn digits(&mut self, n: u64)
-        requires { length self.old + 20 ≤ 160 }
+        requires { length self.old + 20 ≤ 200 }
         ensures longer { length self.new ≤ length self.old + 20 }
         ensures value { self.new ≡ decimal n ++ self.old }
     {
@@ -95,7 +118,7 @@ impl Front {
 
     /// Puts a number in front, at the right of its column.
     pub fn number(&mut self, width: usize, n: u64)
-        requires room { length self.old ≤ 140 }
+        requires room { length self.old ≤ 180 }
         requires narrow { width ≤ 20 }
         ensures longer { length self.new ≤ length self.old + 20 }
         ensures value { self.new ≡ right width (decimal n) ++ self.old }
@@ -106,8 +129,9 @@ impl Front {
     }
 
     /// Puts a byte and a number in front, with the zeros that its column asks for. `power` is ten to the power of the width.
+    #[inline(always)]
     pub fn zeros(&mut self, mark: u8, width: usize, power: u64, n: u64)
-        requires room { length self.old ≤ 140 }
+        requires room { length self.old ≤ 180 }
         requires some { 0 < width }
         requires power { power ≡ 10 ^ width }
         requires small { power ≤ 10 ^ 9 }
@@ -124,7 +148,7 @@ impl Front {
     /// Puts seconds and their part in front.
     #[tactic(auto, unfolding(crate::specs::Columns::time_text))]
     pub fn time(&mut self, full: bool, time: u64)
-        requires { length self.old ≤ 8 }
+        requires { length self.old ≤ 48 }
         ensures longer { length self.new ≤ length self.old + 41 }
         ensures value { self.new ≡ time_text full time ++ self.old }
     {
@@ -138,34 +162,48 @@ impl Front {
         }
     }
 
-    /// Puts a processor's number in front, behind a bracket.
-    fn bracket(&mut self, cpu: u32)
-        requires { length self.old ≤ 51 }
-        ensures longer { length self.new ≤ length self.old + 21 }
-        ensures value { self.new ≡ 91 ∷ (zeros 3 (decimal cpu) ++ self.old) }
+    /// Puts one digit in front.
+    fn digit(&mut self, digit: u32)
+        requires room { length self.old < 200 }
+        requires one { digit < 10 }
+        ensures longer { length self.new ≡ length self.old + 1 }
+        ensures value { self.new ≡ (48 + digit) ∷ self.old }
     {
-        if cpu < 1000 {
-            self.zeros(b'[', 3, 1000, cpu as u64);
+        self.byte(b'0' + digit as u8);
+    }
+
+    /// Puts a number in front, of three digits at least.
+    #[tactic(auto, using(crate::proofs::ZeroFills::three, crate::proofs::Lengths::no_zeros))]
+    fn three_digits(&mut self, n: u32)
+        requires { length self.old ≤ 91 }
+        ensures longer { length self.new ≤ length self.old + 20 }
+        ensures value { self.new ≡ zeros 3 (decimal n) ++ self.old }
+    {
+        if n < 1000 {
+            self.digit(n % 10);
+            self.digit(n / 10 % 10);
+            self.digit(n / 100);
         } else {
-            self.digits(cpu as u64);
-            self.byte(b'[');
+            self.digits(n as u64);
         }
     }
 
     /// Puts the processor in front.
     pub fn processor(&mut self, cpu: u32)
-        requires { length self.old ≤ 49 }
+        requires { length self.old ≤ 89 }
         ensures longer { length self.new ≤ length self.old + 26 }
         ensures value { self.new ≡ (codes " [" ++ (zeros 3 (decimal cpu) ++ codes "] ")) ++ self.old }
     {
-        self.text(b"] ");
-        self.bracket(cpu);
+        self.byte(b' ');
+        self.byte(b']');
+        self.three_digits(cpu);
+        self.byte(b'[');
         self.byte(b' ');
     }
 
     /// Puts the processor in front, and what an event says of its context.
     pub fn latency(&mut self, cpu: u32, flags: u32, preempt_count: u32)
-        requires { length self.old ≤ 49 }
+        requires { length self.old ≤ 89 }
         ensures longer { length self.new ≤ length self.old + 26 }
         ensures value { self.new ≡ (codes " " ++ (right 3 (decimal cpu) ++ (spec.latency_marks flags preempt_count ++ codes " "))) ++ self.old }
     {
@@ -177,7 +215,7 @@ impl Front {
 
     /// Puts a task's name in front, at the right of its column.
     pub fn task(&mut self, width: usize, name: &[u8])
-        requires room { length self.old ≤ 115 }
+        requires room { length self.old ≤ 155 }
         requires narrow { width ≤ 16 }
         requires short { length name.now ≤ 40 }
         ensures { self.new ≡ right width name.now ++ self.old }
@@ -189,7 +227,33 @@ impl Front {
 
     /// Puts a pid in front, at the left of its column.
     pub fn pid(&mut self, pid: i32)
-        requires room { length self.old ≤ 80 }
+        requires room { length self.old ≤ 120 }
+        requires range { FitsSigned w32 pid }
+        ensures longer { length self.new ≤ length self.old + 45 }
+        ensures value { self.new ≡ left 5 (signed_decimal pid) ++ self.old }
+    {
+        match u64::try_from(pid) {
+            Ok(pid) if pid < 100_000 => self.short_pid(pid),
+            _ => self.long_pid(pid),
+        }
+    }
+
+    /// Puts a pid in front that is not wider than its column.
+    fn short_pid(&mut self, pid: u64)
+        requires room { length self.old ≤ 120 }
+        requires small { pid < 100000 }
+        ensures longer { length self.new ≡ length self.old + 5 }
+        ensures value { self.new ≡ left 5 (decimal pid) ++ self.old }
+    {
+        let mut column = [b' '; 10];
+        let start = write_digits(pid, &mut column, 5);
+        self.text(&column[start..start + 5]);
+    }
+
+    /// Puts any pid in front.
+    #[inline(never)]
+    fn long_pid(&mut self, pid: i32)
+        requires room { length self.old ≤ 120 }
         requires range { FitsSigned w32 pid }
         ensures longer { length self.new ≤ length self.old + 45 }
         ensures value { self.new ≡ left 5 (signed_decimal pid) ++ self.old }

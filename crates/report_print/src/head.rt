@@ -4,6 +4,7 @@ ghost use Rattle.std.specs.Prelude.{◌≡◌, ◌-◌, ◌≤◌, ◌++◌, ◌
 ghost use Rattle.std.specs.List.{list_any, cons_option};
 ghost use Rattle.std.specs.Option.{option_copied};
 ghost use Rattle.std.specs.Str.{bytes_eq};
+ghost use Rattle.symbols.specs.Noted.{noted};
 ghost use Rattle.report_print.specs.Line.{label, is_raw};
 ghost use Rattle.report_print.specs.HeadView.{head_of, head_view};
 
@@ -12,6 +13,7 @@ use crate::show::Show;
 use fmt_print::PrintPlan;
 use format_parse::{EventFormat, FormatTable};
 use std::alloc::{AllocError, Global};
+use symbols::Places;
 use trace_base::ByteText;
 
 /// What a line needs of its event's format at once.
@@ -116,4 +118,35 @@ pub(crate) fn heads_of(
         put_head(alloc, show, formats.get(i), &mut heads)?;
     }
     Ok(heads)
+}
+
+/// Puts the number of the format, if there is one.
+fn put_id(format: Option<&EventFormat>, ids: &mut Vec<u64>) -> Result<(), AllocError>
+    ensures { OnOk result (ids.new.items ≡ ids.old.items ++ map (λ f. f.id) (cons_option (option_copied format.entry) [])) }
+{
+    if let Some(format) = format {
+        ids.push(format.id as u64)?;
+    }
+    Ok(())
+}
+
+/// The numbers of the formats.
+#[tactic(auto, using(crate::proofs::Heads::heads_more))]
+fn ids_of(alloc: Global, formats: &FormatTable) -> Result<Vec<u64>, AllocError>
+    ensures { IfOk result (λ ids. ids.items ≡ map (λ f. f.id) formats.now) }
+{
+    let mut ids = Vec::new(alloc);
+    for i in 0..formats.len() {
+        put_id(formats.get(i), &mut ids)?;
+    }
+    Ok(ids)
+}
+
+/// The places of the formats by their numbers.
+pub(crate) fn places_of(alloc: Global, formats: &FormatTable) -> Result<Places, AllocError>
+    ensures { IfOk result (λ places. places ≡ noted (map (λ f. f.id) formats.now)) }
+{
+    let ids = ids_of(alloc, formats)?;
+    let places = Places::noted(alloc, &ids)?;
+    Ok(places)
 }

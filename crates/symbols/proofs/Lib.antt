@@ -6,3 +6,4 @@ pub mod ReadLines
 pub mod RowLemmas
 pub mod SearchLemmas
 pub mod Sorting
+pub mod NotedLemmas

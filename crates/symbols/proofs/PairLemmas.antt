@@ -44,6 +44,11 @@ named_at low (q ∷ ps) (suc i) p r e =
     rw (ne_eqb p.0 q.0 (λ same. absurd (omega (arith, same, key_is ps i p e, above (q.0 + 1) ps i r.1 (key_inside ps i p e)))))
     (named_at (q.0 + 1) ps i p r.1 e)
 
+-- the name at a place that has this number
+pub name_at : (rows : List Pair) (key place number : ℕ) (name : List ℕ) → RisesFrom 0 rows → Some (number, name) ≡ slice_get rows place → number ≡ key → first_at key rows ≡ Some name
+name_at rows key place number name r is same =
+    sym (ap (λ (n : ℕ). first_at n rows) same) ∙ named_at 0 rows place (number, name) r (sym is)
+
 -- what a search finds
 pub nearest_is : (ps : List Pair) (address i : ℕ) (p : Pair) → RisesFrom 0 ps → IsLastUpTo (keys_of ps) address i → slice_get ps i ≡ Some p → IsNearest ps address p.1 (address - p.0)
 nearest_is ps address i p r last e = record {

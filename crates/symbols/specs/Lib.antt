@@ -5,3 +5,4 @@ pub mod Found
 pub mod RowsView
 pub mod Search
 pub mod Maps
+pub mod Noted

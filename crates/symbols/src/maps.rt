@@ -4,6 +4,7 @@ ghost use Rattle.symbols.specs.NameMap.{first_at, nearest, IsNearest, NoneUpTo};
 ghost use Rattle.symbols.specs.Maps.{AreMapsOf, maps_of, task_name};
 
 use crate::lines::Form;
+use crate::places::Places;
 use crate::read::found_in;
 use crate::table::NameTable;
 use std::alloc::{AllocError, Global};
@@ -15,6 +16,7 @@ pub struct Symbols {
     symbols: NameTable,
     printk: NameTable,
     tasks: NameTable,
+    task_places: Places,
 }
 
 impl Model for Symbols {
@@ -44,10 +46,12 @@ impl Symbols {
         let mut found = found_in(alloc, Form::Tasks, cmdlines)?;
         found.reverse();
         let tasks = NameTable::build(alloc, found)?;
+        let task_places = tasks.places(alloc)?;
         Ok(Symbols {
             symbols,
             printk,
             tasks,
+            task_places,
         })
     }
 
@@ -74,11 +78,21 @@ impl Symbols {
     {
         match u64::try_from(pid) {
             Ok(0) => b"<idle>",
-            Ok(pid) => match self.tasks.name(pid) {
+            Ok(pid) => match self.task(pid) {
                 Some(name) => name,
                 None => b"<...>",
             },
             Err(_) => b"<...>",
+        }
+    }
+
+    /// The name that was saved of a task. It is looked for first at the place that was noted for its pid.
+    fn task(&self, pid: u64) -> Option<&[u8]>
+        ensures { option_map (λ name. name.now) result ≡ first_at pid self.now.tasks }
+    {
+        match self.tasks.name_at(self.task_places.of(pid), pid) {
+            Some(name) => Some(name),
+            None => self.tasks.name(pid),
         }
     }
 

@@ -1,11 +1,14 @@
 // Names by rising numbers.
 
-ghost use Rattle.std.specs.Prelude.{◌≡◌, length, slice_get, IfOk, IfSome, IfNone};
+ghost use Rattle.std.specs.Prelude.{◌≡◌, Some, length, slice_get, IfOk, IfSome, IfNone};
 ghost use Rattle.std.specs.Option.{option_map};
 ghost use Rattle.symbols.specs.NameMap.{first_at, map_of, nearest, IsMapOf, IsNearest, NoneUpTo, OneMap};
+ghost use Rattle.std.specs.Map.{keys_of};
 ghost use Rattle.symbols.specs.Found.{pairs_of};
+ghost use Rattle.symbols.specs.Noted.{noted};
 
 use crate::found::{Found, sort_found};
+use crate::places::Places;
 use crate::rows::{Rows, gather};
 use std::alloc::{AllocError, Global};
 use std::marker::Model;
@@ -52,6 +55,22 @@ impl NameTable {
         ensures { option_map (λ r. (r.0, r.1.now)) result ≡ slice_get self.now i }
     {
         self.rows.row(i)
+    }
+
+    /// The name at a place, if it is that of this number.
+    #[tactic(auto, using(crate::proofs::PairLemmas::name_at))]
+    pub fn name_at(&self, place: usize, key: u64) -> Option<&[u8]>
+        ensures { IfSome result (λ name. first_at key self.now ≡ Some name.now) }
+    {
+        let (number, name) = self.rows.row(place)?;
+        if number == key { Some(name) } else { None }
+    }
+
+    /// The places of the numbers.
+    pub fn places(&self, alloc: Global) -> Result<Places, AllocError>
+        ensures { IfOk result (λ places. places ≡ noted (keys_of self.now)) }
+    {
+        Places::noted(alloc, &self.rows.keys)
     }
 
     /// The name of the greatest number that is at most this one, and how far it is behind.
