@@ -30,18 +30,6 @@ pub reduced_u64 : (z : ℤ) (bits : ℕ) → bits ≡ unsigned_abs (int_rem_eucl
 unfolding reduced
 reduced_u64 z bits is = ap pos is ∙ rest_is z (2 ^ 64)
 
--- ---- what is left of a number is left of its low 64 bits
-
-low_half_is : (z : ℤ) → pattern z % 2 ^ 32 ≡ unsigned_abs (int_rem_euclid z (pos (2 ^ 32)))
-low_half_is (pos a) = omega arith
-low_half_is (negsuc a) = omega arith
-
-pub half_i32 : (z : ℤ) (low half bits : ℕ) → low ≡ pattern z → half ≡ low % 2 ^ 32 → cast_signed w64 bits ≡ cast_signed w32 half → cast_signed w64 bits ≡ reduced I32 z
-half_i32 z low half bits is_low is_half is_bits = reduced_i32 z half bits (is_half ∙ ap (λ (n : ℕ). n % 2 ^ 32) is_low ∙ low_half_is z) is_bits
-
-pub half_u32 : (z : ℤ) (low half : ℕ) → low ≡ pattern z → half ≡ low % 2 ^ 32 → pos half ≡ reduced U32 z
-half_u32 z low half is_low is_half = reduced_u32 z half (is_half ∙ ap (λ (n : ℕ). n % 2 ^ 32) is_low ∙ low_half_is z)
-
 -- ---- what is left in 128 bits leaves the same
 
 low_32 : (r : ℕ) → r < 2 ^ 128 → int_rem_euclid (cast_signed w128 r) (pos (2 ^ 32)) ≡ pos (r % 2 ^ 32)

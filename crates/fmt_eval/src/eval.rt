@@ -3,6 +3,7 @@
 ghost use Rattle.std.specs.Prelude.{◌≡◌, IfSome};
 ghost use Rattle.trace_base.specs.Fields.{sized};
 ghost use Rattle.fmt_eval.specs.Numbers.{number, reduced};
+ghost use Rattle.fmt_eval.specs.Operators.{cast};
 ghost use Rattle.fmt_expr.specs.TreeView.{tree_of, operands_of};
 ghost use Rattle.fmt_eval.specs.NumView.{num_view};
 ghost use Rattle.fmt_eval.specs.Values.{given, sized_kind, nothing, field_number, element_at, element, length_of, chosen, number_of, folded};
@@ -11,7 +12,7 @@ use crate::cast::cast;
 use crate::num::{Num, sign_extended};
 use crate::operators::{applied, bit_and, common, prefixed};
 use c_operators::BinaryOp;
-use fmt_expr::{CKind, Expr, Operand};
+use fmt_expr::{CKind, CastTo, Expr, Operand};
 use trace_base::{Field, FieldKind, Rec, bytes_of, number_of, sized, unsigned_at};
 
 /// The number 0 of kind I32.
@@ -196,13 +197,25 @@ fn field_with(first: &Expr, rest: &[Operand], rec: &Rec<'_>) -> Option<Num>
     })
 }
 
-/// The number of a tree that reads at most one field and has at most one operator, as flags and states have.
+/// The number of a usual field behind a cast, as addresses have.
+#[inline(always)]
+fn field_as(to: CastTo, of: &Expr, rec: &Rec<'_>) -> Option<Num>
+    ensures { IfSome result (λ n. num_view n ≡ cast to (number_of (given rec.now) (tree_of of.now))) }
+{
+    let Expr::FieldNumber { field } = of else {
+        return None;
+    };
+    Some(cast(to, usual_number(rec, field)?))
+}
+
+/// The number of a tree that reads at most one field and has at most one operator or cast, as flags, states and addresses have.
 #[inline(always)]
 fn short(expr: &Expr, rec: &Rec<'_>) -> Option<Num>
     ensures { IfSome result (λ n. num_view n ≡ number_of (given rec.now) (tree_of expr.now)) }
 {
     match expr {
         Expr::FieldNumber { field } => usual_number(rec, field),
+        Expr::Cast { to, of } => field_as(*to, of, rec),
         Expr::Chain { first, rest } => field_with(first, rest.as_slice(), rec),
         _ => None,
     }

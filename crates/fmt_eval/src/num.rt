@@ -3,6 +3,7 @@ ghost use Rattle.std.specs.Int.{w32, w64, cast_signed, int_rem_euclid};
 ghost use Rattle.fmt_eval.specs.Numbers.{number, reduced, pattern, truth, is_true};
 ghost use Rattle.fmt_eval.specs.NumView.{num_view, exact_bits};
 
+use crate::narrow::converted;
 use fmt_expr::CKind;
 
 /// A number of one of C's kinds after promotion.
@@ -35,23 +36,11 @@ impl Num {
     }
 
     /// What a kind leaves of the number.
-    #[tactic(auto, using(crate::proofs::Reductions::half_i32, crate::proofs::Reductions::half_u32, crate::proofs::Reductions::reduced_i64, crate::proofs::Reductions::reduced_u64))]
     pub fn converted(self, kind: CKind) -> Num
         ensures { num_view result ≡ number kind (reduced kind (num_view self).exact) }
     {
-        let bits = self.pattern();
-        let half = (bits % 4_294_967_296) as u32;
-        match kind {
-            CKind::I32 => Num {
-                bits: sign_extended(half),
-                kind,
-            },
-            CKind::U32 => Num {
-                bits: half as u64,
-                kind,
-            },
-            CKind::I64 | CKind::U64 => Num { bits, kind },
-        }
+        let bits = converted(kind, self);
+        Num { bits, kind }
     }
 
     /// Whether it is below 0.
