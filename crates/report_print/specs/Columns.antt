@@ -1,5 +1,5 @@
 -- Columns of a width. Source: trace-cmd-report(1), whose samples give the columns.
-use Rattle.std.specs.Prelude.{ℕ, ◌+◌, ◌-◌, ◌/◌, ◌%◌, ◌^◌, Bool, if◌then◌else◌, List, [], ◌∷◌, ◌++◌, length, replicate, codes}
+use Rattle.std.specs.Prelude.{ℕ, ◌+◌, ◌-◌, ◌/◌, ◌%◌, ◌^◌, Bool, if◌then◌else◌, List, ◌++◌, length, replicate, codes}
 use Rattle.std.specs.Fmt.{decimal}
 
 -- what fills a column of this width beside a word; nothing where the word is as wide or wider

@@ -11,13 +11,16 @@ ghost use Rattle.report_print.specs.Line as spec;
 
 use crate::context::Context;
 use crate::fields::{put_fields, put_pair, put_unread};
-use crate::front::Front;
+use crate::front::{Front, USUAL_COLUMNS, USUAL_LABEL};
 use crate::head::Known;
 use crate::show::Show;
 use fmt_print::print;
 use itoa::Buffer;
 use subpage::Item;
 use trace_base::{Rec, Tail};
+
+/// How long most fronts are.
+const USUAL_FRONT: usize = USUAL_COLUMNS + USUAL_LABEL;
 
 /// Puts the text of an item.
 pub(crate) fn put_item(context: &Context, cpu: u32, item: &Item<'_>, into: &mut Tail<'_>)
@@ -109,8 +112,8 @@ fn put_known_length(front: &[u8], into: &mut Tail<'_>)
     ensures same_slice { lent into.new ≡ lent into.old }
     ensures value { held into.new ≡ put_held (held into.old) front.now }
 {
-    if front.len() == 65 {
-        into.put(&front[..65]);
+    if front.len() == USUAL_FRONT {
+        into.put(&front[..USUAL_FRONT]);
     } else {
         put_piece(front, into);
     }

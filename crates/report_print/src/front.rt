@@ -10,6 +10,12 @@ use crate::marks::latency_marks;
 use itoa::{Buffer, write_digits};
 use std::marker::Model;
 
+/// How wide the columns of most lines are up to the event's name: the task and its pid, the processor, the time.
+pub(crate) const USUAL_COLUMNS: usize = 43;
+
+/// How wide the event's name is with its colon, where it is not longer than its column.
+pub(crate) const USUAL_LABEL: usize = 22;
+
 /// A text of at most 200 bytes that grows at its front, in a room of spaces. Contracts see the text.
 #[derive(Drop)]
 pub(crate) struct Front {
@@ -44,9 +50,9 @@ impl Front {
         requires short { length text.now ≤ 200 }
         ensures { self.new ≡ text.now }
     {
-        if text.len() == 22 {
-            // The name of most events in its column. A text of a known length needs no call.
-            self.text(&text[..22]);
+        if text.len() == USUAL_LABEL {
+            // A text of a known length needs no call.
+            self.text(&text[..USUAL_LABEL]);
         } else {
             self.any_text(text);
         }
