@@ -654,23 +654,23 @@ fn folder_of(alloc: Global, file: &Input) -> Result<MemFolder, Fail> {
 
 // How a run ended, and what it wrote.
 #[derive(Drop)]
-struct Ran {
+struct Outcome {
     status: Status,
     out: MemSink,
     err: MemSink,
 }
 
-fn ran<R: Alloc<A = Global> + Threads + Sync, F: Folder, G: Gate>(
+fn outcome_of<R: Alloc<A = Global> + Threads + Sync, F: Folder, G: Gate>(
     rt: &R,
     words: &Words,
     folder: &mut F,
     gate: &G,
-) -> Ran {
+) -> Outcome {
     let alloc = rt.alloc();
     let mut out = MemSink::new(alloc);
     let mut err = MemSink::new(alloc);
     let status = run(rt, alloc, words, folder, &mut out, &mut err, gate);
-    Ran { status, out, err }
+    Outcome { status, out, err }
 }
 
 // Runs words without a gate. They end so, and write this.
@@ -680,10 +680,10 @@ fn ends_as<R: Alloc<A = Global> + Abort + Threads + Sync, F: Folder>(
     folder: &mut F,
     expected: (Status, &str, &str),
 ) {
-    let ran = ran(rt, words, folder, &NoGate);
-    assert_eq!(rt; ran.status, expected.0);
-    assert_eq!(rt; ran.out.bytes(), expected.1.as_bytes());
-    assert_eq!(rt; ran.err.bytes(), expected.2.as_bytes());
+    let outcome = outcome_of(rt, words, folder, &NoGate);
+    assert_eq!(rt; outcome.status, expected.0);
+    assert_eq!(rt; outcome.out.bytes(), expected.1.as_bytes());
+    assert_eq!(rt; outcome.err.bytes(), expected.2.as_bytes());
 }
 
 // Runs a row's words with these behind them.

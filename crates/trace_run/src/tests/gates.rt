@@ -1,6 +1,6 @@
 // Gates that see which lanes are formatted, and when.
 
-use super::{Carried, Input, Page, Record, folder_of, ran, words_of};
+use super::{Carried, Input, Page, Record, folder_of, outcome_of, words_of};
 use crate::Status;
 use std::sync::atomic::AtomicU64;
 use std::sync::atomic::Ordering::SeqCst;
@@ -28,8 +28,8 @@ fn each_lane_passes_the_gate(rt: HostRuntime) -> Result<(), Fail> {
             passed: AtomicU64::new(0),
         };
         let mut folder = MemFolder::new(rt.alloc());
-        let ran = ran(&rt, &words, &mut folder, &gate);
-        assert_eq!(rt; ran.status, Status::Done);
+        let outcome = outcome_of(&rt, &words, &mut folder, &gate);
+        assert_eq!(rt; outcome.status, Status::Done);
         assert!(rt; gate.passed.load(SeqCst) >= 4, "{workers}");
     }
     Ok(())
@@ -79,8 +79,8 @@ fn two_lanes_are_formatted_at_once(rt: HostRuntime) -> Result<(), Fail> {
         alone: AtomicU64::new(0),
     };
     let mut folder = folder_of(alloc, &TWO)?;
-    let ran = ran(&rt, &words, &mut folder, &gate);
-    assert_eq!(rt; ran.status, Status::Done);
+    let outcome = outcome_of(&rt, &words, &mut folder, &gate);
+    assert_eq!(rt; outcome.status, Status::Done);
     assert_eq!(rt; gate.alone.load(SeqCst), 0);
     Ok(())
 }

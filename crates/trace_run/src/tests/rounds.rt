@@ -1,6 +1,6 @@
 // Reports of many events and of long lines, on any number of threads.
 
-use super::{Carried, PAGE, put_common, put_head, put_table, ran, words_of};
+use super::{Carried, PAGE, outcome_of, put_common, put_head, put_table, words_of};
 use crate::Status;
 use std::alloc::Global;
 use std::process::Abort;
@@ -84,10 +84,10 @@ fn reports_on<R: Alloc<A = Global> + Abort + Threads + Sync>(
     let mut folder = MemFolder::new(alloc);
     folder.put("trace.dat", &file_of(alloc, processors)?)?;
     let words = words_of(alloc, &["report", "-t", "--workers", workers])?;
-    let ran = ran(rt, &words, &mut folder, &NoGate);
-    assert_eq!(rt; ran.status, Status::Done);
-    assert!(rt; ran.out.bytes() == text, "{workers}");
-    assert!(rt; ran.err.bytes().is_empty(), "{workers}");
+    let outcome = outcome_of(rt, &words, &mut folder, &NoGate);
+    assert_eq!(rt; outcome.status, Status::Done);
+    assert!(rt; outcome.out.bytes() == text, "{workers}");
+    assert!(rt; outcome.err.bytes().is_empty(), "{workers}");
     Ok(())
 }
 

@@ -3,7 +3,7 @@
 use super::disk::Disk;
 use super::{
     Carried, Input, MALFORMED_FIRST, MALFORMED_LATER, ONE, Page, Record, bytes_of, ends_as,
-    folder_of, ran, words_of,
+    folder_of, outcome_of, words_of,
 };
 use crate::Status;
 use dat_header::OpenFault;
@@ -262,8 +262,8 @@ fn is_reported_as<R: Alloc<A = Global> + Abort + Threads + Sync>(
 ) -> Result<bool, Fail> {
     let alloc = rt.alloc();
     let words = words_of(alloc, &["report", "-t", name])?;
-    let ran = ran(rt, &words, folder, &NoGate);
-    Ok(ran.status == Status::Done && ran.out.bytes() == report.as_bytes())
+    let outcome = outcome_of(rt, &words, folder, &NoGate);
+    Ok(outcome.status == Status::Done && outcome.out.bytes() == report.as_bytes())
 }
 
 fn splits_as<R: Alloc<A = Global> + Abort + Threads + Sync>(rt: &R, row: &Row) -> Result<(), Fail> {
