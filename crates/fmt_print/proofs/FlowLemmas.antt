@@ -7,7 +7,8 @@ use Rattle.std.proofs.Math.Seq.{take-append-add}
 use Rattle.trace_base.specs.Kept.{Kept, Held, most, is_letter, put, held_of, put_held}
 use Rattle.trace_base.proofs.TailJoins.{put_put, put_held_twice, held_put}
 use Rattle.fmt_eval.specs.Texts.{up_to_nul}
-use Rattle.fmt_print.specs.Strings.{limit_of, cut_to, padded}
+use Rattle.fmt_forms.specs.Texts.{cut_to, padded}
+use Rattle.fmt_print.specs.Strings.{limit_of}
 
 pub measured_left : (k mid later : Kept) (text : List ℕ) (width pad : ℕ) (left : Bool) → left ≡ true → width < 2 ^ 32 → pad ≡ width - min (length text) most → mid ≡ put k text → later ≡ put mid (replicate pad 32)
     → later ≡ put k (padded left width text)

@@ -1,12 +1,8 @@
-pub mod RepeatLemmas
-pub mod LaidLemmas
 pub mod FlowLemmas
 pub mod CutLemmas
 pub mod TextLemmas
-pub mod PutLemmas
 pub mod ArgumentLemmas
 pub mod PrintLemmas
 pub mod SameLemmas
-pub mod PlainLemmas
 pub mod WaitLemmas
 pub mod StepLemmas

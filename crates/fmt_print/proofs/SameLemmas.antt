@@ -23,11 +23,13 @@ use Rattle.fmt_eval.specs.Pieces.{hexadecimal}
 use Rattle.fmt_eval.specs.Texts.{up_to_nul}
 use Rattle.fmt_eval.specs.Values.{Given}
 use Rattle.fmt_fold.specs.Same.{Meaning, meaning_of}
-use Rattle.fmt_print.specs.declared.form.Form.{Form}
-use Rattle.fmt_print.specs.Integers.{integer_text}
-use Rattle.fmt_print.specs.Strings.{padded, cut_to, letter_text, string_by, string_text}
+use Rattle.fmt_forms.specs.declared.form.Form.{Form}
+use Rattle.fmt_forms.specs.Integers.{integer_text}
+use Rattle.fmt_forms.specs.Texts.{padded, cut_to}
+use Rattle.fmt_print.specs.Strings.{letter_text, string_by, string_text}
 use Rattle.fmt_print.specs.Addresses.{name_or, offset_or, network_text, network_by, address_text, pointer_text}
-use Rattle.fmt_print.specs.Arguments.{first_of, amount_of, form_of, Taken, taken, by}
+use Rattle.fmt_forms.specs.Forms.{form_of}
+use Rattle.fmt_print.specs.Arguments.{first_of, amount_of, Taken, taken, by}
 use Rattle.fmt_print.specs.Printed.{bits_of, is_signed, number_text, printed_one, printed}
 
 -- arguments that are the same, one by one

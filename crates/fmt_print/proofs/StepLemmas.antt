@@ -20,18 +20,19 @@ use Rattle.fmt_expr.specs.declared.kinds.Kind.{Kind}
 use Rattle.fmt_expr.specs.declared.kinds.Kind.TheVariants.{Text}
 use Rattle.fmt_eval.specs.Values.{Given}
 use Rattle.fmt_eval.specs.Texts.{up_to_nul, text_of}
-use Rattle.fmt_print.specs.declared.form.Form.{Form}
+use Rattle.fmt_forms.specs.declared.form.Form.{Form}
 use Rattle.fmt_print.specs.declared.step.Literal.{Literal}
 use Rattle.fmt_print.specs.declared.step.Shown.{Shown}
 use Rattle.fmt_print.specs.declared.step.Step.{Step}
-use Rattle.fmt_print.specs.Arguments.{Taken, first_of, taken, form_of, by}
+use Rattle.fmt_forms.specs.Forms.{form_of}
+use Rattle.fmt_print.specs.Arguments.{Taken, first_of, taken, by}
 use Rattle.fmt_print.specs.Addresses.{address_text, pointer_text}
-use Rattle.fmt_print.specs.Integers.{integer_text}
-use Rattle.fmt_print.specs.Plain.{minus}
+use Rattle.fmt_forms.specs.Integers.{integer_text}
+use Rattle.fmt_forms.specs.Plain.{minus}
 use Rattle.fmt_print.specs.Printed.{is_signed, printed}
 use Rattle.fmt_print.specs.Strings.{string_by, string_text}
 use Rattle.fmt_print.specs.Steps.{plain_spec, plain_form, decimal_base, literal_directive, shown_directive, directives_of, IsPlaced, printed_some, printed_step, held_with}
-use Rattle.fmt_print.proofs.PlainLemmas.{plain_signed, plain_unsigned, padded_bare}
+use Rattle.fmt_forms.proofs.PlainLemmas.{plain_signed, plain_unsigned, padded_bare}
 use Rattle.fmt_print.proofs.WaitLemmas.{held_with_nothing}
 
 pub signed_base : (signed : Bool) → is_signed (decimal_base signed) ≡ signed

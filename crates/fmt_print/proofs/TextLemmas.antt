@@ -7,7 +7,7 @@ use Rattle.std.proofs.lemmas.Bool.{cases_Bool}
 use Rattle.std.proofs.lemmas.List.{take-take, take_all, append-nil}
 use Rattle.trace_base.specs.Kept.{is_letter}
 use Rattle.fmt_eval.specs.Texts.{up_to_nul}
-use Rattle.fmt_print.specs.Strings.{cut_to}
+use Rattle.fmt_forms.specs.Texts.{cut_to}
 use Rattle.fmt_print.specs.Addresses.{network_text}
 
 one_more : (n : ℕ) → 1 + n ≡ suc n

@@ -13,8 +13,9 @@ use Rattle.fmt_eval.specs.Values.{Given}
 use Rattle.fmt_eval.specs.Bytes.{bytes_of}
 use Rattle.fmt_eval.specs.Texts.{text_of}
 use Rattle.fmt_eval.specs.Pieces.{join, hexadecimal, two_digits}
-use Rattle.fmt_print.specs.declared.form.Form.{Form}
-use Rattle.fmt_print.specs.Strings.{address_of, padded}
+use Rattle.fmt_forms.specs.declared.form.Form.{Form}
+use Rattle.fmt_forms.specs.Texts.{padded}
+use Rattle.fmt_print.specs.Strings.{address_of}
 
 -- the name of a symbol, and how far behind it the address is
 abbrev pub name_or : ℕ → Option (List ℕ × ℕ) → List ℕ

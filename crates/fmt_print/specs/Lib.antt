@@ -1,6 +1,3 @@
-pub mod Fills
-pub mod Integers
-pub mod Plain
 pub mod Strings
 pub mod Addresses
 pub mod Arguments

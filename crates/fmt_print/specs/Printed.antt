@@ -11,8 +11,8 @@ use Rattle.symbols.specs.Maps.{Maps}
 use Rattle.fmt_expr.specs.Tree.{Tree}
 use Rattle.fmt_eval.specs.Operators.{cast_bits}
 use Rattle.fmt_eval.specs.Values.{Given, number_of}
-use Rattle.fmt_print.specs.declared.form.Form.{Form}
-use Rattle.fmt_print.specs.Integers.{integer_text}
+use Rattle.fmt_forms.specs.declared.form.Form.{Form}
+use Rattle.fmt_forms.specs.Integers.{integer_text}
 use Rattle.fmt_print.specs.Strings.{letter_text, string_text}
 use Rattle.fmt_print.specs.Addresses.{pointer_text}
 use Rattle.fmt_print.specs.Arguments.{taken, by}

@@ -12,7 +12,7 @@ use Rattle.fmt_directives.specs.declared.directive.Length.TheVariants.{Usual}
 use Rattle.fmt_directives.specs.declared.directive.Spec.{Spec}
 use Rattle.fmt_directives.specs.declared.directive.Directive.{Directive}
 use Rattle.fmt_directives.specs.declared.directive.Directive.TheVariants as directive
-use Rattle.fmt_print.specs.declared.form.Form.{Form}
+use Rattle.fmt_forms.specs.declared.form.Form.{Form}
 use Rattle.fmt_directives.specs.Directives.{IsWithin}
 use Rattle.symbols.specs.Maps.{Maps}
 use Rattle.fmt_expr.specs.Tree.{Tree}

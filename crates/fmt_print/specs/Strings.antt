@@ -1,6 +1,6 @@
 -- The conversions of a byte and of a text (C11 7.21.6.1, `c` and `s`). A text that is a number is the printk format at that
 -- address, or else the number.
-use Rattle.std.specs.Prelude.{ℕ, ◌-◌, ◌%◌, ◌^◌, Bool, if◌then◌else◌, List, [], ◌∷◌, ◌++◌, length, take, replicate, Option, Some, None}
+use Rattle.std.specs.Prelude.{ℕ, ◌%◌, ◌^◌, List, [], ◌∷◌, Option, Some, None}
 use Rattle.std.specs.Option.{unwrap_or}
 use Rattle.trace_base.specs.Kept.{most}
 use Rattle.symbols.specs.NameMap.{first_at}
@@ -14,15 +14,12 @@ use Rattle.fmt_eval.specs.Values.{Given, number_of}
 use Rattle.fmt_eval.specs.Bytes.{bytes_of}
 use Rattle.fmt_eval.specs.Pieces.{hexadecimal}
 use Rattle.fmt_eval.specs.Texts.{up_to_nul, text_of}
-use Rattle.fmt_print.specs.declared.form.Form.{Form}
+use Rattle.fmt_forms.specs.declared.form.Form.{Form}
+use Rattle.fmt_forms.specs.Texts.{padded, cut_to}
 
 -- the 64 bits of a number; 0 of a text or bytes
 abbrev pub address_of : Given → Tree → ℕ
 address_of g t = pattern (number_of g t).exact
-
--- a text in its width, with spaces
-unfoldable pub padded : Bool → ℕ → List ℕ → List ℕ
-padded left width text = if left then text ++ replicate (width - length text) 32 else replicate (width - length text) 32 ++ text
 
 abbrev pub letter_text : Given → Form → Tree → List ℕ
 letter_text g form t = padded form.left form.width (address_of g t % 2 ^ 8 ∷ [])
@@ -32,11 +29,6 @@ abbrev pub string_by : Kind → Given → Maps → Tree → List ℕ
 string_by Number g maps t = unwrap_or (first_at (address_of g t) maps.printk) (hexadecimal (address_of g t))
 string_by Text g maps t = up_to_nul (text_of g t)
 string_by Bytes g maps t = up_to_nul (bytes_of g t)
-
--- as much as a precision shows
-abbrev pub cut_to : Option ℕ → List ℕ → List ℕ
-cut_to None text = text
-cut_to (Some p) text = take p text
 
 abbrev pub string_text : Given → Maps → Form → Tree → List ℕ
 string_text g maps form t = padded form.left form.width (cut_to form.precision (string_by (kind_of t) g maps t))

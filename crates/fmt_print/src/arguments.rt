@@ -7,10 +7,10 @@ ghost use Rattle.fmt_eval.specs.Values.{given};
 ghost use Rattle.fmt_print.specs.Arguments.{first_of, amount_of, taken};
 ghost use Rattle.fmt_print.specs.Views.{taken_view};
 
-use crate::form::{Form, form_of};
 use fmt_directives::{Amount, Spec};
 use fmt_eval::number;
 use fmt_expr::Expr;
+use fmt_forms::{Form, form_of};
 use trace_base::Rec;
 
 /// The form of a conversion, its argument, and the arguments behind it.

@@ -6,12 +6,12 @@ ghost use Rattle.trace_base.specs.TailView.{held, lent};
 ghost use Rattle.fmt_expr.specs.TreeView.{tree_of};
 ghost use Rattle.fmt_eval.specs.Values.{given};
 ghost use Rattle.fmt_eval.specs.Texts.{up_to_nul, text_of};
-ghost use Rattle.fmt_print.specs.Strings.{limit_of, cut_to, padded};
+ghost use Rattle.fmt_forms.specs.Texts.{cut_to, padded};
+ghost use Rattle.fmt_print.specs.Strings.{limit_of};
 
-use crate::form::Form;
-use crate::repeat::{Fill, put_repeated};
 use fmt_eval::put_text;
 use fmt_expr::Expr;
+use fmt_forms::{Fill, Form, put_repeated};
 use trace_base::{Rec, Tail};
 
 /// The most bytes that a precision shows.

@@ -4,14 +4,10 @@
 mod address;
 mod arguments;
 mod flow;
-mod form;
-mod integer;
-mod layout;
 mod plain;
 mod plan;
 mod printing;
 mod reading;
-mod repeat;
 mod step;
 mod string;
 #[cfg(test)]

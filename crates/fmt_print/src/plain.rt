@@ -10,22 +10,21 @@ ghost use Rattle.fmt_eval.specs.Texts.{up_to_nul, text_of};
 ghost use Rattle.fmt_eval.specs.Pieces.{hexadecimal};
 ghost use Rattle.symbols.specs.NameMap.{nearest};
 ghost use Rattle.fmt_print.specs.Addresses.{name_or, offset_or, pointer_text};
-ghost use Rattle.fmt_print.specs.Integers.{integer_text};
-ghost use Rattle.fmt_print.specs.Plain.{minus};
+ghost use Rattle.fmt_forms.specs.Integers.{integer_text};
+ghost use Rattle.fmt_forms.specs.Plain.{minus};
 ghost use Rattle.fmt_print.specs.Printed.{number_text};
 ghost use Rattle.fmt_print.specs.Strings.{string_text};
 ghost use Rattle.fmt_print.specs.Steps.{plain_spec, plain_form, decimal_base, held_with};
 
 use crate::address::put_pointer;
 use crate::flow::put_shown;
-use crate::form::Form;
-use crate::integer::written;
 use crate::printing::bits_of;
 use crate::string::{address_of, put_string, source_of, text_at_once};
 use crate::waiting::Waiting;
 use fmt_directives::{Length, PointerForm};
 use fmt_eval::{cast_bits, number, up_to_nul};
 use fmt_expr::{Expr, Kind, kind};
+use fmt_forms::{Form, written};
 use symbols::Symbols;
 use trace_base::{Rec, Tail, text_len};
 

@@ -16,8 +16,6 @@ ghost use Rattle.fmt_print.specs.Printed.{long_bits, bits_of, is_signed, number_
 
 use crate::address::put_pointer;
 use crate::arguments::{first_of, taken};
-use crate::form::Form;
-use crate::integer::put_integer;
 use crate::plain::{add_front, add_number, add_pointer, add_text};
 use crate::plan::PrintPlan;
 use crate::step::{Literal, Shown, Step};
@@ -26,6 +24,7 @@ use crate::waiting::Waiting;
 use fmt_directives::{Base, Directive, Length, PointerForm, Spec};
 use fmt_eval::{cast_bits, number};
 use fmt_expr::Expr;
+use fmt_forms::{Form, put_integer};
 use symbols::Symbols;
 use trace_base::{Rec, Tail};
 

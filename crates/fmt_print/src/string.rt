@@ -11,14 +11,13 @@ ghost use Rattle.fmt_expr.specs.declared.kinds.Kind.TheVariants as kinds;
 ghost use Rattle.fmt_eval.specs.Values.{given};
 ghost use Rattle.fmt_eval.specs.Texts.{up_to_nul, text_of};
 ghost use Rattle.fmt_eval.specs.Pieces.{hexadecimal};
-ghost use Rattle.fmt_print.specs.Strings.{address_of, letter_text, string_text, cut_to, padded};
+ghost use Rattle.fmt_forms.specs.Texts.{cut_to, padded};
+ghost use Rattle.fmt_print.specs.Strings.{address_of, letter_text, string_text};
 
 use crate::flow::put_flow;
-use crate::form::Form;
-use crate::integer::written;
-use crate::layout::{put_alone, put_padded};
 use fmt_eval::{bytes, number, up_to_nul};
 use fmt_expr::{Expr, Kind, kind};
+use fmt_forms::{Form, put_alone, put_padded, written};
 use symbols::Symbols;
 use trace_base::{Rec, Tail, bytes_of};
 
@@ -49,7 +48,7 @@ fn cut_to(precision: Option<u32>, text: &[u8]) -> &[u8]
 }
 
 /// Puts a text in its width, as much of it as a precision shows. Most have no width.
-#[tactic(auto, using(crate::proofs::PlainLemmas::padded_bare))]
+#[tactic(auto, using(fmt_forms::proofs::PlainLemmas::padded_bare))]
 pub fn put_bytes(form: &Form, text: &[u8], into: &mut Tail<'_>)
     ensures same_slice { lent into.new ≡ lent into.old }
     ensures value { kept into.new ≡ put (kept into.old) (padded form.now.left form.now.width (cut_to form.now.precision text.now)) }

@@ -4,7 +4,7 @@ ghost use Rattle.std.specs.Prelude.{◌≡◌, [], ◌++◌, ◌+◌, ◌<◌, �
 ghost use Rattle.std.specs.Fmt.{decimal};
 ghost use Rattle.trace_base.specs.Kept.{put_held};
 ghost use Rattle.trace_base.specs.TailView.{held, lent};
-ghost use Rattle.fmt_print.specs.Plain.{minus};
+ghost use Rattle.fmt_forms.specs.Plain.{minus};
 
 use itoa::write_digits;
 use std::marker::Model;

@@ -3,7 +3,7 @@ use Rattle.std.specs.Fmt.{decimal}
 use Rattle.trace_base.specs.Kept.{Held, put_held}
 use Rattle.trace_base.specs.TailView.{held}
 use Rattle.trace_base.proofs.TailJoins.{put_held_twice}
-use Rattle.fmt_print.specs.Plain.{minus}
+use Rattle.fmt_forms.specs.Plain.{minus}
 use Rattle.fmt_print.proofs.plain.add_decimal.Goals as goal
 
 pub returns-clause-value : goal.returns-clause-value

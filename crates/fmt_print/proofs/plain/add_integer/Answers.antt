@@ -1,7 +1,7 @@
 use Rattle.std.proofs.Common.{Bool, ◌++◌, ap, ◌∙◌}
 use Rattle.std.specs.Fmt.{decimal}
 use Rattle.trace_base.specs.Kept.{put_held}
-use Rattle.fmt_print.specs.Plain.{minus}
+use Rattle.fmt_forms.specs.Plain.{minus}
 use Rattle.fmt_print.specs.Steps.{held_with}
 use Rattle.fmt_print.proofs.StepLemmas.{plain_decimal}
 use Rattle.fmt_print.proofs.plain.add_integer.Goals as goal

@@ -4,7 +4,7 @@ use Rattle.std.specs.Fmt.{digits}
 use Rattle.std.specs.Option.{option_map}
 use Rattle.trace_base.specs.Kept.{put}
 use Rattle.trace_base.specs.TailView.{kept}
-use Rattle.fmt_print.specs.Strings.{cut_to, padded}
+use Rattle.fmt_forms.specs.Texts.{cut_to, padded}
 use Rattle.fmt_print.proofs.TextLemmas.{cut_two}
 use Rattle.fmt_print.proofs.string.put_address.Goals as goal
 

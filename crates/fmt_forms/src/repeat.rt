@@ -1,7 +1,7 @@
 //! One byte, put many times.
 
 ghost use Rattle.std.specs.Prelude.{◌≡◌, replicate};
-ghost use Rattle.fmt_print.specs.Fills.{fill_byte};
+ghost use Rattle.fmt_forms.specs.Fills.{fill_byte};
 ghost use Rattle.trace_base.specs.Kept.{put};
 ghost use Rattle.trace_base.specs.TailView.{kept, lent};
 

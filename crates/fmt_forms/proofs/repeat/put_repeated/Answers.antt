@@ -1,7 +1,7 @@
 use Rattle.std.proofs.Common.{◌∙◌, arith}
-use Rattle.fmt_print.specs.Fills.{fill_byte}
-use Rattle.fmt_print.proofs.RepeatLemmas.{repeat_more, repeat_end}
-use Rattle.fmt_print.proofs.repeat.put_repeated.Goals as goal
+use Rattle.fmt_forms.specs.Fills.{fill_byte}
+use Rattle.fmt_forms.proofs.RepeatLemmas.{repeat_more, repeat_end}
+use Rattle.fmt_forms.proofs.repeat.put_repeated.Goals as goal
 
 pub loop-left-preserved : goal.loop-left-preserved
 loop-left-preserved c =

@@ -1,7 +1,7 @@
 -- The bytes that fill a width or a precision.
 use Rattle.std.specs.Prelude.{ℕ}
-use Rattle.fmt_print.specs.declared.repeat.Fill.{Fill}
-use Rattle.fmt_print.specs.declared.repeat.Fill.TheVariants.{Space, Zero}
+use Rattle.fmt_forms.specs.declared.repeat.Fill.{Fill}
+use Rattle.fmt_forms.specs.declared.repeat.Fill.TheVariants.{Space, Zero}
 
 abbrev pub fill_byte : Fill → ℕ
 fill_byte Space = 32

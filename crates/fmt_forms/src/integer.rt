@@ -4,8 +4,8 @@ ghost use Rattle.std.specs.Prelude.{◌≡◌, ◌++◌, ◌==◌, slice_index, 
 ghost use Rattle.std.specs.Fmt.{digits, decimal};
 ghost use Rattle.trace_base.specs.Kept.{put};
 ghost use Rattle.trace_base.specs.TailView.{kept, lent};
-ghost use Rattle.fmt_print.specs.Plain.{minus};
-ghost use Rattle.fmt_print.specs.Integers.{shown, zeros, octal_zero, mark, sign, integer_text};
+ghost use Rattle.fmt_forms.specs.Plain.{minus};
+ghost use Rattle.fmt_forms.specs.Integers.{shown, zeros, octal_zero, mark, sign, integer_text};
 
 use crate::form::Form;
 use crate::layout::put_laid;

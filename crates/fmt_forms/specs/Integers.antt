@@ -3,7 +3,7 @@ use Rattle.std.specs.Prelude.{ℕ, ◌+◌, ◌-◌, Bool, true, false, not, ◌
 use Rattle.std.specs.Fmt.{digits}
 use Rattle.fmt_directives.specs.declared.directive.Base.{Base}
 use Rattle.fmt_directives.specs.declared.directive.Base.TheVariants.{Signed, Unsigned, Hex, UpperHex, Octal}
-use Rattle.fmt_print.specs.declared.form.Form.{Form}
+use Rattle.fmt_forms.specs.declared.form.Form.{Form}
 
 abbrev pub radix : Base → ℕ
 radix Signed = 10

@@ -3,9 +3,9 @@ use Rattle.std.proofs.Common.{◌≡◌, ℕ, ◌+◌, ◌-◌, Bool, true, fals
 use Rattle.std.specs.Prelude.{◌&&◌, is_none}
 use Rattle.std.proofs.lemmas.Bool.{cases_Bool}
 use Rattle.std.proofs.lemmas.List.{append-nil, length-replicate, replicate-append-replicate}
-use Rattle.fmt_print.specs.declared.form.Form.{Form}
-use Rattle.fmt_print.specs.Integers.{parts, laid}
-use Rattle.fmt_print.specs.Strings.{padded}
+use Rattle.fmt_forms.specs.declared.form.Form.{Form}
+use Rattle.fmt_forms.specs.Integers.{parts, laid}
+use Rattle.fmt_forms.specs.Texts.{padded}
 
 body_len : (mark text : List ℕ) (width zeros : ℕ) → width - (length mark + length (replicate zeros 48 ++ text)) ≡ width - (length mark + (zeros + length text))
 body_len mark text width zeros = omega (arith, length-append (replicate zeros 48) text, length-replicate {A = ℕ} zeros 48)

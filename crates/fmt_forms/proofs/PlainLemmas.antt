@@ -5,11 +5,11 @@ use Rattle.std.specs.Fmt.{decimal}
 use Rattle.std.proofs.lemmas.Fmt.{decimal_nonempty}
 use Rattle.std.proofs.lemmas.List.{append-nil}
 use Rattle.fmt_directives.specs.declared.directive.Base.TheVariants.{Signed, Unsigned}
-use Rattle.fmt_print.specs.declared.form.Form.{Form}
-use Rattle.fmt_print.specs.Integers.{integer_text, laid, shown, sign, zeros}
-use Rattle.fmt_print.specs.Plain.{minus}
-use Rattle.fmt_print.specs.Strings.{padded}
-use Rattle.fmt_print.proofs.LaidLemmas.{laid_bare}
+use Rattle.fmt_forms.specs.declared.form.Form.{Form}
+use Rattle.fmt_forms.specs.Integers.{integer_text, laid, shown, sign, zeros}
+use Rattle.fmt_forms.specs.Plain.{minus}
+use Rattle.fmt_forms.specs.Texts.{padded}
+use Rattle.fmt_forms.proofs.LaidLemmas.{laid_bare}
 
 and_false : (b : Bool) → (b && false) ≡ false
 and_false true = refl

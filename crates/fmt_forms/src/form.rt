@@ -1,7 +1,7 @@
 //! How a conversion shows its argument.
 
 ghost use Rattle.std.specs.Prelude.{◌≡◌};
-ghost use Rattle.fmt_print.specs.Arguments.{goes_left, width_of, precision_of, form_of};
+ghost use Rattle.fmt_forms.specs.Forms.{goes_left, width_of, precision_of, form_of};
 
 use fmt_directives::Spec;
 

@@ -3,8 +3,8 @@
 ghost use Rattle.std.specs.Prelude.{◌≡◌, ◌+◌, ◌-◌, ◌^◌, ◌<◌, ◌++◌, length, replicate};
 ghost use Rattle.trace_base.specs.Kept.{put};
 ghost use Rattle.trace_base.specs.TailView.{kept, lent};
-ghost use Rattle.fmt_print.specs.Integers.{parts, laid};
-ghost use Rattle.fmt_print.specs.Strings.{padded};
+ghost use Rattle.fmt_forms.specs.Integers.{parts, laid};
+ghost use Rattle.fmt_forms.specs.Texts.{padded};
 
 use crate::form::Form;
 use crate::repeat::{Fill, put_repeated};

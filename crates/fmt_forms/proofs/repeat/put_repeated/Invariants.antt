@@ -1,8 +1,8 @@
 use Rattle.std.proofs.Common.{◌≡◌, replicate}
-use Rattle.fmt_print.specs.Fills.{fill_byte}
+use Rattle.fmt_forms.specs.Fills.{fill_byte}
 use Rattle.trace_base.specs.Kept.{put}
 use Rattle.trace_base.specs.TailView.{kept, lent}
-use Rattle.fmt_print.proofs.repeat.put_repeated.Given as goal
+use Rattle.fmt_forms.proofs.repeat.put_repeated.Given as goal
 
 abbrev pub invariant-loop-left : goal.invariant-loop-left
 invariant-loop-left l =

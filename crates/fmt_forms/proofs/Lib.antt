@@ -1,0 +1,4 @@
+pub mod RepeatLemmas
+pub mod LaidLemmas
+pub mod PutLemmas
+pub mod PlainLemmas

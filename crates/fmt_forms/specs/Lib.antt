@@ -1,0 +1,5 @@
+pub mod Fills
+pub mod Forms
+pub mod Integers
+pub mod Plain
+pub mod Texts
