@@ -5,3 +5,4 @@ pub mod PieceLemmas
 pub mod FlagLemmas
 pub mod FlagSteps
 pub mod ReducedLaws
+pub mod ReadLemmas

@@ -9,3 +9,4 @@ pub mod Arrays
 pub mod Texts
 pub mod Value
 pub mod Entered
+pub mod Reads

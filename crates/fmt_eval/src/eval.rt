@@ -2,10 +2,11 @@
 
 ghost use Rattle.std.specs.Prelude.{◌≡◌, IfSome};
 ghost use Rattle.trace_base.specs.Fields.{sized};
-ghost use Rattle.fmt_eval.specs.Numbers.{number, reduced};
+ghost use Rattle.fmt_eval.specs.Numbers.{is_true, number, reduced};
 ghost use Rattle.fmt_eval.specs.Operators.{cast};
 ghost use Rattle.fmt_expr.specs.TreeView.{tree_of, operands_of};
 ghost use Rattle.fmt_eval.specs.NumView.{num_view};
+ghost use Rattle.fmt_eval.specs.Reads.{placed};
 ghost use Rattle.fmt_eval.specs.Values.{given, sized_kind, nothing, field_number, element_at, element, length_of, chosen, number_of, folded};
 
 use crate::cast::cast;
@@ -70,6 +71,28 @@ fn whole_number(signed: bool, bytes: u64) -> Num
     }
 }
 
+/// The number of four bytes of the payload.
+#[inline(always)]
+pub(crate) fn half_at(rec: &Rec<'_>, at: u32, signed: bool) -> Num
+    ensures { num_view result ≡ placed (given rec.now) at 4 signed }
+{
+    half_number(
+        signed,
+        unsigned_at(rec.order, rec.payload, at as usize, 4),
+    )
+}
+
+/// The number of eight bytes of the payload.
+#[inline(always)]
+pub(crate) fn whole_at(rec: &Rec<'_>, at: u32, signed: bool) -> Num
+    ensures { num_view result ≡ placed (given rec.now) at 8 signed }
+{
+    whole_number(
+        signed,
+        unsigned_at(rec.order, rec.payload, at as usize, 8),
+    )
+}
+
 /// The number of a field of four or eight bytes, which needs no wider number; none of any other.
 #[inline(always)]
 #[tactic(auto, unfolding(trace_base::specs::Fields::number_in))]
@@ -77,16 +100,9 @@ fn usual_number(rec: &Rec<'_>, field: &Field) -> Option<Num>
     ensures { IfSome result (λ n. num_view n ≡ field_number (given rec.now) field.now) }
 {
     let signed = field.kind == FieldKind::Number && field.signed;
-    let at = field.offset as usize;
     match (field.kind, field.size) {
-        (FieldKind::Number | FieldKind::Pointer, 4) => Some(half_number(
-            signed,
-            unsigned_at(rec.order, rec.payload, at, 4),
-        )),
-        (FieldKind::Number | FieldKind::Pointer, 8) => Some(whole_number(
-            signed,
-            unsigned_at(rec.order, rec.payload, at, 8),
-        )),
+        (FieldKind::Number | FieldKind::Pointer, 4) => Some(half_at(rec, field.offset, signed)),
+        (FieldKind::Number | FieldKind::Pointer, 8) => Some(whole_at(rec, field.offset, signed)),
         _ => None,
     }
 }
@@ -218,6 +234,50 @@ fn short(expr: &Expr, rec: &Rec<'_>) -> Option<Num>
         Expr::Cast { to, of } => field_as(*to, of, rec),
         Expr::Chain { first, rest } => field_with(first, rest.as_slice(), rec),
         _ => None,
+    }
+}
+
+/// Whether a usual field under a written mask is not 0.
+#[inline(always)]
+#[tactic(auto, using(crate::proofs::Rows::operands_row))]
+fn masked(first: &Expr, rest: &[Operand], rec: &Rec<'_>) -> Option<bool>
+    ensures { IfSome result (λ holds. holds ≡ is_true (folded (given rec.now) (number_of (given rec.now) (tree_of first.now)) (operands_of rest.now))) }
+{
+    let Expr::FieldNumber { field } = first else {
+        return None;
+    };
+    if rest.len() != 1 || rest[0].op != BinaryOp::BitAnd {
+        return None;
+    }
+    let Expr::Number { bits, kind } = &rest[0].value else {
+        return None;
+    };
+    let mask = Num {
+        bits: *bits,
+        kind: *kind,
+    };
+    Some(bit_and(usual_number(rec, field)?, mask).is_true())
+}
+
+/// Whether the number of a tree is not 0, where the tree is a usual field under a written mask.
+#[inline(always)]
+fn masked_at_once(expr: &Expr, rec: &Rec<'_>) -> Option<bool>
+    ensures { IfSome result (λ holds. holds ≡ is_true (number_of (given rec.now) (tree_of expr.now))) }
+{
+    match expr {
+        Expr::Chain { first, rest } => masked(first, rest.as_slice(), rec),
+        _ => None,
+    }
+}
+
+/// Whether the number of a tree is not 0. Most tests of choices look at bits of a field.
+#[inline(always)]
+pub fn holds(expr: &Expr, rec: &Rec<'_>) -> bool
+    ensures { result ≡ is_true (number_of (given rec.now) (tree_of expr.now)) }
+{
+    match masked_at_once(expr, rec) {
+        Some(holds) => holds,
+        None => number(expr, rec).is_true(),
     }
 }
 

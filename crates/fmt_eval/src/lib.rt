@@ -11,14 +11,16 @@ mod narrow;
 mod num;
 mod operators;
 mod pieces;
+mod read;
 #[cfg(test)]
 mod tests;
 mod text;
 
 pub use cast::cast_bits;
-pub use eval::number;
+pub use eval::{holds, number};
 pub use field_bytes::bytes;
 pub use laws::{one_reduced, reduced_is, values_by_kind};
 pub use num::Num;
 pub use pieces::{put_hexadecimal, put_octets, put_piece};
+pub use read::{Read, number_read, read_of};
 pub use text::{put_text, up_to_nul};

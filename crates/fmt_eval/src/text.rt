@@ -8,7 +8,7 @@ ghost use Rattle.fmt_eval.specs.Values.{given};
 ghost use Rattle.fmt_eval.specs.Texts.{up_to_nul, text_of};
 
 use crate::array::{put_array, put_hex};
-use crate::eval::walked;
+use crate::eval::{holds, walked};
 use crate::field_bytes::bytes;
 use crate::flags::{put_flags, put_symbol};
 use fmt_expr::Expr;
@@ -33,7 +33,7 @@ pub fn put_text(expr: &Expr, rec: &Rec<'_>, into: &mut Tail<'_>)
         Expr::FieldText { field } => into.put(up_to_nul(bytes_of(rec, field))),
         Expr::Cast { of, .. } => put_text(of, rec, into),
         Expr::Choice { test, yes, no } => {
-            if walked(test, rec).is_true() {
+            if holds(test, rec) {
                 put_text(yes, rec, into);
             } else {
                 put_text(no, rec, into);

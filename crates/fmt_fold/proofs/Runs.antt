@@ -13,7 +13,7 @@ use Rattle.fmt_eval.specs.Flags.{Row}
 use Rattle.fmt_eval.specs.Entered.{row_of}
 use Rattle.fmt_fold.specs.Same.{Meaning, meaning_of, IsSame, step_of, SameOperands, SameEntries, SameTrees}
 
-more : {A B : Type 0} (f : A → B) (xs ys : List A) (i : ℕ) (d o : A) → i < length ys → f o ≡ f (get_or ys i d) → map f xs ++ map f (drop i ys) ≡ map f ys
+pub more : {A B : Type 0} (f : A → B) (xs ys : List A) (i : ℕ) (d o : A) → i < length ys → f o ≡ f (get_or ys i d) → map f xs ++ map f (drop i ys) ≡ map f ys
     → map f (xs ++ o ∷ []) ++ map f (drop (i + 1) ys) ≡ map f ys
 more {A} {B} f xs ys i d o lt s e =
     let rest = map f (drop (i + 1) ys) in
@@ -23,10 +23,10 @@ more {A} {B} f xs ys i d o lt s e =
     ∙ ap (λ (l : List A). map f xs ++ map f l) (sym (drop_more ys i d lt))
     ∙ e
 
-all : {A B : Type 0} (f : A → B) (xs ys : List A) (i : ℕ) → length ys ≤ i → map f xs ++ map f (drop i ys) ≡ map f ys → map f xs ≡ map f ys
+pub all : {A B : Type 0} (f : A → B) (xs ys : List A) (i : ℕ) → length ys ≤ i → map f xs ++ map f (drop i ys) ≡ map f ys → map f xs ≡ map f ys
 all {A} {B} f xs ys i le e = sym (append-nil (map f xs)) ∙ ap (λ (l : List A). map f xs ++ map f l) (sym (drop_all i ys le)) ∙ e
 
-none : {A B : Type 0} (f : A → B) (xs ys : List A) → xs ≡ [] → map f xs ++ map f (drop 0 ys) ≡ map f ys
+pub none : {A B : Type 0} (f : A → B) (xs ys : List A) → xs ≡ [] → map f xs ++ map f (drop 0 ys) ≡ map f ys
 none {A} f xs ys e = ap (λ (l : List A). map f l ++ map f ys) e
 
 abbrev pair : BinaryOp → Number → BinaryOp × Number
@@ -34,10 +34,6 @@ pair op n = (op, n)
 
 abbrev row : ℕ → List ℕ → Row
 row mask text = (mask, text)
-
--- what the tree of an argument is
-abbrev pub meant : Given → Expr → Meaning
-meant g e = meaning_of g (tree_of e)
 
 -- operands
 pub record OperandsTo (os ps : List Operand) (i : ℕ) : Type 0 where
@@ -74,20 +70,3 @@ entries_more es fs i d e lt s h k = record { each = λ g. more (row_of g) es fs 
 
 pub entries_all : (es fs : List Entry) (i : ℕ) → length fs ≤ i → EntriesTo es fs i → SameEntries es fs
 entries_all es fs i le k = record { each = λ g. all (row_of g) es fs i le (k.each g) }
-
--- trees
-pub record TreesTo (es fs : List Expr) (i : ℕ) : Type 0 where
-  pub each : (g : Given) → map (meant g) es ++ map (meant g) (drop i fs) ≡ map (meant g) fs
-
-pub trees_none : (es fs : List Expr) → es ≡ [] → TreesTo es fs 0
-trees_none es fs e = record { each = λ g. none (meant g) es fs e }
-
-pub trees_more : (es fs : List Expr) (i : ℕ) (d e : Expr) → i < length fs → IsSame (tree_of e) (tree_of (get_or fs i d)) → TreesTo es fs i → TreesTo (es ++ e ∷ []) fs (i + 1)
-trees_more es fs i d e lt h k = record { each = λ g. more (meant g) es fs i d e lt (h.each g) (k.each g) }
-
-twice : (g : Given) (es : List Expr) → map (meant g) es ≡ map (meaning_of g) (map tree_of es)
-twice g [] = refl
-twice g (e ∷ es) = ap (λ (ms : List Meaning). meant g e ∷ ms) (twice g es)
-
-pub trees_all : (es fs : List Expr) (i : ℕ) → length fs ≤ i → TreesTo es fs i → SameTrees (map tree_of es) (map tree_of fs)
-trees_all es fs i le k = record { each = λ g. sym (twice g es) ∙ all (meant g) es fs i le (k.each g) ∙ twice g fs }

@@ -204,19 +204,3 @@ pub fn folded(alloc: Global, expr: &Expr) -> Result<Expr, AllocError>
         Expr::Array { bytes, count, size } => folded_array(alloc, bytes, count, size),
     }
 }
-
-/// Trees that are each the same over every record, with their constant parts computed.
-///
-/// # Errors
-///
-/// Want of memory alone.
-#[tactic(auto, using(crate::proofs::Runs::trees_none, crate::proofs::Runs::trees_more, crate::proofs::Runs::trees_all))]
-pub fn all_folded(alloc: Global, args: &[Expr]) -> Result<Vec<Expr>, AllocError>
-    ensures { IfOk result (λ es. SameTrees (map tree_of es.items) (map tree_of args.now)) }
-{
-    let mut made = Vec::new(alloc);
-    for arg in args {
-        made.push(folded(alloc, arg)?)?;
-    }
-    Ok(made)
-}

@@ -10,4 +10,4 @@ mod make;
 #[cfg(test)]
 mod tests;
 
-pub use fold::{all_folded, folded};
+pub use fold::folded;

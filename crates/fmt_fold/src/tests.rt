@@ -1,6 +1,6 @@
 //! Trees with constant parts.
 
-use crate::{all_folded, folded};
+use crate::folded;
 use c_operators::BinaryOp;
 use fmt_eval::number;
 use fmt_expr::CKind::I32;
@@ -61,15 +61,15 @@ fn a_mask_is_written_out(rt: HostRuntime) -> Result<(), AllocError> {
 #[test]
 fn a_field_under_a_mask_keeps_its_number(rt: HostRuntime) -> Result<(), AllocError> {
     let alloc = rt.alloc();
-    let mut args = Vec::new(alloc);
-    args.push(chain(alloc, state(alloc)?, BinaryOp::BitAnd, mask(alloc)?)?)?;
+    let masked = folded(
+        alloc,
+        &chain(alloc, state(alloc)?, BinaryOp::BitAnd, mask(alloc)?)?,
+    )?;
     let rec = Rec {
         order: Order::Little,
         payload: &[0, 0x85],
     };
-    for arg in &all_folded(alloc, args.as_slice())? {
-        assert_eq!(rt; written(arg), None);
-        assert_eq!(rt; number(arg, &rec).bits, 5);
-    }
+    assert_eq!(rt; written(&masked), None);
+    assert_eq!(rt; number(&masked, &rec).bits, 5);
     Ok(())
 }

@@ -6,3 +6,5 @@ pub mod PrintLemmas
 pub mod SameLemmas
 pub mod WaitLemmas
 pub mod StepLemmas
+pub mod Folding
+pub mod NulLemmas

@@ -4,5 +4,6 @@ pub mod Arguments
 pub mod Plan
 pub mod Printed
 pub mod PlanView
+pub mod ArgumentView
 pub mod Views
 pub mod Steps

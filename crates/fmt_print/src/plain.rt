@@ -1,14 +1,18 @@
 //! Pieces, plain numbers and plain texts, added to a text that waits to be put.
 
-ghost use Rattle.std.specs.Prelude.{◌≡◌, ◌≤◌, ◌+◌, ◌++◌, ◌&&◌, length, take, codes};
+ghost use Rattle.std.specs.Prelude.{◌≡◌, ◌≤◌, ◌+◌, ◌++◌, ◌&&◌, length, take, codes, pos, int_lt, unsigned_abs};
 ghost use Rattle.std.specs.Fmt.{decimal};
+ghost use Rattle.std.specs.List.{prefix_len};
+ghost use Rattle.trace_base.specs.Kept.{is_letter};
 ghost use Rattle.trace_base.specs.Kept.{put_held};
 ghost use Rattle.trace_base.specs.TailView.{lent};
 ghost use Rattle.fmt_expr.specs.TreeView.{tree_of};
+ghost use Rattle.fmt_eval.specs.NumView.{num_view};
 ghost use Rattle.fmt_eval.specs.Values.{given};
 ghost use Rattle.fmt_eval.specs.Texts.{up_to_nul, text_of};
 ghost use Rattle.fmt_eval.specs.Pieces.{hexadecimal};
 ghost use Rattle.symbols.specs.NameMap.{nearest};
+ghost use Rattle.fmt_print.specs.ArgumentView.{argument_tree};
 ghost use Rattle.fmt_print.specs.Addresses.{name_or, offset_or, pointer_text};
 ghost use Rattle.fmt_forms.specs.Integers.{integer_text};
 ghost use Rattle.fmt_forms.specs.Plain.{minus};
@@ -17,13 +21,14 @@ ghost use Rattle.fmt_print.specs.Strings.{string_text};
 ghost use Rattle.fmt_print.specs.Steps.{plain_spec, plain_form, decimal_base, held_with};
 
 use crate::address::put_pointer;
+use crate::argument::Argument;
 use crate::flow::put_shown;
 use crate::printing::bits_of;
-use crate::string::{address_of, put_string, source_of, text_at_once};
+use crate::string::{put_string, source_of, text_at_once};
 use crate::waiting::Waiting;
 use fmt_directives::{Length, PointerForm};
-use fmt_eval::{cast_bits, number, up_to_nul};
-use fmt_expr::{Expr, Kind, kind};
+use fmt_eval::{Num, cast_bits, up_to_nul};
+use fmt_expr::{Expr, Kind};
 use fmt_forms::{Form, written};
 use symbols::Symbols;
 use trace_base::{Rec, Tail, text_len};
@@ -96,6 +101,7 @@ fn make_room(len: usize, waiting: &mut Waiting, into: &mut Tail<'_>)
 }
 
 /// Adds a decimal integer.
+#[inline(always)]
 #[tactic(auto, using(trace_base::proofs::TailJoins::put_held_twice))]
 fn add_decimal(negative: bool, magnitude: u64, waiting: &mut Waiting, into: &mut Tail<'_>)
     ensures same_slice { lent into.new ≡ lent into.old }
@@ -114,6 +120,7 @@ fn is_minus(signed: bool, negative: bool) -> bool
 }
 
 /// Adds an integer of this sign and magnitude.
+#[inline(always)]
 fn add_integer(
     signed: bool,
     negative: bool,
@@ -127,22 +134,12 @@ fn add_integer(
     add_decimal(is_minus(signed, negative), magnitude, waiting, into);
 }
 
-/// Adds the text of a plain conversion of numbers.
-#[tactic(auto, using(crate::proofs::StepLemmas::signed_base))]
-pub fn add_number(
-    long: u32,
-    length: Length,
-    signed: bool,
-    expr: &Expr,
-    rec: &Rec<'_>,
-    waiting: &mut Waiting,
-    into: &mut Tail<'_>,
-)
+/// Adds a number that was cut to its length.
+#[inline(always)]
+fn add_converted(signed: bool, shown: Num, waiting: &mut Waiting, into: &mut Tail<'_>)
     ensures same_slice { lent into.new ≡ lent into.old }
-    ensures value { held_with into.new waiting.new ≡ put_held (held_with into.old waiting.old) (number_text (given rec.now) long (plain_spec length) (decimal_base signed) plain_form (tree_of expr.now)) }
+    ensures value { held_with into.new waiting.new ≡ put_held (held_with into.old waiting.old) (integer_text (decimal_base signed) plain_form (int_lt (num_view shown).exact (pos 0)) (unsigned_abs (num_view shown).exact)) }
 {
-    let bits = bits_of(length, long);
-    let shown = cast_bits(bits, signed, number(expr, rec));
     add_integer(
         signed,
         shown.is_negative(),
@@ -150,6 +147,46 @@ pub fn add_number(
         waiting,
         into,
     );
+}
+
+/// Adds the text of a plain conversion of numbers, of any length.
+#[inline(never)]
+#[tactic(auto, using(crate::proofs::StepLemmas::signed_base))]
+fn add_any_number(
+    long: u32,
+    length: Length,
+    signed: bool,
+    argument: &Argument,
+    rec: &Rec<'_>,
+    waiting: &mut Waiting,
+    into: &mut Tail<'_>,
+)
+    ensures same_slice { lent into.new ≡ lent into.old }
+    ensures value { held_with into.new waiting.new ≡ put_held (held_with into.old waiting.old) (number_text (given rec.now) long (plain_spec length) (decimal_base signed) plain_form (argument_tree argument.now)) }
+{
+    let bits = bits_of(length, long);
+    add_converted(signed, cast_bits(bits, signed, argument.number(rec)), waiting, into);
+}
+
+/// Adds the text of a plain conversion of numbers.
+#[inline(always)]
+#[tactic(auto, using(crate::proofs::StepLemmas::signed_base))]
+pub fn add_number(
+    long: u32,
+    length: Length,
+    signed: bool,
+    argument: &Argument,
+    rec: &Rec<'_>,
+    waiting: &mut Waiting,
+    into: &mut Tail<'_>,
+)
+    ensures same_slice { lent into.new ≡ lent into.old }
+    ensures value { held_with into.new waiting.new ≡ put_held (held_with into.old waiting.old) (number_text (given rec.now) long (plain_spec length) (decimal_base signed) plain_form (argument_tree argument.now)) }
+{
+    match argument.half(rec) {
+        Some(half) if length == Length::Usual => add_converted(signed, cast_bits(32, signed, half), waiting, into),
+        _ => add_any_number(long, length, signed, argument, rec, waiting, into),
+    }
 }
 
 /// Adds the text of a tree up to its first NUL. The tree is none that a text is only passed on by.
@@ -170,39 +207,57 @@ fn add_source(source: &Expr, rec: &Rec<'_>, waiting: &mut Waiting, into: &mut Ta
 /// Adds the text of a plain conversion `s` of any tree.
 #[tactic(auto, using(crate::proofs::PrintLemmas::held_nothing, crate::proofs::StepLemmas::plain_text))]
 fn add_any_text(
-    expr: &Expr,
+    argument: &Argument,
     rec: &Rec<'_>,
     symbols: &Symbols,
     waiting: &mut Waiting,
     into: &mut Tail<'_>,
 )
     ensures same_slice { lent into.new ≡ lent into.old }
-    ensures value { held_with into.new waiting.new ≡ put_held (held_with into.old waiting.old) (string_text (given rec.now) symbols.now plain_form (tree_of expr.now)) }
+    ensures value { held_with into.new waiting.new ≡ put_held (held_with into.old waiting.old) (string_text (given rec.now) symbols.now plain_form (argument_tree argument.now)) }
 {
-    match kind(expr) {
-        Kind::Text => add_source(source_of(expr, rec), rec, waiting, into),
+    match argument.kind {
+        Kind::Text => add_source(source_of(&argument.tree, rec), rec, waiting, into),
         Kind::Number | Kind::Bytes => {
             waiting.put_into(into);
-            put_string(&plain_form(), expr, rec, symbols, into);
+            put_string(&plain_form(), &argument.tree, rec, symbols, into);
         }
     }
+}
+
+/// How many bytes stand before the first NUL, of a text of at least 16 bytes, as the names of tasks are. A loop of a known length
+/// is unrolled.
+#[inline(always)]
+#[tactic(auto, using(crate::proofs::NulLemmas::letters_end, crate::proofs::NulLemmas::letters_more))]
+fn long_text_len(text: &[u8]) -> usize
+    requires { 16 ≤ length text.now }
+    ensures { result ≡ prefix_len is_letter text.now }
+{
+    let mut len: usize = 0;
+    while len < 16 {
+        if text[len] == 0 {
+            return len;
+        }
+        len += 1;
+    }
+    16 + text_len(&text[16..])
 }
 
 /// Adds the text of a plain conversion `s`.
 #[tactic(auto, using(crate::proofs::StepLemmas::plain_text))]
 pub fn add_text(
-    expr: &Expr,
+    argument: &Argument,
     rec: &Rec<'_>,
     symbols: &Symbols,
     waiting: &mut Waiting,
     into: &mut Tail<'_>,
 )
     ensures same_slice { lent into.new ≡ lent into.old }
-    ensures value { held_with into.new waiting.new ≡ put_held (held_with into.old waiting.old) (string_text (given rec.now) symbols.now plain_form (tree_of expr.now)) }
+    ensures value { held_with into.new waiting.new ≡ put_held (held_with into.old waiting.old) (string_text (given rec.now) symbols.now plain_form (argument_tree argument.now)) }
 {
-    match text_at_once(expr, rec) {
-        Some(text) if text.len() >= 16 => add_front(text, text_len(text), waiting, into),
-        _ => add_any_text(expr, rec, symbols, waiting, into),
+    match text_at_once(&argument.tree, rec) {
+        Some(text) if text.len() >= 16 => add_front(text, long_text_len(text), waiting, into),
+        _ => add_any_text(argument, rec, symbols, waiting, into),
     }
 }
 
@@ -254,24 +309,24 @@ fn add_name_offset(address: u64, symbols: &Symbols, waiting: &mut Waiting, into:
 #[tactic(auto, using(crate::proofs::PrintLemmas::held_nothing, crate::proofs::StepLemmas::plain_pointer, trace_base::proofs::TailJoins::held_put))]
 pub fn add_pointer(
     pointer: PointerForm,
-    expr: &Expr,
+    argument: &Argument,
     rec: &Rec<'_>,
     symbols: &Symbols,
     waiting: &mut Waiting,
     into: &mut Tail<'_>,
 )
     ensures same_slice { lent into.new ≡ lent into.old }
-    ensures value { held_with into.new waiting.new ≡ put_held (held_with into.old waiting.old) (pointer_text pointer (given rec.now) symbols.now plain_form (tree_of expr.now)) }
+    ensures value { held_with into.new waiting.new ≡ put_held (held_with into.old waiting.old) (pointer_text pointer (given rec.now) symbols.now plain_form (argument_tree argument.now)) }
 {
     match pointer {
-        PointerForm::Plain => add_address(address_of(expr, rec), waiting, into),
-        PointerForm::Name => add_name(address_of(expr, rec), symbols, waiting, into),
+        PointerForm::Plain => add_address(argument.address(rec), waiting, into),
+        PointerForm::Name => add_name(argument.address(rec), symbols, waiting, into),
         PointerForm::NameOffset => {
-            add_name_offset(address_of(expr, rec), symbols, waiting, into);
+            add_name_offset(argument.address(rec), symbols, waiting, into);
         }
         PointerForm::Ip4 | PointerForm::Mac => {
             waiting.put_into(into);
-            put_pointer(pointer, &plain_form(), expr, rec, symbols, into);
+            put_pointer(pointer, &plain_form(), &argument.tree, rec, symbols, into);
         }
     }
 }

@@ -5,9 +5,11 @@ ghost use Rattle.fmt_directives.specs.Directives.{IsWithin};
 ghost use Rattle.fmt_directives.proofs.Withins.{within_prop};
 ghost use Rattle.fmt_expr.specs.TreeView.{tree_of};
 ghost use Rattle.fmt_fold.specs.Same.{SameTrees};
+ghost use Rattle.fmt_print.specs.ArgumentView.{argument_tree};
 ghost use Rattle.fmt_print.specs.Steps.{directives_of, IsPlaced};
 ghost use Rattle.std.specs.Coded.{codes};
 
+use crate::argument::Argument;
 use crate::step::Step;
 use fmt_directives::Directive;
 use fmt_expr::Expr;
@@ -24,12 +26,12 @@ pub struct PrintPlan {
     pub(crate) steps: Vec<Step>,
     pub(crate) args: Vec<Expr>,
     /// The arguments as they are computed: each the same over every record.
-    pub(crate) folded: Vec<Expr>,
+    pub(crate) folded: Vec<Argument>,
     pub(crate) long: u32,
     ghost within: { All (IsWithin (length text)) directives.items } by { Prim.hlevel (props, within_prop) },
     ghost zeros: { padded.items ≡ text ++ replicate 16 0 } by { Prim.hlevel (props, codes) },
     ghost shown: { flat_map directives_of steps.items ≡ directives.items } by { Prim.hlevel (props, codes) },
-    ghost same: { SameTrees (map tree_of folded.items) (map tree_of args.items) } by { Prim.hlevel props },
+    ghost same: { SameTrees (map argument_tree folded.items) (map tree_of args.items) } by { Prim.hlevel props },
 }
 
 impl PrintPlan {
@@ -73,8 +75,8 @@ impl PrintPlan {
     }
 
     /// Arguments that are the same over every record, with their constant parts computed.
-    pub(crate) fn folded(&self) -> &[Expr]
-        ensures { SameTrees (map tree_of result.now) (plan_view self.now).args }
+    pub(crate) fn folded(&self) -> &[Argument]
+        ensures { SameTrees (map argument_tree result.now) (plan_view self.now).args }
     {
         self.folded.as_slice()
     }

@@ -4,7 +4,7 @@ ghost use Rattle.std.specs.Prelude.{◌≡◌, length, map, slice_range, IfSome}
 ghost use Rattle.trace_base.specs.Kept.{put, put_held};
 ghost use Rattle.trace_base.specs.TailView.{kept, held, lent};
 ghost use Rattle.fmt_directives.specs.Directives.{IsWithin};
-ghost use Rattle.fmt_expr.specs.TreeView.{tree_of};
+ghost use Rattle.fmt_print.specs.ArgumentView.{argument_tree};
 ghost use Rattle.fmt_eval.specs.Values.{given};
 ghost use Rattle.fmt_print.specs.Strings.{letter_text, string_text};
 ghost use Rattle.fmt_print.specs.Addresses.{pointer_text};
@@ -15,6 +15,7 @@ ghost use Rattle.fmt_directives.specs.declared.directive.Length.TheVariants as l
 ghost use Rattle.fmt_print.specs.Printed.{long_bits, bits_of, is_signed, number_text, printed_one, printed, print_text};
 
 use crate::address::put_pointer;
+use crate::argument::Argument;
 use crate::arguments::{first_of, taken};
 use crate::plain::{add_front, add_number, add_pointer, add_text};
 use crate::plan::PrintPlan;
@@ -22,8 +23,7 @@ use crate::step::{Literal, Shown, Step};
 use crate::string::{put_letter, put_string};
 use crate::waiting::Waiting;
 use fmt_directives::{Base, Directive, Length, PointerForm, Spec};
-use fmt_eval::{cast_bits, number};
-use fmt_expr::Expr;
+use fmt_eval::cast_bits;
 use fmt_forms::{Form, put_integer};
 use symbols::Symbols;
 use trace_base::{Rec, Tail};
@@ -73,15 +73,15 @@ fn put_number(
     spec: Spec,
     base: Base,
     form: &Form,
-    argument: &Expr,
+    argument: &Argument,
     rec: &Rec<'_>,
     into: &mut Tail<'_>,
 )
     ensures same_slice { lent into.new ≡ lent into.old }
-    ensures value { kept into.new ≡ put (kept into.old) (number_text (given rec.now) long spec base form.now (tree_of argument.now)) }
+    ensures value { kept into.new ≡ put (kept into.old) (number_text (given rec.now) long spec base form.now (argument_tree argument.now)) }
 {
     let bits = bits_of(spec.length, long);
-    let shown = cast_bits(bits, is_signed(base), number(argument, rec));
+    let shown = cast_bits(bits, is_signed(base), argument.number(rec));
     put_integer(base, form, shown.is_negative(), shown.magnitude(), into);
 }
 
@@ -91,13 +91,13 @@ fn put_number_directive<'a>(
     long: u32,
     spec: Spec,
     base: Base,
-    args: &'a [Expr],
+    args: &'a [Argument],
     rec: &Rec<'_>,
     into: &mut Tail<'_>,
-) -> &'a [Expr]
+) -> &'a [Argument]
     ensures same_slice { lent into.new ≡ lent into.old }
-    ensures value { held into.new ≡ put_held (held into.old) (by (number_text (given rec.now) long spec base) (taken (given rec.now) spec (map tree_of args.now))).0 }
-    ensures rest { map tree_of result.now ≡ (by (number_text (given rec.now) long spec base) (taken (given rec.now) spec (map tree_of args.now))).1 }
+    ensures value { held into.new ≡ put_held (held into.old) (by (number_text (given rec.now) long spec base) (taken (given rec.now) spec (map argument_tree args.now))).0 }
+    ensures rest { map argument_tree result.now ≡ (by (number_text (given rec.now) long spec base) (taken (given rec.now) spec (map argument_tree args.now))).1 }
 {
     match taken(rec, spec, args) {
         Some(conversion) => {
@@ -120,17 +120,17 @@ fn put_number_directive<'a>(
 #[tactic(auto, using(crate::proofs::PrintLemmas::held_nothing, trace_base::proofs::TailJoins::held_put))]
 fn put_letter_directive<'a>(
     spec: Spec,
-    args: &'a [Expr],
+    args: &'a [Argument],
     rec: &Rec<'_>,
     into: &mut Tail<'_>,
-) -> &'a [Expr]
+) -> &'a [Argument]
     ensures same_slice { lent into.new ≡ lent into.old }
-    ensures value { held into.new ≡ put_held (held into.old) (by (letter_text (given rec.now)) (taken (given rec.now) spec (map tree_of args.now))).0 }
-    ensures rest { map tree_of result.now ≡ (by (letter_text (given rec.now)) (taken (given rec.now) spec (map tree_of args.now))).1 }
+    ensures value { held into.new ≡ put_held (held into.old) (by (letter_text (given rec.now)) (taken (given rec.now) spec (map argument_tree args.now))).0 }
+    ensures rest { map argument_tree result.now ≡ (by (letter_text (given rec.now)) (taken (given rec.now) spec (map argument_tree args.now))).1 }
 {
     match taken(rec, spec, args) {
         Some(conversion) => {
-            put_letter(&conversion.form, conversion.argument, rec, into);
+            put_letter(&conversion.form, &conversion.argument.tree, rec, into);
             conversion.rest
         }
         None => &[],
@@ -141,18 +141,18 @@ fn put_letter_directive<'a>(
 #[tactic(auto, using(crate::proofs::PrintLemmas::held_nothing))]
 fn put_text_directive<'a>(
     spec: Spec,
-    args: &'a [Expr],
+    args: &'a [Argument],
     rec: &Rec<'_>,
     symbols: &Symbols,
     into: &mut Tail<'_>,
-) -> &'a [Expr]
+) -> &'a [Argument]
     ensures same_slice { lent into.new ≡ lent into.old }
-    ensures value { held into.new ≡ put_held (held into.old) (by (string_text (given rec.now) symbols.now) (taken (given rec.now) spec (map tree_of args.now))).0 }
-    ensures rest { map tree_of result.now ≡ (by (string_text (given rec.now) symbols.now) (taken (given rec.now) spec (map tree_of args.now))).1 }
+    ensures value { held into.new ≡ put_held (held into.old) (by (string_text (given rec.now) symbols.now) (taken (given rec.now) spec (map argument_tree args.now))).0 }
+    ensures rest { map argument_tree result.now ≡ (by (string_text (given rec.now) symbols.now) (taken (given rec.now) spec (map argument_tree args.now))).1 }
 {
     match taken(rec, spec, args) {
         Some(conversion) => {
-            put_string(&conversion.form, conversion.argument, rec, symbols, into);
+            put_string(&conversion.form, &conversion.argument.tree, rec, symbols, into);
             conversion.rest
         }
         None => &[],
@@ -164,21 +164,21 @@ fn put_text_directive<'a>(
 fn put_pointer_directive<'a>(
     spec: Spec,
     pointer: PointerForm,
-    args: &'a [Expr],
+    args: &'a [Argument],
     rec: &Rec<'_>,
     symbols: &Symbols,
     into: &mut Tail<'_>,
-) -> &'a [Expr]
+) -> &'a [Argument]
     ensures same_slice { lent into.new ≡ lent into.old }
-    ensures value { held into.new ≡ put_held (held into.old) (by (pointer_text pointer (given rec.now) symbols.now) (taken (given rec.now) spec (map tree_of args.now))).0 }
-    ensures rest { map tree_of result.now ≡ (by (pointer_text pointer (given rec.now) symbols.now) (taken (given rec.now) spec (map tree_of args.now))).1 }
+    ensures value { held into.new ≡ put_held (held into.old) (by (pointer_text pointer (given rec.now) symbols.now) (taken (given rec.now) spec (map argument_tree args.now))).0 }
+    ensures rest { map argument_tree result.now ≡ (by (pointer_text pointer (given rec.now) symbols.now) (taken (given rec.now) spec (map argument_tree args.now))).1 }
 {
     match taken(rec, spec, args) {
         Some(conversion) => {
             put_pointer(
                 pointer,
                 &conversion.form,
-                conversion.argument,
+                &conversion.argument.tree,
                 rec,
                 symbols,
                 into,
@@ -195,18 +195,18 @@ fn put_pointer_directive<'a>(
 fn put_directive<'a>(
     long: u32,
     text: &[u8],
-    directive: Directive,
-    args: &'a [Expr],
+    directive: &Directive,
+    args: &'a [Argument],
     rec: &Rec<'_>,
     symbols: &Symbols,
     into: &mut Tail<'_>,
-) -> &'a [Expr]
-    requires { IsWithin (length text.now) directive }
+) -> &'a [Argument]
+    requires { IsWithin (length text.now) directive.now }
     ensures same_slice { lent into.new ≡ lent into.old }
-    ensures value { held into.new ≡ put_held (held into.old) (printed_one (given rec.now) symbols.now long text.now directive (map tree_of args.now)).0 }
-    ensures rest { map tree_of result.now ≡ (printed_one (given rec.now) symbols.now long text.now directive (map tree_of args.now)).1 }
+    ensures value { held into.new ≡ put_held (held into.old) (printed_one (given rec.now) symbols.now long text.now directive.now (map argument_tree args.now)).0 }
+    ensures rest { map argument_tree result.now ≡ (printed_one (given rec.now) symbols.now long text.now directive.now (map argument_tree args.now)).1 }
 {
-    match directive {
+    match *directive {
         Directive::Literal { start, end } => {
             into.put(&text[start as usize..end as usize]);
             args
@@ -226,14 +226,14 @@ fn add_number_step<'a>(
     long: u32,
     length: Length,
     signed: bool,
-    args: &'a [Expr],
+    args: &'a [Argument],
     rec: &Rec<'_>,
     waiting: &mut Waiting,
     into: &mut Tail<'_>,
-) -> &'a [Expr]
+) -> &'a [Argument]
     ensures same_slice { lent into.new ≡ lent into.old }
-    ensures value { held_with into.new waiting.new ≡ put_held (held_with into.old waiting.old) (by (number_text (given rec.now) long (plain_spec length) (decimal_base signed)) (taken (given rec.now) (plain_spec length) (map tree_of args.now))).0 }
-    ensures rest { map tree_of result.now ≡ (by (number_text (given rec.now) long (plain_spec length) (decimal_base signed)) (taken (given rec.now) (plain_spec length) (map tree_of args.now))).1 }
+    ensures value { held_with into.new waiting.new ≡ put_held (held_with into.old waiting.old) (by (number_text (given rec.now) long (plain_spec length) (decimal_base signed)) (taken (given rec.now) (plain_spec length) (map argument_tree args.now))).0 }
+    ensures rest { map argument_tree result.now ≡ (by (number_text (given rec.now) long (plain_spec length) (decimal_base signed)) (taken (given rec.now) (plain_spec length) (map argument_tree args.now))).1 }
 {
     match first_of(args) {
         Some((argument, rest)) => {
@@ -247,15 +247,15 @@ fn add_number_step<'a>(
 /// Adds the text of a plain conversion `s`, and gives the arguments behind it.
 #[tactic(auto, using(crate::proofs::StepLemmas::shown_none, crate::proofs::StepLemmas::shown_some, crate::proofs::WaitLemmas::held_with_nothing))]
 fn add_text_step<'a>(
-    args: &'a [Expr],
+    args: &'a [Argument],
     rec: &Rec<'_>,
     symbols: &Symbols,
     waiting: &mut Waiting,
     into: &mut Tail<'_>,
-) -> &'a [Expr]
+) -> &'a [Argument]
     ensures same_slice { lent into.new ≡ lent into.old }
-    ensures value { held_with into.new waiting.new ≡ put_held (held_with into.old waiting.old) (by (string_text (given rec.now) symbols.now) (taken (given rec.now) (plain_spec len.Usual) (map tree_of args.now))).0 }
-    ensures rest { map tree_of result.now ≡ (by (string_text (given rec.now) symbols.now) (taken (given rec.now) (plain_spec len.Usual) (map tree_of args.now))).1 }
+    ensures value { held_with into.new waiting.new ≡ put_held (held_with into.old waiting.old) (by (string_text (given rec.now) symbols.now) (taken (given rec.now) (plain_spec len.Usual) (map argument_tree args.now))).0 }
+    ensures rest { map argument_tree result.now ≡ (by (string_text (given rec.now) symbols.now) (taken (given rec.now) (plain_spec len.Usual) (map argument_tree args.now))).1 }
 {
     match first_of(args) {
         Some((argument, rest)) => {
@@ -270,15 +270,15 @@ fn add_text_step<'a>(
 #[tactic(auto, using(crate::proofs::StepLemmas::shown_none, crate::proofs::StepLemmas::shown_some, crate::proofs::WaitLemmas::held_with_nothing))]
 fn add_pointer_step<'a>(
     pointer: PointerForm,
-    args: &'a [Expr],
+    args: &'a [Argument],
     rec: &Rec<'_>,
     symbols: &Symbols,
     waiting: &mut Waiting,
     into: &mut Tail<'_>,
-) -> &'a [Expr]
+) -> &'a [Argument]
     ensures same_slice { lent into.new ≡ lent into.old }
-    ensures value { held_with into.new waiting.new ≡ put_held (held_with into.old waiting.old) (by (pointer_text pointer (given rec.now) symbols.now) (taken (given rec.now) (plain_spec len.Usual) (map tree_of args.now))).0 }
-    ensures rest { map tree_of result.now ≡ (by (pointer_text pointer (given rec.now) symbols.now) (taken (given rec.now) (plain_spec len.Usual) (map tree_of args.now))).1 }
+    ensures value { held_with into.new waiting.new ≡ put_held (held_with into.old waiting.old) (by (pointer_text pointer (given rec.now) symbols.now) (taken (given rec.now) (plain_spec len.Usual) (map argument_tree args.now))).0 }
+    ensures rest { map argument_tree result.now ≡ (by (pointer_text pointer (given rec.now) symbols.now) (taken (given rec.now) (plain_spec len.Usual) (map argument_tree args.now))).1 }
 {
     match first_of(args) {
         Some((argument, rest)) => {
@@ -305,16 +305,16 @@ fn add_literal(plan: &PrintPlan, literal: Literal, waiting: &mut Waiting, into: 
 fn add_shown<'a>(
     plan: &PrintPlan,
     shown: &Shown,
-    args: &'a [Expr],
+    args: &'a [Argument],
     rec: &Rec<'_>,
     symbols: &Symbols,
     waiting: &mut Waiting,
     into: &mut Tail<'_>,
-) -> &'a [Expr]
+) -> &'a [Argument]
     requires { IfSome (shown_directive shown.now) (IsWithin (length (plan_view plan.now).text)) }
     ensures same_slice { lent into.new ≡ lent into.old }
-    ensures value { held_with into.new waiting.new ≡ put_held (held_with into.old waiting.old) (printed_some (given rec.now) symbols.now (plan_view plan.now).long (plan_view plan.now).text (shown_directive shown.now) (map tree_of args.now)).0 }
-    ensures rest { map tree_of result.now ≡ (printed_some (given rec.now) symbols.now (plan_view plan.now).long (plan_view plan.now).text (shown_directive shown.now) (map tree_of args.now)).1 }
+    ensures value { held_with into.new waiting.new ≡ put_held (held_with into.old waiting.old) (printed_some (given rec.now) symbols.now (plan_view plan.now).long (plan_view plan.now).text (shown_directive shown.now) (map argument_tree args.now)).0 }
+    ensures rest { map argument_tree result.now ≡ (printed_some (given rec.now) symbols.now (plan_view plan.now).long (plan_view plan.now).text (shown_directive shown.now) (map argument_tree args.now)).1 }
 {
     match shown {
         Shown::Nothing => args,
@@ -328,7 +328,7 @@ fn add_shown<'a>(
             put_directive(
                 plan.long(),
                 plan.text(),
-                *directive,
+                directive,
                 args,
                 rec,
                 symbols,
@@ -343,16 +343,16 @@ fn add_shown<'a>(
 fn add_step<'a>(
     plan: &PrintPlan,
     step: &Step,
-    args: &'a [Expr],
+    args: &'a [Argument],
     rec: &Rec<'_>,
     symbols: &Symbols,
     waiting: &mut Waiting,
     into: &mut Tail<'_>,
-) -> &'a [Expr]
+) -> &'a [Argument]
     requires { IsPlaced (length (plan_view plan.now).text) step.now }
     ensures same_slice { lent into.new ≡ lent into.old }
-    ensures value { held_with into.new waiting.new ≡ put_held (held_with into.old waiting.old) (printed_step (given rec.now) symbols.now (plan_view plan.now).long (plan_view plan.now).text step.now (map tree_of args.now)).0 }
-    ensures rest { map tree_of result.now ≡ (printed_step (given rec.now) symbols.now (plan_view plan.now).long (plan_view plan.now).text step.now (map tree_of args.now)).1 }
+    ensures value { held_with into.new waiting.new ≡ put_held (held_with into.old waiting.old) (printed_step (given rec.now) symbols.now (plan_view plan.now).long (plan_view plan.now).text step.now (map argument_tree args.now)).0 }
+    ensures rest { map argument_tree result.now ≡ (printed_step (given rec.now) symbols.now (plan_view plan.now).long (plan_view plan.now).text step.now (map argument_tree args.now)).1 }
 {
     if let Some(literal) = step.literal {
         add_literal(plan, literal, waiting, into);
@@ -363,14 +363,14 @@ fn add_step<'a>(
 /// Adds the texts of a plan's steps, one after another.
 fn add_steps(
     plan: &PrintPlan,
-    args: &[Expr],
+    args: &[Argument],
     rec: &Rec<'_>,
     symbols: &Symbols,
     waiting: &mut Waiting,
     into: &mut Tail<'_>,
 )
     ensures same_slice { lent into.new ≡ lent into.old }
-    ensures value { held_with into.new waiting.new ≡ put_held (held_with into.old waiting.old) (printed (given rec.now) symbols.now (plan_view plan.now).long (plan_view plan.now).text (plan_view plan.now).directives (map tree_of args.now)) }
+    ensures value { held_with into.new waiting.new ≡ put_held (held_with into.old waiting.old) (printed (given rec.now) symbols.now (plan_view plan.now).long (plan_view plan.now).text (plan_view plan.now).directives (map argument_tree args.now)) }
 {
     let steps = plan.steps();
     let mut left = args;

@@ -1,15 +1,19 @@
 //! Format texts, read into plans.
 
-ghost use Rattle.std.specs.Prelude.{◌≡◌, ◌++◌, IfOk, IfSome, IfNone, replicate};
+ghost use Rattle.std.specs.Prelude.{◌≡◌, ◌++◌, IfOk, IfSome, IfNone, map, replicate};
 ghost use Rattle.std.specs.Option.{option_map};
+ghost use Rattle.fmt_expr.specs.TreeView.{tree_of};
+ghost use Rattle.fmt_fold.specs.Same.{SameTrees};
+ghost use Rattle.fmt_print.specs.ArgumentView.{argument_tree};
 ghost use Rattle.fmt_print.specs.Plan.{IsPlanOf, IsUnread, plan_of};
 ghost use Rattle.fmt_print.specs.PlanView.{plan_view};
 
+use crate::argument::Argument;
 use crate::plan::PrintPlan;
 use crate::step::steps_of;
 use fmt_directives::directives;
-use fmt_expr::PrintFmt;
-use fmt_fold::all_folded;
+use fmt_expr::{Expr, PrintFmt};
+use fmt_fold::folded;
 use std::alloc::{AllocError, Global};
 
 /// A text with 16 zeros behind it.
@@ -19,6 +23,18 @@ fn padded(alloc: Global, text: &[u8]) -> Result<Vec<u8>, AllocError>
     let mut all = text.to_vec(alloc)?;
     all.extend_from_slice(&[0; 16])?;
     Ok(all)
+}
+
+/// Arguments that are each the same over every record, with their constant parts computed.
+#[tactic(auto, using(crate::proofs::Folding::arguments_none, crate::proofs::Folding::arguments_more, crate::proofs::Folding::arguments_all))]
+fn folded_arguments(alloc: Global, args: &[Expr]) -> Result<Vec<Argument>, AllocError>
+    ensures { IfOk result (λ made. SameTrees (map argument_tree made.items) (map tree_of args.now)) }
+{
+    let mut made = Vec::new(alloc);
+    for arg in args {
+        made.push(Argument::new(folded(alloc, arg)?))?;
+    }
+    Ok(made)
 }
 
 /// Reads the format text of a print fmt. None exactly where a conversion in it is not listed, or where it is longer than
@@ -42,7 +58,7 @@ pub fn compile(alloc: Global, fmt: PrintFmt) -> Result<Option<PrintPlan>, AllocE
     };
     let steps = steps_of(alloc, directives.as_slice())?;
     let padded = padded(alloc, text.as_bytes())?;
-    let folded = all_folded(alloc, args.as_slice())?;
+    let folded = folded_arguments(alloc, args.as_slice())?;
     Ok(Some(PrintPlan {
         text,
         padded,

@@ -15,7 +15,7 @@ ghost use Rattle.fmt_forms.specs.Texts.{cut_to, padded};
 ghost use Rattle.fmt_print.specs.Strings.{address_of, letter_text, string_text};
 
 use crate::flow::put_flow;
-use fmt_eval::{bytes, number, up_to_nul};
+use fmt_eval::{bytes, holds, number, up_to_nul};
 use fmt_expr::{Expr, Kind, kind};
 use fmt_forms::{Form, put_alone, put_padded, written};
 use symbols::Symbols;
@@ -87,7 +87,7 @@ pub fn source_of<'a>(expr: &'a Expr, rec: &Rec<'_>) -> &'a Expr
     match expr {
         Expr::Cast { of, .. } => source_of(of, rec),
         Expr::Choice { test, yes, no } => {
-            if number(test, rec).is_true() {
+            if holds(test, rec) {
                 source_of(yes, rec)
             } else {
                 source_of(no, rec)

@@ -15,6 +15,8 @@ use trace_base::Tail;
 pub struct Waiting {
     room: [u8; 192],
     len: usize,
+    /// Where digits are written, with 20 bytes behind them.
+    digits: [u8; 40],
 }
 
 impl Model for Waiting {
@@ -35,6 +37,7 @@ impl Waiting {
         Waiting {
             room: [0; 192],
             len: 0,
+            digits: [0; 40],
         }
     }
 
@@ -50,6 +53,14 @@ impl Waiting {
         requires { length self.old + length text.now ≤ 192 }
         ensures { self.new ≡ self.old ++ text.now }
     {
+        if text.is_empty() {
+            return;
+        }
+        if text.len() == 1 {
+            self.room[self.len..self.len + 1].copy_from_slice(text);
+            self.len += 1;
+            return;
+        }
         let end = self.len + text.len();
         self.room[self.len..end].copy_from_slice(text);
         self.len = end;
@@ -87,9 +98,10 @@ impl Waiting {
         ensures { self.new ≡ self.old ++ decimal n }
     {
         // Twenty bytes are copied, however many digits there are: a copy of a fixed length needs no call.
-        let mut digits = [0; 40];
-        let start = write_digits(n, &mut digits, 20);
-        self.room[self.len..self.len + 20].copy_from_slice(&digits[start..start + 20]);
+        let start = write_digits(n, &mut self.digits, 20);
+        let mut piece = [0; 20];
+        piece.copy_from_slice(&self.digits[start..start + 20]);
+        self.room[self.len..self.len + 20].copy_from_slice(&piece);
         self.len += 20 - start;
     }
 

@@ -1,0 +1,30 @@
+-- How the number of a tree is read where it is that of one field.
+use Rattle.std.specs.Prelude.{◌≡◌, ℕ, Bool, false}
+use Rattle.trace_base.specs.Fields.{sized, unsigned_in}
+use Rattle.fmt_literal.specs.declared.cast_to.CastTo.{CastTo}
+use Rattle.fmt_literal.specs.declared.cast_to.CastTo.TheVariants.{Bits}
+use Rattle.fmt_expr.specs.Tree.{Tree}
+use Rattle.fmt_eval.specs.Numbers.{Number, number, reduced}
+use Rattle.fmt_eval.specs.Values.{Given, sized_kind, number_of}
+use Rattle.fmt_eval.specs.declared.read.Read.{Read}
+use Rattle.fmt_eval.specs.declared.read.Read.TheVariants.{Half, Whole, Walk}
+
+-- the number of so many bytes at a place in the payload
+abbrev pub placed : Given → ℕ → ℕ → Bool → Number
+placed g at size signed = let kind = sized_kind signed size in number kind (reduced kind (sized signed size (unsigned_in g.order g.payload at size)))
+
+abbrev pub number_by : Read → Given → Tree → Number
+number_by (Half at signed) g t = placed g at 4 signed
+number_by (Whole at signed) g t = placed g at 8 signed
+number_by Walk g t = number_of g t
+
+-- over every record, what is read is the number of the tree
+pub record ReadsAs (read : Read) (t : Tree) : Type 0 where
+  pub each : (g : Given) → number_by read g t ≡ number_of g t
+
+-- what is read is the number of so many bytes at a place
+pub record ReadsPlaced (read : Read) (at size : ℕ) (signed : Bool) : Type 0 where
+  pub each : (g : Given) (t : Tree) → number_of g t ≡ placed g at size signed → number_by read g t ≡ number_of g t
+
+abbrev pub unsigned_64 : CastTo
+unsigned_64 = Bits 64 false
