@@ -3,22 +3,22 @@
 ghost use Rattle.std.specs.Prelude.{◌≡◌, ◌∷◌, ◌++◌, [], ◌+◌, ◌-◌, ◌^◌, ◌<◌, ◌≤◌, length, max, replicate, codes, FitsSigned};
 ghost use Rattle.std.specs.Int.{w32};
 ghost use Rattle.std.specs.Fmt.{decimal, signed_decimal};
-ghost use Rattle.report_print.specs.Columns.{left, right, zeros, micros, time_text};
-ghost use Rattle.report_print.specs.Marks as spec;
+ghost use Rattle.line_columns.specs.Columns.{left, right, zeros, micros, time_text};
+ghost use Rattle.line_columns.specs.Marks as spec;
 
 use crate::marks::latency_marks;
 use itoa::{Buffer, write_digits};
 use std::marker::Model;
 
 /// How wide the columns of most lines are up to the event's name: the task and its pid, the processor, the time.
-pub(crate) const USUAL_COLUMNS: usize = 43;
+pub const USUAL_COLUMNS: usize = 43;
 
 /// How wide the event's name is with its colon, where it is not longer than its column.
-pub(crate) const USUAL_LABEL: usize = 22;
+pub const USUAL_LABEL: usize = 22;
 
 /// A text of at most 200 bytes that grows at its front, in a room of spaces. Contracts see the text.
 #[derive(Drop)]
-pub(crate) struct Front {
+pub struct Front {
     buffer: [u8; 200],
     at: usize,
 }
