@@ -92,7 +92,7 @@ impl Front {
     }
 
     /// Puts a text in front.
-    pub fn text(&mut self, text: &[u8])
+    fn text(&mut self, text: &[u8])
         requires { length self.old + length text.now ≤ 200 }
         ensures longer { length self.new ≡ length self.old + length text.now }
         ensures value { self.new ≡ text.now ++ self.old }
@@ -103,7 +103,7 @@ impl Front {
     }
 
     /// Puts spaces in front until the text is as long as this.
-    pub fn fill(&mut self, len: usize)
+    fn fill(&mut self, len: usize)
         requires { len ≤ 200 }
         ensures longer { length self.new ≡ max len (length self.old) }
         ensures value { self.new ≡ replicate (len - length self.old) 32 ++ self.old }
@@ -114,7 +114,7 @@ impl Front {
     /// Puts a number in front.
     #[inline(always)]
     #[tactic(auto, using(crate::proofs::Lengths::short))]
-    pub fn digits(&mut self, n: u64)
+    fn digits(&mut self, n: u64)
         requires { length self.old + 20 ≤ 200 }
         ensures longer { length self.new ≤ length self.old + 20 }
         ensures value { self.new ≡ decimal n ++ self.old }
@@ -123,7 +123,7 @@ impl Front {
     }
 
     /// Puts a number in front, at the right of its column.
-    pub fn number(&mut self, width: usize, n: u64)
+    fn number(&mut self, width: usize, n: u64)
         requires room { length self.old ≤ 180 }
         requires narrow { width ≤ 20 }
         ensures longer { length self.new ≤ length self.old + 20 }
@@ -136,7 +136,7 @@ impl Front {
 
     /// Puts a byte and a number in front, with the zeros that its column asks for. `power` is ten to the power of the width.
     #[inline(always)]
-    pub fn zeros(&mut self, mark: u8, width: usize, power: u64, n: u64)
+    fn zeros(&mut self, mark: u8, width: usize, power: u64, n: u64)
         requires room { length self.old ≤ 180 }
         requires some { 0 < width }
         requires power { power ≡ 10 ^ width }
