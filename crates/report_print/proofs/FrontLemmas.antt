@@ -6,7 +6,7 @@ use Rattle.trace_base.proofs.TailJoins.{put_held_twice}
 use Rattle.format_parse.specs.declared.format.EventFormat.{EventFormat}
 use Rattle.report_print.specs.declared.show.Show.{Show}
 use Rattle.report_print.specs.Given.{Given}
-use Rattle.report_print.specs.Columns.{right}
+use Rattle.line_columns.specs.Columns.{right}
 use Rattle.report_print.specs.Line.{label, is_raw, body_by, text_by, unknown_text, task_width}
 use Rattle.report_print.specs.HeadView.{KnownData, known_of}
 

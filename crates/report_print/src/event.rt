@@ -11,11 +11,11 @@ ghost use Rattle.report_print.specs.Line as spec;
 
 use crate::context::Context;
 use crate::fields::{put_fields, put_pair, put_unread};
-use crate::front::{Front, USUAL_COLUMNS, USUAL_LABEL};
 use crate::head::Known;
 use crate::show::Show;
 use fmt_print::print;
 use itoa::Buffer;
+use line_columns::{Front, USUAL_COLUMNS, USUAL_LABEL};
 use subpage::Item;
 use trace_base::{Rec, Tail};
 

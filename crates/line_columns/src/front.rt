@@ -3,22 +3,22 @@
 ghost use Rattle.std.specs.Prelude.{◌≡◌, ◌∷◌, ◌++◌, [], ◌+◌, ◌-◌, ◌^◌, ◌<◌, ◌≤◌, length, max, replicate, codes, FitsSigned};
 ghost use Rattle.std.specs.Int.{w32};
 ghost use Rattle.std.specs.Fmt.{decimal, signed_decimal};
-ghost use Rattle.report_print.specs.Columns.{left, right, zeros, micros, time_text};
-ghost use Rattle.report_print.specs.Marks as spec;
+ghost use Rattle.line_columns.specs.Columns.{left, right, zeros, micros, time_text};
+ghost use Rattle.line_columns.specs.Marks as spec;
 
 use crate::marks::latency_marks;
 use itoa::{Buffer, write_digits};
 use std::marker::Model;
 
 /// How wide the columns of most lines are up to the event's name: the task and its pid, the processor, the time.
-pub(crate) const USUAL_COLUMNS: usize = 43;
+pub const USUAL_COLUMNS: usize = 43;
 
 /// How wide the event's name is with its colon, where it is not longer than its column.
-pub(crate) const USUAL_LABEL: usize = 22;
+pub const USUAL_LABEL: usize = 22;
 
 /// A text of at most 200 bytes that grows at its front, in a room of spaces. Contracts see the text.
 #[derive(Drop)]
-pub(crate) struct Front {
+pub struct Front {
     buffer: [u8; 200],
     at: usize,
 }
@@ -92,7 +92,7 @@ impl Front {
     }
 
     /// Puts a text in front.
-    pub fn text(&mut self, text: &[u8])
+    fn text(&mut self, text: &[u8])
         requires { length self.old + length text.now ≤ 200 }
         ensures longer { length self.new ≡ length self.old + length text.now }
         ensures value { self.new ≡ text.now ++ self.old }
@@ -103,7 +103,7 @@ impl Front {
     }
 
     /// Puts spaces in front until the text is as long as this.
-    pub fn fill(&mut self, len: usize)
+    fn fill(&mut self, len: usize)
         requires { len ≤ 200 }
         ensures longer { length self.new ≡ max len (length self.old) }
         ensures value { self.new ≡ replicate (len - length self.old) 32 ++ self.old }
@@ -114,7 +114,7 @@ impl Front {
     /// Puts a number in front.
     #[inline(always)]
     #[tactic(auto, using(crate::proofs::Lengths::short))]
-    pub fn digits(&mut self, n: u64)
+    fn digits(&mut self, n: u64)
         requires { length self.old + 20 ≤ 200 }
         ensures longer { length self.new ≤ length self.old + 20 }
         ensures value { self.new ≡ decimal n ++ self.old }
@@ -123,7 +123,7 @@ impl Front {
     }
 
     /// Puts a number in front, at the right of its column.
-    pub fn number(&mut self, width: usize, n: u64)
+    fn number(&mut self, width: usize, n: u64)
         requires room { length self.old ≤ 180 }
         requires narrow { width ≤ 20 }
         ensures longer { length self.new ≤ length self.old + 20 }
@@ -136,7 +136,7 @@ impl Front {
 
     /// Puts a byte and a number in front, with the zeros that its column asks for. `power` is ten to the power of the width.
     #[inline(always)]
-    pub fn zeros(&mut self, mark: u8, width: usize, power: u64, n: u64)
+    fn zeros(&mut self, mark: u8, width: usize, power: u64, n: u64)
         requires room { length self.old ≤ 180 }
         requires some { 0 < width }
         requires power { power ≡ 10 ^ width }

@@ -1,7 +1,7 @@
 use Rattle.std.proofs.Common.{rules, ◌≡◌, length, arith}
 use Rattle.std.proofs.lemmas.List.{length-drop}
-use Rattle.report_print.proofs.front.Front.digits.Goals as goal
-use Rattle.report_print.proofs.Lengths.{short}
+use Rattle.line_columns.proofs.front.Front.digits.Goals as goal
+use Rattle.line_columns.proofs.Lengths.{short}
 
 pub write_digits-self-inside-requires : goal.write_digits-self-inside-requires
 write_digits-self-inside-requires c = search (rules, short c.args.n c.ranges.n.fits, length-drop c.self.inside.at c.self.inside.buffer)

@@ -2,11 +2,11 @@ use Rattle.std.proofs.Common.{◌≡◌, ◌+◌, ◌∷◌, ◌++◌, ◌<◌, 
 use Rattle.std.specs.Fmt.{decimal}
 use Rattle.std.proofs.lemmas.Fmt.{decimal_nonempty}
 use Rattle.std.proofs.lemmas.List.{length-drop, length-set, take-set}
-use Rattle.report_print.specs.Columns.{zeros}
-use Rattle.report_print.proofs.Lengths.{short}
-use Rattle.report_print.proofs.Rooms.{fewer, marked}
-use Rattle.report_print.proofs.ZeroFills.{behind_power}
-use Rattle.report_print.proofs.front.Front.zeros.Goals as goal
+use Rattle.line_columns.specs.Columns.{zeros}
+use Rattle.line_columns.proofs.Lengths.{short}
+use Rattle.line_columns.proofs.Rooms.{fewer, marked}
+use Rattle.line_columns.proofs.ZeroFills.{behind_power}
+use Rattle.line_columns.proofs.front.Front.zeros.Goals as goal
 
 pub write_digits-at-requires : goal.write_digits-at-requires
 write_digits-at-requires c =
