@@ -237,47 +237,14 @@ fn short(expr: &Expr, rec: &Rec<'_>) -> Option<Num>
     }
 }
 
-/// Whether a usual field under a written mask is not 0.
-#[inline(always)]
-#[tactic(auto, using(crate::proofs::Rows::operands_row))]
-fn masked(first: &Expr, rest: &[Operand], rec: &Rec<'_>) -> Option<bool>
-    ensures { IfSome result (λ holds. holds ≡ is_true (folded (given rec.now) (number_of (given rec.now) (tree_of first.now)) (operands_of rest.now))) }
-{
-    let Expr::FieldNumber { field } = first else {
-        return None;
-    };
-    if rest.len() != 1 || rest[0].op != BinaryOp::BitAnd {
-        return None;
-    }
-    let Expr::Number { bits, kind } = &rest[0].value else {
-        return None;
-    };
-    let mask = Num {
-        bits: *bits,
-        kind: *kind,
-    };
-    Some(bit_and(usual_number(rec, field)?, mask).is_true())
-}
-
-/// Whether the number of a tree is not 0, where the tree is a usual field under a written mask.
-#[inline(always)]
-fn masked_at_once(expr: &Expr, rec: &Rec<'_>) -> Option<bool>
-    ensures { IfSome result (λ holds. holds ≡ is_true (number_of (given rec.now) (tree_of expr.now))) }
-{
-    match expr {
-        Expr::Chain { first, rest } => masked(first, rest.as_slice(), rec),
-        _ => None,
-    }
-}
-
 /// Whether the number of a tree is not 0. Most tests of choices look at bits of a field.
 #[inline(always)]
 pub fn holds(expr: &Expr, rec: &Rec<'_>) -> bool
     ensures { result ≡ is_true (number_of (given rec.now) (tree_of expr.now)) }
 {
-    match masked_at_once(expr, rec) {
-        Some(holds) => holds,
-        None => number(expr, rec).is_true(),
+    match short(expr, rec) {
+        Some(number) => number.is_true(),
+        None => by_operands(expr, rec).is_true(),
     }
 }
 
