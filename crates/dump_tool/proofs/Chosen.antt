@@ -9,8 +9,8 @@ use Rattle.trace_outside.specs.Pending.{Holds, Flushes}
 use Rattle.trace_outside.proofs.Gains.{flat_map-parted}
 use Rattle.trace_outside.proofs.PendingLemmas.{prefix_longer, flushed, flush_stopped}
 use Rattle.trace_args.specs.Command.{DumpData}
-use Rattle.trace_args.specs.Sections.{sections}
-use Rattle.trace_args.specs.declared.section.Section.{Section}
+use Rattle.word_values.specs.Sections.{sections}
+use Rattle.word_values.specs.declared.section.Section.{Section}
 use Rattle.dat_header.specs.declared.header.Header.{Header}
 use Rattle.dump_tool.specs.Dump.{section_text, is_chosen, chosen_text, dump_text}
 use Rattle.dump_tool.proofs.Putting.{Put, Stopped, flat_map_up_to}

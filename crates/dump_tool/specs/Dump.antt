@@ -2,9 +2,9 @@
 use Rattle.std.specs.Prelude.{ℕ, Bool, false, List, slice_index_or, codes}
 use Rattle.std.specs.List.{filter, flat_map}
 use Rattle.trace_args.specs.Command.{DumpData}
-use Rattle.trace_args.specs.Sections.{sections, place_of}
-use Rattle.trace_args.specs.declared.section.Section.{Section}
-use Rattle.trace_args.specs.declared.section.Section.TheVariants.{Summary, HeadPage, HeadEvent, FtraceEvents, Systems, Events, Kallsyms, Printk, CmdLines, Options, Flyrecord, Validate}
+use Rattle.word_values.specs.Sections.{sections, place_of}
+use Rattle.word_values.specs.declared.section.Section.{Section}
+use Rattle.word_values.specs.declared.section.Section.TheVariants.{Summary, HeadPage, HeadEvent, FtraceEvents, Systems, Events, Kallsyms, Printk, CmdLines, Options, Flyrecord, Validate}
 use Rattle.dat_header.specs.declared.header.Header.{Header}
 use Rattle.dump_tool.specs.Texts.{stored_text}
 use Rattle.dump_tool.specs.Lists.{ftrace_text, systems_text, events_text, options_of, options_text, body_text}

@@ -9,8 +9,9 @@ use crate::lines::put_text;
 use crate::lists::{options_of, put_body, put_events, put_ftrace, put_options, put_systems};
 use crate::summary::put_summary;
 use dat_header::Header;
-use trace_args::{DumpWords, Section};
+use trace_args::DumpWords;
 use trace_outside::{Failed, Pending, Sink};
+use word_values::Section;
 
 /// Prints the sections of a header that the words choose, in the order of `Section::ALL` (trace-cmd-dump(1)).
 ///

@@ -5,9 +5,10 @@ use dat_header::{Body, Header, Opt, System};
 use std::alloc::{AllocError, Global};
 use std::process::Abort;
 use std::test::Fail;
-use trace_args::{DumpWords, Section};
+use trace_args::DumpWords;
 use trace_base::{ByteText, Layout, ListOf, Order, Part};
 use trace_outside::{MemSink, Pending};
+use word_values::Section;
 
 /// Dumps of a little-endian file with one processor and nothing else.
 const PLAIN: &[(&[Section], &str)] = &[

@@ -16,9 +16,9 @@ use event_cursor::step;
 use page_pool::Lane;
 use split_pieces::Gauge;
 use time_merge::{Next, next_lane};
-use trace_args::Moment;
 use trace_base::Layout;
 use trace_outside::File;
+use word_values::Moment;
 
 /// Where a piece ends.
 #[derive(Clone, Copy, Debug, PartialEq, Eq)]

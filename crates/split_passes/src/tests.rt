@@ -19,12 +19,12 @@ use std::alloc::Global;
 use std::test::Fail;
 use subpage::{Item, check_page};
 use time_merge::{End, make_all_ready};
-use trace_args::{Moment, PieceUnit};
 use trace_base::{Layout, Part};
 use trace_outside::{File, MemSink, Sink};
 use trace_samples::Page::{Lossy, Malformed, Of};
 use trace_samples::{BoundedSink, PAGE, Page, layout, put_pages};
 use watched::{Then, WatchedFile};
+use word_values::{Moment, PieceUnit};
 
 /// The sub-buffers of two processors, what a piece takes, the items of all pieces, why the last one ends, and how many
 /// sub-buffers are read.

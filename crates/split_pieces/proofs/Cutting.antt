@@ -5,9 +5,9 @@ use Rattle.std.proofs.lemmas.Bool.{cases_Bool, ltb-false, lt-ltb, le-ltb}
 use Rattle.std.proofs.lemmas.List.{drop_all, length-append}
 use Rattle.subpage.specs.Arrangement.{Keyed, IsRising, key_of}
 use Rattle.subpage.proofs.Arranging.{rising_tail}
-use Rattle.trace_args.specs.declared.moment.Moment.{Moment}
-use Rattle.trace_args.specs.declared.piece.PieceUnit.{PieceUnit}
-use Rattle.trace_args.specs.declared.piece.PieceUnit.TheVariants.{All, Nanos, Events}
+use Rattle.word_values.specs.declared.moment.Moment.{Moment}
+use Rattle.word_values.specs.declared.piece.PieceUnit.{PieceUnit}
+use Rattle.word_values.specs.declared.piece.PieceUnit.TheVariants.{All, Nanos, Events}
 use Rattle.split_pieces.specs.Moments.{time_as, is_before}
 use Rattle.split_pieces.specs.Pieces.{front_where, behind_where, is_event, up_to_event, piece, rest, IsUnit, Pieces, nothing, takes, pieces_within, all_pieces, joined_lists, files_within, files_left}
 

@@ -4,8 +4,8 @@ use Rattle.std.specs.List.{flat_map, slice_get}
 use Rattle.std.proofs.lemmas.Bool.{cases_Bool}
 use Rattle.std.proofs.lemmas.List.{length-append, nil_from_length, get_or-map}
 use Rattle.subpage.specs.Arrangement.{Keyed}
-use Rattle.trace_args.specs.declared.piece.PieceUnit.{PieceUnit}
-use Rattle.trace_args.specs.declared.piece.PieceUnit.TheVariants.{All, Nanos, Events}
+use Rattle.word_values.specs.declared.piece.PieceUnit.{PieceUnit}
+use Rattle.word_values.specs.declared.piece.PieceUnit.TheVariants.{All, Nanos, Events}
 use Rattle.split_pieces.specs.declared.rules.Rules.{Rules}
 use Rattle.split_pieces.specs.Pieces.{IsUnit, piece, rest, piece_at, first_pieces, joined_lists, next_file, behind_file, files_when, files_within, files_left, files, left_in}
 use Rattle.split_pieces.proofs.Cutting.{whole, first_some}

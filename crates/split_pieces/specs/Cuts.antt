@@ -7,8 +7,8 @@ use Rattle.subpage.specs.ItemData.{ItemData}
 use Rattle.subpage.specs.Processor.{list_of, bad_of}
 use Rattle.subpage.specs.Arrangement.{Keyed, keyed_from, with_key, cpu_of}
 use Rattle.subpage.specs.Cut.{cut_of, reached_of}
-use Rattle.trace_args.specs.declared.piece.PieceUnit.{PieceUnit}
-use Rattle.trace_args.specs.declared.piece.PieceUnit.TheVariants.{All, Nanos, Events}
+use Rattle.word_values.specs.declared.piece.PieceUnit.{PieceUnit}
+use Rattle.word_values.specs.declared.piece.PieceUnit.TheVariants.{All, Nanos, Events}
 use Rattle.split_pieces.specs.declared.rules.Rules.{Rules}
 use Rattle.split_pieces.specs.Pieces.{files, is_closed}
 

@@ -2,8 +2,8 @@
 use Rattle.std.specs.Prelude.{ℕ, Bool, true, false, List, [], ◌∷◌, Option, Some, None}
 use Rattle.subpage.specs.ItemData.{EventAt, LossAt}
 use Rattle.subpage.specs.Arrangement.{Keyed}
-use Rattle.trace_args.specs.declared.moment.Moment.{Moment}
-use Rattle.trace_args.specs.declared.piece.PieceUnit.{PieceUnit}
+use Rattle.word_values.specs.declared.moment.Moment.{Moment}
+use Rattle.word_values.specs.declared.piece.PieceUnit.{PieceUnit}
 use Rattle.split_pieces.specs.declared.rules.Rules.{Rules}
 
 abbrev pub at : ℕ → Keyed

@@ -2,7 +2,7 @@
 -- Source: trace-cmd-split(1) for start and end as seconds; that a time of up to six decimals is compared as it is printed
 -- is a choice of this project.
 use Rattle.std.specs.Prelude.{ℕ, ◌+◌, ◌/◌, Bool, nat_lt, if◌then◌else◌}
-use Rattle.trace_args.specs.declared.moment.Moment.{Moment}
+use Rattle.word_values.specs.declared.moment.Moment.{Moment}
 
 -- in microseconds, rounded half up as a report prints it, or in nanoseconds
 abbrev pub time_as : Bool → ℕ → ℕ

@@ -4,9 +4,9 @@ use Rattle.std.specs.Prelude.{ℕ, suc, zero, ◌+◌, ◌<◌, Bool, true, fals
 use Rattle.std.specs.List.{flat_map}
 use Rattle.subpage.specs.ItemData.{ItemData, EventAt, LossAt}
 use Rattle.subpage.specs.Arrangement.{Keyed}
-use Rattle.trace_args.specs.declared.moment.Moment.{Moment}
-use Rattle.trace_args.specs.declared.piece.PieceUnit.{PieceUnit}
-use Rattle.trace_args.specs.declared.piece.PieceUnit.TheVariants.{All, Nanos, Events}
+use Rattle.word_values.specs.declared.moment.Moment.{Moment}
+use Rattle.word_values.specs.declared.piece.PieceUnit.{PieceUnit}
+use Rattle.word_values.specs.declared.piece.PieceUnit.TheVariants.{All, Nanos, Events}
 use Rattle.split_pieces.specs.declared.rules.Rules.{Rules}
 use Rattle.split_pieces.specs.Moments.{is_before, is_past}
 

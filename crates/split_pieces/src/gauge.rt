@@ -3,7 +3,7 @@ ghost use Rattle.subpage.specs.Arrangement.{Keyed};
 ghost use Rattle.split_pieces.specs.Pieces.{is_event, piece, unit_closes};
 ghost use Rattle.split_pieces.specs.Gauging.{piece_by, closes_by};
 
-use trace_args::PieceUnit;
+use word_values::PieceUnit;
 
 /// How much more a piece takes.
 #[derive(Clone, Copy, Debug, PartialEq, Eq)]

@@ -3,9 +3,9 @@
 ghost use Rattle.std.specs.Prelude.{◌≡◌, ◌≢◌, ◌↔◌, ◌+◌, ◌<◌, true, false, Some, None, ℕ, List, [], ◌∷◌, ◌++◌, filter, length, map, nat_lt, slice_get, slice_index_or};
 ghost use Rattle.std.specs.List.{flat_map};
 ghost use Rattle.subpage.specs.Arrangement.{Keyed, IsRising, key_of};
-ghost use Rattle.trace_args.specs.declared.moment.Moment.{Moment};
-ghost use Rattle.trace_args.specs.declared.piece.PieceUnit.{PieceUnit};
-ghost use Rattle.trace_args.specs.declared.piece.PieceUnit.TheVariants.{All, Nanos, Events};
+ghost use Rattle.word_values.specs.declared.moment.Moment.{Moment};
+ghost use Rattle.word_values.specs.declared.piece.PieceUnit.{PieceUnit};
+ghost use Rattle.word_values.specs.declared.piece.PieceUnit.TheVariants.{All, Nanos, Events};
 ghost use Rattle.split_pieces.specs.declared.rules.Rules.{Rules};
 ghost use Rattle.split_pieces.specs.Examples.{at, lost, micros, nanos, by, five};
 ghost use Rattle.split_pieces.specs.Pieces.{IsUnit, Pieces, piece, rest, left_in, from_start, files, is_closed, all_pieces, joined_lists, behind_start, piece_at, first_pieces};

@@ -1,7 +1,7 @@
 ghost use Rattle.std.specs.Prelude.{◌≡◌};
 ghost use Rattle.split_pieces.specs.Moments.{is_before, is_past, time_as};
 
-use trace_args::Moment;
+use word_values::Moment;
 
 // A key, in nanoseconds, as it is compared with the moment's value.
 fn time_as(micro: bool, key: u64) -> u64

@@ -1,7 +1,7 @@
 ghost use Rattle.std.specs.Prelude.{◌≡◌};
 ghost use Rattle.split_pieces.specs.Cuts.{is_apart};
 
-use trace_args::{Moment, PieceUnit};
+use word_values::{Moment, PieceUnit};
 
 /// What a split does with its lists.
 #[derive(Clone, Copy, Debug, PartialEq, Eq)]

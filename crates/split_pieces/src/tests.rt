@@ -3,7 +3,7 @@
 use crate::{Gauge, Rules, is_before, is_past};
 use PieceUnit::{All, Events, Nanos};
 use std::test::Fail;
-use trace_args::{Moment, PieceUnit};
+use word_values::{Moment, PieceUnit};
 
 /// An item of a list: the time of an event, or of a loss.
 #[derive(Clone, Copy)]

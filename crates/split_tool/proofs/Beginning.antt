@@ -16,7 +16,7 @@ use Rattle.event_cursor.specs.Standing.{left_of}
 use Rattle.time_merge.specs.Rows.{Row, least_cut}
 use Rattle.time_merge.specs.LaneRows.{parts_of, row_of, rows_of}
 use Rattle.time_merge.proofs.Starting.{fresh_stands, fresh_come, cut_of_rows}
-use Rattle.trace_args.specs.declared.moment.Moment.{Moment}
+use Rattle.word_values.specs.declared.moment.Moment.{Moment}
 use Rattle.split_pieces.specs.declared.rules.Rules.{Rules}
 use Rattle.split_pieces.specs.Cuts.{is_apart, own_list, lists_to_cut, own_bad, cut_bad, bad_reached, first_of_all}
 use Rattle.split_pieces.specs.Pieces.{from_start, up_to_end, left_in, has_end, unit_closes}

@@ -25,8 +25,8 @@ use Rattle.page_write.specs.Placed.{data_of}
 use Rattle.time_merge.specs.Rows.{Each}
 use Rattle.time_merge.specs.LaneRows.{parts_of}
 use Rattle.trace_args.specs.Command.{SplitData}
-use Rattle.trace_args.specs.declared.moment.Moment.{Moment}
-use Rattle.trace_args.specs.declared.piece.PieceUnit.{PieceUnit}
+use Rattle.word_values.specs.declared.moment.Moment.{Moment}
+use Rattle.word_values.specs.declared.piece.PieceUnit.{PieceUnit}
 use Rattle.split_pieces.specs.declared.rules.Rules.{Rules}
 use Rattle.split_pieces.specs.Moments.{is_before}
 use Rattle.split_pieces.specs.Cuts.{is_apart, items_of_cpu, own_list, lists_to_cut, file_items}

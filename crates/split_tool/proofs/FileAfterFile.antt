@@ -2,7 +2,7 @@
 use Rattle.std.proofs.Common.{◌≡◌, ℕ, zero, suc, ◌+◌, ◌<◌, ◌≤◌, Bool, true, false, ◌&&◌, if◌then◌else◌, List, [], ◌∷◌, ◌++◌, length, refl, sym, ap, ◌∙◌, arith}
 use Rattle.std.proofs.lemmas.List.{length-append}
 use Rattle.subpage.specs.Arrangement.{Keyed}
-use Rattle.trace_args.specs.declared.piece.PieceUnit.{PieceUnit}
+use Rattle.word_values.specs.declared.piece.PieceUnit.{PieceUnit}
 use Rattle.split_pieces.specs.declared.rules.Rules.{Rules}
 use Rattle.split_pieces.specs.Pieces.{IsUnit, is_some_left, piece, rest, joined_lists, next_file, behind_file, files_when, files_within, files_left}
 use Rattle.split_pieces.proofs.Cutting.{whole, first_some}

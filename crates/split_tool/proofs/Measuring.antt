@@ -14,7 +14,7 @@ use Rattle.event_cursor.specs.Standing.{Stands, left_of}
 use Rattle.time_merge.specs.Rows.{Row, Each, least_cut}
 use Rattle.time_merge.specs.LaneRows.{parts_of, row_of, rows_of, to_come}
 use Rattle.time_merge.proofs.Starting.{cut_of_rows}
-use Rattle.trace_args.specs.declared.moment.Moment.{Moment}
+use Rattle.word_values.specs.declared.moment.Moment.{Moment}
 use Rattle.split_pieces.specs.declared.gauge.Gauge.{Gauge}
 use Rattle.split_pieces.specs.declared.rules.Rules.{Rules}
 use Rattle.split_pieces.specs.Cuts.{is_apart, first_of_all, items_of_cpu}

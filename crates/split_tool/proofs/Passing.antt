@@ -18,7 +18,7 @@ use Rattle.time_merge.specs.Rows.{Row, together, up_to, least_cut}
 use Rattle.time_merge.specs.LaneRows.{parts_of, row_of, rows_of, to_come}
 use Rattle.time_merge.specs.Nexts.{IsNextLane, IsNext}
 use Rattle.time_merge.specs.declared.next_lanes.Next.{Next}
-use Rattle.trace_args.specs.declared.moment.Moment.{Moment}
+use Rattle.word_values.specs.declared.moment.Moment.{Moment}
 use Rattle.split_pieces.specs.Moments.{is_before}
 use Rattle.split_pieces.specs.Pieces.{from_start}
 use Rattle.split_pieces.specs.declared.rules.Rules.{Rules}

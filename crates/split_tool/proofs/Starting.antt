@@ -1,7 +1,7 @@
 -- Items before a start, passed over one after another.
 use Rattle.std.proofs.Common.{◌≡◌, true, false, List, [], ◌∷◌, Option, Some, None, refl, ◌∙◌}
 use Rattle.subpage.specs.Arrangement.{Keyed, IsRising, key_of}
-use Rattle.trace_args.specs.declared.moment.Moment.{Moment}
+use Rattle.word_values.specs.declared.moment.Moment.{Moment}
 use Rattle.split_pieces.specs.Moments.{is_before}
 use Rattle.split_pieces.specs.Pieces.{from_start}
 use Rattle.split_pieces.proofs.Cutting.{starts}

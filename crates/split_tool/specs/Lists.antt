@@ -5,7 +5,7 @@ use Rattle.subpage.specs.Arrangement.{Keyed, key_of, cpu_of}
 use Rattle.page_pool.specs.declared.lane.Lane.{Lane}
 use Rattle.time_merge.specs.Rows.{Row, coming, least_cut}
 use Rattle.time_merge.specs.LaneRows.{rows_of}
-use Rattle.trace_args.specs.declared.moment.Moment.{Moment}
+use Rattle.word_values.specs.declared.moment.Moment.{Moment}
 use Rattle.split_pieces.specs.declared.rules.Rules.{Rules}
 use Rattle.split_pieces.specs.Cuts.{is_apart, first_of_all}
 use Rattle.split_pieces.specs.Pieces.{up_to_end, has_end, unit_closes, next_file, behind_file, files_left}

@@ -5,7 +5,7 @@ use Rattle.trace_base.specs.declared.layout.Layout.{Layout}
 use Rattle.page_pool.specs.declared.lane.Lane.{Lane}
 use Rattle.event_cursor.specs.Standing.{Stands}
 use Rattle.time_merge.specs.LaneRows.{rows_of}
-use Rattle.trace_args.specs.declared.moment.Moment.{Moment}
+use Rattle.word_values.specs.declared.moment.Moment.{Moment}
 use Rattle.split_pieces.specs.declared.rules.Rules.{Rules}
 use Rattle.split_pieces.specs.Pieces.{from_start}
 use Rattle.split_tool.specs.Lists.{groups, come_of}

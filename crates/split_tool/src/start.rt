@@ -17,9 +17,9 @@ use event_cursor::{head_key, step};
 use page_pool::Lane;
 use split_pieces::{Rules, is_before};
 use time_merge::{Next, next_lane};
-use trace_args::Moment;
 use trace_base::Layout;
 use trace_outside::File;
+use word_values::Moment;
 
 // Whether a lane's first item stands before the start.
 fn stands_before(layout: &Layout, lane: &Lane, start: Moment) -> bool

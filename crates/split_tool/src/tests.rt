@@ -19,12 +19,13 @@ use page_pool::{Lane, Pool};
 use std::alloc::Global;
 use std::test::Fail;
 use subpage::{Item, check_page};
-use trace_args::{Moment, PieceUnit, SplitWords};
+use trace_args::SplitWords;
 use trace_base::{ByteText, Layout, Part};
 use trace_outside::{MemFile, MemFolder};
 use trace_samples::Page;
 use trace_samples::Page::{Lossy, Of};
 use traces::file_of;
+use word_values::{Moment, PieceUnit};
 
 /// The sub-buffers of processors, how they are split, the items of the new files, and how the split ends.
 ///

@@ -3,28 +3,28 @@
 use Rattle.std.specs.Prelude.{ℕ, Bool, true, false, ◌&&◌, ◌||◌, not, List, [], ◌∷◌, map, Option, option_map, unwrap_or, codes}
 use Rattle.std.specs.List.{list_any, find, cons_option}
 use Rattle.std.specs.Option.{option_and_then, option_map_or, option_or}
-use Rattle.trace_args.specs.declared.section.Section.{Section}
-use Rattle.trace_args.specs.declared.section.Section.TheVariants as section
+use Rattle.word_values.specs.declared.section.Section.{Section}
+use Rattle.word_values.specs.declared.section.Section.TheVariants as section
+use Rattle.word_values.specs.declared.listing.Listing.{Listing}
+use Rattle.word_values.specs.declared.listing.Listing.TheVariants.{Nothing}
+use Rattle.word_values.specs.declared.moment.Moment.{Moment}
+use Rattle.word_values.specs.declared.piece.PieceUnit.{PieceUnit}
+use Rattle.word_values.specs.declared.piece.PieceUnit.TheVariants.{All}
+use Rattle.word_values.specs.declared.piece.PieceOption.{PieceOption}
+use Rattle.word_values.specs.declared.piece.PieceOption.TheVariants.{Seconds, Millis, Micros, Events}
+use Rattle.word_values.specs.Listings.{listings}
+use Rattle.word_values.specs.Sections.{sections}
+use Rattle.word_values.specs.CpuList.{cpu_set, cpu_number}
+use Rattle.word_values.specs.Number.{worker_count, seed_number, event_count, piece_count}
+use Rattle.word_values.specs.Moments.{moment_of}
+use Rattle.word_values.specs.Pieces.{piece}
 use Rattle.trace_args.specs.declared.tool.Tool.{Tool}
 use Rattle.trace_args.specs.declared.tool.Tool.TheVariants as tool
 use Rattle.trace_args.specs.declared.option.FlagOption.TheVariants as flag
 use Rattle.trace_args.specs.declared.option.ValuedOption.TheVariants as valued
-use Rattle.trace_args.specs.declared.listing.Listing.{Listing}
-use Rattle.trace_args.specs.declared.listing.Listing.TheVariants.{Nothing}
-use Rattle.trace_args.specs.declared.moment.Moment.{Moment}
-use Rattle.trace_args.specs.declared.piece.PieceUnit.{PieceUnit}
-use Rattle.trace_args.specs.declared.piece.PieceUnit.TheVariants.{All}
-use Rattle.trace_args.specs.declared.piece.PieceOption.{PieceOption}
-use Rattle.trace_args.specs.declared.piece.PieceOption.TheVariants.{Seconds, Millis, Micros, Events}
-use Rattle.trace_args.specs.Listings.{listings}
-use Rattle.trace_args.specs.Sections.{sections}
 use Rattle.trace_args.specs.Command.{CommandData, Report, Dump, SelfTest, Split, ReportData, DumpData, SelfData, SplitData, FilterData}
 use Rattle.trace_args.specs.Setting.{Text, Setting}
 use Rattle.trace_args.specs.Given.{sets, value_for, value_of, value_at, texts_of, is_set}
-use Rattle.trace_args.specs.CpuList.{cpu_set, cpu_number}
-use Rattle.trace_args.specs.Number.{worker_count, seed_number, event_count, piece_count}
-use Rattle.trace_args.specs.Moments.{moment_of}
-use Rattle.trace_args.specs.Pieces.{piece}
 
 abbrev pub input_of : List Setting → List ℕ
 input_of settings = option_map_or (λ text. text.bytes) (value_of valued.Input settings) (codes "trace.dat")

@@ -1,15 +1,15 @@
 -- What a command line asks for, as plain data.
 use Rattle.std.specs.Prelude.{ℕ, Bool, List, map, Option}
+use Rattle.word_values.specs.declared.listing.Listing.{Listing}
+use Rattle.word_values.specs.declared.moment.Moment.{Moment}
+use Rattle.word_values.specs.declared.piece.PieceUnit.{PieceUnit}
 use Rattle.trace_args.specs.declared.command.Command.{Command}
 use Rattle.trace_args.specs.declared.command.Command.TheVariants as code
 use Rattle.trace_args.specs.declared.command.ReportWords.{ReportWords}
-use Rattle.trace_args.specs.declared.listing.Listing.{Listing}
 use Rattle.trace_args.specs.declared.command.FilterWord.{FilterWord}
 use Rattle.trace_args.specs.declared.command.DumpWords.{DumpWords}
 use Rattle.trace_args.specs.declared.command.SelfWords.{SelfWords}
 use Rattle.trace_args.specs.declared.command.SplitWords.{SplitWords}
-use Rattle.trace_args.specs.declared.moment.Moment.{Moment}
-use Rattle.trace_args.specs.declared.piece.PieceUnit.{PieceUnit}
 
 -- a filter, the number of the word that holds it, and whether it hides
 pub record FilterData : Type 0 where

@@ -3,15 +3,15 @@
 use Rattle.std.specs.Prelude.{ℕ, Bool, true, false, List, [], ◌∷◌, map, Option, option_map, codes}
 use Rattle.std.specs.List.{find}
 use Rattle.std.specs.Str.{bytes_eq}
-use Rattle.trace_args.specs.Sections.{sections, section_name}
+use Rattle.word_values.specs.Sections.{sections, section_name}
+use Rattle.word_values.specs.declared.piece.PieceOption.TheVariants.{Seconds, Millis, Micros, Events}
+use Rattle.word_values.specs.declared.listing.Listing.TheVariants.{Names, Formats, Symbols, Printk}
 use Rattle.trace_args.specs.declared.tool.Tool.{Tool}
 use Rattle.trace_args.specs.declared.tool.Tool.TheVariants as tool
 use Rattle.trace_args.specs.declared.option.FlagOption.{FlagOption}
 use Rattle.trace_args.specs.declared.option.FlagOption.TheVariants.{Hide, FullTime, Latency, Raw, NoHard, NoSoft, NoPlugins, Listing, Section, All, Repeat, PerCpu}
 use Rattle.trace_args.specs.declared.option.ValuedOption.{ValuedOption}
 use Rattle.trace_args.specs.declared.option.ValuedOption.TheVariants.{Input, Filter, RawEvent, Cpus, Workers, TestNumber, Base, Piece, Cpu, Bound}
-use Rattle.trace_args.specs.declared.piece.PieceOption.TheVariants.{Seconds, Millis, Micros, Events}
-use Rattle.trace_args.specs.declared.listing.Listing.TheVariants.{Names, Formats, Symbols, Printk}
 use Rattle.trace_args.specs.declared.option.KnownOption.{KnownOption}
 use Rattle.trace_args.specs.declared.option.KnownOption.TheVariants.{Flag, Valued}
 

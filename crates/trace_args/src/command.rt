@@ -1,24 +1,21 @@
 ghost use Rattle.std.specs.Prelude.{◌≡◌, IfOk, MatchResult};
 ghost use Rattle.std.specs.List.{find, list_any};
+ghost use Rattle.word_values.specs.Listings.{listings};
+ghost use Rattle.word_values.specs.Sections.{sections};
 ghost use Rattle.trace_args.specs.Asked.{base_of, bound_of, command_of, cpu_of, cpus_of, dump_of, events_of, input_of, is_printed, listing_of, names_any, names_section, piece_by, report_of, seed_of, self_of, split_of, unit_of, workers_of};
 ghost use Rattle.trace_args.specs.Command.{command_view, dump_view, report_view, self_view, split_view};
 ghost use Rattle.trace_args.specs.Given.{is_set};
-ghost use Rattle.trace_args.specs.Listings.{listings};
-ghost use Rattle.trace_args.specs.Sections.{sections};
 ghost use Rattle.trace_args.specs.Views.{given_view};
 
-use crate::cpu_list::{cpu_number, cpu_set};
-use crate::cpu_set::CpuSet;
 use crate::fault::{WordFault, WordKind};
 use crate::given::Given;
-use crate::listing::Listing;
-use crate::moment::Moment;
-use crate::number::{event_count, piece_count, seed_number, worker_count};
 use crate::option::{FlagOption, ValuedOption};
-use crate::piece::{PieceOption, PieceUnit};
-use crate::section::Section;
 use crate::tool::Tool;
 use std::alloc::{AllocError, Global};
+use word_values::{
+    CpuSet, Listing, Moment, PieceOption, PieceUnit, Section, cpu_number, cpu_set, event_count,
+    piece_count, seed_number, worker_count,
+};
 
 /// What a command line asks for.
 #[derive(Drop)]

@@ -1,10 +1,8 @@
 ghost use Rattle.std.specs.Prelude.{◌≡◌, ◌<◌, OnSome};
 ghost use Rattle.trace_args.specs.Options.{long, may_repeat, operand_option, option_named, short, takes_two};
 
-use crate::listing::Listing;
-use crate::piece::PieceOption;
-use crate::section::Section;
 use crate::tool::Tool;
+use word_values::{Listing, PieceOption, Section};
 
 /// An option without a value.
 #[derive(Clone, Copy, PartialEq, Eq)]

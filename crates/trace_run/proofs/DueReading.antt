@@ -22,8 +22,8 @@ use Rattle.report_print.specs.Given.{Given}
 use Rattle.report_print.specs.Line.{line}
 use Rattle.report_rounds.specs.Due.{due_bytes, ReadsDue as RoundsDue}
 use Rattle.trace_args.specs.Command.{ReportData}
-use Rattle.trace_args.specs.declared.listing.Listing.{Listing}
-use Rattle.trace_args.specs.declared.listing.Listing.TheVariants.{Nothing, Names, Formats, Symbols, Printk}
+use Rattle.word_values.specs.declared.listing.Listing.{Listing}
+use Rattle.word_values.specs.declared.listing.Listing.TheVariants.{Nothing, Names, Formats, Symbols, Printk}
 use Rattle.trace_run.specs.declared.status.Status.{Status}
 use Rattle.trace_run.specs.Context.{context_of}
 use Rattle.trace_run.specs.Due.{behind_first, due_of, ReadsParts, ReadsBody, ReadsEvents, ReadsCommand, ReadsFile, DueInput}

@@ -20,8 +20,8 @@ use Rattle.dat_header.specs.Header.{header_of, IsRefusal, ReadsHeader}
 use Rattle.trace_run.specs.declared.status.Status.{Status}
 use Rattle.trace_run.specs.declared.status.Status.TheVariants.{Done, Usage, Refused, Malformed, ReadFault, WriteFault, NoMemory}
 use Rattle.trace_run.specs.declared.usage.UsageFault.{UsageFault}
-use Rattle.trace_args.specs.declared.listing.Listing.{Listing}
-use Rattle.trace_args.specs.declared.listing.Listing.TheVariants.{Nothing}
+use Rattle.word_values.specs.declared.listing.Listing.{Listing}
+use Rattle.word_values.specs.declared.listing.Listing.TheVariants.{Nothing}
 use Rattle.trace_args.specs.Command.{ReportData, DumpData}
 use Rattle.trace_run.specs.Job.{FileCommand, Report, Dump, Job, OnFile, SelfTest}
 use Rattle.trace_run.specs.Meaning.{Meaning, Target, on_out, on_folder, body_report, dump_of, report_by, header_means, file_means, input_means, command_means, command_meaning, meaning_of, input_of, target_of, job_meaning, job_target}

@@ -12,7 +12,7 @@ use Rattle.dat_header.specs.declared.header.Header.{Header}
 use Rattle.dat_header.specs.Header.{header_of, ReadsHeader}
 use Rattle.dat_header.specs.Written.{written}
 use Rattle.trace_args.specs.Command.{ReportData}
-use Rattle.trace_args.specs.declared.listing.Listing.TheVariants.{Nothing}
+use Rattle.word_values.specs.declared.listing.Listing.TheVariants.{Nothing}
 use Rattle.trace_gen.specs.Generated.{lists_of}
 use Rattle.trace_gen.specs.GeneratedFile.{IsGenerated}
 use Rattle.trace_gen.specs.GeneratedHeader.{header_but_parts}

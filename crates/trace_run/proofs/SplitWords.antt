@@ -8,18 +8,18 @@ use Rattle.split_pieces.specs.Pieces.{IsUnit}
 use Rattle.trace_args.specs.declared.fault.WordKind.TheVariants.{LongName}
 use Rattle.trace_args.specs.declared.option.ValuedOption.{ValuedOption}
 use Rattle.trace_args.specs.declared.option.ValuedOption.TheVariants as valued
-use Rattle.trace_args.specs.declared.piece.PieceUnit.{PieceUnit}
-use Rattle.trace_args.specs.declared.piece.PieceUnit.TheVariants.{All}
-use Rattle.trace_args.specs.declared.piece.PieceOption.{PieceOption}
-use Rattle.trace_args.specs.declared.piece.PieceOption.TheVariants.{Seconds, Millis, Micros, Events}
+use Rattle.word_values.specs.declared.piece.PieceUnit.{PieceUnit}
+use Rattle.word_values.specs.declared.piece.PieceUnit.TheVariants.{All}
+use Rattle.word_values.specs.declared.piece.PieceOption.{PieceOption}
+use Rattle.word_values.specs.declared.piece.PieceOption.TheVariants.{Seconds, Millis, Micros, Events}
 use Rattle.trace_args.specs.declared.tool.Tool.{Tool}
 use Rattle.trace_args.specs.declared.tool.Tool.TheVariants as tool
 use Rattle.trace_args.specs.Asked.{base_of, command_of, input_of, piece_by, split_of, unit_of as unit_in}
 use Rattle.trace_args.specs.Command.{SplitData, Split}
 use Rattle.trace_args.specs.Faults.{fault, fault_of, input_name_fault, late_fault, name_fault, value_fault, IsClean}
 use Rattle.trace_args.specs.Given.{gives, value_in, value_of}
-use Rattle.trace_args.specs.Number.{number_of, piece_count}
-use Rattle.trace_args.specs.Pieces.{piece}
+use Rattle.word_values.specs.Number.{number_of, piece_count}
+use Rattle.word_values.specs.Pieces.{piece}
 use Rattle.trace_args.specs.Reading.{Reads}
 use Rattle.trace_args.specs.Setting.{Text, Setting, Flag, Valued, Stray}
 use Rattle.trace_run.specs.Allowed.{IsAllowedSplit}

@@ -7,7 +7,7 @@ use Rattle.trace_args.specs.declared.tool.Tool.TheVariants as tool
 use Rattle.trace_args.specs.Asked.{command_of, report_of, self_of, workers_of}
 use Rattle.trace_args.specs.Command.{ReportData, SelfData, Report, SelfTest}
 use Rattle.trace_args.specs.Given.{value_of}
-use Rattle.trace_args.specs.Number.{number_of, worker_count}
+use Rattle.word_values.specs.Number.{number_of, worker_count}
 use Rattle.trace_args.specs.Reading.{Reads}
 use Rattle.trace_args.specs.Setting.{Text, Setting}
 use Rattle.trace_run.specs.Allowed.{IsWorkers}

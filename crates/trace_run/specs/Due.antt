@@ -13,8 +13,8 @@ use Rattle.dat_header.specs.Header.{header_of}
 use Rattle.report_print.specs.Line.{line}
 use Rattle.report_rounds.specs.Due.{due_bytes}
 use Rattle.trace_args.specs.Command.{ReportData}
-use Rattle.trace_args.specs.declared.listing.Listing.{Listing}
-use Rattle.trace_args.specs.declared.listing.Listing.TheVariants.{Nothing}
+use Rattle.word_values.specs.declared.listing.Listing.{Listing}
+use Rattle.word_values.specs.declared.listing.Listing.TheVariants.{Nothing}
 use Rattle.trace_run.specs.declared.status.Status.{Status}
 use Rattle.trace_run.specs.declared.usage.UsageFault.{UsageFault}
 use Rattle.trace_run.specs.Context.{context_of}

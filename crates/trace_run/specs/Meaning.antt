@@ -17,8 +17,8 @@ use Rattle.trace_args.specs.Command.{ReportData, DumpData, SelfData, SplitData}
 use Rattle.report_lists.specs.Lists.{names_list, formats_list, symbols_list, printk_list}
 use Rattle.format_parse.specs.declared.format.EventFormat.{EventFormat}
 use Rattle.symbols.specs.Maps.{Maps}
-use Rattle.trace_args.specs.declared.listing.Listing.{Listing}
-use Rattle.trace_args.specs.declared.listing.Listing.TheVariants.{Nothing, Names, Formats, Symbols, Printk}
+use Rattle.word_values.specs.declared.listing.Listing.{Listing}
+use Rattle.word_values.specs.declared.listing.Listing.TheVariants.{Nothing, Names, Formats, Symbols, Printk}
 use Rattle.trace_run.specs.Context.{context_of, formats_of, symbols_of}
 use Rattle.trace_run.specs.Job.{FileCommand, Report, Dump, Split, Job, OnFile, SelfTest}
 use Rattle.trace_run.specs.Report.{cpus_line, report_pieces, selected}

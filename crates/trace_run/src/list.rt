@@ -14,8 +14,8 @@ use format_parse::FormatTable;
 use report_lists::{put_event_formats, put_event_names, put_printk_formats, put_symbols};
 use std::alloc::Global;
 use symbols::Symbols;
-use trace_args::Listing;
 use trace_outside::{Failed, Pending, Sink};
+use word_values::Listing;
 
 /// Prints a list of a header's. No file is read.
 pub(crate) fn print_list<O: Sink>(

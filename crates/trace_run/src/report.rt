@@ -27,9 +27,10 @@ use page_pool::Pool;
 use report_rounds::report_rounds;
 use std::alloc::{AllocError, Global};
 use std::thread::Threads;
-use trace_args::{Listing, ReportWords};
+use trace_args::ReportWords;
 use trace_base::Part;
 use trace_outside::{Failed, File, Gate, Pending, Sink};
+use word_values::Listing;
 
 /// Prints the report of a file with this header: the events, or the list that the words ask for.
 pub(crate) fn print_report<R: Threads + Sync, I: File, O: Sink, G: Gate>(

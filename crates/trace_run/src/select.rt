@@ -5,8 +5,8 @@ ghost use Rattle.trace_run.specs.Report as spec;
 ghost use Rattle.trace_run.specs.Report.{selected};
 
 use std::alloc::{AllocError, Global};
-use trace_args::CpuSet;
 use trace_base::Part;
+use word_values::CpuSet;
 
 /// The processors that the words choose, with their numbers.
 pub(crate) fn select(

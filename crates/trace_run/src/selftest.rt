@@ -13,10 +13,11 @@ use crate::status::Status;
 use dat_header::read_header;
 use std::alloc::{AllocError, Global};
 use std::thread::Threads;
-use trace_args::{Listing, ReportWords, SelfWords};
+use trace_args::{ReportWords, SelfWords};
 use trace_base::ByteText;
 use trace_gen::{generate, summary_line};
 use trace_outside::{Failed, Gate, MemSink, Sink, write_all};
+use word_values::Listing;
 
 /// Prints the line of a self-test. No file of a folder is opened.
 pub(crate) fn print_self_test<R: Threads + Sync, O: Sink, G: Gate>(

@@ -1,8 +1,8 @@
 use Rattle.std.proofs.Common.{rules, ◌≡◌, ◌<◌, ◌≤◌, List, ℕ, length, arith, true, false, get_or, sym, subst}
 use Rattle.trace_outside.specs.Pending.{Puts}
 use Rattle.trace_args.specs.Command.{dump_view}
-use Rattle.trace_args.specs.Sections.{sections}
-use Rattle.trace_args.specs.declared.section.Section.TheVariants.{Summary}
+use Rattle.word_values.specs.Sections.{sections}
+use Rattle.word_values.specs.declared.section.Section.TheVariants.{Summary}
 use Rattle.dump_tool.specs.Dump.{is_chosen}
 use Rattle.dump_tool.proofs.Putting.{Put, stopped_at, put_more, put_none, put_all}
 use Rattle.dump_tool.proofs.Chosen.{text_if, text_of_chosen, chosen_is, left_out_is}

@@ -1,6 +1,6 @@
 use Rattle.std.proofs.Common.{◌≡◌, ◌∷◌, ◌+◌, ◌<◌, length, drop, get_or, sym, ap, ◌∙◌, arith, add-one, drop-cons}
-use Rattle.trace_args.proofs.NumberLaws.{number_on, within, number_on-step, number_on-stop}
-use Rattle.trace_args.proofs.number.number_within.Goals as goal
+use Rattle.word_values.proofs.NumberLaws.{number_on, within, number_on-step, number_on-stop}
+use Rattle.word_values.proofs.number.number_within.Goals as goal
 
 pub returns-in_err-value : goal.returns-in_err-value
 returns-in_err-value c =

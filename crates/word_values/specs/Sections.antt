@@ -1,8 +1,8 @@
 -- The sections of a dump, in its order, and the names of their options.
 -- Source: trace-cmd-dump(1), `OPTIONS`.
 use Rattle.std.specs.Prelude.{ℕ, List, [], ◌∷◌, codes}
-use Rattle.trace_args.specs.declared.section.Section.{Section}
-use Rattle.trace_args.specs.declared.section.Section.TheVariants.{Summary, HeadPage, HeadEvent, FtraceEvents, Systems, Events, Kallsyms, Printk, CmdLines, Options, Flyrecord, Validate}
+use Rattle.word_values.specs.declared.section.Section.{Section}
+use Rattle.word_values.specs.declared.section.Section.TheVariants.{Summary, HeadPage, HeadEvent, FtraceEvents, Systems, Events, Kallsyms, Printk, CmdLines, Options, Flyrecord, Validate}
 
 -- all of them, in order
 abbrev pub sections : List Section

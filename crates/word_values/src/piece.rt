@@ -1,5 +1,5 @@
 ghost use Rattle.std.specs.Prelude.{◌≡◌};
-ghost use Rattle.trace_args.specs.Pieces.{piece};
+ghost use Rattle.word_values.specs.Pieces.{piece};
 
 /// How a recording is cut into pieces (trace-cmd-split(1)).
 #[derive(Clone, Copy, Debug, PartialEq, Eq)]

@@ -1,8 +1,8 @@
 -- The lists that a report prints in place of its events.
 -- Source: trace-cmd-report(1), `OPTIONS`.
 use Rattle.std.specs.Prelude.{List, [], ◌∷◌}
-use Rattle.trace_args.specs.declared.listing.Listing.{Listing}
-use Rattle.trace_args.specs.declared.listing.Listing.TheVariants.{Names, Formats, Symbols, Printk}
+use Rattle.word_values.specs.declared.listing.Listing.{Listing}
+use Rattle.word_values.specs.declared.listing.Listing.TheVariants.{Names, Formats, Symbols, Printk}
 
 -- those that have an option
 abbrev pub listings : List Listing

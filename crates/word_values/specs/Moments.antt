@@ -3,9 +3,9 @@
 -- nine under `-t`.
 use Rattle.std.specs.Prelude.{ℕ, ◌+◌, ◌-◌, ◌*◌, ◌^◌, ◌==◌, nat_le, Bool, true, false, List, length, Option, None, option_map, if◌then◌else◌}
 use Rattle.std.specs.Option.{option_and_then, option_map_or}
-use Rattle.trace_args.specs.declared.moment.Moment.{Moment}
-use Rattle.trace_args.specs.Cut.{cut}
-use Rattle.trace_args.specs.Number.{number_within}
+use Rattle.word_values.specs.declared.moment.Moment.{Moment}
+use Rattle.word_values.specs.Cut.{cut}
+use Rattle.word_values.specs.Number.{number_within}
 
 abbrev pub is_point : ℕ → Bool
 is_point c = c == 46

@@ -1,9 +1,9 @@
 use Rattle.std.proofs.Common.{◌≡◌, [], option_map, length, ◌+◌}
 use Rattle.std.specs.List.{slice_split}
 use Rattle.std.specs.Option.{option_map_or}
-use Rattle.trace_args.specs.CpuList.{cpu_set, is_separator, ranges_of}
-use Rattle.trace_args.proofs.CpuLaws.{added}
-use Rattle.trace_args.proofs.cpu_list.cpu_set.Given as goal
+use Rattle.word_values.specs.CpuList.{cpu_set, is_separator, ranges_of}
+use Rattle.word_values.proofs.CpuLaws.{added}
+use Rattle.word_values.proofs.cpu_list.cpu_set.Given as goal
 
 abbrev pub invariant-loop-rest : goal.invariant-loop-rest
 invariant-loop-rest l =

@@ -1,7 +1,7 @@
 ghost use Rattle.std.specs.Prelude.{◌≡◌, ◌+◌, ◌-◌, ◌++◌, ◌<◌, ◌≤◌, drop, false, length, replicate, take, true};
 ghost use Rattle.std.specs.List.{slice_index_or};
-ghost use Rattle.trace_args.specs.CpuList.{with_range};
-ghost use Rattle.trace_args.specs.Views.{range_view};
+ghost use Rattle.word_values.specs.CpuList.{with_range};
+ghost use Rattle.word_values.specs.Views.{range_view};
 
 use std::marker::Model;
 

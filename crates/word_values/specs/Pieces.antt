@@ -1,10 +1,10 @@
 -- How a recording is cut into pieces.
 -- Source: trace-cmd-split(1), `OPTIONS`.
 use Rattle.std.specs.Prelude.{ℕ, ◌*◌, List, [], ◌∷◌}
-use Rattle.trace_args.specs.declared.piece.PieceUnit.{PieceUnit}
-use Rattle.trace_args.specs.declared.piece.PieceUnit.TheVariants as unit
-use Rattle.trace_args.specs.declared.piece.PieceOption.{PieceOption}
-use Rattle.trace_args.specs.declared.piece.PieceOption.TheVariants.{Seconds, Millis, Micros, Events}
+use Rattle.word_values.specs.declared.piece.PieceUnit.{PieceUnit}
+use Rattle.word_values.specs.declared.piece.PieceUnit.TheVariants as unit
+use Rattle.word_values.specs.declared.piece.PieceOption.{PieceOption}
+use Rattle.word_values.specs.declared.piece.PieceOption.TheVariants.{Seconds, Millis, Micros, Events}
 
 -- all options that give a unit
 abbrev pub piece_options : List PieceOption

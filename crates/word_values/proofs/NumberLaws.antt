@@ -6,7 +6,7 @@ use Rattle.std.specs.Option.{option_and_then}
 use Rattle.std.specs.Str.Parse.{digits_value_after}
 use Rattle.std.proofs.Math.Nat.{mul-le-mul, pow-le-pow_right}
 use Rattle.std.proofs.lemmas.Bool.Decides.{nat_tests}
-use Rattle.trace_args.specs.Number.{number_of, number_within, with_digit}
+use Rattle.word_values.specs.Number.{number_of, number_within, with_digit}
 
 -- the number of some digits that are read, and those that are left
 abbrev pub number_on : ℕ → List ℕ → Option ℕ

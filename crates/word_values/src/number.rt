@@ -1,7 +1,7 @@
 // Decimal numbers in a text.
 
 ghost use Rattle.std.specs.Prelude.{◌≡◌};
-ghost use Rattle.trace_args.specs.Number.{event_count, number_within, piece_count, seed_number, with_digit, worker_count};
+ghost use Rattle.word_values.specs.Number.{event_count, number_within, piece_count, seed_number, with_digit, worker_count};
 
 /// The number that the text spells, where it spells one from `least` to `most`.
 pub fn number_within(text: &[u8], least: u64, most: u64) -> Option<u64>

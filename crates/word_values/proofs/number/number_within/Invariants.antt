@@ -1,7 +1,7 @@
 use Rattle.std.proofs.Common.{◌≡◌, drop}
-use Rattle.trace_args.specs.Number.{number_within}
-use Rattle.trace_args.proofs.NumberLaws.{number_on, within}
-use Rattle.trace_args.proofs.number.number_within.Given as goal
+use Rattle.word_values.specs.Number.{number_within}
+use Rattle.word_values.proofs.NumberLaws.{number_on, within}
+use Rattle.word_values.proofs.number.number_within.Given as goal
 
 abbrev pub invariant-loop-byte : goal.invariant-loop-byte
 invariant-loop-byte l =

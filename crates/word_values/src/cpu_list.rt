@@ -3,13 +3,13 @@
 ghost use Rattle.std.specs.Prelude.{◌≡◌, ◌∷◌, ◌<◌, ◌≤◌, [], IfSome, length, option_map};
 ghost use Rattle.std.specs.List.{position, slice_split};
 ghost use Rattle.std.specs.Option.{option_map_or};
-ghost use Rattle.trace_args.specs.CpuList.{cpu_number, cpu_set, is_dash, is_separator, range_of};
-ghost use Rattle.trace_args.specs.Cut.{cut};
-ghost use Rattle.trace_args.specs.Views.{parts_view, range_view};
+ghost use Rattle.word_values.specs.CpuList.{cpu_number, cpu_set, is_dash, is_separator, range_of};
+ghost use Rattle.word_values.specs.Cut.{cut};
+ghost use Rattle.word_values.specs.Views.{parts_view, range_view};
 
-use crate::cpu_set::CpuSet;
 use crate::cut::around;
 use crate::number::small_within;
+use crate::processor_set::CpuSet;
 
 /// The set that the list names.
 pub fn cpu_set(text: &[u8]) -> Option<CpuSet>

@@ -2,9 +2,9 @@
 
 ghost use Rattle.std.specs.Prelude.{◌≡◌, ◌*◌, ◌^◌, ◌≤◌, IfSome, OnSome, length, option_map};
 ghost use Rattle.std.specs.List.{position};
-ghost use Rattle.trace_args.specs.Cut.{cut};
-ghost use Rattle.trace_args.specs.Moments.{decimal_moment, decimal_part, is_point, moment_of, moment_with, whole_seconds};
-ghost use Rattle.trace_args.specs.Views.{parts_view};
+ghost use Rattle.word_values.specs.Cut.{cut};
+ghost use Rattle.word_values.specs.Moments.{decimal_moment, decimal_part, is_point, moment_of, moment_with, whole_seconds};
+ghost use Rattle.word_values.specs.Views.{parts_view};
 
 use crate::cut::around;
 use crate::number::number_within;
@@ -19,8 +19,8 @@ pub struct Moment {
 }
 
 impl Moment {
-    // The moment that the text spells.
-    pub(crate) fn parse(text: &[u8]) -> Option<Moment>
+    /// The moment that the text spells.
+    pub fn parse(text: &[u8]) -> Option<Moment>
         ensures { result ≡ moment_of text.now }
     {
         match around_point(text) {

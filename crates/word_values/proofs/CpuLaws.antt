@@ -2,8 +2,8 @@
 use Rattle.std.proofs.Common.{◌≡◌, ℕ, suc, zero, ◌+◌, ◌-◌, ◌<◌, ◌≤◌, Bool, true, false, ◌||◌, ◌&&◌, nat_lt, get_or, List, [], ◌∷◌, ◌++◌, map, length, take, drop, Option, Some, None, option_map, refl, ap, sym, ◌∙◌, arith, replicate}
 use Rattle.std.specs.List.{list_any, range_with_len, slice_split}
 use Rattle.std.proofs.lemmas.Bool.Decides.{nat_tests}
-use Rattle.trace_args.specs.Views.{range_view}
-use Rattle.trace_args.specs.CpuList.{Range, is_in, marked, with_range, members_below, ranges_of, cpu_set, is_separator}
+use Rattle.word_values.specs.Views.{range_view}
+use Rattle.word_values.specs.CpuList.{Range, is_in, marked, with_range, members_below, ranges_of, cpu_set, is_separator}
 
 or_false : (b : Bool) → (b || false) ≡ b
 or_false true = refl

@@ -1,7 +1,7 @@
 ghost use Rattle.std.specs.Prelude.{◌≡◌, IfSome};
 ghost use Rattle.std.specs.List.{find};
 ghost use Rattle.std.specs.Str.{bytes_eq};
-ghost use Rattle.trace_args.specs.Sections.{place_of, section_name, sections};
+ghost use Rattle.word_values.specs.Sections.{place_of, section_name, sections};
 
 /// A section of a dump.
 #[derive(Clone, Copy, Debug, PartialEq, Eq)]

@@ -1,14 +1,11 @@
 -- `cut`, and the first place of a kind of byte.
-use Rattle.std.proofs.Common.{◌≡◌, ◌≢◌, ◌==◌, ℕ, suc, MatchOption, Bor, eqb-true, ◌+◌, ◌<◌, ◌≤◌, Bool, true, false, List, [], ◌∷◌, length, take, drop, nat_lt, not, cond, if◌then◌else◌, Option, Some, None, option_map, refl, ap, sym, arith}
+use Rattle.std.proofs.Common.{◌≡◌, ℕ, suc, ◌+◌, ◌<◌, ◌≤◌, Bool, true, false, List, [], ◌∷◌, length, take, drop, nat_lt, not, cond, if◌then◌else◌, Some, None, option_map, refl, arith}
 use Rattle.std.specs.List.{slice_split, position, position_or_len, before_first, after_first}
 use Rattle.std.proofs.lemmas.Bool.Decides.{nat_tests}
 use Rattle.std.specs.Option.{option_map_or}
 use Rattle.std.proofs.lemmas.List.Splits.{slice_split_first, slice_split_none}
 use Rattle.std.proofs.lemmas.List.Sums.{fails_before_first}
-use Rattle.trace_args.specs.Grammar.{is_equals}
-use Rattle.trace_args.specs.Settings.{behind_dash}
-use Rattle.trace_args.specs.Views.{parts_view}
-use Rattle.trace_args.specs.Cut.{parts, cut}
+use Rattle.word_values.specs.Cut.{parts, cut}
 
 longer : (n x : ℕ) (xs : List ℕ) → parts (take (1 + n) (x ∷ xs)) (drop (1 + n + 1) (x ∷ xs)) ≡ parts (x ∷ take n xs) (drop (n + 1) xs)
 longer n x xs =
@@ -69,18 +66,3 @@ split_by p xs false e =
 -- the pieces of a text, by the first place of a separator
 pub split_by_position : (p : ℕ → Bool) (xs : List ℕ) → slice_split p xs ≡ option_map_or (λ i. take i xs ∷ slice_split p (drop (i + 1) xs)) (position p xs) (xs ∷ [])
 split_by_position p xs = split_by p xs (nat_lt (position_or_len p xs) (length xs)) refl
-
-dash_none : (c : ℕ) (cs : List ℕ) (b : Bool) → (c == 45) ≡ b → ((rest : List ℕ) → (c ∷ cs) ≢ 45 ∷ rest) → None ≡ behind_dash (c ∷ cs)
-dash_none c cs true e h = absurd (h cs (ap (λ n. n ∷ cs) (eqb-true c 45 e)))
-dash_none c cs false e h = rw e refl
-
--- what `strip_prefix` of a dash answers
-pub behind_dash_from : (word : List ℕ) (r : Option (Bor (List ℕ))) → MatchOption r ((rest : List ℕ) → word ≢ 45 ∷ rest) (λ x. word ≡ 45 ∷ x.now) → option_map (λ x. x.now) r ≡ behind_dash word
-behind_dash_from word (Some rest) h = rw h refl
-behind_dash_from [] None h = refl
-behind_dash_from (c ∷ cs) None h = dash_none c cs (c == 45) refl h
-
--- what `split_once` at `=` answers
-pub cut_from : (name : List ℕ) (r : Option (Bor (List ℕ) × Bor (List ℕ))) → MatchOption r (position_or_len is_equals name ≡ length name) (λ x. (position_or_len is_equals name < length name) × (x.0.now ≡ before_first is_equals name) × (x.1.now ≡ after_first is_equals name)) → option_map parts_view r ≡ cut is_equals name
-cut_from name None h = sym (cut-none is_equals name h)
-cut_from name (Some x) h = rw (cut-first is_equals name h.0, h.1, h.2) refl

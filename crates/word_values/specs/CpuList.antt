@@ -4,8 +4,8 @@
 use Rattle.std.specs.Prelude.{ℕ, Bool, ◌==◌, ◌&&◌, ◌||◌, nat_le, List, [], ◌∷◌, ◌+◌, map, Option, Some, None, option_map, if◌then◌else◌}
 use Rattle.std.specs.List.{list_any, slice_split, range_with_len}
 use Rattle.std.specs.Option.{option_and_then, option_map_or}
-use Rattle.trace_args.specs.Cut.{cut}
-use Rattle.trace_args.specs.Number.{number_within}
+use Rattle.word_values.specs.Cut.{cut}
+use Rattle.word_values.specs.Number.{number_within}
 
 pub record Range : Type 0 where
   pub first : ℕ

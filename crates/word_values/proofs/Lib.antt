@@ -1,0 +1,3 @@
+pub mod NumberLaws
+pub mod CutLaws
+pub mod CpuLaws

@@ -1,0 +1,24 @@
+//! What one word of a command line spells: numbers and lists of processors, moments, the size of a piece, and the names
+//! of a dump's sections and a report's lists.
+#![tactic(auto)]
+
+mod cpu_list;
+mod cut;
+mod laws;
+mod listing;
+mod moment;
+mod number;
+mod piece;
+mod processor_set;
+mod section;
+#[cfg(test)]
+mod tests;
+
+pub use cpu_list::{cpu_number, cpu_set};
+pub use laws::members_of_ranges;
+pub use listing::Listing;
+pub use moment::Moment;
+pub use number::{event_count, piece_count, seed_number, worker_count};
+pub use piece::{PieceOption, PieceUnit};
+pub use processor_set::CpuSet;
+pub use section::Section;
