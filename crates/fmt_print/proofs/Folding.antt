@@ -35,5 +35,5 @@ arguments_more made args i d a t lt e h k = record {
 
 pub arguments_all : (made : List Argument) (args : List Expr) (i : ℕ) → length args ≤ i → ArgumentsTo made args i → SameTrees (map argument_tree made) (map tree_of args)
 arguments_all made args i le k = record {
-  each = λ g. sym (append-nil (map (meaning_of g) (map argument_tree made))) ∙ ap (meanings g made) (sym (drop_all args i le)) ∙ k.each g;
+  each = λ g. sym (append-nil (map (meaning_of g) (map argument_tree made))) ∙ ap (meanings g made) (sym (drop_all i args le)) ∙ k.each g;
 }

@@ -1,37 +1,39 @@
 //! Arguments.
 
-ghost use Rattle.std.specs.Prelude.{◌≡◌, IfSome};
+ghost use Rattle.std.specs.Prelude.{◌≡◌};
 ghost use Rattle.std.proofs.Props.{props};
-ghost use Rattle.fmt_eval.specs.NumView.{num_view};
-ghost use Rattle.fmt_eval.specs.Reads.{ReadsAs};
-ghost use Rattle.fmt_eval.specs.Values.{given, number_of};
 ghost use Rattle.fmt_expr.specs.Kinds.{kind_of};
 ghost use Rattle.fmt_expr.specs.TreeView.{tree_of};
-ghost use Rattle.fmt_print.specs.ArgumentView.{argument_tree};
-ghost use Rattle.fmt_print.specs.Strings.{address_of};
+ghost use Rattle.fmt_eval.specs.Reads.{ReadsAs};
 
 use fmt_eval::{Num, Read, number_read, read_of};
 use fmt_expr::{Expr, Kind, kind};
 use trace_base::Rec;
 
-/// An argument, and how its number is read.
+/// An argument, its kind, and how its number is read.
 #[derive(Drop)]
 pub struct Argument {
     pub(crate) tree: Expr,
-    pub(crate) read: Read,
     pub(crate) kind: Kind,
-    ghost reads: { ReadsAs read (tree_of tree) } by { Prim.hlevel props },
+    read: Read,
     ghost kinds: { kind ≡ kind_of (tree_of tree) } by { Prim.hlevel props },
+    ghost reads: { ReadsAs read (tree_of tree) } by { Prim.hlevel props },
 }
 
 impl Argument {
+    ghost use Rattle.std.specs.Prelude.{IfSome};
+    ghost use Rattle.fmt_eval.specs.NumView.{num_view};
+    ghost use Rattle.fmt_eval.specs.Values.{given, number_of};
+    ghost use Rattle.fmt_print.specs.ArgumentView.{argument_tree};
+    ghost use Rattle.fmt_print.specs.Strings.{address_of};
+
     /// The argument that a tree is.
     pub fn new(tree: Expr) -> Argument
         ensures { argument_tree result ≡ tree_of tree }
     {
-        let read = read_of(&tree);
         let kind = kind(&tree);
-        Argument { tree, read, kind }
+        let read = read_of(&tree);
+        Argument { tree, kind, read }
     }
 
     /// Its number over a record.

@@ -225,6 +225,12 @@ fn add_any_text(
     }
 }
 
+fn is_letter(byte: u8) -> bool
+    ensures { result ≡ is_letter byte }
+{
+    byte != 0
+}
+
 /// How many bytes stand before the first NUL, of a text of at least 16 bytes, as the names of tasks are. A loop of a known length
 /// is unrolled.
 #[inline(always)]
@@ -235,7 +241,7 @@ fn long_text_len(text: &[u8]) -> usize
 {
     let mut len: usize = 0;
     while len < 16 {
-        if text[len] == 0 {
+        if !is_letter(text[len]) {
             return len;
         }
         len += 1;

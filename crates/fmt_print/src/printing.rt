@@ -130,7 +130,8 @@ fn put_letter_directive<'a>(
 {
     match taken(rec, spec, args) {
         Some(conversion) => {
-            put_letter(&conversion.form, &conversion.argument.tree, rec, into);
+            let tree = &conversion.argument.tree;
+            put_letter(&conversion.form, tree, rec, into);
             conversion.rest
         }
         None => &[],
@@ -152,7 +153,8 @@ fn put_text_directive<'a>(
 {
     match taken(rec, spec, args) {
         Some(conversion) => {
-            put_string(&conversion.form, &conversion.argument.tree, rec, symbols, into);
+            let tree = &conversion.argument.tree;
+            put_string(&conversion.form, tree, rec, symbols, into);
             conversion.rest
         }
         None => &[],
@@ -175,14 +177,8 @@ fn put_pointer_directive<'a>(
 {
     match taken(rec, spec, args) {
         Some(conversion) => {
-            put_pointer(
-                pointer,
-                &conversion.form,
-                &conversion.argument.tree,
-                rec,
-                symbols,
-                into,
-            );
+            let tree = &conversion.argument.tree;
+            put_pointer(pointer, &conversion.form, tree, rec, symbols, into);
             conversion.rest
         }
         None => &[],

@@ -10,9 +10,10 @@ write_digits-start-requires c = (length-decimal-le 20 c.args.n (omega arith) (om
 pub returns : goal.returns
 returns c =
     let start = c.write_digits-start.result in
-    let copied = c.copy_from_slice.new.self in
+    let copied = c.copy_from_slice-2.new.self in
+    let is_copied = c.copy_from_slice-2.ensures.after ∙ c.copy_from_slice.ensures.after in
     let digits = decimal c.args.n in
     added c.self.inside.len _ (20 - start) c.self.inside.room copied digits (omega (arith, c.self.invariant, c.self.told))
-    (enough (20 - start) _ copied _ digits _ c.copy_from_slice.ensures.after c.write_digits-start.ensures.written (omega (arith, c.write_digits-start.ensures.start)) (omega arith))
-    (first_digits (20 - start) _ copied _ digits _ c.copy_from_slice.ensures.after c.write_digits-start.ensures.written (omega (arith, c.write_digits-start.ensures.start)) (omega arith))
+    (enough (20 - start) _ copied _ digits _ is_copied c.write_digits-start.ensures.written (omega (arith, c.write_digits-start.ensures.start)) (omega arith))
+    (first_digits (20 - start) _ copied _ digits _ is_copied c.write_digits-start.ensures.written (omega (arith, c.write_digits-start.ensures.start)) (omega arith))
     ∙ ap (λ (l : List ℕ). l ++ digits) c.self.view_is
