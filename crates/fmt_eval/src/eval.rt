@@ -76,10 +76,7 @@ fn whole_number(signed: bool, bytes: u64) -> Num
 pub(crate) fn half_at(rec: &Rec<'_>, at: u32, signed: bool) -> Num
     ensures { num_view result ≡ placed (given rec.now) at 4 signed }
 {
-    half_number(
-        signed,
-        unsigned_at(rec.order, rec.payload, at as usize, 4),
-    )
+    half_number(signed, unsigned_at(rec.order, rec.payload, at as usize, 4))
 }
 
 /// The number of eight bytes of the payload.
@@ -87,10 +84,7 @@ pub(crate) fn half_at(rec: &Rec<'_>, at: u32, signed: bool) -> Num
 pub(crate) fn whole_at(rec: &Rec<'_>, at: u32, signed: bool) -> Num
     ensures { num_view result ≡ placed (given rec.now) at 8 signed }
 {
-    whole_number(
-        signed,
-        unsigned_at(rec.order, rec.payload, at as usize, 8),
-    )
+    whole_number(signed, unsigned_at(rec.order, rec.payload, at as usize, 8))
 }
 
 /// The number of a field of four or eight bytes, which needs no wider number; none of any other.

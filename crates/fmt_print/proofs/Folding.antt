@@ -23,14 +23,14 @@ pub arguments_more : (made : List Argument) (args : List Expr) (i : ℕ) (d : Ex
     → ArgumentsTo made args i → ArgumentsTo (made ++ a ∷ []) args (i + 1)
 arguments_more made args i d a t lt e h k = record {
   each = λ g.
-    let rest = map (meaning_of g) (map tree_of (drop (i + 1) args)) in
-    let first = map (meaning_of g) (map argument_tree made) in
-    ap (λ (l : List Meaning). l ++ rest)
-    (ap (map (meaning_of g)) (map-append argument_tree made (a ∷ [])) ∙ map-append (meaning_of g) (map argument_tree made) (argument_tree a ∷ []))
-    ∙ append_assoc first (meaning_of g (argument_tree a) ∷ []) rest
-    ∙ ap (λ (m : Meaning). first ++ (m ∷ rest)) (ap (meaning_of g) e ∙ h.each g)
-    ∙ ap (meanings g made) (sym (drop_more args i d lt))
-    ∙ k.each g;
+      let rest = map (meaning_of g) (map tree_of (drop (i + 1) args)) in
+      let first = map (meaning_of g) (map argument_tree made) in
+      ap (λ (l : List Meaning). l ++ rest)
+      (ap (map (meaning_of g)) (map-append argument_tree made (a ∷ [])) ∙ map-append (meaning_of g) (map argument_tree made) (argument_tree a ∷ []))
+      ∙ append_assoc first (meaning_of g (argument_tree a) ∷ []) rest
+      ∙ ap (λ (m : Meaning). first ++ (m ∷ rest)) (ap (meaning_of g) e ∙ h.each g)
+      ∙ ap (meanings g made) (sym (drop_more args i d lt))
+      ∙ k.each g;
 }
 
 pub arguments_all : (made : List Argument) (args : List Expr) (i : ℕ) → length args ≤ i → ArgumentsTo made args i → SameTrees (map argument_tree made) (map tree_of args)

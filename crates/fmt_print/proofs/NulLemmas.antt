@@ -22,5 +22,5 @@ letters_end text i d lt e =
 pub letters_more : (text : List ℕ) (i d : ℕ) → i < length text → is_letter (get_or text i d) ≡ true → len_from text i ≡ len_from text (i + 1)
 letters_more text i d lt e =
     let more : prefix_len is_letter (drop i text) ≡ prefix_len is_letter (drop (i + 1) text) + 1 =
-        ap (prefix_len is_letter) (drop_more text i d lt) ∙ one_letter (get_or text i d) (drop (i + 1) text) e in
+    ap (prefix_len is_letter) (drop_more text i d lt) ∙ one_letter (get_or text i d) (drop (i + 1) text) e in
     omega (arith, more)

@@ -165,7 +165,12 @@ fn add_any_number(
     ensures value { held_with into.new waiting.new ≡ put_held (held_with into.old waiting.old) (number_text (given rec.now) long (plain_spec length) (decimal_base signed) plain_form (argument_tree argument.now)) }
 {
     let bits = bits_of(length, long);
-    add_converted(signed, cast_bits(bits, signed, argument.number(rec)), waiting, into);
+    add_converted(
+        signed,
+        cast_bits(bits, signed, argument.number(rec)),
+        waiting,
+        into,
+    );
 }
 
 /// Adds the text of a plain conversion of numbers.
@@ -184,7 +189,12 @@ pub fn add_number(
     ensures value { held_with into.new waiting.new ≡ put_held (held_with into.old waiting.old) (number_text (given rec.now) long (plain_spec length) (decimal_base signed) plain_form (argument_tree argument.now)) }
 {
     match argument.half(rec) {
-        Some(half) if length == Length::Usual => add_converted(signed, cast_bits(32, signed, half), waiting, into),
+        Some(half) if length == Length::Usual => add_converted(
+            signed,
+            cast_bits(32, signed, half),
+            waiting,
+            into,
+        ),
         _ => add_any_number(long, length, signed, argument, rec, waiting, into),
     }
 }

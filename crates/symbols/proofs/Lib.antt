@@ -6,4 +6,3 @@ pub mod ReadLines
 pub mod RowLemmas
 pub mod SearchLemmas
 pub mod Sorting
-pub mod NotedLemmas

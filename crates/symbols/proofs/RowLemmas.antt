@@ -81,6 +81,9 @@ row_past rows i le = sym (zip_past rows.keys.items (map (text_in rows.block.item
 pub keys_are : (rows : Rows) → IsSound rows → keys_of (rows_view rows) ≡ rows.keys.items
 keys_are rows sound = keys_zip rows.keys.items (map (text_in rows.block.items) rows.spans.items) (length-map rows.spans.items (text_in rows.block.items) ∙ sound.paired)
 
+pub rows_keys : (rows : Rows) → IsSound rows → rows.keys.items ≡ keys_of (rows_view rows)
+rows_keys rows sound = sym (keys_are rows sound)
+
 long_zip : {X : Type 0} (ks : List ℕ) (xs : List X) → length xs ≡ length ks → length ks ≡ length (zip ks xs)
 long_zip [] xs e = refl
 long_zip (k ∷ ks) [] e = absurd (omega (arith, e))

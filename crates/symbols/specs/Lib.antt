@@ -5,4 +5,3 @@ pub mod Found
 pub mod RowsView
 pub mod Search
 pub mod Maps
-pub mod Noted

@@ -1,14 +1,13 @@
 //! The names that a trace file carries: of addresses in the kernel, of printk formats and of tasks.
 //!
 //! [`Symbols::read`] reads three texts once; each look-up is then one binary search over numbers in one array, and takes no
-//! memory. A task is looked for first where [`Places`] has its pid, and that is where most stand.
+//! memory. A task is looked for first where `noted_places::Places` has its pid, and that is where most stand.
 #![tactic(auto)]
 
 mod digits;
 mod found;
 pub mod lines;
 mod maps;
-mod places;
 mod read;
 mod rows;
 mod search;
@@ -18,5 +17,4 @@ mod tests;
 
 pub use found::Found;
 pub use maps::Symbols;
-pub use places::Places;
 pub use table::one_map;

@@ -4,9 +4,9 @@ ghost use Rattle.symbols.specs.NameMap.{first_at, nearest, IsNearest, NoneUpTo};
 ghost use Rattle.symbols.specs.Maps.{AreMapsOf, maps_of, task_name};
 
 use crate::lines::Form;
-use crate::places::Places;
 use crate::read::found_in;
 use crate::table::NameTable;
+use noted_places::Places;
 use std::alloc::{AllocError, Global};
 use std::marker::Model;
 

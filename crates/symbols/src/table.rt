@@ -5,11 +5,11 @@ ghost use Rattle.std.specs.Option.{option_map};
 ghost use Rattle.symbols.specs.NameMap.{first_at, map_of, nearest, IsMapOf, IsNearest, NoneUpTo, OneMap};
 ghost use Rattle.std.specs.Map.{keys_of};
 ghost use Rattle.symbols.specs.Found.{pairs_of};
-ghost use Rattle.symbols.specs.Noted.{noted};
+ghost use Rattle.noted_places.specs.Noted.{noted};
 
 use crate::found::{Found, sort_found};
-use crate::places::Places;
 use crate::rows::{Rows, gather};
+use noted_places::Places;
 use std::alloc::{AllocError, Global};
 use std::marker::Model;
 

@@ -1,5 +1,5 @@
 use crate::lines::{Form, line_in};
-use crate::{Found, Places, Symbols};
+use crate::{Found, Symbols};
 use std::process::Abort;
 use std::test::Fail;
 
@@ -115,15 +115,6 @@ fn names_are_found_by_number(rt: HostRuntime) -> Result<(), Fail> {
     is_row(&rt, symbols.symbol(3), 0, b"");
     is_row(&rt, symbols.printk(1), 7, b"two");
     is_row(&rt, symbols.printk(2), 0, b"");
-    Ok(())
-}
-
-#[test]
-fn numbers_that_are_equal_modulo_1024_share_a_place(rt: HostRuntime) -> Result<(), Fail> {
-    let places = Places::noted(rt.alloc(), &[5, 7, 1029])?;
-    for (number, place) in [(5, 2), (7, 1), (1029, 2), (2053, 2), (6, 0)] {
-        assert_eq!(rt; places.of(number), place);
-    }
     Ok(())
 }
 

@@ -12,7 +12,7 @@ use Rattle.report_print.below.fmt_print.proofs.step.Step.TheSendSync as step
 use Rattle.report_print.below.fmt_print.specs.contracts.plan.PrintPlan.{the_row as plan_row}
 use Rattle.format_parse.proofs.table.FormatTable.TheSendSync as table
 use Rattle.symbols.proofs.maps.Symbols.TheSendSync as symbols
-use Rattle.symbols.proofs.places.Places.TheSendSync as places
+use Rattle.report_print.below.noted_places.proofs.places.Places.TheSendSync as places
 use Rattle.trace_base.proofs.byte_text.ByteText.TheSendSync as text
 use Rattle.report_print.proofs.common.CommonFields.TheSendSync as common
 use Rattle.report_print.proofs.show.Show.TheSendSync as show

@@ -1,8 +1,8 @@
 use Rattle.std.proofs.Common.{◌≡◌, ◌∙◌, ℕ, List, ap, subst, IfOk}
 use Rattle.std.specs.Map.{keys_of}
 use Rattle.symbols.specs.NameMap.{Pair}
-use Rattle.symbols.specs.Noted.{noted}
-use Rattle.symbols.proofs.NotedLemmas.{rows_keys}
+use Rattle.noted_places.specs.Noted.{noted}
+use Rattle.symbols.proofs.RowLemmas.{rows_keys}
 use Rattle.symbols.proofs.table.NameTable.places.Goals as goal
 
 pub returns : goal.returns

@@ -1,12 +1,7 @@
 -- The places of numbers, as they are noted one after another.
-use Rattle.std.proofs.Common.{◌≡◌, ℕ, zero, suc, ◌+◌, ◌%◌, ◌<◌, ◌≤◌, List, [], ◌∷◌, map, length, drop, set, slice_index, refl, sym, ap, ◌∙◌, arith}
+use Rattle.std.proofs.Common.{◌≡◌, ℕ, zero, suc, ◌+◌, ◌%◌, ◌<◌, ◌≤◌, List, [], ◌∷◌, length, drop, set, slice_index, refl, sym, ap, ◌∙◌, arith}
 use Rattle.std.proofs.lemmas.List.{at_drop_all}
-use Rattle.std.specs.Map.{keys_of}
-use Rattle.std.proofs.lemmas.List.{length-map}
-use Rattle.symbols.specs.declared.rows.Rows.{Rows}
-use Rattle.symbols.specs.RowsView.{rows_view, text_in, IsSound}
-use Rattle.symbols.specs.Noted.{noted_from}
-use Rattle.symbols.proofs.RowLemmas.{keys_zip}
+use Rattle.noted_places.specs.Noted.{noted_from}
 
 drop_one : (ns : List ℕ) (i : ℕ) → i < length ns → drop i ns ≡ slice_index ns i ∷ drop (i + 1) ns
 drop_one [] i less = absurd (omega (arith, less))
@@ -19,7 +14,3 @@ one_noted places now r ns i less before is =
 
 pub all_noted : (places r : List ℕ) (ns : List ℕ) (i : ℕ) → length ns ≤ i → noted_from i places (drop i ns) ≡ r → places ≡ r
 all_noted places r ns i le before = sym (at_drop_all (noted_from i places) ns i le) ∙ before
-
--- the numbers of rows
-pub rows_keys : (rows : Rows) → IsSound rows → rows.keys.items ≡ keys_of (rows_view rows)
-rows_keys rows sound = sym (keys_zip rows.keys.items (map (text_in rows.block.items) rows.spans.items) (length-map rows.spans.items (text_in rows.block.items) ∙ sound.paired))

@@ -1,6 +1,6 @@
-use Rattle.symbols.proofs.NotedLemmas.{one_noted, all_noted}
+use Rattle.noted_places.proofs.NotedLemmas.{one_noted, all_noted}
 use Rattle.std.proofs.Common.{arith}
-use Rattle.symbols.proofs.places.Places.noted.Goals as goal
+use Rattle.noted_places.proofs.places.Places.noted.Goals as goal
 
 pub loop-place-preserved : goal.loop-place-preserved
 loop-place-preserved c = one_noted c.loop-place.places c.note.new.self _ c.args.numbers.now c.loop-place.place (omega (arith, c.loop-place-test.true)) c.loop-place.invariant c.note.ensures

@@ -1,7 +1,7 @@
 // Where numbers may stand in a list.
 
 ghost use Rattle.std.specs.Prelude.{◌≡◌, ◌%◌, replicate, set, slice_index, IfOk};
-ghost use Rattle.symbols.specs.Noted.{noted};
+ghost use Rattle.noted_places.specs.Noted.{noted};
 
 use std::alloc::{AllocError, Global};
 use std::marker::Model;
