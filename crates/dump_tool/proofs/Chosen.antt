@@ -1,19 +1,13 @@
 -- The chosen sections, one behind another.
-use Rattle.std.proofs.Common.{◌≡◌, arith, ℕ, ◌+◌, ◌<◌, suc, Bool, true, false, List, [], ◌∷◌, ◌++◌, length, take, drop, get_or, append_assoc, refl, sym, ap, ◌∙◌, Option, Result, Ok, Err, OnOk, OnErr, subst}
+use Rattle.std.proofs.Common.{◌≡◌, ℕ, ◌+◌, Bool, true, false, List, [], ◌∷◌, ◌++◌, refl, sym, ap, ◌∙◌}
 use Rattle.std.specs.Prelude.{if◌then◌else◌}
 use Rattle.std.specs.List.{flat_map, filter}
-use Rattle.std.proofs.lemmas.List.{append-nil, take_all}
 use Rattle.std.proofs.lemmas.List.Concat.{flat_map-cons}
-use Rattle.trace_outside.specs.Writing.{Gained, GainedPrefix}
-use Rattle.trace_outside.specs.Pending.{Holds, Flushes}
-use Rattle.trace_outside.proofs.Gains.{flat_map-parted}
-use Rattle.trace_outside.proofs.PendingLemmas.{prefix_longer, flushed, flush_stopped}
 use Rattle.trace_args.specs.Command.{DumpData}
 use Rattle.word_values.specs.Sections.{sections}
 use Rattle.word_values.specs.declared.section.Section.{Section}
 use Rattle.dat_header.specs.declared.header.Header.{Header}
-use Rattle.dump_tool.specs.Dump.{section_text, is_chosen, chosen_text, dump_text}
-use Rattle.dump_tool.proofs.Putting.{Put, Stopped, flat_map_up_to}
+use Rattle.dump_tool.specs.Dump.{section_text, is_chosen, dump_text}
 
 -- the text of a section where it is chosen
 abbrev pub text_if : DumpData → Header → Section → List ℕ

@@ -1,13 +1,11 @@
 -- How numbers of fields are read, also behind casts.
-use Rattle.std.proofs.Common.{◌≡◌, ℕ, Bool, true, false, ◌&&◌, ◌%◌, ◌^◌, sym, ap, ◌∙◌, refl, if◌then◌else◌, arith}
-use Rattle.std.specs.Prelude.{ℤ, pos}
-use Rattle.std.specs.Int.{int_rem_euclid}
+use Rattle.std.proofs.Common.{◌≡◌, ℕ, Bool, false, ◌&&◌, sym, ap, ◌∙◌, refl, if◌then◌else◌, arith}
+use Rattle.std.specs.Prelude.{pos}
 use Rattle.trace_base.specs.declared.field.Field.{Field}
 use Rattle.trace_base.specs.declared.field.FieldKind.{FieldKind}
 use Rattle.trace_base.specs.declared.field.FieldKind.TheVariants.{Number, Pointer}
 use Rattle.trace_base.specs.Fields.{has_sign, has_number, sized, unsigned_in, number_in}
 use Rattle.fmt_literal.specs.declared.ckind.CKind.TheVariants.{U64}
-use Rattle.fmt_literal.specs.declared.cast_to.CastTo.{CastTo}
 use Rattle.fmt_literal.specs.declared.cast_to.CastTo.TheVariants.{Same}
 use Rattle.fmt_expr.specs.Tree as tree
 use Rattle.fmt_expr.specs.Tree.{Tree}

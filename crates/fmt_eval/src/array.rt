@@ -1,6 +1,6 @@
 //! The texts of `__print_hex` and `__print_array`.
 
-ghost use Rattle.std.specs.Prelude.{◌≡◌, false, ◌<◌, ◌^◌, ◌≤◌, IfSome, Some, None, length, unsigned_abs, true, if◌then◌else◌};
+ghost use Rattle.std.specs.Prelude.{◌≡◌, false, ◌<◌, ◌^◌, IfSome, Some, None, unsigned_abs, true, if◌then◌else◌};
 ghost use Rattle.trace_base.specs.Kept.{put};
 ghost use Rattle.trace_base.specs.TailView.{kept, lent};
 ghost use Rattle.trace_base.specs.Fields.{is_size};

@@ -9,7 +9,7 @@ ghost use Rattle.fmt_eval.specs.Numbers.{IsReduced, reduced};
 ghost use Rattle.fmt_eval.specs.Values.{Given, number_of};
 ghost use Rattle.fmt_eval.specs.Bytes.{bytes_of};
 ghost use Rattle.fmt_eval.specs.Texts.{text_of};
-ghost use Rattle.fmt_eval.specs.Value.{Value, a_number, a_text, some_bytes, value_of};
+ghost use Rattle.fmt_eval.specs.Value.{a_number, a_text, some_bytes, value_of};
 
 /// What a kind leaves of a number is a number of that kind that differs from it by a multiple of two to the width.
 pub fn reduced_is()

@@ -1,10 +1,10 @@
 //! Pieces of text with a text between them.
 
-ghost use Rattle.std.specs.Prelude.{◌≡◌, ◌∷◌, ◌++◌, [], false, ◌<◌, map, if◌then◌else◌};
+ghost use Rattle.std.specs.Prelude.{◌≡◌, ◌++◌, [], false, ◌<◌, map, if◌then◌else◌};
 ghost use Rattle.std.specs.Fmt.{digit_glyph};
 ghost use Rattle.trace_base.specs.Kept.{put};
 ghost use Rattle.trace_base.specs.TailView.{kept, lent};
-ghost use Rattle.fmt_eval.specs.Pieces.{join, join_behind, hexadecimal, two_digits};
+ghost use Rattle.fmt_eval.specs.Pieces.{join, hexadecimal, two_digits};
 
 use trace_base::{Tail, write_digits};
 

@@ -1,9 +1,7 @@
 -- Rows that were made from the first of others.
-use Rattle.std.proofs.Common.{◌≡◌, ℕ, ◌+◌, ◌<◌, ◌≤◌, List, [], ◌∷◌, ◌++◌, length, map, drop, get_or, refl, ap, sym, ◌∙◌, append_assoc}
+use Rattle.std.proofs.Common.{◌≡◌, ℕ, ◌+◌, ◌<◌, ◌≤◌, List, [], ◌∷◌, ◌++◌, length, map, drop, get_or, ap, sym, ◌∙◌, append_assoc}
 use Rattle.std.proofs.lemmas.List.{append-nil, map-append, drop_more, drop_all}
-use Rattle.fmt_expr.specs.Tree.{Tree}
 use Rattle.fmt_expr.specs.TreeView.{tree_of}
-use Rattle.fmt_expr.specs.declared.expr.Expr.{Expr}
 use Rattle.c_operators.specs.declared.binary.BinaryOp.{BinaryOp}
 use Rattle.fmt_expr.specs.declared.expr.Operand.{Operand}
 use Rattle.fmt_expr.specs.declared.expr.Entry.{Entry}
@@ -11,7 +9,7 @@ use Rattle.fmt_eval.specs.Numbers.{Number, pattern}
 use Rattle.fmt_eval.specs.Values.{Given, number_of}
 use Rattle.fmt_eval.specs.Flags.{Row}
 use Rattle.fmt_eval.specs.Entered.{row_of}
-use Rattle.fmt_fold.specs.Same.{Meaning, meaning_of, IsSame, step_of, SameOperands, SameEntries, SameTrees}
+use Rattle.fmt_fold.specs.Same.{Meaning, IsSame, step_of, SameOperands, SameEntries}
 
 pub more : {A B : Type 0} (f : A → B) (xs ys : List A) (i : ℕ) (d o : A) → i < length ys → f o ≡ f (get_or ys i d) → map f xs ++ map f (drop i ys) ≡ map f ys
     → map f (xs ++ o ∷ []) ++ map f (drop (i + 1) ys) ≡ map f ys

@@ -1,9 +1,9 @@
 //! Trees with their constant parts computed.
 
-ghost use Rattle.std.specs.Prelude.{◌≡◌, true, ◌&&◌, map, IfOk};
+ghost use Rattle.std.specs.Prelude.{◌≡◌, true, ◌&&◌, IfOk};
 ghost use Rattle.fmt_expr.specs.Tree.{chain, choice, flags, symbolic, hex, array, prefix, cast, element};
 ghost use Rattle.fmt_expr.specs.TreeView.{tree_of, operands_of, entries_of};
-ghost use Rattle.fmt_fold.specs.Same.{IsSame, SameOperands, SameEntries, SameTrees};
+ghost use Rattle.fmt_fold.specs.Same.{IsSame, SameOperands, SameEntries};
 ghost use Rattle.fmt_fold.specs.Constants.{is_written, all_written, is_constant, all_constant};
 
 use crate::constants::settled;

@@ -9,7 +9,7 @@ ghost use Rattle.fmt_expr.specs.TreeView.{tree_of};
 ghost use Rattle.fmt_expr.specs.Kinds.{kind_of};
 ghost use Rattle.fmt_eval.specs.Values.{given};
 ghost use Rattle.fmt_eval.specs.Texts.{text_of};
-ghost use Rattle.fmt_eval.specs.Pieces.{join, hexadecimal, two_digits};
+ghost use Rattle.fmt_eval.specs.Pieces.{join, hexadecimal};
 ghost use Rattle.fmt_forms.specs.Texts.{padded};
 ghost use Rattle.fmt_print.specs.Addresses.{name_or, offset_or, four_bytes, six_bytes, network_text, network_by, pointer_text};
 

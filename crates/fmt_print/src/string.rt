@@ -1,6 +1,6 @@
 //! The conversions `c` and `s`.
 
-ghost use Rattle.std.specs.Prelude.{◌≡◌, ◌%◌, ◌^◌, ◌++◌, ◌-◌, IfSome};
+ghost use Rattle.std.specs.Prelude.{◌≡◌, ◌%◌, ◌-◌, IfSome};
 ghost use Rattle.std.specs.Option.{option_map, unwrap_or};
 ghost use Rattle.symbols.specs.NameMap.{first_at};
 ghost use Rattle.trace_base.specs.Kept.{put, put_held};

@@ -1,6 +1,6 @@
 //! The lines of kallsyms, printk formats and saved command lines, one at a time.
 
-ghost use Rattle.std.specs.Prelude.{◌≡◌, length, IfSome, IfNone};
+ghost use Rattle.std.specs.Prelude.{◌≡◌, IfSome, IfNone};
 ghost use Rattle.std.specs.List.{prefix_len};
 ghost use Rattle.std.specs.Option.{option_map};
 ghost use Rattle.symbols.specs.NameMap.{Pair};

@@ -2,7 +2,7 @@
 
 ghost use Rattle.std.specs.Prelude.{◌≡◌, Some, length, slice_get, IfOk, IfSome, IfNone};
 ghost use Rattle.std.specs.Option.{option_map};
-ghost use Rattle.symbols.specs.NameMap.{first_at, map_of, nearest, IsMapOf, IsNearest, NoneUpTo, OneMap};
+ghost use Rattle.symbols.specs.NameMap.{first_at, nearest, IsMapOf, IsNearest, NoneUpTo, OneMap};
 ghost use Rattle.std.specs.Map.{keys_of};
 ghost use Rattle.symbols.specs.Found.{pairs_of};
 ghost use Rattle.noted_places.specs.Noted.{noted};
