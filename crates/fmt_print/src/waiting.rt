@@ -93,6 +93,7 @@ impl Waiting {
     }
 
     /// Adds a decimal number.
+    #[inline(always)]
     pub fn decimal(&mut self, n: u64)
         requires { length self.old + 20 ≤ 192 }
         ensures { self.new ≡ self.old ++ decimal n }
