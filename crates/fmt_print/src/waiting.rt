@@ -53,12 +53,12 @@ impl Waiting {
         requires { length self.old + length text.now ≤ 192 }
         ensures { self.new ≡ self.old ++ text.now }
     {
-        if text.is_empty() {
-            return;
-        }
-        if text.len() == 1 {
-            self.room[self.len..self.len + 1].copy_from_slice(text);
-            self.len += 1;
+        // Most texts of choices have one byte or none, for which a call to copy them is dear.
+        if text.len() < 2 {
+            if text.len() == 1 {
+                self.room[self.len..self.len + 1].copy_from_slice(text);
+                self.len += 1;
+            }
             return;
         }
         let end = self.len + text.len();
