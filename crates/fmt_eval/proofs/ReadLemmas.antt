@@ -5,14 +5,20 @@ use Rattle.trace_base.specs.declared.field.Field.{Field}
 use Rattle.trace_base.specs.declared.field.FieldKind.{FieldKind}
 use Rattle.trace_base.specs.declared.field.FieldKind.TheVariants.{Number, Pointer}
 use Rattle.trace_base.specs.Fields.{has_sign, has_number, sized, unsigned_in, number_in}
+use Rattle.c_operators.specs.declared.binary.BinaryOp.TheVariants.{BitAnd}
+use Rattle.fmt_literal.specs.declared.ckind.CKind.{CKind}
 use Rattle.fmt_literal.specs.declared.ckind.CKind.TheVariants.{U64}
 use Rattle.fmt_literal.specs.declared.cast_to.CastTo.TheVariants.{Same}
 use Rattle.fmt_expr.specs.Tree as tree
 use Rattle.fmt_expr.specs.Tree.{Tree}
 use Rattle.fmt_eval.specs.Numbers as numbers
-use Rattle.fmt_eval.specs.Numbers.{number, reduced}
+use Rattle.fmt_eval.specs.Numbers.{number, reduced, is_true}
 use Rattle.fmt_eval.specs.Values.{Given, sized_kind, number_of}
-use Rattle.fmt_eval.specs.Reads.{placed, number_by, ReadsAs, ReadsPlaced, unsigned_64}
+use Rattle.fmt_eval.specs.NumView.{num_view}
+use Rattle.fmt_eval.specs.Operators.{applied}
+use Rattle.fmt_eval.specs.Reads.{placed, number_by, ReadsAs, ReadsPlaced, TestsAs, under_mask, unsigned_64}
+use Rattle.fmt_eval.specs.declared.num.Num.{Num}
+use Rattle.fmt_eval.specs.declared.read.Test.TheVariants as test
 use Rattle.fmt_eval.specs.declared.read.Read.{Read}
 use Rattle.fmt_eval.specs.declared.read.Read.TheVariants.{Half, Whole, Walk}
 
@@ -53,4 +59,18 @@ twice_reduced n = ap pos (omega arith)
 pub whole_cast : (at : ℕ) (t : Tree) → ReadsAs (Whole at false) t → ReadsAs (Whole at false) (tree.cast unsigned_64 t)
 whole_cast at t h = record {
   each = λ g. ap (number U64) (twice_reduced (unsigned_in g.order g.payload at 8)) ∙ ap (λ (n : numbers.Number). number U64 (reduced U64 n.exact)) (h.each g);
+}
+
+abbrev num : ℕ → CKind → Num
+num bits kind = record { bits = bits; kind = kind }
+
+-- what is read under a mask is tested as the tree under the mask
+pub half_test : (first : Tree) (at bits : ℕ) (signed : Bool) (kind : CKind) (mask : Num) → mask ≡ num bits kind → ReadsAs (Half at signed) first → TestsAs (test.Half at signed mask) (under_mask first bits kind)
+half_test first at bits signed kind mask is h = record {
+  each = λ g. ap (λ (m : Num). is_true (applied BitAnd (placed g at 4 signed) (num_view m))) is ∙ ap (λ (n : numbers.Number). is_true (applied BitAnd n (num_view (num bits kind)))) (h.each g);
+}
+
+pub whole_test : (first : Tree) (at bits : ℕ) (signed : Bool) (kind : CKind) (mask : Num) → mask ≡ num bits kind → ReadsAs (Whole at signed) first → TestsAs (test.Whole at signed mask) (under_mask first bits kind)
+whole_test first at bits signed kind mask is h = record {
+  each = λ g. ap (λ (m : Num). is_true (applied BitAnd (placed g at 8 signed) (num_view m))) is ∙ ap (λ (n : numbers.Number). is_true (applied BitAnd n (num_view (num bits kind)))) (h.each g);
 }

@@ -22,5 +22,5 @@ pub use field_bytes::bytes;
 pub use laws::{one_reduced, reduced_is, values_by_kind};
 pub use num::Num;
 pub use pieces::{put_hexadecimal, put_octets, put_piece};
-pub use read::{Read, number_read, read_of};
+pub use read::{Read, Test, number_read, read_of, test_holds, test_of};
 pub use text::{put_text, up_to_nul};

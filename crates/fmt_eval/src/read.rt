@@ -2,15 +2,18 @@
 
 ghost use Rattle.std.specs.Prelude.{◌≡◌};
 ghost use Rattle.fmt_eval.specs.NumView.{num_view};
-ghost use Rattle.fmt_eval.specs.Reads.{ReadsAs, ReadsPlaced, unsigned_64};
+ghost use Rattle.fmt_eval.specs.Numbers.{is_true};
+ghost use Rattle.fmt_eval.specs.Reads.{ReadsAs, ReadsPlaced, TestsAs, under_mask, unsigned_64};
 ghost use Rattle.fmt_eval.specs.Values.{given, number_of};
 ghost use Rattle.fmt_expr.specs.Tree as tree;
 ghost use Rattle.fmt_expr.specs.Tree.{Tree};
-ghost use Rattle.fmt_expr.specs.TreeView.{tree_of};
+ghost use Rattle.fmt_expr.specs.TreeView.{tree_of, operands_of};
 
-use crate::eval::{half_at, walked, whole_at};
+use crate::eval::{half_at, holds, walked, whole_at};
 use crate::num::Num;
-use fmt_expr::{CastTo, Expr};
+use crate::operators::bit_and;
+use c_operators::BinaryOp;
+use fmt_expr::{CKind, CastTo, Expr, Operand};
 use trace_base::{Field, FieldKind, Rec};
 
 /// How a number is read.
@@ -105,5 +108,69 @@ pub fn number_read(read: Read, expr: &Expr, rec: &Rec<'_>) -> Num
         Read::Half { at, signed } => half_at(rec, at, signed),
         Read::Whole { at, signed } => whole_at(rec, at, signed),
         Read::Walk => walked(expr, rec),
+    }
+}
+
+/// How a test is made, where it looks at bits of one field.
+#[derive(Clone, Copy)]
+pub enum Test {
+    /// Four bytes at a place in the payload, under a mask.
+    Half { at: u32, signed: bool, mask: Num },
+    /// Eight bytes at a place in the payload, under a mask.
+    Whole { at: u32, signed: bool, mask: Num },
+    /// By a walk over the tree.
+    Walk,
+}
+
+/// How a test of a number under a mask is made.
+#[tactic(auto, using(crate::proofs::ReadLemmas::half_test, crate::proofs::ReadLemmas::whole_test))]
+fn masked(first: &Expr, bits: u64, kind: CKind) -> Test
+    ensures { TestsAs result (under_mask (tree_of first.now) bits kind) }
+{
+    let mask = Num { bits, kind };
+    match read_of(first) {
+        Read::Half { at, signed } => Test::Half { at, signed, mask },
+        Read::Whole { at, signed } => Test::Whole { at, signed, mask },
+        Read::Walk => Test::Walk,
+    }
+}
+
+/// How a test of a number with operators behind it is made.
+#[tactic(auto, using(crate::proofs::Rows::operands_row))]
+fn chain_test(first: &Expr, rest: &[Operand]) -> Test
+    ensures { TestsAs result (tree.chain (tree_of first.now) (operands_of rest.now)) }
+{
+    if rest.len() != 1 {
+        return Test::Walk;
+    }
+    let Expr::Number { bits, kind } = &rest[0].value else {
+        return Test::Walk;
+    };
+    match rest[0].op {
+        BinaryOp::BitAnd => masked(first, *bits, *kind),
+        _ => Test::Walk,
+    }
+}
+
+/// How a test is made.
+pub fn test_of(expr: &Expr) -> Test
+    ensures { TestsAs result (tree_of expr.now) }
+{
+    match expr {
+        Expr::Chain { first, rest } => chain_test(first, rest.as_slice()),
+        _ => Test::Walk,
+    }
+}
+
+/// Whether the number of a tree is not 0, by the test that is made of it.
+#[inline(always)]
+pub fn test_holds(test: Test, expr: &Expr, rec: &Rec<'_>) -> bool
+    requires { TestsAs test (tree_of expr.now) }
+    ensures { result ≡ is_true (number_of (given rec.now) (tree_of expr.now)) }
+{
+    match test {
+        Test::Half { at, signed, mask } => bit_and(half_at(rec, at, signed), mask).is_true(),
+        Test::Whole { at, signed, mask } => bit_and(whole_at(rec, at, signed), mask).is_true(),
+        Test::Walk => holds(expr, rec),
     }
 }

@@ -8,3 +8,4 @@ pub mod WaitLemmas
 pub mod StepLemmas
 pub mod Folding
 pub mod NulLemmas
+pub mod KnownLemmas

@@ -1,5 +1,6 @@
 pub mod Strings
 pub mod Addresses
+pub mod Known
 pub mod Arguments
 pub mod Plan
 pub mod Printed

@@ -1,29 +1,92 @@
-//! Arguments.
+//! Arguments, and what is known of them before any record is read.
 
-ghost use Rattle.std.specs.Prelude.{◌≡◌};
+ghost use Rattle.std.specs.Prelude.{◌≡◌, IfSome};
 ghost use Rattle.std.proofs.Props.{props};
 ghost use Rattle.fmt_expr.specs.Kinds.{kind_of};
+ghost use Rattle.fmt_expr.specs.Tree as tree;
 ghost use Rattle.fmt_expr.specs.TreeView.{tree_of};
-ghost use Rattle.fmt_eval.specs.Reads.{ReadsAs};
+ghost use Rattle.fmt_eval.specs.Reads.{ReadsAs, TestsAs};
+ghost use Rattle.fmt_eval.specs.Texts.{up_to_nul, text_of};
+ghost use Rattle.fmt_eval.specs.Values.{given, number_of};
+ghost use Rattle.fmt_print.specs.Known.{test_in, StandsAt};
 
-use fmt_eval::{Num, Read, number_read, read_of};
+use crate::string::source_of;
+use fmt_eval::{Num, Read, Test, number_read, read_of, test_holds, test_of};
 use fmt_expr::{Expr, Kind, kind};
-use trace_base::Rec;
+use trace_base::{Field, FieldPlace, Rec};
 
-/// An argument, its kind, and how its number is read.
+/// Where a text of fixed length stands in the payload of each record.
+#[derive(Clone, Copy)]
+pub struct TextPlace {
+    pub at: u32,
+    pub len: u32,
+}
+
+/// An argument: its tree, and what is known of it before any record is read.
 #[derive(Drop)]
 pub struct Argument {
     pub(crate) tree: Expr,
     pub(crate) kind: Kind,
+    /// How its number is read.
     read: Read,
+    /// How the test of a choice is made.
+    test: Test,
+    /// Where its text stands.
+    place: Option<TextPlace>,
     ghost kinds: { kind ≡ kind_of (tree_of tree) } by { Prim.hlevel props },
     ghost reads: { ReadsAs read (tree_of tree) } by { Prim.hlevel props },
+    ghost tests: { TestsAs test (test_in (tree_of tree)) } by { Prim.hlevel props },
+    ghost stands: { IfSome place (StandsAt (tree_of tree)) } by { Prim.hlevel props },
+}
+
+/// How the test of a choice is made.
+fn choice_test(tree: &Expr) -> Test
+    ensures { TestsAs result (test_in (tree_of tree.now)) }
+{
+    match tree {
+        Expr::Choice { test, .. } => test_of(test),
+        _ => Test::Walk,
+    }
+}
+
+/// Where the text of a field stands, if it is of fixed length.
+#[tactic(auto, using(crate::proofs::KnownLemmas::field_stands))]
+fn field_place(field: &Field) -> Option<TextPlace>
+    ensures { IfSome result (StandsAt (tree.field_text field.now)) }
+{
+    match field.place {
+        FieldPlace::Fixed if field.size > 0 => Some(TextPlace {
+            at: field.offset,
+            len: field.size,
+        }),
+        _ => None,
+    }
+}
+
+/// Where a text stands, if it is that of a field of fixed length.
+fn text_place(tree: &Expr) -> Option<TextPlace>
+    ensures { IfSome result (StandsAt (tree_of tree.now)) }
+{
+    match tree {
+        Expr::FieldText { field } => field_place(field),
+        _ => None,
+    }
+}
+
+/// The tree that gives the text of an arm of a choice. Most arms are that tree themselves.
+#[inline(always)]
+fn arm_source<'a>(arm: &'a Expr, rec: &Rec<'_>) -> &'a Expr
+    ensures { text_of (given rec.now) (tree_of result.now) ≡ text_of (given rec.now) (tree_of arm.now) }
+{
+    match arm {
+        Expr::Cast { .. } | Expr::Choice { .. } => source_of(arm, rec),
+        _ => arm,
+    }
 }
 
 impl Argument {
-    ghost use Rattle.std.specs.Prelude.{IfSome};
+    ghost use Rattle.fmt_expr.specs.declared.kinds.Kind.TheVariants as kinds;
     ghost use Rattle.fmt_eval.specs.NumView.{num_view};
-    ghost use Rattle.fmt_eval.specs.Values.{given, number_of};
     ghost use Rattle.fmt_print.specs.ArgumentView.{argument_tree};
     ghost use Rattle.fmt_print.specs.Strings.{address_of};
 
@@ -33,7 +96,15 @@ impl Argument {
     {
         let kind = kind(&tree);
         let read = read_of(&tree);
-        Argument { tree, kind, read }
+        let test = choice_test(&tree);
+        let place = text_place(&tree);
+        Argument {
+            tree,
+            kind,
+            read,
+            test,
+            place,
+        }
     }
 
     /// Its number over a record.
@@ -61,5 +132,38 @@ impl Argument {
         ensures { result ≡ address_of (given rec.now) (argument_tree self.now) }
     {
         self.number(rec).pattern()
+    }
+
+    /// Its text where it lies in a record at a known place, perhaps with a NUL and more behind it.
+    #[inline(always)]
+    #[tactic(auto, using(crate::proofs::KnownLemmas::stands_text))]
+    pub fn placed_text<'a>(&self, rec: &Rec<'a>) -> Option<&'a [u8]>
+        ensures value { IfSome result (λ text. up_to_nul text.now ≡ up_to_nul (text_of (given rec.now) (argument_tree self.now))) }
+        ensures kind { IfSome result (λ _. kind_of (argument_tree self.now) ≡ kinds.Text) }
+    {
+        let place = self.place?;
+        let start = place.at as usize;
+        let end = start + place.len as usize;
+        if rec.payload.len() < end {
+            return None;
+        }
+        Some(&rec.payload[start..end])
+    }
+
+    /// The tree that gives its text: that behind a cast, and of a choice the arm that is taken.
+    #[inline(always)]
+    pub fn source(&self, rec: &Rec<'_>) -> &Expr
+        ensures { text_of (given rec.now) (tree_of result.now) ≡ text_of (given rec.now) (argument_tree self.now) }
+    {
+        match &self.tree {
+            Expr::Choice { test, yes, no } => {
+                if test_holds(self.test, test, rec) {
+                    arm_source(yes, rec)
+                } else {
+                    arm_source(no, rec)
+                }
+            }
+            tree => source_of(tree, rec),
+        }
     }
 }

@@ -24,7 +24,7 @@ use crate::address::put_pointer;
 use crate::argument::Argument;
 use crate::flow::put_shown;
 use crate::printing::bits_of;
-use crate::string::{put_string, source_of, text_at_once};
+use crate::string::{put_string, text_at_once};
 use crate::waiting::Waiting;
 use fmt_directives::{Length, PointerForm};
 use fmt_eval::{Num, cast_bits, up_to_nul};
@@ -227,7 +227,7 @@ fn add_any_text(
     ensures value { held_with into.new waiting.new ≡ put_held (held_with into.old waiting.old) (string_text (given rec.now) symbols.now plain_form (argument_tree argument.now)) }
 {
     match argument.kind {
-        Kind::Text => add_source(source_of(&argument.tree, rec), rec, waiting, into),
+        Kind::Text => add_source(argument.source(rec), rec, waiting, into),
         Kind::Number | Kind::Bytes => {
             waiting.put_into(into);
             put_string(&plain_form(), &argument.tree, rec, symbols, into);
@@ -271,7 +271,7 @@ pub fn add_text(
     ensures same_slice { lent into.new ≡ lent into.old }
     ensures value { held_with into.new waiting.new ≡ put_held (held_with into.old waiting.old) (string_text (given rec.now) symbols.now plain_form (argument_tree argument.now)) }
 {
-    match text_at_once(&argument.tree, rec) {
+    match argument.placed_text(rec) {
         Some(text) if text.len() >= 16 => add_front(text, long_text_len(text), waiting, into),
         _ => add_any_text(argument, rec, symbols, waiting, into),
     }

@@ -1,0 +1,19 @@
+-- What is known of an argument before any record is read.
+use Rattle.std.specs.Prelude.{◌≡◌, take, drop}
+use Rattle.fmt_expr.specs.Kinds.{kind_of}
+use Rattle.fmt_expr.specs.Tree as tree
+use Rattle.fmt_expr.specs.Tree.{Tree}
+use Rattle.fmt_expr.specs.declared.kinds.Kind.TheVariants.{Text}
+use Rattle.fmt_eval.specs.Texts.{up_to_nul, text_of}
+use Rattle.fmt_eval.specs.Values.{Given}
+use Rattle.fmt_print.specs.declared.argument.TextPlace.{TextPlace}
+
+-- the test of a choice; of any other tree the tree itself
+abbrev pub test_in : Tree → Tree
+test_in (tree.choice test a b) = test
+test_in t = t
+
+-- over every record, the text of the tree is what stands at a place, up to its first NUL
+pub record StandsAt (t : Tree) (place : TextPlace) : Type 0 where
+  pub kind : kind_of t ≡ Text
+  pub each : (g : Given) → text_of g t ≡ up_to_nul (take place.len (drop place.at g.payload))
