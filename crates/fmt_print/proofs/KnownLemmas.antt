@@ -1,5 +1,5 @@
 -- Texts that stand at a place.
-use Rattle.std.proofs.Common.{◌≡◌, ℕ, ◌<◌, ◌==◌, false, List, length, take, drop, sym, ap, ◌∙◌, refl, if◌then◌else◌, arith}
+use Rattle.std.proofs.Common.{◌≡◌, ℕ, ◌<◌, ◌==◌, List, length, take, drop, sym, ap, ◌∙◌, refl, if◌then◌else◌, arith}
 use Rattle.std.proofs.lemmas.Bool.{ne_eqb}
 use Rattle.trace_base.specs.declared.field.Field.{Field}
 use Rattle.trace_base.specs.declared.field.FieldPlace.{FieldPlace}
@@ -33,7 +33,7 @@ pub field_stands : (f : Field) (place : TextPlace) → f.place ≡ Fixed → 0 <
 field_stands f place is some at len = record {
   kind = refl;
   each = λ g.
-    ap up_to_nul (fixed_bytes g f is some
+      ap up_to_nul (fixed_bytes g f is some
       ∙ ap (λ (n : ℕ). take n (drop f.offset g.payload)) (sym len)
       ∙ ap (λ (n : ℕ). take place.len (drop n g.payload)) (sym at));
 }

@@ -50,7 +50,6 @@ fn choice_test(tree: &Expr) -> Test
 }
 
 /// Where the text of a field stands, if it is of fixed length.
-#[tactic(auto, using(crate::proofs::KnownLemmas::field_stands))]
 fn field_place(field: &Field) -> Option<TextPlace>
     ensures { IfSome result (StandsAt (tree.field_text field.now)) }
 {
