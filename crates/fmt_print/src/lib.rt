@@ -13,7 +13,6 @@ mod step;
 mod string;
 #[cfg(test)]
 mod tests;
-mod waiting;
 
 pub use fmt_directives::{Amount, Base, Directive, Length, PointerForm, Spec};
 pub use plan::PrintPlan;

@@ -25,13 +25,13 @@ use crate::argument::Argument;
 use crate::flow::put_shown;
 use crate::printing::bits_of;
 use crate::string::{put_string, text_at_once};
-use crate::waiting::Waiting;
 use fmt_directives::{Length, PointerForm};
 use fmt_eval::{Num, cast_bits, up_to_nul};
 use fmt_expr::{Expr, Kind};
 use fmt_forms::{Form, written};
 use symbols::Symbols;
 use trace_base::{Rec, Tail, text_len};
+use waiting_text::Waiting;
 
 fn plain_form() -> Form
     ensures { result ≡ plain_form }

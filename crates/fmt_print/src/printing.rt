@@ -21,12 +21,12 @@ use crate::plain::{add_front, add_number, add_pointer, add_text};
 use crate::plan::PrintPlan;
 use crate::step::{Literal, Shown, Step};
 use crate::string::{put_letter, put_string};
-use crate::waiting::Waiting;
 use fmt_directives::{Base, Directive, Length, PointerForm, Spec};
 use fmt_eval::cast_bits;
 use fmt_forms::{Form, put_integer};
 use symbols::Symbols;
 use trace_base::{Rec, Tail};
+use waiting_text::Waiting;
 
 fn long_bits(long: u32) -> u32
     ensures { result ≡ long_bits long }

@@ -1,8 +1,8 @@
 use Rattle.std.proofs.Common.{List, ℕ, ◌++◌, ◌-◌, ap, ◌∙◌, arith}
 use Rattle.std.specs.Fmt.{decimal}
 use Rattle.std.proofs.lemmas.Fmt.{length-decimal-le}
-use Rattle.fmt_print.proofs.WaitLemmas.{added, first_digits, enough}
-use Rattle.fmt_print.proofs.waiting.Waiting.decimal.Goals as goal
+use Rattle.waiting_text.proofs.Copied.{added, first_digits, enough}
+use Rattle.waiting_text.proofs.waiting.Waiting.decimal.Goals as goal
 
 pub write_digits-start-requires : goal.write_digits-start-requires
 write_digits-start-requires c = (length-decimal-le 20 c.args.n (omega arith) (omega (arith, c.ranges.n.fits)) c.ranges.n.fits, omega arith)

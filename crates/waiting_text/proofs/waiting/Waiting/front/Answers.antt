@@ -1,6 +1,6 @@
 use Rattle.std.proofs.Common.{List, ℕ, ◌++◌, take, ap, ◌∙◌, arith}
-use Rattle.fmt_print.proofs.WaitLemmas.{added, first_copied, enough_copied}
-use Rattle.fmt_print.proofs.waiting.Waiting.front.Goals as goal
+use Rattle.waiting_text.proofs.Copied.{added, first_copied, enough_copied}
+use Rattle.waiting_text.proofs.waiting.Waiting.front.Goals as goal
 
 pub returns : goal.returns
 returns c =
