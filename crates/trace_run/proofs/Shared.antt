@@ -8,6 +8,11 @@ use Rattle.filter_truth.specs.contracts.select.Filters.{the_row as filters_row}
 use Rattle.report_print.below.fmt_directives.proofs.directive.Directive.TheSendSync as directive
 use Rattle.report_print.below.fmt_expr.proofs.expr.Expr.TheLaws.TheKnot as expr
 use Rattle.report_print.below.fmt_expr.specs.contracts.expr.Expr.{the_row as expr_row}
+use Rattle.report_print.below.fmt_expr.proofs.kinds.Kind.TheSendSync as kind
+use Rattle.report_print.below.fmt_eval.proofs.read.Read.TheSendSync as read
+use Rattle.report_print.below.fmt_eval.proofs.read.Test.TheSendSync as test
+use Rattle.report_print.below.fmt_print.proofs.argument.TextPlace.TheSendSync as place
+use Rattle.report_print.below.fmt_print.specs.contracts.argument.Argument.{the_row as argument_row}
 use Rattle.report_print.below.fmt_print.proofs.step.Step.TheSendSync as step
 use Rattle.report_print.below.fmt_print.specs.contracts.plan.PrintPlan.{the_row as plan_row}
 use Rattle.format_parse.proofs.table.FormatTable.TheSendSync as table
@@ -23,8 +28,11 @@ use Rattle.trace_run.specs.contracts.lines.ItemLines.{the_row}
 expr_sync : IsSync expr_row
 expr_sync = search (expr.crosses, crosses, text.the_sync, sendable) depth 60 fits 20000
 
+argument_sync : IsSync argument_row
+argument_sync = search (expr_sync, kind.the_sync, read.the_sync, test.the_sync, place.the_sync, crosses, sendable) depth 60 fits 20000
+
 plan_sync : IsSync plan_row
-plan_sync = search (expr_sync, Vec-sync, directive.the_sync, step.the_sync, text.the_sync, sendable) depth 60 fits 20000
+plan_sync = search (expr_sync, argument_sync, Vec-sync, directive.the_sync, step.the_sync, text.the_sync, sendable) depth 60 fits 20000
 
 head_sync : IsSync head_row
 head_sync = search (plan_sync, text.the_sync, sendable) depth 60 fits 20000
