@@ -1,5 +1,6 @@
 -- What forms the lines of a report may be used by several threads at once.
 use denote.Param.Send.{IsSync, sendable}
+use denote.Param.SendFields.{declared_sync}
 use Rattle.std.proofs.Crossing.{Vec-sync, crosses}
 use Rattle.filter_lang.proofs.expr.FilterExpr.TheLaws.TheKnot as filter_expr
 use Rattle.filter_truth.proofs.bound_expr.BoundExpr.TheLaws.TheKnot as bound_expr
@@ -12,7 +13,8 @@ use Rattle.report_print.below.fmt_expr.proofs.kinds.Kind.TheSendSync as kind
 use Rattle.report_print.below.fmt_eval.proofs.read.Read.TheSendSync as read
 use Rattle.report_print.below.fmt_eval.proofs.read.Test.TheSendSync as test
 use Rattle.report_print.below.fmt_print.proofs.argument.TextPlace.TheSendSync as place
-use Rattle.report_print.below.fmt_print.specs.contracts.argument.Argument.{the_row as argument_row}
+use Rattle.report_print.below.fmt_print.specs.contracts.argument.Argument.{the_row as argument_row, the_type as argument_type}
+use Rattle.report_print.below.fmt_print.specs.contracts.argument.TextPlace.{the_row as place_row}
 use Rattle.report_print.below.fmt_print.proofs.step.Step.TheSendSync as step
 use Rattle.report_print.below.fmt_print.specs.contracts.plan.PrintPlan.{the_row as plan_row}
 use Rattle.format_parse.proofs.table.FormatTable.TheSendSync as table
@@ -28,8 +30,11 @@ use Rattle.trace_run.specs.contracts.lines.ItemLines.{the_row}
 expr_sync : IsSync expr_row
 expr_sync = search (expr.crosses, crosses, text.the_sync, sendable) depth 60 fits 20000
 
+place_sync : IsSync place_row
+place_sync = search (place.the_sync, sendable) depth 60 fits 20000
+
 argument_sync : IsSync argument_row
-argument_sync = search (expr_sync, kind.the_sync, read.the_sync, test.the_sync, place.the_sync, crosses, sendable) depth 60 fits 20000
+argument_sync = declared_sync argument_type (search (expr_sync, sendable), (search (kind.the_field_sync, sendable), (search (read.the_field_sync, sendable), (search (test.the_field_sync, sendable), (search (place_sync, crosses, sendable) depth 60 fits 20000, tt)))))
 
 plan_sync : IsSync plan_row
 plan_sync = search (expr_sync, argument_sync, Vec-sync, directive.the_sync, step.the_sync, text.the_sync, sendable) depth 60 fits 20000
