@@ -9,3 +9,17 @@ fn numbers_that_are_equal_modulo_1024_share_a_place(rt: HostRuntime) -> Result<(
     }
     Ok(())
 }
+
+#[test]
+fn many_numbers_are_noted(rt: HostRuntime) -> Result<(), Fail> {
+    let alloc = rt.alloc();
+    let mut numbers = Vec::new(alloc);
+    for number in 0..3_000 {
+        numbers.push(number)?;
+    }
+    let places = Places::noted(alloc, &numbers)?;
+    for (number, place) in [(2_999, 2_999), (1_976, 1_976), (951, 2_999), (5, 2_053)] {
+        assert_eq!(rt; places.of(number), place);
+    }
+    Ok(())
+}

@@ -7,7 +7,8 @@ use Rattle.std.proofs.Math.ListN.{get_or-append}
 use Rattle.std.proofs.Math.Seq.{drop-cons, get_or-append_seam}
 use Rattle.std.specs.List.{prefix_len, suffix_len}
 use Rattle.std.specs.Str.{bytes_eq}
-use Rattle.trace_base.specs.FieldLine.{Declaration, is_word, trimmed, EndsInName, IsPlain, IsArray, Declares}
+use Rattle.byte_classes.specs.Bytes.{is_word}
+use Rattle.trace_base.specs.FieldLine.{Declaration, trimmed, EndsInName, IsPlain, IsArray, Declares}
 use Rattle.trace_base.specs.FieldReading.{named_at, opens, greatest_below, plain_at, array_at, declaration_at}
 use Rattle.trace_base.proofs.FieldSteps.{bind_some, chosen, some_is, both, option_cases}
 use Rattle.trace_base.proofs.FieldNames.{identifier_words, name_len, named_again, named_is}

@@ -8,7 +8,8 @@ use Rattle.std.specs.List.{list_all, prefix_len, position, position_or_len, befo
 use Rattle.std.specs.Char.{is_digit}
 use Rattle.std.specs.Str.{bytes_eq}
 use Rattle.std.specs.Str.Parse.{digits_value}
-use Rattle.trace_base.specs.FieldLine.{is_blank, skip_blanks, is_decimal, decimal, IsEntry, IsSign}
+use Rattle.byte_classes.specs.Bytes.{is_blank}
+use Rattle.trace_base.specs.FieldLine.{skip_blanks, is_decimal, decimal, IsEntry, IsSign}
 use Rattle.trace_base.specs.FieldReading.{after_word, cut_at, entry_at, sign_at}
 use Rattle.trace_base.specs.OptionSteps.{◌>>=◌}
 use Rattle.trace_base.proofs.FieldSteps.{bind_some, guarded, chosen, some_is, both}

@@ -4,7 +4,8 @@ use Rattle.std.proofs.lemmas.List.{take-append-drop}
 use Rattle.std.specs.List.{prefix_len}
 use Rattle.std.specs.Option.{option_map}
 use Rattle.trace_base.specs.declared.field_line.FieldLine.{FieldLine}
-use Rattle.trace_base.specs.FieldLine.{FieldData, is_blank, skip_blanks, IsFieldLine}
+use Rattle.byte_classes.specs.Bytes.{is_blank}
+use Rattle.trace_base.specs.FieldLine.{FieldData, skip_blanks, IsFieldLine}
 use Rattle.trace_base.specs.FieldReading.{after_word, cut_at, declaration_at, entry_at, sign_at, field_line, field_view}
 use Rattle.trace_base.proofs.FieldSteps.{bind_some, some_is}
 use Rattle.trace_base.proofs.FieldRuns.{run_all}

@@ -4,7 +4,8 @@ use Rattle.std.proofs.lemmas.Bool.{ltb-true}
 use Rattle.std.proofs.lemmas.List.{take_at, drop_at, take-append-drop, length-append}
 use Rattle.std.specs.List.{list_all, suffix_len}
 use Rattle.std.specs.Char.{is_ascii_digit}
-use Rattle.trace_base.specs.FieldLine.{is_word, is_identifier, EndsInName}
+use Rattle.byte_classes.specs.Bytes.{is_word}
+use Rattle.trace_base.specs.FieldLine.{is_identifier, EndsInName}
 use Rattle.trace_base.specs.FieldReading.{named_at}
 use Rattle.trace_base.proofs.FieldSteps.{both, guarded, some_is}
 use Rattle.trace_base.proofs.FieldRuns.{suffix_apart, suffix_again}

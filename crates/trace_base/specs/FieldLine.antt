@@ -1,10 +1,11 @@
 -- The line that declares a field, in an event's format or in a header_page text: the declaration as C writes it, the place and
 -- the size in bytes, and whether it has a sign.
 -- Source: the kernel's Documentation/trace/events.rst, 'Event formats'.
-use Rattle.std.specs.Prelude.{◌≡◌, ℕ, ◌-◌, ◌^◌, ◌<◌, ◌⊎◌, Bool, true, false, not, ◌&&◌, ◌||◌, ◌==◌, nat_lt, if◌then◌else◌, List, [], ◌∷◌, ◌++◌, length, take, drop, slice_index, codes, Option, Some, None, unwrap_or}
+use Rattle.std.specs.Prelude.{◌≡◌, ℕ, ◌-◌, ◌^◌, ◌<◌, ◌⊎◌, Bool, true, false, not, ◌&&◌, ◌==◌, nat_lt, if◌then◌else◌, List, [], ◌∷◌, ◌++◌, length, take, drop, slice_index, codes, Option, Some, None, unwrap_or}
 use Rattle.std.specs.List.{list_all, prefix_len, suffix_len}
-use Rattle.std.specs.Char.{is_ascii_digit, is_ascii_alphanumeric, is_digit}
+use Rattle.std.specs.Char.{is_ascii_digit, is_digit}
 use Rattle.std.specs.Str.Parse.{digits_value}
+use Rattle.byte_classes.specs.Bytes.{is_blank, is_word}
 
 -- what the declaration says
 pub record Declaration : Type 0 where
@@ -19,13 +20,6 @@ pub record FieldData : Type 0 where
   pub offset : ℕ
   pub size : ℕ
   pub signed : Bool
-
--- space, tab, newline and carriage return
-abbrev pub is_blank : ℕ → Bool
-is_blank byte = (byte == 32) || (byte == 9) || (byte == 10) || (byte == 13)
-
-abbrev pub is_word : ℕ → Bool
-is_word byte = is_ascii_alphanumeric byte || (byte == 95)
 
 -- an identifier of C
 abbrev pub is_identifier : List ℕ → Bool

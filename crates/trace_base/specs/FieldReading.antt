@@ -2,8 +2,9 @@
 use Rattle.std.specs.Prelude.{ℕ, zero, suc, ◌+◌, ◌-◌, Bool, true, false, not, ◌&&◌, ◌==◌, if◌then◌else◌, List, length, take, drop, codes, slice_index, Option, Some, None, is_some, unwrap_or}
 use Rattle.std.specs.List.{position, suffix_len}
 use Rattle.std.specs.Str.{bytes_eq}
+use Rattle.byte_classes.specs.Bytes.{is_word}
 use Rattle.trace_base.specs.OptionSteps.{◌>>=◌}
-use Rattle.trace_base.specs.FieldLine.{Declaration, FieldData, is_word, is_identifier, skip_blanks, trimmed, decimal}
+use Rattle.trace_base.specs.FieldLine.{Declaration, FieldData, is_identifier, skip_blanks, trimmed, decimal}
 use Rattle.trace_base.specs.declared.field_line.FieldLine.{FieldLine}
 use Rattle.trace_base.specs.declared.field_line.Declared.{Declared}
 

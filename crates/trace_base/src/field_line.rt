@@ -3,11 +3,11 @@
 ghost use Rattle.std.specs.Prelude.{◌≡◌, ◌==◌, ◌<◌, ◌≤◌, length, IfSome, IfNone};
 ghost use Rattle.std.specs.List.{list_all, position, prefix_len, suffix_len};
 ghost use Rattle.std.specs.Option.{option_map};
-ghost use Rattle.trace_base.specs.FieldLine.{FieldData, IsFieldLine, OneField, is_blank, is_word, is_identifier, skip_blanks, trimmed, decimal};
+ghost use Rattle.byte_classes.specs.Bytes.{is_blank, is_word};
+ghost use Rattle.trace_base.specs.FieldLine.{FieldData, IsFieldLine, OneField, is_identifier, skip_blanks, trimmed, decimal};
 ghost use Rattle.trace_base.specs.FieldReading.{after_word, cut_at, named_at, opens, greatest_below, plain_at, array_at, declaration_at, entry_at, sign_at, field_line, field_view, declared_view};
 
-#[cfg(test)]
-mod tests;
+use byte_classes::{is_blank, is_word};
 
 /// What a field line says of its field.
 #[derive(Clone, Copy, Debug, PartialEq, Eq)]
@@ -158,7 +158,7 @@ pub fn is_identifier(text: &[u8]) -> bool
 fn all_in_words(text: &[u8]) -> bool
     ensures { result ≡ list_all is_word text.now }
 {
-    text.iter().all(|byte| in_word(*byte))
+    text.iter().all(|byte| is_word(*byte))
 }
 
 #[tactic(auto, unfolding(crate::specs::FieldReading::entry_at))]
@@ -236,7 +236,7 @@ fn blanks_in_front(text: &[u8]) -> usize
     ensures value { result ≡ prefix_len is_blank text.now }
     ensures inside { result ≤ length text.now }
 {
-    text.iter().take_while(|byte| is_space(**byte)).count()
+    text.iter().take_while(|byte| is_blank(**byte)).count()
 }
 
 fn trim(text: &[u8]) -> &[u8]
@@ -253,7 +253,7 @@ fn blanks_at_end(text: &[u8]) -> usize
 {
     text.iter()
         .rev()
-        .take_while(|byte| is_space(**byte))
+        .take_while(|byte| is_blank(**byte))
         .count()
 }
 
@@ -261,17 +261,5 @@ fn words_at_end(text: &[u8]) -> usize
     ensures value { result ≡ suffix_len is_word text.now }
     ensures inside { result ≤ length text.now }
 {
-    text.iter().rev().take_while(|byte| in_word(**byte)).count()
-}
-
-fn is_space(byte: u8) -> bool
-    ensures { result ≡ is_blank byte }
-{
-    matches!(byte, b' ' | b'\t' | b'\n' | b'\r')
-}
-
-fn in_word(byte: u8) -> bool
-    ensures { result ≡ is_word byte }
-{
-    byte.is_ascii_alphanumeric() || byte == b'_'
+    text.iter().rev().take_while(|byte| is_word(**byte)).count()
 }

@@ -13,8 +13,6 @@ mod order;
 mod part;
 mod rec;
 mod tail;
-#[cfg(test)]
-mod tests;
 mod words;
 
 pub use byte_text::ByteText;

@@ -1,4 +1,4 @@
--- What the calls of a folder do to its map and to its seven counts: one record a call, one line a count.
+-- What the calls of a folder do to its map and to its eight counts: one record a call, one line a count.
 use Rattle.std.specs.Prelude.{Some, [], Option, Result, ◌≡◌, ℕ, ◌<◌, ◌≤◌, List, IsSome, is_none, if◌then◌else◌, MatchResult, IfSome, IsSomeAnd, OnErr}
 use Rattle.std.specs.FinMap.{get}
 use Rattle.trace_outside.specs.declared.counts.Counts.{Counts}
@@ -7,7 +7,7 @@ use Rattle.trace_outside.specs.Causes.{raised, Rose}
 
 -- nothing was counted
 abbrev pub no_counts : Counts
-no_counts = record { reading = 0; writing = 0; misses = 0; opened = 0; closed = 0; created = 0; bytes = 0 }
+no_counts = record { reading = 0; writing = 0; misses = 0; opened = 0; closed = 0; created = 0; unfinished = 0; bytes = 0 }
 
 -- the misses after this name was asked for
 abbrev pub misses_after : NamedFiles → List ℕ → ℕ → ℕ
@@ -27,6 +27,7 @@ pub record Opens {I E : Type 0} (told : Option NamedFiles) (name : List ℕ) (be
   pub opened : MatchResult result (λ _. now.opened ≡ raised before.opened 1) (λ _. now.opened ≡ before.opened)
   pub closed : now.closed ≡ before.closed
   pub created : now.created ≡ before.created
+  pub unfinished : now.unfinished ≡ before.unfinished
   pub bytes : now.bytes ≡ before.bytes
 
 -- a file with so many faults and so many bytes read was closed
@@ -39,6 +40,7 @@ pub record Closes (faults reads : ℕ) (before now : Counts) : Type 0 where
   pub opened : now.opened ≡ before.opened
   pub closed : now.closed ≡ raised before.closed 1
   pub created : now.created ≡ before.created
+  pub unfinished : now.unfinished ≡ before.unfinished
   pub bytes : now.bytes ≡ raised before.bytes reads
 
 -- a created sink is empty, and tells so where the folder tells its map
@@ -54,9 +56,10 @@ pub record Creates {O E : Type 0} (before now : Counts) (result : Result O E) : 
   pub opened : now.opened ≡ before.opened
   pub closed : now.closed ≡ before.closed
   pub created : MatchResult result (λ _. now.created ≡ raised before.created 1) (λ _. now.created ≡ before.created)
+  pub unfinished : now.unfinished ≡ before.unfinished
   pub bytes : now.bytes ≡ before.bytes
 
--- no count moved but those of faults
+-- no count moved but those of faults and of finishes that failed
 pub record KeepsUse (before now : Counts) : Type 0 where
   pub misses : now.misses ≡ before.misses
   pub opened : now.opened ≡ before.opened
@@ -70,6 +73,7 @@ pub record Finishes {E : Type 0} (faults : ℕ) (before now : Counts) (result : 
   pub writing : before.writing ≤ now.writing
   pub failed : OnErr result (Rose before.writing now.writing)
   pub faulty : 0 < faults → Rose before.writing now.writing
+  pub unfinished : MatchResult result (λ _. now.unfinished ≡ before.unfinished) (λ _. now.unfinished ≡ raised before.unfinished 1)
   pub use_kept : KeepsUse before now
 
 -- a sink with so many faults was given up
@@ -78,6 +82,7 @@ pub record Drops (faults : ℕ) (before now : Counts) : Type 0 where
   pub writing : before.writing ≤ now.writing
   pub clean : faults ≡ 0 → now.writing ≡ before.writing
   pub faulty : 0 < faults → Rose before.writing now.writing
+  pub unfinished : now.unfinished ≡ before.unfinished
   pub use_kept : KeepsUse before now
 
 -- the finished file stands under its name, and every other name is as it was

@@ -13,6 +13,8 @@ pub struct Counts {
     pub closed: u64,
     /// Files created.
     pub created: u64,
+    /// Files whose finish failed.
+    pub unfinished: u64,
     /// Bytes read from the files that were closed.
     pub bytes: u64,
 }
@@ -26,6 +28,7 @@ impl Counts {
         opened: 0,
         closed: 0,
         created: 0,
+        unfinished: 0,
         bytes: 0,
     };
 }

@@ -8,8 +8,6 @@ mod outside;
 mod pending;
 mod piece;
 mod real;
-#[cfg(test)]
-mod tests;
 mod whole;
 
 pub use counts::Counts;

@@ -8,8 +8,6 @@ mod bounded_sink;
 mod damaged_file;
 mod layouts;
 mod sub_buffers;
-#[cfg(test)]
-mod tests;
 
 pub use bounded_sink::BoundedSink;
 pub use damaged_file::DamagedFile;

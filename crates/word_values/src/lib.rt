@@ -11,11 +11,9 @@ mod number;
 mod piece;
 mod processor_set;
 mod section;
-#[cfg(test)]
-mod tests;
 
 pub use cpu_list::{cpu_number, cpu_set};
-pub use laws::members_of_ranges;
+pub use laws::{members_of_ranges, whole_lists};
 pub use listing::Listing;
 pub use moment::Moment;
 pub use number::{event_count, piece_count, seed_number, worker_count};

@@ -24,7 +24,7 @@ impl CpuSet {
     pub const LIMIT: u32 = 1024;
 
     /// The empty set.
-    pub fn new() -> CpuSet
+    pub(crate) fn new() -> CpuSet
         ensures { result ≡ replicate 1024 false }
     {
         CpuSet {

@@ -120,6 +120,7 @@ impl Folder for MemFolder {
         ensures files { ⟦<MemFolder as Folder>⟧.files self.new ≡ ⟦<MemFolder as Folder>⟧.files self.old }
         ensures counts { Closes (⟦<MemFile as File>⟧.faults file) (⟦<MemFile as File>⟧.reads file) (⟦<MemFolder as Folder>⟧.counts self.old) (⟦<MemFolder as Folder>⟧.counts self.new) }
         ensures just_there { KeepsFaults (⟦<MemFolder as Folder>⟧.counts self.old) (⟦<MemFolder as Folder>⟧.counts self.new) }
+        ensures wants { folder_wants self.new ≡ folder_wants self.old }
     {
         self.counts.closed = self.counts.closed.saturating_add(1);
         self.counts.bytes = self.counts.bytes.saturating_add(file.reads);
@@ -170,6 +171,7 @@ impl Folder for MemFolder {
             Err(_) => {
                 self.wants = self.wants.saturating_add(1);
                 self.counts.writing = self.counts.writing.saturating_add(1);
+                self.counts.unfinished = self.counts.unfinished.saturating_add(1);
                 Err(Failed)
             }
         }

@@ -118,6 +118,7 @@ impl<R: Files + Clone + Drop> Folder for RealFolder<R> {
             Ok(()) => Ok(()),
             Err(_) => {
                 self.counts.writing = self.counts.writing.saturating_add(1);
+                self.counts.unfinished = self.counts.unfinished.saturating_add(1);
                 Err(Failed)
             }
         }

@@ -1,13 +1,12 @@
-use crate::{
-    Failed, File, Folder, MemFile, MemFolder, MemSink, Pending, PieceFault, RealFolder, RealSink,
-    Sink, read_all, read_bytes, write_all, write_parts,
-};
 use std::alloc::{Alloc, Global};
 use std::io;
 use std::io::{ErrorKind, Write};
 use std::process::Abort;
 use std::test::Fail;
-use trace_base::ByteText;
+use trace_outside::{
+    Failed, File, Folder, MemFolder, MemSink, Pending, RealFolder, RealSink, Sink, read_all,
+    read_bytes, write_all, write_parts,
+};
 
 // Writes a file of a folder and reads it back, by the traits alone.
 fn comes_back<F: Folder>(rt: &impl Abort, folder: &mut F) -> Result<(), Failed> {
@@ -28,28 +27,29 @@ fn comes_back<F: Folder>(rt: &impl Abort, folder: &mut F) -> Result<(), Failed> 
     assert_eq!(rt; into.as_slice(), b"e two".as_slice());
     let given_up = folder.create_file("never")?;
     folder.drop_file(given_up);
-    let missing = folder.open_file("never");
-    let is_missing = missing.is_err();
-    if let Ok(file) = missing {
-        folder.close_file(file);
-    }
-    assert!(rt; is_missing);
+    assert!(rt; !opens(folder, "never"));
     Ok(())
+}
+
+// Whether a file is there.
+fn opens<F: Folder>(folder: &mut F, name: &str) -> bool {
+    match folder.open_file(name) {
+        Ok(file) => {
+            folder.close_file(file);
+            true
+        }
+        Err(Failed) => false,
+    }
 }
 
 #[test]
 fn in_memory(rt: HostRuntime) -> Result<(), Fail> {
-    let alloc = rt.alloc();
-    let mut folder = MemFolder::new(alloc);
+    let mut folder = MemFolder::new(rt.alloc());
     folder.put("made", b"older")?;
     comes_back(&rt, &mut folder)?;
     assert_eq!(rt; folder.get("made"), Some(b"one two".as_slice()));
     assert_eq!(rt; folder.get("never"), None);
     assert_eq!(rt; folder.wants(), 0);
-    let mut file = MemFile::new(ByteText::copy(alloc, b"abc")?);
-    let mut into = [0; 8];
-    assert_eq!(rt; file.read_at(1, &mut into)?, 2);
-    assert_eq!(rt; into, *b"bc\0\0\0\0\0\0");
     Ok(())
 }
 
@@ -58,12 +58,7 @@ fn over_the_system(rt: HostRuntime) -> Result<(), Fail> {
     let alloc = rt.alloc();
     let mut folder = RealFolder::new(rt.clone()?, alloc);
     comes_back(&rt, &mut folder)?;
-    let part = folder.open_file("never.part");
-    let is_gone = part.is_err();
-    if let Ok(file) = part {
-        folder.close_file(file);
-    }
-    assert!(rt; is_gone);
+    assert!(rt; !opens(&mut folder, "never.part"));
     Ok(())
 }
 
@@ -92,7 +87,7 @@ impl Write for Reluctant {
 }
 
 // How many bytes a call takes at most, how many calls do not err, and what was taken of `one two` then.
-const WRITERS: &[(usize, u64, &str)] = &[
+static WRITERS: [(usize, u64, &str); 6] = [
     (9, 1, "one two"),
     (1, 7, "one two"),
     (1, 6, "one tw"),
@@ -121,29 +116,8 @@ fn takes(
 
 #[test]
 fn reluctant_writers(rt: HostRuntime) -> Result<(), Fail> {
-    for (most, calls, expected) in WRITERS {
+    for (most, calls, expected) in &WRITERS {
         takes(&rt, *most, *calls, expected)?;
-    }
-    Ok(())
-}
-
-#[test]
-fn a_piece_is_read_whole_or_not_at_all(rt: HostRuntime) -> Result<(), Fail> {
-    let alloc = rt.alloc();
-    let mut file = MemFile::new(ByteText::copy(alloc, b"abcdef")?);
-    let rows: [(u64, u64, Result<&[u8], PieceFault>); 6] = [
-        (0, 6, Ok(b"abcdef")),
-        (2, 3, Ok(b"cde")),
-        (6, 0, Ok(b"")),
-        (4, 3, Err(PieceFault::EndsEarly(6))),
-        (7, 0, Err(PieceFault::EndsEarly(6))),
-        (u64::MAX, 1 << 60, Err(PieceFault::EndsEarly(6))),
-    ];
-    for (at, size, expected) in rows {
-        match read_bytes(alloc, &mut file, at, size) {
-            Ok(bytes) => assert_eq!(rt; Ok(bytes.as_bytes()), expected),
-            Err(fault) => assert_eq!(rt; Err(fault), expected),
-        }
     }
     Ok(())
 }
@@ -153,14 +127,34 @@ fn large_pieces(rt: HostRuntime) -> Result<(), Fail> {
     let alloc = rt.alloc();
     let mut out = MemSink::new(alloc);
     let mut pending = Pending::new(alloc)?;
-    let large = vec![in alloc; b'x'; Pending::ROOM]?;
+    let large = vec![in alloc; b'x'; 100_000]?;
     write_all(&mut out, b"<")?;
     pending.put(&mut out, b"a")?;
     assert_eq!(rt; out.bytes(), b"<".as_slice());
     pending.put_parts(&mut out, &[&large, b"b"])?;
     pending.flush(&mut out)?;
-    assert_eq!(rt; out.bytes().len(), Pending::ROOM + 3);
+    assert_eq!(rt; out.bytes().len(), 100_003);
     assert_eq!(rt; out.bytes().last().copied(), Some(b'b'));
     assert_eq!(rt; out.wants(), 0);
+    Ok(())
+}
+
+#[test]
+fn large_files_in_memory(rt: HostRuntime) -> Result<(), Fail> {
+    let alloc = rt.alloc();
+    let large = vec![in alloc; b'x'; 100_000]?;
+    let mut folder = MemFolder::new(alloc);
+    folder.put("large", &large)?;
+    let mut file = folder.open_file("large")?;
+    let read = read_bytes(alloc, &mut file, 0, 100_000);
+    folder.close_file(file);
+    let Ok(text) = read else {
+        return Err("the file has them".into());
+    };
+    let mut out = folder.create_file("copy")?;
+    write_all(&mut out, text.as_bytes())?;
+    folder.finish_file(out)?;
+    assert_eq!(rt; folder.get("copy"), Some(large.as_slice()));
+    assert_eq!(rt; folder.wants(), 0);
     Ok(())
 }

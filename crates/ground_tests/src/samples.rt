@@ -1,8 +1,8 @@
-use crate::{BoundedSink, DamagedFile, Page, layout, put_pages};
 use std::alloc::{AllocError, Global};
 use std::test::Fail;
 use subpage::{Item, check_page};
 use trace_outside::{Failed, File, Sink};
+use trace_samples::{BoundedSink, DamagedFile, Page, layout, put_pages};
 
 fn bytes_of(alloc: Global, page: Page<'_>) -> Result<Vec<u8>, AllocError> {
     let mut bytes = Vec::new(alloc);

@@ -1,0 +1,61 @@
+use std::test::Fail;
+use trace_base::{
+    ByteText, ListOf, Order, Words, put_u16, put_u32, put_u64, read_u16, read_u32, read_u64,
+};
+
+static BYTES: [u8; 8] = [1, 2, 3, 4, 5, 6, 7, 8];
+
+#[test]
+fn numbers_are_read(rt: HostRuntime) {
+    assert!(rt; read_u16(Order::Little, &BYTES) == 0x0201);
+    assert!(rt; read_u16(Order::Big, &BYTES) == 0x0102);
+    assert!(rt; read_u32(Order::Little, &BYTES) == 0x0403_0201);
+    assert!(rt; read_u32(Order::Big, &BYTES) == 0x0102_0304);
+    assert!(rt; read_u64(Order::Little, &BYTES) == 0x0807_0605_0403_0201);
+    assert!(rt; read_u64(Order::Big, &BYTES) == 0x0102_0304_0506_0708);
+}
+
+#[test]
+fn numbers_are_put(rt: HostRuntime) {
+    let mut two = [0; 2];
+    put_u16(Order::Little, 0x0201, &mut two);
+    let mut four = [0; 4];
+    put_u32(Order::Little, 0x0403_0201, &mut four);
+    let mut eight = [0; 8];
+    put_u64(Order::Big, 0x0102_0304_0506_0708, &mut eight);
+    assert!(rt; two.as_slice() == &BYTES[..2]);
+    assert!(rt; four.as_slice() == &BYTES[..4]);
+    assert!(rt; eight == BYTES);
+}
+
+#[test]
+fn texts_and_lists(rt: HostRuntime) -> Result<(), Fail> {
+    let alloc = rt.alloc();
+    let large = vec![in alloc; b'x'; 100_000]?;
+    let text = ByteText::copy(alloc, &large)?;
+    assert_eq!(rt; text.as_bytes(), large.as_slice());
+    let list = ListOf::from_vec(vec![in alloc; 3, 4]?);
+    assert_eq!(rt; list.as_slice(), [3, 4].as_slice());
+    assert_eq!(rt; list.into_vec().len(), 2);
+    Ok(())
+}
+
+#[test]
+fn many_words(rt: HostRuntime) -> Result<(), Fail> {
+    let alloc = rt.alloc();
+    let mut long = String::new(alloc);
+    for _ in 0..100_000 {
+        long.push_str("n")?;
+    }
+    let mut words = Words::new(alloc);
+    assert!(rt; words.is_empty());
+    words.push("")?;
+    for _ in 0..3_000 {
+        words.push("report")?;
+    }
+    words.push(long.as_str())?;
+    assert!(rt; words.len() == 3_002);
+    assert_eq!(rt; words.word(3_000), "report");
+    assert_eq!(rt; words.word(3_001), long.as_str());
+    Ok(())
+}
