@@ -13,8 +13,6 @@ mod pieces;
 mod put;
 mod read;
 mod sections;
-#[cfg(test)]
-mod tests;
 mod write;
 
 pub use dat_options::{OpenFault, Opt};

@@ -6,8 +6,6 @@ mod laws;
 mod option;
 mod options;
 mod table;
-#[cfg(test)]
-mod tests;
 
 pub use fault::OpenFault;
 pub use laws::{

@@ -5,7 +5,5 @@ mod lines;
 mod lists;
 mod sections;
 mod summary;
-#[cfg(test)]
-mod tests;
 
 pub use sections::dump;

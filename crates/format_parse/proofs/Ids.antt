@@ -1,13 +1,13 @@
 -- A map whose keys are the ids of its formats.
-use Rattle.std.proofs.Common.{◌≡◌, ℕ, suc, ◌+◌, Bool, true, false, not, cond, eqb, ltb, nat_eq, List, [], ◌∷◌, ◌++◌, map, length, position, Option, Some, None, is_some, refl, sym, ap, ◌∙◌, arith, if◌then◌else◌}
+use Rattle.std.proofs.Common.{◌≡◌, ℕ, suc, ◌+◌, Bool, true, false, not, cond, eqb, ltb, nat_eq, List, [], ◌∷◌, ◌++◌, map, length, position, Option, Some, None, is_some, refl, sym, ap, subst, ◌∙◌, arith, if◌then◌else◌}
 use Rattle.std.proofs.lemmas.List.{map-append, length-map}
-use Rattle.std.specs.List.{list_any, position_or_len}
+use Rattle.std.specs.List.{IsDistinct, list_any, position_or_len}
 use Rattle.std.specs.Map.{keys_of, values_of, lookup}
 use Rattle.std.proofs.lemmas.Map.Made.{is_some-lookup}
-use Rattle.indexmap.specs.IndexMap.{IndexMap, keys, values, get, insert_entry}
+use Rattle.indexmap.specs.IndexMap.{IndexMap, IsUnique, keys, values, get, insert_entry}
 use Rattle.indexmap.proofs.CallerLemmas.{insert_entry-new}
 use Rattle.format_parse.specs.declared.format.EventFormat.{EventFormat}
-use Rattle.format_parse.specs.Table.{has_id}
+use Rattle.format_parse.specs.Table.{has_id, IdsDiffer}
 
 place_in_map : {X Y : Type 0} (p : Y → Bool) (f : X → Y) (xs : List X) → position_or_len p (map f xs) ≡ position_or_len (λ x. p (f x)) xs
 place_in_map p f [] = refl
@@ -36,3 +36,6 @@ module _ {S : Type 0} (m n : IndexMap ℕ EventFormat S) (format : EventFormat) 
   pub keys_put : keys m ≡ map id_of (values m) → keys n ≡ map id_of (values n)
   keys_put same = ap keys_of (put ∙ insert_entry-new nat_eq m format.id format none) ∙ map-append (λ e. e.0) m.entries ((format.id, format) ∷ [])
       ∙ ap (λ (l : List ℕ). l ++ format.id ∷ []) same ∙ sym (map-append id_of (values m) (format ∷ [])) ∙ ap (map id_of) (sym values_put)
+
+  pub differ_put : keys m ≡ map id_of (values m) → IsUnique nat_eq n → IdsDiffer (values n)
+  differ_put same unique = subst (IsDistinct nat_eq) (keys_put same) unique

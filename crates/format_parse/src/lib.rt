@@ -8,8 +8,6 @@ mod fields;
 mod format;
 mod parse;
 mod table;
-#[cfg(test)]
-mod tests;
 
 pub use format::EventFormat;
 pub use parse::parse_format;

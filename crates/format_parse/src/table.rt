@@ -1,4 +1,4 @@
-ghost use Rattle.std.specs.Prelude.{◌==◌, ◌≡◌, ◌++◌, [], ◌∷◌, List, not, length, slice_get, position, if◌then◌else◌, IfOk, OnOk, OnErr};
+ghost use Rattle.std.specs.Prelude.{◌≡◌, ◌++◌, [], ◌∷◌, List, not, length, slice_get, position, if◌then◌else◌, IfOk, OnOk, OnErr};
 ghost use Rattle.std.specs.List.{list_any};
 ghost use Rattle.std.specs.Option.{option_copied};
 ghost use Rattle.format_parse.specs.declared.format.EventFormat.{EventFormat};
@@ -24,12 +24,13 @@ impl Model for FormatTable {
     ghost use Rattle.std.specs.Prelude.{◌==◌, ◌≡◌, List, map};
     ghost use Rattle.indexmap.specs.IndexMap.{keys, values};
     ghost use Rattle.format_parse.specs.declared.format.EventFormat.{EventFormat};
+    ghost use Rattle.format_parse.specs.Table.{IdsDiffer};
 
     ghost Value = { List EventFormat };
 
     ghost view = { λ t. values t.by_id };
 
-    ghost invariant = { λ t. keys t.by_id ≡ map (λ f. f.id) (values t.by_id) };
+    ghost invariant = { λ t. (keys t.by_id ≡ map (λ f. f.id) (values t.by_id)) × IdsDiffer (values t.by_id) };
 }
 
 impl FormatTable {
@@ -107,13 +108,6 @@ impl FormatTable {
         ensures differ { IdsDiffer self.now }
     {
         self.by_id.len()
-    }
-
-    /// Whether there is no format.
-    pub fn is_empty(&self) -> bool
-        ensures { result ≡ (length self.now == 0) }
-    {
-        self.by_id.is_empty()
     }
 
     /// The place of the first format with this name. None exactly where there is none.

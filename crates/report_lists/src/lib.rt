@@ -3,8 +3,6 @@
 
 mod events;
 mod names;
-#[cfg(test)]
-mod tests;
 
 pub use events::{put_event_formats, put_event_names};
 pub use names::{put_printk_formats, put_symbols};

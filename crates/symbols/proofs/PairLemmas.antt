@@ -193,6 +193,9 @@ map_same (p ∷ ps) key = first_put p (map_of ps) key ∙ elim (cases_Bool (nat_
   | inr other ↦ rw other (map_same ps key)
 ]
 
+pub map_there : (pairs : List Pair) → IsMapOf pairs (map_of pairs)
+map_there pairs = record { rises = map_rises pairs; same = map_same pairs }
+
 pub one_map : (pairs rows : List Pair) → IsMapOf pairs rows → rows ≡ map_of pairs
 one_map pairs rows is = one_rows 0 rows (map_of pairs) is.rises (map_rises pairs) (λ key. map_same pairs key ∙ sym (is.same key))
 

@@ -11,6 +11,11 @@ Pair = ℕ × List ℕ
 abbrev pub first_at : ℕ → List Pair → Option (List ℕ)
 first_at key pairs = lookup (nat_eq key) pairs
 
+-- the name of a pair, if it is that of this number
+abbrev pub name_if : ℕ → Option Pair → Option (List ℕ)
+name_if key None = None
+name_if key (Some p) = if nat_eq p.0 key then Some p.1 else None
+
 -- each number is above the one before it, and the first is not below this one
 abbrev pub RisesFrom : ℕ → List Pair → Type 0
 RisesFrom low [] = ⊤
@@ -54,6 +59,10 @@ last_up_to address (p ∷ ps) = if nat_le p.0 address then option_or (last_up_to
 unfoldable pub nearest : ℕ → List Pair → Option (List ℕ × ℕ)
 nearest address rows = option_map (λ p. (p.1, address - p.0)) (last_up_to address rows)
 
--- pairs stand for one map, which is the computed one
+-- pairs stand for a map, which is the computed one
+abbrev pub HasMap : Type 0
+HasMap = (pairs : List Pair) → IsMapOf pairs (map_of pairs)
+
+-- and for no other
 abbrev pub OneMap : Type 0
 OneMap = (pairs rows : List Pair) → IsMapOf pairs rows → rows ≡ map_of pairs

@@ -8,7 +8,7 @@ use std::alloc::AllocError;
 
 /// A number and the name beside it, which is a part of the text that it was read from.
 #[derive(Clone, Copy, Debug, PartialEq, Eq)]
-pub struct Found<'a> {
+pub(crate) struct Found<'a> {
     /// The address or the pid.
     pub key: u64,
     /// The name.

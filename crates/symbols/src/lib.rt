@@ -6,15 +6,12 @@
 
 mod digits;
 mod found;
-pub mod lines;
+mod lines;
 mod maps;
 mod read;
 mod rows;
 mod search;
 mod table;
-#[cfg(test)]
-mod tests;
 
-pub use found::Found;
 pub use maps::Symbols;
 pub use table::one_map;

@@ -1,4 +1,4 @@
-//! The lines of kallsyms, printk formats and saved command lines, one at a time.
+// The lines of kallsyms, printk formats and saved command lines, one at a time.
 
 ghost use Rattle.std.specs.Prelude.{◌≡◌, IfSome, IfNone};
 ghost use Rattle.std.specs.List.{prefix_len};
@@ -14,7 +14,7 @@ use trace_base::{after_word, decimal};
 
 /// What the lines of a text look like.
 #[derive(Clone, Copy, PartialEq, Eq, Debug)]
-pub enum Form {
+pub(crate) enum Form {
     /// `ADDRESS LETTER NAME`, of `/proc/kallsyms`.
     Kallsyms,
     /// `ADDRESS : "TEXT"`, of `printk_formats`.
@@ -25,7 +25,7 @@ pub enum Form {
 
 /// The symbol that a line of kallsyms gives: 1 to 16 hexadecimal digits, a space, one letter, a space, and a name up to a tab,
 /// a space or the end. None exactly where the line is of another form (proc_kallsyms(5)).
-pub fn symbol_line(line: &[u8]) -> Option<Found<'_>>
+pub(crate) fn symbol_line(line: &[u8]) -> Option<Found<'_>>
     ensures found { IfSome result (λ symbol. IsSymbolLine line.now (found_view symbol)) }
     ensures none { IfNone result ((symbol : Pair) → IsSymbolLine line.now symbol → ⊥) }
     ensures exact { option_map found_view result ≡ symbol_line line.now }
@@ -35,7 +35,7 @@ pub fn symbol_line(line: &[u8]) -> Option<Found<'_>>
 
 /// The text that a line of printk formats gives: an address as in kallsyms, with `0x` or without, ` : `, and a text in
 /// quotation marks that ends the line. None exactly where the line is of another form.
-pub fn printk_line(line: &[u8]) -> Option<Found<'_>>
+pub(crate) fn printk_line(line: &[u8]) -> Option<Found<'_>>
     ensures found { IfSome result (λ format. IsPrintkLine line.now (found_view format)) }
     ensures none { IfNone result ((format : Pair) → IsPrintkLine line.now format → ⊥) }
     ensures exact { option_map found_view result ≡ printk_line line.now }
@@ -45,7 +45,7 @@ pub fn printk_line(line: &[u8]) -> Option<Found<'_>>
 
 /// The task that a saved command line gives: a decimal pid up to 2,147,483,647, a space, and a name of at least one byte.
 /// None exactly where the line is of another form.
-pub fn task_line(line: &[u8]) -> Option<Found<'_>>
+pub(crate) fn task_line(line: &[u8]) -> Option<Found<'_>>
     ensures found { IfSome result (λ task. IsTaskLine line.now (found_view task)) }
     ensures none { IfNone result ((task : Pair) → IsTaskLine line.now task → ⊥) }
     ensures exact { option_map found_view result ≡ task_line line.now }

@@ -20,11 +20,16 @@ pub struct Symbols {
 }
 
 impl Model for Symbols {
+    ghost use Rattle.std.specs.Prelude.{◌≡◌};
+    ghost use Rattle.std.specs.Map.{keys_of};
+    ghost use Rattle.noted_places.specs.Noted.{noted};
     ghost use Rattle.symbols.specs.Maps.{Maps};
 
     ghost Value = { Maps };
 
     ghost view = { λ s. record { symbols = s.symbols; printk = s.printk; tasks = s.tasks } };
+
+    ghost invariant = { λ s. s.task_places ≡ noted (keys_of s.tasks) };
 }
 
 impl Symbols {

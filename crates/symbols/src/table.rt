@@ -2,7 +2,7 @@
 
 ghost use Rattle.std.specs.Prelude.{◌≡◌, Some, length, slice_get, IfOk, IfSome, IfNone};
 ghost use Rattle.std.specs.Option.{option_map};
-ghost use Rattle.symbols.specs.NameMap.{first_at, nearest, IsMapOf, IsNearest, NoneUpTo, OneMap};
+ghost use Rattle.symbols.specs.NameMap.{first_at, name_if, nearest, IsMapOf, IsNearest, NoneUpTo, HasMap, OneMap};
 ghost use Rattle.std.specs.Map.{keys_of};
 ghost use Rattle.symbols.specs.Found.{pairs_of};
 ghost use Rattle.noted_places.specs.Noted.{noted};
@@ -60,7 +60,8 @@ impl NameTable {
     /// The name at a place, if it is that of this number.
     #[tactic(auto, using(crate::proofs::PairLemmas::name_at))]
     pub fn name_at(&self, place: usize, key: u64) -> Option<&[u8]>
-        ensures { IfSome result (λ name. first_at key self.now ≡ Some name.now) }
+        ensures found { IfSome result (λ name. first_at key self.now ≡ Some name.now) }
+        ensures exact { option_map (λ name. name.now) result ≡ name_if key (slice_get self.now place) }
     {
         let (number, name) = self.rows.row(place)?;
         if number == key { Some(name) } else { None }
@@ -99,7 +100,8 @@ impl NameTable {
     }
 }
 
-/// Pairs stand for exactly one map, and it can be computed.
+/// Pairs stand for exactly one map, and that is the computed one.
 pub fn one_map()
-    ensures { OneMap }
+    ensures there { HasMap }
+    ensures one { OneMap }
 {}
