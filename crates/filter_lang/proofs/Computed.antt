@@ -7,7 +7,8 @@ use Rattle.filter_lang.specs.Filter.{FilterData}
 use Rattle.filter_lang.specs.ConditionReading.{Outcome, found, refused}
 use Rattle.filter_lang.specs.FilterReading.{filter_in}
 use Rattle.filter_lang.specs.Grammar.{IsFilter, RefusedBefore}
-use Rattle.filter_lang.specs.Lexing.{Cut, is_blank, token_in, is_colon}
+use Rattle.byte_classes.specs.Bytes.{is_blank}
+use Rattle.filter_lang.specs.Lexing.{Cut, token_in, is_colon}
 use Rattle.filter_lang.specs.Texts.{Lexeme, lexeme, AreLexemes, ended, blank, fault, token, tokens_in, IsFilterText, RefusedText, no_token}
 use Rattle.filter_lang.specs.Reading.{Lexed, lexed, behind_token, lex, from_first, read_tokens, reading}
 use Rattle.filter_lang.proofs.Filters.{filter_derived, filter_refused}

@@ -3,7 +3,8 @@ use Rattle.std.proofs.Common.{◌≡◌, ℕ, suc, ◌+◌, ◌<◌, ◌≤◌, 
 use Rattle.std.proofs.Math.Seq.{drop-cons}
 use Rattle.std.proofs.lemmas.List.{append-nil, drop-drop, drop_all}
 use Rattle.filter_lang.specs.TokenView.{plain_token}
-use Rattle.filter_lang.specs.Lexing.{is_blank, token_in, is_colon}
+use Rattle.byte_classes.specs.Bytes.{is_blank}
+use Rattle.filter_lang.specs.Lexing.{token_in, is_colon}
 use Rattle.filter_lang.specs.Texts.{Lexeme, lexeme, AreLexemes, ended, blank, fault, token}
 use Rattle.filter_lang.specs.LexedView.{lexemes_of}
 use Rattle.filter_lang.specs.declared.token.Token.{Token}

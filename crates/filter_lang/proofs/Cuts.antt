@@ -6,7 +6,8 @@ use Rattle.std.proofs.lemmas.Bool.{lt-ltb, ltb-true}
 use Rattle.std.proofs.lemmas.List.{take-append-le, length-append}
 use Rattle.std.proofs.lemmas.List.Sums.{prefix_len-le-length}
 use Rattle.c_operators.specs.Operators.{op_of}
-use Rattle.fmt_lexer.specs.Bytes.{is_word, quote, apostrophe}
+use Rattle.byte_classes.specs.Bytes.{is_word}
+use Rattle.fmt_lexer.specs.Bytes.{quote, apostrophe}
 use Rattle.filter_lang.specs.PlainToken.{PlainToken, name, comma, slash, colon, identifier, mark, quoted, digits}
 use Rattle.filter_lang.specs.Lexing.{is_name_byte, Cut, number_in, number_cut, text_cut, long_at, short_at, marked, before_colon, behind_colon, token_in}
 use Rattle.c_operators.specs.declared.binary.BinaryOp.{BinaryOp}

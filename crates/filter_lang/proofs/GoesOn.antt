@@ -5,7 +5,8 @@ use Rattle.std.proofs.Math.Seq.{drop-append_seam}
 use Rattle.std.proofs.lemmas.List.{append_assoc, append-nil, take-append-drop, length-take-le, length-append, map-append, append_cancel_right}
 use Rattle.filter_lang.specs.PlainToken.{PlainToken}
 use Rattle.filter_lang.specs.Filter.{FilterData}
-use Rattle.filter_lang.specs.Lexing.{is_blank, token_in, is_colon, AreWritten}
+use Rattle.byte_classes.specs.Bytes.{is_blank}
+use Rattle.filter_lang.specs.Lexing.{token_in, is_colon, AreWritten}
 use Rattle.filter_lang.specs.Grammar.{IsFilter, CanGoOn}
 use Rattle.filter_lang.specs.Texts.{Lexeme, lexeme, AreLexemes, ended, blank, fault, token, tokens_in, RefusedText, at_token, too_short, no_token, TextGoesOn}
 use Rattle.filter_lang.proofs.Cuts.{token_again, token_inside}

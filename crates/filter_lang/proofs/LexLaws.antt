@@ -5,7 +5,8 @@ use Rattle.std.proofs.lemmas.List.{length-drop}
 use Rattle.filter_lang.specs.PlainToken.{PlainToken}
 use Rattle.filter_lang.specs.Filter.{FilterData}
 use Rattle.filter_lang.specs.Grammar.{IsFilter, RefusedBefore}
-use Rattle.filter_lang.specs.Lexing.{is_blank, token_in, is_colon, Cut}
+use Rattle.byte_classes.specs.Bytes.{is_blank}
+use Rattle.filter_lang.specs.Lexing.{token_in, is_colon, Cut}
 use Rattle.filter_lang.specs.Texts.{Lexeme, lexeme, AreLexemes, ended, blank, fault, token, tokens_in, IsFilterText, RefusedText, at_token, too_short, no_token}
 use Rattle.filter_lang.proofs.Viable.{found_is}
 use Rattle.filter_lang.proofs.Filters.{filter_there}

@@ -13,9 +13,9 @@ pub mod OneRefusal
 pub mod EventSteps
 pub mod Answered
 pub mod LexLaws
-pub mod Digits
 pub mod LexedPlaces
 pub mod Computed
 pub mod Continues
 pub mod Cuts
 pub mod GoesOn
+pub mod FilterCode

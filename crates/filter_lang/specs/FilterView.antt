@@ -20,7 +20,7 @@ abbrev pub name_of : EventName → EventNameData
 name_of e = named e.first e.second
 
 abbrev pub filter_of : Filter → FilterData
-filter_of f = filter (map name_of f.events.items) (option_map tree_of f.cond)
+filter_of f = filter (map name_of f.events) (option_map tree_of f.cond)
 
 -- events that were read, and what stands behind them: further ones behind a comma
 abbrev pub closing_with : List EventNameData → List PlainToken → Outcome (List EventNameData)

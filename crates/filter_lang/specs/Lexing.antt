@@ -1,5 +1,5 @@
 -- The token that bytes begin with, as long as it can be. What stands before the first `:` of a filter has other tokens
--- than what stands behind it. Blanks are space and tab. Numbers and words are spelled as in C11 6.4.4.1 and 6.4.2.1.
+-- than what stands behind it. Numbers and words are spelled as in C11 6.4.4.1 and 6.4.2.1.
 use Rattle.std.specs.Prelude.{◌≡◌, ℕ, ◌+◌, ◌==◌, Bool, true, false, not, ◌||◌, List, [], ◌∷◌, length, take, nat_lt, bytes_eq, codes, Option, Some, None, if◌then◌else◌}
 use Rattle.std.specs.List.{prefix_len}
 use Rattle.std.specs.Char.{is_ascii_digit}
@@ -7,13 +7,11 @@ use Rattle.std.specs.Str.Parse.{digits_value}
 use Rattle.c_operators.specs.Operators.{op_of}
 use Rattle.c_operators.specs.declared.binary.BinaryOp.{BinaryOp}
 use Rattle.fmt_lexer.specs.declared.number.Base.{Base}
-use Rattle.fmt_lexer.specs.Bytes.{is_word, quote, apostrophe}
+use Rattle.byte_classes.specs.Bytes.{is_blank, is_word}
+use Rattle.fmt_lexer.specs.Bytes.{quote, apostrophe}
 use Rattle.fmt_lexer.specs.Number.{radix_of}
 use Rattle.fmt_lexer.specs.Reading.{number_parts}
 use Rattle.filter_lang.specs.PlainToken.{PlainToken, name, comma, slash, colon, digits, quoted, identifier, mark, exclamation, tilde, opening, closing}
-
-abbrev pub is_blank : ℕ → Bool
-is_blank c = c == 32 || c == 9
 
 -- no blank, and none of `,` `/` `:`
 abbrev pub is_name_byte : ℕ → Bool

@@ -2,7 +2,8 @@
 use Rattle.std.specs.Prelude.{ℕ, zero, suc, ◌-◌, Bool, false, ◌||◌, List, [], ◌∷◌, length, drop, Option, Some, None, Result, Ok, Err, if◌then◌else◌}
 use Rattle.filter_lang.specs.PlainToken.{PlainToken}
 use Rattle.filter_lang.specs.Filter.{FilterData}
-use Rattle.filter_lang.specs.Lexing.{Cut, is_blank, token_in, is_colon}
+use Rattle.byte_classes.specs.Bytes.{is_blank}
+use Rattle.filter_lang.specs.Lexing.{Cut, token_in, is_colon}
 use Rattle.filter_lang.specs.Texts.{Lexeme, lexeme, tokens_in}
 use Rattle.filter_lang.specs.ConditionReading.{Outcome, found, refused}
 use Rattle.filter_lang.specs.FilterReading.{filter_in}

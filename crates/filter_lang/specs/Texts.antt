@@ -3,7 +3,8 @@ use Rattle.std.specs.Prelude.{◌≡◌, ◌≢◌, ℕ, Bool, true, false, ◌|
 use Rattle.filter_lang.specs.PlainToken.{PlainToken}
 use Rattle.filter_lang.specs.Filter.{FilterData}
 use Rattle.filter_lang.specs.Grammar.{IsFilter, RefusedBefore}
-use Rattle.filter_lang.specs.Lexing.{is_blank, token_in, is_colon}
+use Rattle.byte_classes.specs.Bytes.{is_blank}
+use Rattle.filter_lang.specs.Lexing.{token_in, is_colon}
 
 -- a token, and the text from its first byte on
 pub record Lexeme : Type 0 where

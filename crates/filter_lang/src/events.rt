@@ -10,7 +10,7 @@ use crate::filter::{EventName, Filter};
 use crate::reader::Reader;
 use crate::stop::Stop;
 use crate::taken::{TakenEvent, TakenEvents};
-use trace_base::ByteText;
+use trace_base::{ByteText, ListOf};
 
 /// How many brackets and prefix operators may be open.
 const DEEPEST: u32 = 64;
@@ -70,7 +70,7 @@ impl<'a> Reader<'a> {
         let events = self.events()?;
         if events.next == self.tokens.len() {
             return Ok(Filter {
-                events: events.events,
+                events: ListOf::from_vec(events.events),
                 cond: None,
             });
         }
@@ -82,7 +82,7 @@ impl<'a> Reader<'a> {
             return Err(Stop::Before(cond.next));
         }
         Ok(Filter {
-            events: events.events,
+            events: ListOf::from_vec(events.events),
             cond: Some(Box::into_inner(cond.expr)),
         })
     }

@@ -1,7 +1,7 @@
 //! A filter that was read.
 
 use crate::expr::FilterExpr;
-use trace_base::ByteText;
+use trace_base::{ByteText, ListOf};
 
 /// A name of events: `A` names the events and the systems of that name, `A/B` the event B of the system A.
 #[derive(Drop)]
@@ -13,6 +13,6 @@ pub struct EventName {
 /// Names of events, and a condition; without one it holds of each event that is named.
 #[derive(Drop)]
 pub struct Filter {
-    pub events: Vec<EventName>,
+    pub events: ListOf<EventName>,
     pub cond: Option<FilterExpr>,
 }

@@ -2,32 +2,20 @@
 
 ghost use Rattle.std.specs.Prelude.{◌≡◌, ◌≤◌, ◌<◌, ◌==◌, ◌||◌, ◌∷◌, [], not, length, take, Some, option_map, IfSome};
 ghost use Rattle.std.specs.List.{prefix_len};
-ghost use Rattle.fmt_lexer.specs.Bytes.{is_word};
-ghost use Rattle.filter_lang.specs.Lexing.{is_blank, is_name_byte, is_colon, other_mark, long_at, short_at, marked, number_in, number_cut, text_cut, before_colon, behind_colon, token_in};
+ghost use Rattle.byte_classes.specs.Bytes.{is_blank, is_word};
+ghost use Rattle.filter_lang.specs.Lexing.{is_name_byte, is_colon, other_mark, long_at, short_at, marked, number_in, number_cut, text_cut, before_colon, behind_colon, token_in};
 ghost use Rattle.filter_lang.specs.PlainToken.{name, identifier};
 ghost use Rattle.filter_lang.specs.TokenView.{plain_token, cut_of};
 
 use crate::number::number;
 use crate::token::Word;
+use byte_classes::{is_blank, is_word};
 use c_operators::BinaryOp;
-
-/// Whether a byte may stand between tokens: space or tab.
-pub fn is_blank(byte: u8) -> bool
-    ensures { result ≡ is_blank byte }
-{
-    byte == b' ' || byte == b'\t'
-}
 
 fn is_name_byte(byte: u8) -> bool
     ensures { result ≡ is_name_byte byte }
 {
     !(is_blank(byte) || byte == b',' || byte == b'/' || byte == b':')
-}
-
-fn is_word_byte(byte: u8) -> bool
-    ensures { result ≡ is_word byte }
-{
-    byte.is_ascii_alphanumeric() || byte == b'_'
 }
 
 /// How many bytes of a name stand at the front.
@@ -43,7 +31,7 @@ fn word_len(bytes: &[u8]) -> usize
     ensures value { result ≡ prefix_len is_word bytes.now }
     ensures within { result ≤ length bytes.now }
 {
-    bytes.iter().take_while(|byte| is_word_byte(**byte)).count()
+    bytes.iter().take_while(|byte| is_word(**byte)).count()
 }
 
 /// How many bytes stand before the first that is this one.
@@ -163,7 +151,7 @@ fn behind_colon<'a>(bytes: &'a [u8], first: u8, rest: &'a [u8]) -> Option<(Word<
     if first.is_ascii_digit() {
         return number_token(bytes, first, rest);
     }
-    if is_word_byte(first) {
+    if is_word(first) {
         return Some(field_token(bytes, first, rest));
     }
     if first == b'"' || first == b'\'' {

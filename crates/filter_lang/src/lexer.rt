@@ -6,8 +6,9 @@ ghost use Rattle.filter_lang.specs.TokenView.{cut_of};
 ghost use Rattle.filter_lang.specs.Texts.{AreLexemes};
 ghost use Rattle.filter_lang.specs.LexedView.{lexemes_of, place_in};
 
-use crate::first::{first_token, is_blank, is_past_colon};
+use crate::first::{first_token, is_past_colon};
 use crate::token::{Token, Word};
+use byte_classes::is_blank;
 use std::alloc::{AllocError, Global};
 
 /// Tokens from the left, and the place from which on none begins.

@@ -18,8 +18,6 @@ mod parser;
 mod reader;
 mod stop;
 mod taken;
-#[cfg(test)]
-mod tests;
 mod token;
 
 pub use expr::{FilterExpr, FilterOperand, FilterPrefix};

@@ -1,3 +1,4 @@
 pub mod BoundRows
 pub mod Bindings
 pub mod Shows
+pub mod UseCode

@@ -41,7 +41,7 @@ impl Model for Bound {
 
 impl Bound {
     /// Whether the filter holds at an event of the format at this place of the table.
-    pub fn holds_at(&self, format: usize, event: &Event<'_>) -> bool
+    pub(crate) fn holds_at(&self, format: usize, event: &Event<'_>) -> bool
         ensures { result ≡ bound_holds (conditions_of self.now) format (event_of event.now) }
     {
         match self.conditions.get(format) {
@@ -51,7 +51,7 @@ impl Bound {
     }
 
     /// Whether a condition decides at which events of the format at this place the filter holds.
-    pub fn is_open_at(&self, format: usize) -> bool
+    pub(crate) fn is_open_at(&self, format: usize) -> bool
         ensures { result ≡ option_open (slice_get (conditions_of self.now) format) }
     {
         match self.conditions.get(format) {
@@ -127,7 +127,7 @@ fn bind_format(
 ) -> Result<Condition, AllocError>
     ensures { IfOk result (λ c. condition_of c ≡ bind_format (filter_of filter.now) format.now) }
 {
-    if names_format(&filter.events, format) {
+    if names_format(filter.events.as_slice(), format) {
         bind_cond(alloc, &filter.cond, format.fields.as_slice())
     } else {
         Ok(Condition::Unnamed)

@@ -11,8 +11,6 @@ mod evaluation;
 mod filter;
 pub mod laws;
 mod select;
-#[cfg(test)]
-mod tests;
 mod value;
 
 pub use evaluation::Event;

@@ -1,6 +1,6 @@
 //! Which events filters show.
 
-ghost use Rattle.std.specs.Prelude.{◌≡◌, ℕ, true, Option, map, IfOk, IfSome, IfNone};
+ghost use Rattle.std.specs.Prelude.{◌≡◌, ℕ, Option, map, is_none, IfOk, IfSome};
 ghost use Rattle.std.specs.List.{list_any};
 ghost use Rattle.filter_truth.specs.Naming.{EventData};
 ghost use Rattle.filter_truth.specs.Selection.{filters_show};
@@ -76,7 +76,7 @@ impl Filters {
     /// none of them. None exactly where a condition decides, so that `show` must be asked of each event.
     pub fn settled(&self, format: Option<usize>) -> Option<bool>
         ensures alike { IfSome result (λ shown. (e : EventData) → shown ≡ bound_show self.now format e) }
-        ensures asked { IfNone result (some_open self.now format ≡ true) }
+        ensures asked { is_none result ≡ some_open self.now format }
     {
         if self.is_open(format) {
             return None;

@@ -5,8 +5,6 @@ mod conversion;
 mod directive;
 mod laws;
 mod pieces;
-#[cfg(test)]
-mod tests;
 
 pub use directive::{Amount, Base, Directive, Length, PointerForm, Spec};
 pub use laws::{computed_directives, computed_piece, one_row};

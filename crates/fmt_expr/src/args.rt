@@ -15,7 +15,7 @@ use crate::reader::Reader;
 use crate::stop::Stop;
 use fmt_lexer::Token;
 use std::alloc::{AllocError, Global};
-use trace_base::Field;
+use trace_base::{Field, ListOf};
 
 /// How deep an argument may nest.
 const DEEPEST: u32 = 64;
@@ -48,7 +48,7 @@ impl<'a> Reader<'a> {
         let args = self.args(text.next)?;
         Ok(PrintFmt {
             text: text.text,
-            args,
+            args: ListOf::from_vec(args),
             long: self.long,
         })
     }

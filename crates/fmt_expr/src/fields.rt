@@ -30,9 +30,8 @@ fn is_dynamic(place: FieldPlace) -> bool
 pub fn copy_field(alloc: Global, field: &Field) -> Result<Field, AllocError>
     ensures { IfOk result (λ f. f ≡ field.now) }
 {
-    let name = ByteText::copy(alloc, field.name.as_bytes())?;
     Ok(Field {
-        name,
+        name: ByteText::copy(alloc, field.name.as_bytes())?,
         offset: field.offset,
         size: field.size,
         signed: field.signed,

@@ -110,7 +110,7 @@ impl<'a> Reader<'a> {
         let Some(token) = self.tokens.get(at) else {
             return Head::Other;
         };
-        let bytes = &self.text[token.start as usize..token.end as usize];
+        let bytes = token.bytes(self.text);
         match token.kind {
             TokenKind::Name => name_head(bytes),
             TokenKind::Mark => mark_head(bytes),

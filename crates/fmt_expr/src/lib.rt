@@ -22,8 +22,6 @@ mod print_fmt;
 mod reader;
 mod stop;
 mod taken;
-#[cfg(test)]
-mod tests;
 mod texts;
 mod types;
 mod words;

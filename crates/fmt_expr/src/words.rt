@@ -20,7 +20,7 @@ impl<'a> Reader<'a> {
     {
         let token = self.tokens.get(at)?;
         match token.kind {
-            TokenKind::Mark => Some(&self.text[token.start as usize..token.end as usize]),
+            TokenKind::Mark => Some(token.bytes(self.text)),
             _ => None,
         }
     }
@@ -33,7 +33,7 @@ impl<'a> Reader<'a> {
     {
         let token = self.tokens.get(at)?;
         match token.kind {
-            TokenKind::Name => Some(&self.text[token.start as usize..token.end as usize]),
+            TokenKind::Name => Some(token.bytes(self.text)),
             _ => None,
         }
     }
@@ -46,7 +46,7 @@ impl<'a> Reader<'a> {
     {
         let token = self.tokens.get(at)?;
         match token.kind {
-            TokenKind::Text => Some(&self.text[token.start as usize..token.end as usize]),
+            TokenKind::Text => Some(token.bytes(self.text)),
             _ => None,
         }
     }
@@ -58,7 +58,7 @@ impl<'a> Reader<'a> {
         ensures within { IfSome result (λ n. at < length self.now.tokens.now) }
     {
         let token = self.tokens.get(at)?;
-        let spelling = &self.text[token.start as usize..token.end as usize];
+        let spelling = token.bytes(self.text);
         match token.kind {
             TokenKind::Number => number(spelling, self.long),
             TokenKind::Letter => Some(Numeral {

@@ -9,7 +9,7 @@ use Rattle.fmt_lexer.specs.declared.number.Base.{Base}
 use Rattle.fmt_lexer.specs.declared.number.Base.TheVariants.{Decimal, Hexadecimal, Octal}
 use Rattle.fmt_lexer.specs.declared.token.TokenKind.{TokenKind}
 use Rattle.fmt_lexer.specs.declared.token.TokenKind.TheVariants.{Name, Number, Letter, Text, Mark}
-use Rattle.fmt_lexer.specs.Bytes.{is_word}
+use Rattle.byte_classes.specs.Bytes.{is_word}
 use Rattle.fmt_lexer.specs.Number.{radix_of, prefix_of, IsSuffix, IsNumber, unsigned_first, unsigned_last, signed}
 use Rattle.fmt_lexer.specs.Reading.{kind_from}
 use Rattle.fmt_lexer.proofs.Suffixes.{unsigned_word, longs_word}

@@ -1,11 +1,10 @@
 -- The number that digits write, as more of them are read.
-use Rattle.std.proofs.Common.{◌≡◌, ℕ, ◌+◌, ◌*◌, ◌<◌, ◌≤◌, List, map, ◌++◌, length, take, drop, get_or, ltb, true, false, inl, inr, sym, ap, ◌∙◌, arith}
+use Rattle.std.proofs.Common.{◌≡◌, ℕ, ◌+◌, ◌*◌, ◌<◌, ◌≤◌, List, map, ◌++◌, length, take, drop, get_or, sym, ap, ◌∙◌, arith}
 use Rattle.std.specs.Char.{digit_value}
 use Rattle.std.specs.Str.Parse.{digits_value}
 use Rattle.std.specs.Int.Digits.{number_from_digits_after, number_from_digits}
 use Rattle.std.proofs.lemmas.Int.Digits.{digits_value_is, number_after_append, number_after_ge, digits_value_more}
-use Rattle.std.proofs.lemmas.Bool.{le-ltb, lt-ltb, cases_lt}
-use Rattle.std.proofs.lemmas.List.{map-append, take-append-drop, take_all}
+use Rattle.std.proofs.lemmas.List.{map-append, take-append-drop}
 
 -- more digits behind do not make it less
 pub digits_value-take-le : (radix : ℕ) (ds : List ℕ) (i : ℕ) → 0 < radix → digits_value radix (take i ds) ≤ digits_value radix ds
@@ -23,14 +22,5 @@ with_digit_is radix ds i number digit h d e =
     ap (λ (n : ℕ). n * radix + digit) e ∙ ap (λ (n : ℕ). digits_value radix (take i ds) * radix + n) d ∙ sym (digits_value_more radix ds i h)
 
 -- the digits so far write too large a number, and so do all
-pub too_long : (radix : ℕ) (ds : List ℕ) (i number limit : ℕ) → 0 < radix → number ≡ digits_value radix (take i ds) → (number < limit → ⊥) → ltb (digits_value radix ds) limit ≡ false
-too_long radix ds i number limit some e never =
-    le-ltb _ _ (elim (cases_lt number limit) [
-      | inl below ↦ absurd (never below)
-      | inr long ↦ omega (arith, e, digits_value-take-le radix ds i some)
-    ])
-
-pub all_read : (radix : ℕ) (ds : List ℕ) (i number limit : ℕ) → length ds ≤ i → number ≡ digits_value radix (take i ds) → number < limit → ltb (digits_value radix ds) limit ≡ true
-all_read radix ds i number limit all e small =
-    let whole : take i ds ≡ ds = take_all i ds all in
-    lt-ltb _ _ (omega (arith, small, e, ap (digits_value radix) whole))
+pub too_long : (radix : ℕ) (ds : List ℕ) (i number limit : ℕ) → 0 < radix → number ≡ digits_value radix (take i ds) → (number < limit → ⊥) → digits_value radix ds < limit → ⊥
+too_long radix ds i number limit some e never less = never (omega (arith, e, less, digits_value-take-le radix ds i some))

@@ -11,7 +11,7 @@ use Rattle.std.proofs.lemmas.Option.{cond_some, same_Some}
 use Rattle.fmt_lexer.specs.declared.number.Base.{Base}
 use Rattle.fmt_lexer.specs.declared.token.TokenKind.{TokenKind}
 use Rattle.fmt_lexer.specs.declared.token.TokenKind.TheVariants.{Name, Number, Letter, Text, Mark}
-use Rattle.fmt_lexer.specs.Bytes.{is_blank, is_word}
+use Rattle.byte_classes.specs.Bytes.{is_blank, is_word}
 use Rattle.fmt_lexer.specs.Quoted.{IsLetter, IsText}
 use Rattle.fmt_lexer.specs.Tokens.{Spells}
 use Rattle.fmt_lexer.specs.Reading.{kind_from, number_parts, number_len, letter_len, text_len, len_as, first_token}

@@ -3,7 +3,7 @@ use Rattle.std.proofs.Common.{◌≡◌, ℕ, ◌+◌, ◌<◌, ◌≤◌, true,
 use Rattle.std.specs.Option.{option_map}
 use Rattle.fmt_lexer.specs.declared.token.Token.{Token}
 use Rattle.fmt_lexer.specs.declared.token.TokenKind.{TokenKind}
-use Rattle.fmt_lexer.specs.Bytes.{is_blank}
+use Rattle.byte_classes.specs.Bytes.{is_blank}
 use Rattle.fmt_lexer.specs.Reading.{first_token, token_at}
 use Rattle.fmt_lexer.proofs.Steps.{map_some, none_read}
 use Rattle.fmt_lexer.proofs.Rows.{token, rest_of, at_end, at_blank, at_none, at_token}

@@ -6,7 +6,7 @@ use Rattle.std.proofs.lemmas.List.Sums.{AllPass-from_list_all}
 use Rattle.std.proofs.lemmas.List.Elements.{All-contains}
 use Rattle.std.proofs.lemmas.Option.{cond_some, same_Some}
 use Rattle.fmt_lexer.proofs.Steps.{chosen}
-use Rattle.fmt_lexer.specs.Bytes.{is_blank, is_word}
+use Rattle.byte_classes.specs.Bytes.{is_blank, is_word}
 use Rattle.fmt_lexer.specs.Mark.{long_marks, short_marks, IsMark}
 use Rattle.fmt_lexer.specs.Reading.{is_long_mark, is_short_mark, mark_len}
 

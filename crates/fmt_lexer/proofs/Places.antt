@@ -6,7 +6,7 @@ use Rattle.std.proofs.lemmas.List.Kept.{AllPairs-cons}
 use Rattle.std.proofs.lemmas.Option.{same_Some}
 use Rattle.fmt_lexer.specs.Reading.{tokens_from, tokens_of}
 use Rattle.fmt_lexer.specs.declared.token.Token.{Token}
-use Rattle.fmt_lexer.specs.Bytes.{is_blank}
+use Rattle.byte_classes.specs.Bytes.{is_blank}
 use Rattle.fmt_lexer.specs.Tokens.{IsTokenOf, IsOutside, AreTokens}
 use Rattle.std.proofs.lemmas.Bool.{ltb-true, lt-ltb}
 use Rattle.fmt_lexer.proofs.Steps.{guarded}

@@ -6,7 +6,7 @@ use Rattle.std.proofs.lemmas.List.{drop_more, drop_all, length-drop, drop-drop, 
 use Rattle.std.proofs.lemmas.Option.{same_Some}
 use Rattle.fmt_lexer.specs.declared.token.Token.{Token}
 use Rattle.fmt_lexer.specs.declared.token.TokenKind.{TokenKind}
-use Rattle.fmt_lexer.specs.Bytes.{is_blank, is_word}
+use Rattle.byte_classes.specs.Bytes.{is_blank, is_word}
 use Rattle.fmt_lexer.specs.Tokens.{Spells, IsTokenOf}
 use Rattle.fmt_lexer.specs.Reading.{first_token, tokens_from}
 use Rattle.fmt_lexer.proofs.Steps.{option_cases, map_some}
@@ -179,7 +179,3 @@ token_inside text at kind n le h =
     let b = first_sound (drop at text) kind n (ap first_token (sym (take_rest text at)) ∙ sym h) in
     let some = some_bytes (drop at text) kind n b in
     (omega arith, omega (arith, b.within, length-drop at text))
-
--- a token is a range of the text
-pub token_range : (text : List ℕ) (t : Token) → IsTokenOf text t → (t.start < t.end) × (t.end ≤ length text)
-token_range text t h = ((placed text t h).forward, h.within)

@@ -5,7 +5,7 @@ use Rattle.std.proofs.lemmas.Bool.{cases_Bool, eqb-true, leb-true, le-leb, and_p
 use Rattle.std.proofs.lemmas.List.{take_more, take_all, take_at, length_push, get_or_push}
 use Rattle.std.proofs.lemmas.List.Sums.{AllPass-from_list_all, list_all-from_AllPass}
 use Rattle.std.proofs.lemmas.List.Elements.{All-weaker}
-use Rattle.fmt_lexer.specs.Bytes.{is_word}
+use Rattle.byte_classes.specs.Bytes.{is_word}
 use Rattle.fmt_lexer.specs.Number.{is_unsigned, is_long, AreLongs, IsSuffix, unsigned_first, unsigned_last, signed}
 use Rattle.fmt_lexer.specs.Reading.{longs_of, is_suffix}
 

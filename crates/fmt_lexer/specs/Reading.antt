@@ -9,7 +9,8 @@ use Rattle.fmt_lexer.specs.declared.number.Base.TheVariants.{Decimal, Hexadecima
 use Rattle.fmt_lexer.specs.declared.token.Token.{Token}
 use Rattle.fmt_lexer.specs.declared.token.TokenKind.{TokenKind}
 use Rattle.fmt_lexer.specs.declared.token.TokenKind.TheVariants.{Name, Number, Letter, Text, Mark}
-use Rattle.fmt_lexer.specs.Bytes.{is_blank, is_word, apostrophe, quote, backslash, is_octal}
+use Rattle.byte_classes.specs.Bytes.{is_blank, is_word}
+use Rattle.fmt_lexer.specs.Bytes.{apostrophe, quote, backslash, is_octal}
 use Rattle.fmt_lexer.specs.Number.{radix_of, is_unsigned, is_long}
 use Rattle.fmt_lexer.specs.Mark.{long_marks, short_marks}
 

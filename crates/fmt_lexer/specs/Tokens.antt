@@ -6,7 +6,7 @@ use Rattle.fmt_lexer.specs.declared.number.Base.{Base}
 use Rattle.fmt_lexer.specs.declared.token.Token.{Token}
 use Rattle.fmt_lexer.specs.declared.token.TokenKind.{TokenKind}
 use Rattle.fmt_lexer.specs.declared.token.TokenKind.TheVariants.{Name, Number, Letter, Text, Mark}
-use Rattle.fmt_lexer.specs.Bytes.{is_blank, is_word}
+use Rattle.byte_classes.specs.Bytes.{is_blank, is_word}
 use Rattle.fmt_lexer.specs.Number.{IsNumber}
 use Rattle.fmt_lexer.specs.Quoted.{IsLetter, IsText}
 use Rattle.fmt_lexer.specs.Mark.{IsMark}

@@ -3,11 +3,12 @@
 ghost use Rattle.std.specs.Prelude.{◌≡◌};
 ghost use Rattle.fmt_lexer.specs.Reading.{kind_from, number_len, first_token};
 
-use crate::bytes::{is_word, run_len};
+use crate::bytes::run_len;
 use crate::mark::mark_len;
 use crate::number::number_parts;
 use crate::quoted::{letter_len, text_len};
 use crate::token::TokenKind;
+use byte_classes::is_word;
 
 /// The kind of token that a byte begins, if it begins one.
 #[tactic(auto, unfolding(crate::specs::Reading::kind_from))]

@@ -5,9 +5,9 @@ ghost use Rattle.std.specs.Option.{option_map};
 ghost use Rattle.fmt_lexer.specs.Tokens.{AreTokens};
 ghost use Rattle.fmt_lexer.specs.Reading.{token_at, tokens_from, tokens_of};
 
-use crate::bytes::is_blank;
 use crate::first::first_token;
 use crate::token::Token;
+use byte_classes::is_blank;
 use std::alloc::{AllocError, Global};
 
 /// The token that begins at a place of a text.

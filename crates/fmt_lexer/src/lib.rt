@@ -12,8 +12,6 @@ mod lexer;
 mod mark;
 mod number;
 mod quoted;
-#[cfg(test)]
-mod tests;
 mod token;
 
 pub use lexer::tokens;

@@ -1,6 +1,6 @@
 //! Numbers, as C11 6.4.4.1 spells them, without digits apart from their kind.
 
-ghost use Rattle.std.specs.Prelude.{◌≡◌, ◌+◌, ◌*◌, ◌^◌, ◌<◌, ◌≤◌, nat_lt, List, ℕ, take, drop, IsTrue, IfSome, IfNone};
+ghost use Rattle.std.specs.Prelude.{◌≡◌, ◌+◌, ◌*◌, ◌^◌, ◌<◌, ◌≤◌, List, ℕ, take, drop, IsTrue, IfSome, IfNone};
 ghost use Rattle.std.specs.List.{AllPass};
 ghost use Rattle.std.specs.Char.{is_digit, digit_value};
 ghost use Rattle.std.specs.Str.Parse.{digits_value};
@@ -23,7 +23,7 @@ pub enum Base {
 
 impl Base {
     /// 10, 16 or 8.
-    pub fn radix(self) -> u32
+    pub(crate) fn radix(self) -> u32
         ensures value { result ≡ radix_of self }
         ensures range { (2 ≤ result) × (result ≤ 16) }
     {
@@ -35,12 +35,14 @@ impl Base {
     }
 }
 
-/// A number's spelling behind its prefix.
+/// A number's spelling behind its prefix, and what it counts.
 #[derive(Clone, Copy, Debug)]
 pub struct NumberParts<'a> {
     pub base: Base,
     pub digits: &'a [u8],
     pub suffix: &'a [u8],
+    /// What the digits write.
+    pub value: u64,
 }
 
 /// The base of a spelling, and what stands behind its prefix.
@@ -114,34 +116,34 @@ fn with_digit(number: u64, radix: u32, digit: u32) -> Option<u64>
         .checked_add(u64::from(digit))
 }
 
-/// Whether digits write a number of 64 bits.
-fn fits(base: Base, digits: &[u8]) -> bool
+/// The number of 64 bits that digits write, if they write one.
+fn digits_value(base: Base, digits: &[u8]) -> Option<u64>
     requires { AllPass (λ b. is_digit b (radix_of base)) digits.now }
-    ensures { result ≡ nat_lt (digits_value (radix_of base) digits.now) (2 ^ 64) }
+    ensures { SomeIff result (digits_value (radix_of base) digits.now < 2 ^ 64) (digits_value (radix_of base) digits.now) }
 {
     let radix = base.radix();
     let mut number = 0;
     for byte in digits {
-        match with_digit(number, radix, digit_value(*byte, radix)) {
-            Some(longer) => number = longer,
-            None => return false,
-        }
+        number = with_digit(number, radix, digit_value(*byte, radix))?;
     }
-    true
+    Some(number)
 }
 
 /// The parts behind a prefix, where they are a number of 64 bits.
 #[tactic(auto, unfolding(crate::specs::Reading::parts_behind))]
 fn parts_behind(base: Base, rest: &[u8]) -> Option<NumberParts<'_>>
-    ensures { option_map parts_view result ≡ parts_behind base rest.now }
+    ensures parts { option_map parts_view result ≡ parts_behind base rest.now }
+    ensures value { IfSome result (λ p. p.value ≡ digits_value (radix_of p.base) p.digits.now) }
 {
     let (digits, suffix) = split_digits(base, rest);
+    let value = digits_value(base, digits)?;
     let has_digits = base == Base::Octal || !digits.is_empty();
-    if has_digits && fits(base, digits) && is_suffix(suffix) {
+    if has_digits && is_suffix(suffix) {
         Some(NumberParts {
             base,
             digits,
             suffix,
+            value,
         })
     } else {
         None
@@ -156,6 +158,7 @@ pub fn number_parts(spelling: &[u8]) -> Option<NumberParts<'_>>
     ensures none { IfNone result
         ((base : Base) (digits suffix : List ℕ) → IsNumber spelling.now base digits suffix → ⊥) }
     ensures exact { option_map parts_view result ≡ number_parts spelling.now }
+    ensures value { IfSome result (λ p. p.value ≡ digits_value (radix_of p.base) p.digits.now) }
 {
     let (base, rest) = split_prefix(spelling);
     parts_behind(base, rest)

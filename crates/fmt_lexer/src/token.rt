@@ -1,6 +1,6 @@
 //! What a token is, and where it stands.
 
-ghost use Rattle.std.specs.Prelude.{◌≡◌};
+ghost use Rattle.std.specs.Prelude.{◌≡◌, ◌≤◌, length};
 
 /// The kind of a token.
 #[derive(Clone, Copy, Debug, PartialEq, Eq)]
@@ -28,12 +28,12 @@ pub struct Token {
 }
 
 impl Token {
-    ghost use Rattle.fmt_lexer.specs.Tokens.{IsTokenOf, bytes_of};
+    ghost use Rattle.fmt_lexer.specs.Tokens.{bytes_of};
 
     /// The bytes that the token stands for in its text.
-    #[tactic(auto, using(crate::proofs::Rows::token_range))]
     pub fn bytes<'a>(&self, text: &'a [u8]) -> &'a [u8]
-        requires { IsTokenOf text.now self.now }
+        requires forward { self.now.start ≤ self.now.end }
+        requires within { self.now.end ≤ length text.now }
         ensures { result.now ≡ bytes_of text.now self.now }
     {
         &text[self.start as usize..self.end as usize]

@@ -8,8 +8,6 @@ mod escape;
 pub mod laws;
 mod numeral;
 mod quoted;
-#[cfg(test)]
-mod tests;
 mod types;
 
 pub use cast_to::CastTo;

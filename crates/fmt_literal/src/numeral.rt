@@ -1,17 +1,12 @@
 //! Numbers: their value and their kind.
 
-ghost use Rattle.std.specs.Prelude.{◌≡◌, ◌*◌, ◌^◌, ◌<◌, ◌≤◌, ◌⊎◌, count_by, IfSome, IfNone, ℕ, option_map, Some, IsTrue};
-ghost use Rattle.std.specs.List.{AllPass, list_any};
-ghost use Rattle.std.specs.Char.{is_digit, digit_value};
-ghost use Rattle.std.specs.Str.Parse.{digits_value};
-ghost use Rattle.fmt_lexer.specs.declared.number.Base.{Base};
-ghost use Rattle.fmt_lexer.specs.Number.{radix_of};
+ghost use Rattle.std.specs.Prelude.{◌≡◌, ◌≤◌, ◌⊎◌, IfSome, IfNone, ℕ, option_map};
 ghost use Rattle.fmt_literal.specs.declared.ckind.CKind.{CKind};
 ghost use Rattle.fmt_literal.specs.Numeral.{says_unsigned, least_width, may_have, kind_of_number, numeral_of, IsNumeral};
 ghost use Rattle.fmt_literal.specs.Views.{numeral_view};
 
 use crate::ckind::CKind;
-use fmt_lexer::{Base, NumberParts, number_parts};
+use fmt_lexer::{Base, number_parts};
 
 /// A number and its kind.
 #[derive(Clone, Copy, Debug, PartialEq, Eq)]
@@ -20,30 +15,6 @@ pub struct Numeral {
     pub bits: u64,
     /// Its kind.
     pub kind: CKind,
-}
-
-/// What a digit counts.
-fn digit_value(digit: u8, radix: u32) -> u32
-    requires is_one { IsTrue (is_digit digit radix) }
-    requires range { (2 ≤ radix) × (radix ≤ 16) }
-    ensures value { result ≡ digit_value digit }
-    ensures small { result < radix }
-{
-    char::from(digit).to_digit(radix).unwrap_or(0)
-}
-
-/// The number that digits write.
-fn value(base: Base, digits: &[u8]) -> u64
-    requires each { AllPass (λ b. is_digit b (radix_of base)) digits.now }
-    requires fits { digits_value (radix_of base) digits.now < 2 ^ 64 }
-    ensures { result ≡ digits_value (radix_of base) digits.now }
-{
-    let radix = base.radix();
-    let mut number: u64 = 0;
-    for byte in digits {
-        number = number * u64::from(radix) + u64::from(digit_value(*byte, radix));
-    }
-    number
 }
 
 /// Whether a suffix has a `u`.
@@ -114,14 +85,12 @@ fn computed(spelling: &[u8], long: u32) -> Option<Numeral>
     requires { long ≤ 8 }
     ensures { option_map numeral_view result ≡ numeral_of spelling.now long }
 {
-    let NumberParts {
-        base,
-        digits,
-        suffix,
-    } = number_parts(spelling)?;
-    let bits = value(base, digits);
-    let kind = kind_of_number(base, suffix, long, bits);
-    Some(Numeral { bits, kind })
+    let parts = number_parts(spelling)?;
+    let kind = kind_of_number(parts.base, parts.suffix, long, parts.value);
+    Some(Numeral {
+        bits: parts.value,
+        kind,
+    })
 }
 
 /// The number that a spelling is, where the kernel's long has 4 or 8 bytes. None exactly where it is no number of 64
