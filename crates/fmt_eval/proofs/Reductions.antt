@@ -71,13 +71,13 @@ signed_16 z low is = ap (cast_signed w16) is
 
 -- ---- the bits of a number are its pattern
 
-pub pattern_signed : (bits : ℕ) → bits < 2 ^ 64 → bits ≡ pattern (cast_signed w64 bits)
+pattern_signed : (bits : ℕ) → bits < 2 ^ 64 → bits ≡ pattern (cast_signed w64 bits)
 pattern_signed bits small = elim (cases_lt bits (2 ^ 63)) as (λ _. bits ≡ pattern (cast_signed w64 bits)) [
   | inl less ↦ rw (lt-ltb bits (2 ^ 63) less) (omega arith)
   | inr more ↦ rw (le-ltb bits (2 ^ 63) more) (omega arith)
 ]
 
-pub pattern_unsigned : (bits : ℕ) → bits < 2 ^ 64 → bits ≡ pattern (pos bits)
+pattern_unsigned : (bits : ℕ) → bits < 2 ^ 64 → bits ≡ pattern (pos bits)
 pattern_unsigned bits small = omega arith
 
 -- ---- fields of four and eight bytes
@@ -132,7 +132,7 @@ reduced_pattern U32 z = low_of_pattern_32 z
 reduced_pattern I64 z = ap (λ (n : ℤ). cast_signed w64 (unsigned_abs n)) (low_of_pattern_64 z)
 reduced_pattern U64 z = low_of_pattern_64 z
 
-pattern_by : (kind : CKind) (bits : ℕ) → bits < 2 ^ 64 → bits ≡ pattern (exact_bits kind bits)
+pub pattern_by : (kind : CKind) (bits : ℕ) → bits < 2 ^ 64 → bits ≡ pattern (exact_bits kind bits)
 pattern_by I32 bits small = pattern_signed bits small
 pattern_by U32 bits small = pattern_unsigned bits small
 pattern_by I64 bits small = pattern_signed bits small

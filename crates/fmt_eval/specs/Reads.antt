@@ -1,20 +1,24 @@
--- How the number of a tree is read where it is that of one field.
-use Rattle.std.specs.Prelude.{◌≡◌, ℕ, Bool, false}
-use Rattle.trace_base.specs.Fields.{sized, unsigned_in}
+-- What is known of a tree before any record is read: how its number is read, and how it is tested.
+use Rattle.std.specs.Prelude.{◌≡◌, ℕ, Bool, false, ◌==◌, ◌&&◌, if◌then◌else◌}
+use Rattle.trace_base.specs.declared.field.Field.{Field}
+use Rattle.trace_base.specs.Fields.{has_sign, has_number, sized, unsigned_in}
 use Rattle.fmt_literal.specs.declared.cast_to.CastTo.{CastTo}
-use Rattle.fmt_literal.specs.declared.cast_to.CastTo.TheVariants.{Bits}
-use Rattle.fmt_expr.specs.Tree.{Tree, no_operands, operand}
-use Rattle.fmt_literal.specs.declared.ckind.CKind.{CKind}
+use Rattle.fmt_literal.specs.declared.cast_to.CastTo.TheVariants.{Bits, Truth, Same}
+use Rattle.fmt_expr.specs.Tree.{Tree, Operands, no_operands, operand}
+use Rattle.c_operators.specs.declared.binary.BinaryOp.{BinaryOp}
 use Rattle.c_operators.specs.declared.binary.BinaryOp.TheVariants.{BitAnd}
 use Rattle.fmt_expr.specs.Tree as tree
 use Rattle.fmt_eval.specs.Numbers.{Number, number, reduced, is_true}
 use Rattle.fmt_eval.specs.NumView.{num_view}
 use Rattle.fmt_eval.specs.Operators.{applied}
 use Rattle.fmt_eval.specs.Values.{Given, sized_kind, number_of}
+use Rattle.fmt_eval.specs.declared.num.Num.{Num}
 use Rattle.fmt_eval.specs.declared.read.Read.{Read}
 use Rattle.fmt_eval.specs.declared.read.Read.TheVariants.{Half, Whole, Walk}
 use Rattle.fmt_eval.specs.declared.read.Test.{Test}
 use Rattle.fmt_eval.specs.declared.read.Test.TheVariants as test
+
+-- ---- what a read and a test mean
 
 -- the number of so many bytes at a place in the payload
 abbrev pub placed : Given → ℕ → ℕ → Bool → Number
@@ -29,17 +33,6 @@ number_by Walk g t = number_of g t
 pub record ReadsAs (read : Read) (t : Tree) : Type 0 where
   pub each : (g : Given) → number_by read g t ≡ number_of g t
 
--- what is read is the number of so many bytes at a place
-pub record ReadsPlaced (read : Read) (at size : ℕ) (signed : Bool) : Type 0 where
-  pub each : (g : Given) (t : Tree) → number_of g t ≡ placed g at size signed → number_by read g t ≡ number_of g t
-
-abbrev pub unsigned_64 : CastTo
-unsigned_64 = Bits 64 false
-
--- a number under a written mask
-abbrev pub under_mask : Tree → ℕ → CKind → Tree
-under_mask t bits kind = tree.chain t (operand BitAnd (tree.number bits kind) no_operands)
-
 abbrev pub tested : Test → Given → Tree → Bool
 tested (test.Half at signed mask) g t = is_true (applied BitAnd (placed g at 4 signed) (num_view mask))
 tested (test.Whole at signed mask) g t = is_true (applied BitAnd (placed g at 8 signed) (num_view mask))
@@ -48,3 +41,81 @@ tested test.Walk g t = is_true (number_of g t)
 -- over every record, what is tested is whether the number of the tree is not 0
 pub record TestsAs (made : Test) (t : Tree) : Type 0 where
   pub each : (g : Given) → tested made g t ≡ is_true (number_of g t)
+
+-- ---- what is found of a tree
+
+-- four or eight bytes are read at once
+abbrev pub read_at : ℕ → ℕ → Bool → Read
+read_at at size signed = if size == 4 then Half at signed else (if size == 8 then Whole at signed else Walk)
+
+abbrev pub field_read_by : (has_number has_sign : Bool) → Field → Read
+field_read_by has_number has_sign f = if has_number then read_at f.offset f.size (has_sign && f.signed) else Walk
+
+abbrev pub field_read : Field → Read
+field_read f = field_read_by (has_number f.kind) (has_sign f.kind) f
+
+-- a cast to 64 bits without a sign changes no eight bytes without a sign
+abbrev pub unsigned_read : Read → Read
+unsigned_read (Whole at signed) = if signed then Walk else Whole at false
+unsigned_read (Half at signed) = Walk
+unsigned_read Walk = Walk
+
+abbrev pub cast_read : CastTo → Read → Read
+cast_read Same read = read
+cast_read (Bits width signed) read = if width == 64 then (if signed then Walk else unsigned_read read) else Walk
+cast_read Truth read = Walk
+
+-- A number is read at once where it is that of a field of four or eight bytes, also behind casts that change none.
+abbrev pub read_of : Tree → Read
+read_of (tree.number bits kind) = Walk
+read_of (tree.literal text) = Walk
+read_of (tree.field_number f) = field_read f
+read_of (tree.field_text f) = Walk
+read_of (tree.field_bytes f) = Walk
+read_of (tree.element f index) = Walk
+read_of (tree.len_of f) = Walk
+read_of (tree.prefix op t) = Walk
+read_of (tree.cast to t) = cast_read to (read_of t)
+read_of (tree.chain first rest) = Walk
+read_of (tree.choice test one other) = Walk
+read_of (tree.flags value between rows) = Walk
+read_of (tree.symbolic value rows) = Walk
+read_of (tree.hex bytes count) = Walk
+read_of (tree.array bytes count size) = Walk
+
+abbrev pub test_under : Read → Num → Test
+test_under (Half at signed) mask = test.Half at signed mask
+test_under (Whole at signed) mask = test.Whole at signed mask
+test_under Walk mask = test.Walk
+
+-- a mask is a number that is written out
+abbrev pub mask_test : Read → Tree → Test
+mask_test read (tree.number bits kind) = test_under read (record { bits = bits; kind = kind })
+mask_test read t = test.Walk
+
+abbrev pub operand_test : Read → BinaryOp → Tree → Test
+operand_test read BitAnd t = mask_test read t
+operand_test read op t = test.Walk
+
+abbrev pub chain_test : Read → Operands → Test
+chain_test read no_operands = test.Walk
+chain_test read (operand op t no_operands) = operand_test read op t
+chain_test read (operand op t (operand next u rest)) = test.Walk
+
+-- A test is made at once where a number that is read at once stands under one mask.
+abbrev pub test_of : Tree → Test
+test_of (tree.number bits kind) = test.Walk
+test_of (tree.literal text) = test.Walk
+test_of (tree.field_number f) = test.Walk
+test_of (tree.field_text f) = test.Walk
+test_of (tree.field_bytes f) = test.Walk
+test_of (tree.element f index) = test.Walk
+test_of (tree.len_of f) = test.Walk
+test_of (tree.prefix op t) = test.Walk
+test_of (tree.cast to t) = test.Walk
+test_of (tree.chain first rest) = chain_test (read_of first) rest
+test_of (tree.choice t one other) = test.Walk
+test_of (tree.flags value between rows) = test.Walk
+test_of (tree.symbolic value rows) = test.Walk
+test_of (tree.hex bytes count) = test.Walk
+test_of (tree.array bytes count size) = test.Walk

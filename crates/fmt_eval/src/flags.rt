@@ -7,9 +7,9 @@ ghost use Rattle.fmt_eval.specs.Values.{given};
 ghost use Rattle.fmt_eval.specs.Flags.{is_flag, flags_text, flags_from, symbol_text};
 ghost use Rattle.fmt_eval.specs.Entered.{rows_in, row_of};
 
-use crate::eval::walked;
+use crate::eval::part_number;
 use crate::pieces::{put_between, put_hexadecimal, put_piece};
-use fmt_expr::{Entry, Expr};
+use fmt_expr::Entry;
 use trace_base::{Rec, Tail};
 
 /// The number of an entry, as 64 bits.
@@ -17,10 +17,7 @@ use trace_base::{Rec, Tail};
 fn mask_of(entry: &Entry, rec: &Rec<'_>) -> u64
     ensures { result ≡ (row_of (given rec.now) entry.now).0 }
 {
-    match &entry.value {
-        Expr::Number { bits, .. } => *bits,
-        value => walked(value, rec).pattern(),
-    }
+    part_number(&entry.value, rec).pattern()
 }
 
 /// Whether a mask is printed.

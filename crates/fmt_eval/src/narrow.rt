@@ -22,8 +22,7 @@ fn narrowed_bits(kind: CKind, bits: u64) -> u64
     match kind {
         CKind::I32 => sign_extended(low_half(bits)),
         CKind::U32 => low_half(bits) as u64,
-        CKind::I64 => bits,
-        CKind::U64 => bits,
+        CKind::I64 | CKind::U64 => bits,
     }
 }
 

@@ -28,7 +28,7 @@ impl Num {
     }
 
     /// What a kind leaves of an exact number.
-    pub fn reduced(kind: CKind, exact: i128) -> Num
+    pub(crate) fn reduced(kind: CKind, exact: i128) -> Num
         ensures { num_view result ≡ number kind (reduced kind exact) }
     {
         let bits = reduced_bits(kind, exact);
@@ -36,7 +36,7 @@ impl Num {
     }
 
     /// What a kind leaves of the number.
-    pub fn converted(self, kind: CKind) -> Num
+    pub(crate) fn converted(self, kind: CKind) -> Num
         ensures { num_view result ≡ number kind (reduced kind (num_view self).exact) }
     {
         let bits = converted(kind, self);
@@ -64,7 +64,7 @@ impl Num {
     }
 
     /// 1 or 0, of kind I32.
-    pub fn truth(holds: bool) -> Num
+    pub(crate) fn truth(holds: bool) -> Num
         ensures { num_view result ≡ truth holds }
     {
         Num {
@@ -74,21 +74,18 @@ impl Num {
     }
 
     /// Whether it is not 0.
-    pub fn is_true(self) -> bool
+    pub(crate) fn is_true(self) -> bool
         ensures { result ≡ is_true (num_view self) }
     {
         self.bits != 0
     }
 
-    /// Its 64 bits, as two's complement.
-    #[tactic(auto, using(crate::proofs::Reductions::pattern_signed, crate::proofs::Reductions::pattern_unsigned))]
+    /// Its 64 bits, as two's complement: they are kept so, whatever the kind.
+    #[tactic(auto, using(crate::proofs::Reductions::pattern_by))]
     pub fn pattern(self) -> u64
         ensures { result ≡ pattern (num_view self).exact }
     {
-        match self.kind {
-            CKind::I32 | CKind::I64 => self.bits,
-            CKind::U32 | CKind::U64 => self.bits,
-        }
+        self.bits
     }
 }
 
@@ -99,8 +96,7 @@ fn reduced_bits(kind: CKind, exact: i128) -> u64
     match kind {
         CKind::I32 => sign_extended(low_half(exact)),
         CKind::U32 => low_half(exact) as u64,
-        CKind::I64 => low(exact),
-        CKind::U64 => low(exact),
+        CKind::I64 | CKind::U64 => low(exact),
     }
 }
 

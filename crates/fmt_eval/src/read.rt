@@ -1,19 +1,18 @@
-//! How the number of a tree is read where it is that of one field, as most arguments of print fmts are.
+//! What is known of trees before any record is read: how a number is read, as most arguments of print fmts are, and how a test is made.
 
 ghost use Rattle.std.specs.Prelude.{◌≡◌};
 ghost use Rattle.fmt_eval.specs.NumView.{num_view};
 ghost use Rattle.fmt_eval.specs.Numbers.{is_true};
-ghost use Rattle.fmt_eval.specs.Reads.{ReadsAs, ReadsPlaced, TestsAs, under_mask, unsigned_64};
+ghost use Rattle.fmt_eval.specs.Reads.{ReadsAs, TestsAs, read_at, field_read, unsigned_read, cast_read, read_of, test_under, mask_test, operand_test, chain_test, test_of};
 ghost use Rattle.fmt_eval.specs.Values.{given, number_of};
-ghost use Rattle.fmt_expr.specs.Tree as tree;
-ghost use Rattle.fmt_expr.specs.Tree.{Tree};
 ghost use Rattle.fmt_expr.specs.TreeView.{tree_of, operands_of};
 
-use crate::eval::{half_at, holds, walked, whole_at};
+use crate::field::{half_at, whole_at};
 use crate::num::Num;
 use crate::operators::bit_and;
+use crate::short::{holds, number_now};
 use c_operators::BinaryOp;
-use fmt_expr::{CKind, CastTo, Expr, Operand};
+use fmt_expr::{CastTo, Expr, Operand};
 use trace_base::{Field, FieldKind, Rec};
 
 /// How a number is read.
@@ -28,9 +27,8 @@ pub enum Read {
 }
 
 /// How a number of so many bytes at a place is read.
-#[tactic(auto, using(crate::proofs::ReadLemmas::half_placed, crate::proofs::ReadLemmas::whole_placed))]
-fn placed_read(at: u32, size: u32, signed: bool) -> Read
-    ensures { ReadsPlaced result at size signed }
+fn read_at(at: u32, size: u32, signed: bool) -> Read
+    ensures { result ≡ read_at at size signed }
 {
     match size {
         4 => Read::Half { at, signed },
@@ -40,21 +38,20 @@ fn placed_read(at: u32, size: u32, signed: bool) -> Read
 }
 
 /// How the number of a field is read.
-#[tactic(auto, using(crate::proofs::ReadLemmas::number_placed, crate::proofs::ReadLemmas::pointer_placed))]
+#[tactic(auto, using(crate::proofs::ReadLemmas::field_is))]
 fn field_read(field: &Field) -> Read
-    ensures { ReadsAs result (tree.field_number field.now) }
+    ensures { result ≡ field_read field.now }
 {
     match field.kind {
-        FieldKind::Number => placed_read(field.offset, field.size, field.signed),
-        FieldKind::Pointer => placed_read(field.offset, field.size, false),
+        FieldKind::Number => read_at(field.offset, field.size, field.signed),
+        FieldKind::Pointer => read_at(field.offset, field.size, false),
         FieldKind::Text | FieldKind::Bytes => Read::Walk,
     }
 }
 
 /// How a number is read behind a cast to 64 bits without a sign.
-#[tactic(auto, using(crate::proofs::ReadLemmas::whole_cast))]
 fn unsigned_read(read: Read) -> Read
-    ensures { (t : Tree) → ReadsAs read t → ReadsAs result (tree.cast unsigned_64 t) }
+    ensures { result ≡ unsigned_read read }
 {
     match read {
         Read::Whole { at, signed: false } => Read::Whole { at, signed: false },
@@ -63,9 +60,8 @@ fn unsigned_read(read: Read) -> Read
 }
 
 /// How a number is read behind a cast.
-#[tactic(auto, using(crate::proofs::ReadLemmas::same_cast))]
 fn cast_read(to: CastTo, read: Read) -> Read
-    ensures { (t : Tree) → ReadsAs read t → ReadsAs result (tree.cast to t) }
+    ensures { result ≡ cast_read to read }
 {
     match to {
         CastTo::Same => read,
@@ -77,25 +73,24 @@ fn cast_read(to: CastTo, read: Read) -> Read
     }
 }
 
-/// How the number of a tree behind a cast is read: at once where the tree is a field.
-fn behind_cast(to: CastTo, of: &Expr) -> Read
-    ensures { ReadsAs result (tree.cast to (tree_of of.now)) }
+fn tree_read(expr: &Expr) -> Read
+    ensures { result ≡ read_of (tree_of expr.now) }
 {
-    match of {
-        Expr::FieldNumber { field } => cast_read(to, field_read(field)),
+    match expr {
+        Expr::FieldNumber { field } => field_read(field),
+        Expr::Cast { to, of } => cast_read(*to, tree_read(of)),
         _ => Read::Walk,
     }
 }
 
-/// How the number of a tree is read.
+/// How the number of a tree is read: at once where it is that of a field of four or eight bytes, also behind casts that change none.
+#[tactic(auto, using(crate::proofs::ReadLemmas::reads_as))]
 pub fn read_of(expr: &Expr) -> Read
-    ensures { ReadsAs result (tree_of expr.now) }
+    // What is read is the number, over every record.
+    ensures reads { ReadsAs result (tree_of expr.now) }
+    ensures found { result ≡ read_of (tree_of expr.now) }
 {
-    match expr {
-        Expr::FieldNumber { field } => field_read(field),
-        Expr::Cast { to, of } => behind_cast(*to, of),
-        _ => Read::Walk,
-    }
+    tree_read(expr)
 }
 
 /// The number that a tree is over a record, as it is read.
@@ -107,7 +102,7 @@ pub fn number_read(read: Read, expr: &Expr, rec: &Rec<'_>) -> Num
     match read {
         Read::Half { at, signed } => half_at(rec, at, signed),
         Read::Whole { at, signed } => whole_at(rec, at, signed),
-        Read::Walk => walked(expr, rec),
+        Read::Walk => number_now(expr, rec),
     }
 }
 
@@ -123,43 +118,70 @@ pub enum Test {
 }
 
 /// How a test of a number under a mask is made.
-#[tactic(auto, using(crate::proofs::ReadLemmas::half_test, crate::proofs::ReadLemmas::whole_test))]
-fn masked(first: &Expr, bits: u64, kind: CKind) -> Test
-    ensures { TestsAs result (under_mask (tree_of first.now) bits kind) }
+fn test_under(read: Read, mask: Num) -> Test
+    ensures { result ≡ test_under read mask }
 {
-    let mask = Num { bits, kind };
-    match read_of(first) {
+    match read {
         Read::Half { at, signed } => Test::Half { at, signed, mask },
         Read::Whole { at, signed } => Test::Whole { at, signed, mask },
         Read::Walk => Test::Walk,
     }
 }
 
-/// How a test of a number with operators behind it is made.
-#[tactic(auto, using(crate::proofs::Rows::operands_row))]
-fn chain_test(first: &Expr, rest: &[Operand]) -> Test
-    ensures { TestsAs result (tree.chain (tree_of first.now) (operands_of rest.now)) }
+/// How a test of a number under what may be a mask is made.
+fn mask_test(read: Read, mask: &Expr) -> Test
+    ensures { result ≡ mask_test read (tree_of mask.now) }
 {
-    if rest.len() != 1 {
-        return Test::Walk;
-    }
-    let Expr::Number { bits, kind } = &rest[0].value else {
-        return Test::Walk;
-    };
-    match rest[0].op {
-        BinaryOp::BitAnd => masked(first, *bits, *kind),
+    match mask {
+        Expr::Number { bits, kind } => test_under(
+            read,
+            Num {
+                bits: *bits,
+                kind: *kind,
+            },
+        ),
         _ => Test::Walk,
     }
 }
 
-/// How a test is made.
-pub fn test_of(expr: &Expr) -> Test
-    ensures { TestsAs result (tree_of expr.now) }
+/// How a test of a number with an operator behind it is made.
+fn operand_test(read: Read, operand: &Operand) -> Test
+    ensures { result ≡ operand_test read operand.now.op (tree_of operand.now.value) }
 {
-    match expr {
-        Expr::Chain { first, rest } => chain_test(first, rest.as_slice()),
+    match operand.op {
+        BinaryOp::BitAnd => mask_test(read, &operand.value),
         _ => Test::Walk,
     }
+}
+
+/// How a test of a number with operators behind it is made.
+#[tactic(auto, using(crate::proofs::ReadLemmas::no_mask, crate::proofs::ReadLemmas::one_mask))]
+fn chain_test(read: Read, rest: &[Operand]) -> Test
+    ensures { result ≡ chain_test read (operands_of rest.now) }
+{
+    if rest.len() != 1 {
+        return Test::Walk;
+    }
+    operand_test(read, &rest[0])
+}
+
+fn tree_test(expr: &Expr) -> Test
+    ensures { result ≡ test_of (tree_of expr.now) }
+{
+    match expr {
+        Expr::Chain { first, rest } => chain_test(tree_read(first), rest.as_slice()),
+        _ => Test::Walk,
+    }
+}
+
+/// How a test is made: at once where a number that is read at once stands under one mask.
+#[tactic(auto, using(crate::proofs::ReadLemmas::tests_as))]
+pub fn test_of(expr: &Expr) -> Test
+    // What is tested is whether the number is not 0, over every record.
+    ensures tests { TestsAs result (tree_of expr.now) }
+    ensures found { result ≡ test_of (tree_of expr.now) }
+{
+    tree_test(expr)
 }
 
 /// Whether the number of a tree is not 0, by the test that is made of it.

@@ -8,9 +8,10 @@ ghost use Rattle.fmt_eval.specs.Values.{given};
 ghost use Rattle.fmt_eval.specs.Texts.{up_to_nul, text_of};
 
 use crate::array::{put_array, put_hex};
-use crate::eval::{holds, walked};
+use crate::eval::number;
 use crate::field_bytes::bytes;
 use crate::flags::{put_flags, put_symbol};
+use crate::short::{holds, number_now};
 use fmt_expr::Expr;
 use trace_base::{Rec, Tail, bytes_of, text_len};
 
@@ -44,20 +45,25 @@ pub fn put_text(expr: &Expr, rec: &Rec<'_>, into: &mut Tail<'_>)
             between,
             entries,
         } => {
-            let value = walked(value, rec).pattern();
+            let value = number_now(value, rec).pattern();
             put_flags(value, between.as_bytes(), entries.as_slice(), rec, into);
         }
         Expr::Symbolic { value, entries } => {
-            put_symbol(walked(value, rec).pattern(), entries.as_slice(), rec, into);
+            put_symbol(
+                number_now(value, rec).pattern(),
+                entries.as_slice(),
+                rec,
+                into,
+            );
         }
-        Expr::Hex { bytes: of, count } => put_hex(walked(count, rec).exact(), bytes(of, rec), into),
+        Expr::Hex { bytes: of, count } => put_hex(number(count, rec).exact(), bytes(of, rec), into),
         Expr::Array {
             bytes: of,
             count,
             size,
         } => {
-            let count = walked(count, rec).exact();
-            let size = walked(size, rec).exact();
+            let count = number(count, rec).exact();
+            let size = number(size, rec).exact();
             put_array(rec.order, count, size, bytes(of, rec), into);
         }
         Expr::Number { .. }

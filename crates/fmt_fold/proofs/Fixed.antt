@@ -1,5 +1,5 @@
 -- A number that is made of numbers that are written out is the same over every record.
-use Rattle.std.proofs.Common.{◌≡◌, ◌∙◌, ℕ, Bool, true, false, ◌&&◌, if◌then◌else◌, [], refl, ap, sym}
+use Rattle.std.proofs.Common.{◌≡◌, ◌∙◌, ℕ, Bool, true, false, ◌&&◌, if◌then◌else◌, [], refl, ap}
 use Rattle.std.proofs.lemmas.Bool.{false≢true}
 use Rattle.fmt_literal.specs.declared.ckind.CKind.{CKind}
 use Rattle.fmt_expr.specs.Tree as tree

@@ -42,7 +42,8 @@ is_fixed (symbolic t es) = false
 is_fixed (hex bytes count) = false
 is_fixed (array bytes count size) = false
 
--- a number that reads no record
+-- A number that reads no record: it is made of numbers alone. What holds a text is none, though no field may stand in it: a literal, a
+-- cast or a choice of literals, flags and symbols of constants, and an operator on any of these. Such parts stay as they are.
 abbrev mutual
   pub is_constant : Tree → Bool
   is_constant (number bits kind) = true

@@ -1,9 +1,9 @@
 //! Numbers that read no record.
 
-ghost use Rattle.std.specs.Prelude.{◌≡◌, true, ◌&&◌};
+ghost use Rattle.std.specs.Prelude.{◌≡◌, ◌&&◌};
 ghost use Rattle.fmt_expr.specs.TreeView.{tree_of, operands_of};
-ghost use Rattle.fmt_fold.specs.Same.{IsSame};
 ghost use Rattle.fmt_fold.specs.Constants.{is_written, all_written, is_fixed};
+ghost use Rattle.fmt_fold.specs.Folded.{IsSettled};
 
 use fmt_eval::number;
 use fmt_expr::{Expr, Operand};
@@ -49,10 +49,9 @@ fn is_fixed(expr: &Expr) -> bool
 }
 
 /// The same tree, written out where it is made of numbers that are.
-#[tactic(auto, using(crate::proofs::Fixed::fixed_same))]
+#[tactic(auto, using(crate::proofs::Settled::settled_number, crate::proofs::Settled::settled_as_is))]
 pub fn settled(expr: Expr) -> Expr
-    ensures same { IsSame (tree_of result) (tree_of expr) }
-    ensures written { is_fixed (tree_of expr) ≡ true → is_written (tree_of result) ≡ true }
+    ensures { IsSettled (tree_of result) (tree_of expr) }
 {
     if !is_fixed(&expr) {
         return expr;

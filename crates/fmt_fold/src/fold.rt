@@ -1,10 +1,11 @@
 //! Trees with their constant parts computed.
 
-ghost use Rattle.std.specs.Prelude.{◌≡◌, true, ◌&&◌, IfOk};
+ghost use Rattle.std.specs.Prelude.{◌≡◌, true, IfOk};
 ghost use Rattle.fmt_expr.specs.Tree.{chain, choice, flags, symbolic, hex, array, prefix, cast, element};
 ghost use Rattle.fmt_expr.specs.TreeView.{tree_of, operands_of, entries_of};
-ghost use Rattle.fmt_fold.specs.Same.{IsSame, SameOperands, SameEntries};
-ghost use Rattle.fmt_fold.specs.Constants.{is_written, all_written, is_constant, all_constant};
+ghost use Rattle.fmt_fold.specs.Same.{IsSame};
+ghost use Rattle.fmt_fold.specs.Constants.{is_written, is_constant};
+ghost use Rattle.fmt_fold.specs.Folded.{EachPart, IsNoneLeft, IsFolded, FoldedOperands, FoldedEntries};
 
 use crate::constants::settled;
 use crate::make::{chained, flagged, named, nameless};
@@ -12,25 +13,22 @@ use fmt_expr::{CastTo, Entry, Expr, Operand, PrefixOp};
 use std::alloc::{AllocError, Global};
 use trace_base::{ByteText, Field};
 
-/// The tree in a box, with its constant parts computed.
+/// The folded tree in a box.
 #[cycle(fold)]
 fn boxed(alloc: Global, expr: &Expr) -> Result<Box<Expr>, AllocError>
-    ensures same { IfOk result (λ e. IsSame (tree_of e.value) (tree_of expr.now)) }
-    ensures written { IfOk result (λ e. is_constant (tree_of expr.now) ≡ true → is_written (tree_of e.value) ≡ true) }
+    ensures { IfOk result (λ e. IsFolded (tree_of e.value) (tree_of expr.now)) }
 {
-    Ok(Box::new(alloc, folded(alloc, expr)?)?)
+    Ok(Box::new(alloc, folded_tree(alloc, expr)?)?)
 }
 
-/// Operands with their constant parts computed.
 #[cycle(fold)]
-#[tactic(auto, using(crate::proofs::Runs::operands_none, crate::proofs::Runs::operands_more, crate::proofs::Runs::operands_all, crate::proofs::Written::constant_row, crate::proofs::Written::written_more))]
+#[tactic(auto, using(crate::proofs::Runs::operands_none, crate::proofs::Runs::operands_all))]
 fn folded_operands(alloc: Global, rest: &[Operand]) -> Result<Vec<Operand>, AllocError>
-    ensures same { IfOk result (λ os. SameOperands os.items rest.now) }
-    ensures written { IfOk result (λ os. all_constant (operands_of rest.now) ≡ true → all_written (operands_of os.items) ≡ true) }
+    ensures { IfOk result (λ os. FoldedOperands os.items rest.now) }
 {
     let mut made = Vec::new(alloc);
     for operand in rest {
-        let value = folded(alloc, &operand.value)?;
+        let value = folded_tree(alloc, &operand.value)?;
         made.push(Operand {
             op: operand.op,
             value,
@@ -39,15 +37,14 @@ fn folded_operands(alloc: Global, rest: &[Operand]) -> Result<Vec<Operand>, Allo
     Ok(made)
 }
 
-/// Entries with their constant parts computed.
 #[cycle(fold)]
-#[tactic(auto, using(crate::proofs::Runs::entries_none, crate::proofs::Runs::entries_more, crate::proofs::Runs::entries_all))]
+#[tactic(auto, using(crate::proofs::Runs::entries_none, crate::proofs::Runs::entries_all))]
 fn folded_entries(alloc: Global, entries: &[Entry]) -> Result<Vec<Entry>, AllocError>
-    ensures { IfOk result (λ es. SameEntries es.items entries.now) }
+    ensures { IfOk result (λ es. FoldedEntries es.items entries.now) }
 {
     let mut made = Vec::new(alloc);
     for entry in entries {
-        let value = folded(alloc, &entry.value)?;
+        let value = folded_tree(alloc, &entry.value)?;
         let text = ByteText::copy(alloc, entry.text.as_bytes())?;
         made.push(Entry { value, text })?;
     }
@@ -55,9 +52,9 @@ fn folded_entries(alloc: Global, entries: &[Entry]) -> Result<Vec<Entry>, AllocE
 }
 
 #[cycle(fold)]
-#[tactic(auto, using(crate::proofs::Parts::same_element))]
+#[tactic(auto, using(crate::proofs::Folds::folded_element))]
 fn folded_element(alloc: Global, field: &Field, index: &Expr) -> Result<Expr, AllocError>
-    ensures { IfOk result (λ e. IsSame (tree_of e) (element field.now (tree_of index.now))) }
+    ensures { IfOk result (λ e. IsFolded (tree_of e) (element field.now (tree_of index.now))) }
 {
     let index = boxed(alloc, index)?;
     Ok(Expr::Element {
@@ -67,30 +64,26 @@ fn folded_element(alloc: Global, field: &Field, index: &Expr) -> Result<Expr, Al
 }
 
 #[cycle(fold)]
-#[tactic(auto, using(crate::proofs::Parts::after_prefix))]
+#[tactic(auto, using(crate::proofs::Folds::folded_prefix))]
 fn folded_prefix(alloc: Global, op: PrefixOp, of: &Expr) -> Result<Expr, AllocError>
-    ensures same { IfOk result (λ e. IsSame (tree_of e) (prefix op (tree_of of.now))) }
-    ensures written { IfOk result (λ e. is_constant (tree_of of.now) ≡ true → is_written (tree_of e) ≡ true) }
+    ensures { IfOk result (λ e. IsFolded (tree_of e) (prefix op (tree_of of.now))) }
 {
     let of = boxed(alloc, of)?;
     Ok(settled(Expr::Prefix { op, of }))
 }
 
 #[cycle(fold)]
-#[tactic(auto, using(crate::proofs::Parts::after_cast))]
+#[tactic(auto, using(crate::proofs::Folds::folded_cast))]
 fn folded_cast(alloc: Global, to: CastTo, of: &Expr) -> Result<Expr, AllocError>
-    ensures same { IfOk result (λ e. IsSame (tree_of e) (cast to (tree_of of.now))) }
-    ensures written { IfOk result (λ e. is_constant (tree_of of.now) ≡ true → is_written (tree_of e) ≡ true) }
+    ensures { IfOk result (λ e. IsFolded (tree_of e) (cast to (tree_of of.now))) }
 {
     let of = boxed(alloc, of)?;
     Ok(settled(Expr::Cast { to, of }))
 }
 
 #[cycle(fold)]
-#[tactic(auto, using(crate::proofs::Parts::after_chain, crate::proofs::Written::first, crate::proofs::Written::second, crate::proofs::Written::both))]
 fn folded_chain(alloc: Global, first: &Expr, rest: &[Operand]) -> Result<Expr, AllocError>
-    ensures same { IfOk result (λ e. IsSame (tree_of e) (chain (tree_of first.now) (operands_of rest.now))) }
-    ensures written { IfOk result (λ e. is_constant (tree_of first.now) && all_constant (operands_of rest.now) ≡ true → is_written (tree_of e) ≡ true) }
+    ensures { IfOk result (λ e. IsFolded (tree_of e) (chain (tree_of first.now) (operands_of rest.now))) }
 {
     let first = boxed(alloc, first)?;
     let rest = folded_operands(alloc, rest)?;
@@ -98,10 +91,8 @@ fn folded_chain(alloc: Global, first: &Expr, rest: &[Operand]) -> Result<Expr, A
 }
 
 #[cycle(fold)]
-#[tactic(auto, using(crate::proofs::Parts::after_choice, crate::proofs::Written::first, crate::proofs::Written::second, crate::proofs::Written::both))]
 fn folded_choice(alloc: Global, test: &Expr, yes: &Expr, no: &Expr) -> Result<Expr, AllocError>
-    ensures same { IfOk result (λ e. IsSame (tree_of e) (choice (tree_of test.now) (tree_of yes.now) (tree_of no.now))) }
-    ensures written { IfOk result (λ e. (is_constant (tree_of test.now) && is_constant (tree_of yes.now)) && is_constant (tree_of no.now) ≡ true → is_written (tree_of e) ≡ true) }
+    ensures { IfOk result (λ e. IsFolded (tree_of e) (choice (tree_of test.now) (tree_of yes.now) (tree_of no.now))) }
 {
     let test = boxed(alloc, test)?;
     let yes = boxed(alloc, yes)?;
@@ -110,14 +101,14 @@ fn folded_choice(alloc: Global, test: &Expr, yes: &Expr, no: &Expr) -> Result<Ex
 }
 
 #[cycle(fold)]
-#[tactic(auto, using(crate::proofs::Parts::after_flags))]
+#[tactic(auto, using(crate::proofs::Folds::folded_flags))]
 fn folded_flags(
     alloc: Global,
     value: &Expr,
     between: &[u8],
     entries: &[Entry],
 ) -> Result<Expr, AllocError>
-    ensures { IfOk result (λ e. IsSame (tree_of e) (flags (tree_of value.now) between.now (entries_of entries.now))) }
+    ensures { IfOk result (λ e. IsFolded (tree_of e) (flags (tree_of value.now) between.now (entries_of entries.now))) }
 {
     let value = boxed(alloc, value)?;
     let between = ByteText::copy(alloc, between)?;
@@ -126,9 +117,9 @@ fn folded_flags(
 }
 
 #[cycle(fold)]
-#[tactic(auto, using(crate::proofs::Parts::after_symbolic))]
+#[tactic(auto, using(crate::proofs::Folds::folded_symbolic))]
 fn folded_symbolic(alloc: Global, value: &Expr, entries: &[Entry]) -> Result<Expr, AllocError>
-    ensures { IfOk result (λ e. IsSame (tree_of e) (symbolic (tree_of value.now) (entries_of entries.now))) }
+    ensures { IfOk result (λ e. IsFolded (tree_of e) (symbolic (tree_of value.now) (entries_of entries.now))) }
 {
     let value = boxed(alloc, value)?;
     let entries = folded_entries(alloc, entries)?;
@@ -136,9 +127,9 @@ fn folded_symbolic(alloc: Global, value: &Expr, entries: &[Entry]) -> Result<Exp
 }
 
 #[cycle(fold)]
-#[tactic(auto, using(crate::proofs::Parts::same_hex))]
+#[tactic(auto, using(crate::proofs::Folds::folded_hex))]
 fn folded_hex(alloc: Global, bytes: &Expr, count: &Expr) -> Result<Expr, AllocError>
-    ensures { IfOk result (λ e. IsSame (tree_of e) (hex (tree_of bytes.now) (tree_of count.now))) }
+    ensures { IfOk result (λ e. IsFolded (tree_of e) (hex (tree_of bytes.now) (tree_of count.now))) }
 {
     let bytes = boxed(alloc, bytes)?;
     let count = boxed(alloc, count)?;
@@ -146,9 +137,9 @@ fn folded_hex(alloc: Global, bytes: &Expr, count: &Expr) -> Result<Expr, AllocEr
 }
 
 #[cycle(fold)]
-#[tactic(auto, using(crate::proofs::Parts::same_array))]
+#[tactic(auto, using(crate::proofs::Folds::folded_array))]
 fn folded_array(alloc: Global, bytes: &Expr, count: &Expr, size: &Expr) -> Result<Expr, AllocError>
-    ensures { IfOk result (λ e. IsSame (tree_of e) (array (tree_of bytes.now) (tree_of count.now) (tree_of size.now))) }
+    ensures { IfOk result (λ e. IsFolded (tree_of e) (array (tree_of bytes.now) (tree_of count.now) (tree_of size.now))) }
 {
     let bytes = boxed(alloc, bytes)?;
     let count = boxed(alloc, count)?;
@@ -156,18 +147,10 @@ fn folded_array(alloc: Global, bytes: &Expr, count: &Expr, size: &Expr) -> Resul
     Ok(Expr::Array { bytes, count, size })
 }
 
-/// A tree that is the same number, text or bytes over every record, in which the parts that read none are written out.
-///
-/// # Errors
-///
-/// Want of memory alone.
 #[cycle(fold)]
-#[tactic(auto, using(crate::proofs::Parts::same_refl, crate::proofs::Parts::same_number, crate::proofs::Parts::same_text, crate::proofs::Parts::same_bytes, crate::proofs::Parts::same_len))]
-pub fn folded(alloc: Global, expr: &Expr) -> Result<Expr, AllocError>
-    // It is the same over every record.
-    ensures same { IfOk result (λ e. IsSame (tree_of e) (tree_of expr.now)) }
-    // A number that reads no record is written out.
-    ensures written { IfOk result (λ e. is_constant (tree_of expr.now) ≡ true → is_written (tree_of e) ≡ true) }
+#[tactic(auto, using(crate::proofs::Folds::folded_number, crate::proofs::Folds::folded_literal, crate::proofs::Folds::folded_field, crate::proofs::Folds::folded_text, crate::proofs::Folds::folded_bytes, crate::proofs::Folds::folded_len))]
+fn folded_tree(alloc: Global, expr: &Expr) -> Result<Expr, AllocError>
+    ensures { IfOk result (λ e. IsFolded (tree_of e) (tree_of expr.now)) }
 {
     match expr {
         Expr::Number { bits, kind } => Ok(Expr::Number {
@@ -203,4 +186,21 @@ pub fn folded(alloc: Global, expr: &Expr) -> Result<Expr, AllocError>
         Expr::Hex { bytes, count } => folded_hex(alloc, bytes, count),
         Expr::Array { bytes, count, size } => folded_array(alloc, bytes, count, size),
     }
+}
+
+/// A tree that is the same number, text or bytes over every record, in which the parts that read none are written out.
+///
+/// # Errors
+///
+/// Want of memory alone.
+#[tactic(auto, using(crate::proofs::Folds::folded_same, crate::proofs::Folds::folded_written, crate::proofs::Folds::folded_parts))]
+pub fn folded(alloc: Global, expr: &Expr) -> Result<Expr, AllocError>
+    // It is the same over every record.
+    ensures same { IfOk result (λ e. IsSame (tree_of e) (tree_of expr.now)) }
+    // A number that reads no record is written out.
+    ensures written { IfOk result (λ e. is_constant (tree_of expr.now) ≡ true → is_written (tree_of e) ≡ true) }
+    // So is each part of it that is such a number, at any depth.
+    ensures parts { IfOk result (λ e. EachPart IsNoneLeft (tree_of e)) }
+{
+    folded_tree(alloc, expr)
 }

@@ -7,7 +7,5 @@
 mod constants;
 mod fold;
 mod make;
-#[cfg(test)]
-mod tests;
 
 pub use fold::folded;

@@ -1,25 +1,19 @@
-use Rattle.std.proofs.Common.{◌≡◌, ◌+◌, ◌*◌, max, true, drop}
+use Rattle.std.proofs.Common.{◌+◌, ◌*◌, max}
 use denote.Param.Weighed.{most}
 use Rattle.fmt_expr.proofs.expr.Expr.TheLaws as exprs
 use Rattle.fmt_expr.proofs.expr.Operand.TheLaws as operands
 use Rattle.fmt_expr.proofs.expr.Entry.TheLaws as entries
-use Rattle.fmt_expr.specs.TreeView.{operands_of}
-use Rattle.fmt_fold.specs.Constants.{all_constant, all_written}
 use Rattle.fmt_fold.proofs.Runs.{OperandsTo, EntriesTo}
 use Rattle.fmt_fold.proofs.fold.+fold.Given as goal
 
 abbrev pub invariant-folded_operands-loop-operand : goal.invariant-folded_operands-loop-operand
-invariant-folded_operands-loop-operand l = record {
-  same : OperandsTo l.made.items l.fn.rest l.operand-index;
-  constant : all_constant (operands_of l.fn.rest) ≡ true → all_constant (operands_of (drop l.operand-index l.fn.rest)) ≡ true;
-  written : all_constant (operands_of l.fn.rest) ≡ true → all_written (operands_of l.made.items) ≡ true;
-}
+invariant-folded_operands-loop-operand l = OperandsTo l.made.items l.fn.rest l.operand-index
 
 abbrev pub invariant-folded_entries-loop-entry : goal.invariant-folded_entries-loop-entry
 invariant-folded_entries-loop-entry l = EntriesTo l.made.items l.fn.entries l.entry-index
 
-abbrev pub decreases-folded : goal.decreases-folded
-decreases-folded l = 4 * exprs.the_size l.expr.now
+abbrev pub decreases-folded_tree : goal.decreases-folded_tree
+decreases-folded_tree l = 4 * exprs.the_size l.expr.now
 
 abbrev pub decreases-boxed : goal.decreases-boxed
 decreases-boxed l = 4 * exprs.the_size l.expr.now + 1

@@ -1,11 +1,11 @@
-//! Values of trees.
+//! The operators and casts of C.
 
-use crate::{Num, bytes, number, put_text};
+use crate::trees::{boxed, chain, no_payload, written};
 use c_operators::BinaryOp as Op;
+use fmt_eval::{Num, number};
 use fmt_expr::CKind::{I32, I64, U32, U64};
-use fmt_expr::{CKind, CastTo, Entry, Expr, Operand, PrefixOp};
+use fmt_expr::{CKind, CastTo, Expr, PrefixOp};
 use std::alloc::{AllocError, Global};
-use trace_base::{ByteText, Field, FieldKind, FieldPlace, Order, Rec, Tail};
 
 type OperatorRow = (Op, i64, CKind, i64, CKind, i64, CKind);
 
@@ -384,14 +384,6 @@ const CASTS: [CastRow; 54] = [
     (CastTo::Truth, 0, 0, I32),
 ];
 
-fn boxed(alloc: Global, expr: Expr) -> Result<Box<Expr>, AllocError> {
-    Ok(Box::new(alloc, expr)?)
-}
-
-fn int(bits: u64) -> Expr {
-    Expr::Number { bits, kind: I32 }
-}
-
 /// A number by its bits, which are written with a sign.
 fn num(bits: i64, kind: CKind) -> Num {
     Num {
@@ -400,25 +392,15 @@ fn num(bits: i64, kind: CKind) -> Num {
     }
 }
 
-fn written(bits: i64, kind: CKind) -> Expr {
-    Expr::Number {
-        bits: bits.cast_unsigned(),
-        kind,
-    }
-}
-
 fn operator_gives(alloc: Global, row: &OperatorRow) -> Result<bool, AllocError> {
     let (op, bits, kind, other_bits, other_kind, wanted, wanted_kind) = *row;
-    let mut rest = Vec::new(alloc);
-    rest.push(Operand {
+    let expr = chain(
+        alloc,
+        written(bits, kind),
         op,
-        value: written(other_bits, other_kind),
-    })?;
-    let expr = Expr::Chain {
-        first: boxed(alloc, written(bits, kind))?,
-        rest,
-    };
-    Ok(number(&expr, &rec(&[])) == num(wanted, wanted_kind))
+        written(other_bits, other_kind),
+    )?;
+    Ok(number(&expr, &no_payload()) == num(wanted, wanted_kind))
 }
 
 /// The first row that does not hold.
@@ -431,33 +413,34 @@ fn wrong_operator(alloc: Global, rows: &[OperatorRow]) -> Result<Option<usize>, 
     Ok(None)
 }
 
+fn prefix_gives(alloc: Global, row: &PrefixRow) -> Result<bool, AllocError> {
+    let (op, bits, kind, wanted, wanted_kind) = *row;
+    let of = boxed(alloc, written(bits, kind))?;
+    Ok(number(&Expr::Prefix { op, of }, &no_payload()) == num(wanted, wanted_kind))
+}
+
 fn wrong_prefix(alloc: Global, rows: &[PrefixRow]) -> Result<Option<usize>, AllocError> {
     for (i, row) in rows.iter().enumerate() {
-        let (op, bits, kind, wanted, wanted_kind) = *row;
-        let of = boxed(alloc, written(bits, kind))?;
-        if number(&Expr::Prefix { op, of }, &rec(&[])) != num(wanted, wanted_kind) {
+        if !prefix_gives(alloc, row)? {
             return Ok(Some(i));
         }
     }
     Ok(None)
+}
+
+fn cast_gives(alloc: Global, row: &CastRow) -> Result<bool, AllocError> {
+    let (to, bits, wanted, kind) = *row;
+    let of = boxed(alloc, written(bits, I64))?;
+    Ok(number(&Expr::Cast { to, of }, &no_payload()) == num(wanted, kind))
 }
 
 fn wrong_cast(alloc: Global, rows: &[CastRow]) -> Result<Option<usize>, AllocError> {
     for (i, row) in rows.iter().enumerate() {
-        let (to, bits, wanted, kind) = *row;
-        let of = boxed(alloc, written(bits, I64))?;
-        if number(&Expr::Cast { to, of }, &rec(&[])) != num(wanted, kind) {
+        if !cast_gives(alloc, row)? {
             return Ok(Some(i));
         }
     }
     Ok(None)
-}
-
-fn rec<'a>(payload: &'a [u8]) -> Rec<'a> {
-    Rec {
-        order: Order::Little,
-        payload,
-    }
 }
 
 #[test]
@@ -471,179 +454,5 @@ fn operators_are_those_of_c(rt: HostRuntime) -> Result<(), AllocError> {
 fn prefixes_and_casts_are_those_of_c(rt: HostRuntime) -> Result<(), AllocError> {
     assert_eq!(rt; wrong_prefix(rt.alloc(), &PREFIXES)?, None);
     assert_eq!(rt; wrong_cast(rt.alloc(), &CASTS)?, None);
-    Ok(())
-}
-
-fn field(
-    alloc: Global,
-    kind: FieldKind,
-    offset: u32,
-    size: u32,
-    signed: bool,
-    element: u32,
-) -> Result<Field, AllocError> {
-    Ok(Field {
-        name: ByteText::copy(alloc, b"f")?,
-        offset,
-        size,
-        signed,
-        kind,
-        place: FieldPlace::Fixed,
-        element,
-    })
-}
-
-const PAYLOAD: [u8; 16] = *b"ab\0d\xff\xff\xfe\xff\x05\x00\x03\x00wxyz";
-
-#[test]
-fn fields_have_the_kinds_of_their_sizes(rt: HostRuntime) -> Result<(), AllocError> {
-    let alloc = rt.alloc();
-    // Offset, size, sign, and the number.
-    let rows = [
-        (4, 1, true, 0xffffffffffffffff, I32),
-        (4, 1, false, 0xff, I32),
-        (6, 2, true, 0xfffffffffffffffe, I32),
-        (6, 2, false, 0xfffe, I32),
-        (4, 4, true, 0xfffffffffffeffff, I32),
-        (4, 4, false, 0xfffeffff, U32),
-        (4, 8, true, 0x00030005fffeffff, I64),
-        (4, 8, false, 0x00030005fffeffff, U64),
-        (13, 4, false, 0, U32),
-        (4, 3, true, 0, I32),
-    ];
-    for (offset, size, signed, bits, kind) in rows {
-        let field = field(alloc, FieldKind::Number, offset, size, signed, size)?;
-        let gives = number(&Expr::FieldNumber { field }, &rec(&PAYLOAD));
-        assert_eq!(rt; gives, Num { bits, kind }, "{offset} {size} {signed}");
-    }
-    // An index, and the element of two bytes.
-    for (index, bits) in [
-        (0, 0xffff),
-        (1, 0xfffe),
-        (3, 3),
-        (4, 0),
-        (0xffffffffffffffff, 0),
-    ] {
-        let of = field(alloc, FieldKind::Bytes, 4, 8, false, 2)?;
-        let expr = Expr::Element {
-            field: of,
-            index: boxed(alloc, int(index))?,
-        };
-        assert_eq!(rt;
-            number(&expr, &rec(&PAYLOAD)),
-            Num { bits, kind: I32 },
-            "{index}"
-        );
-    }
-    let length = Expr::Length {
-        field: field(alloc, FieldKind::Bytes, 8, 4, false, 1)?,
-    };
-    assert_eq!(rt; number(&length, &rec(&PAYLOAD)), Num { bits: 3, kind: U32 });
-    Ok(())
-}
-
-fn entries(alloc: Global, rows: &[(u64, &[u8])]) -> Result<Vec<Entry>, AllocError> {
-    let mut entries = Vec::new(alloc);
-    for (value, text) in rows {
-        entries.push(Entry {
-            value: int(*value),
-            text: ByteText::copy(alloc, text)?,
-        })?;
-    }
-    Ok(entries)
-}
-
-fn text_is(expr: &Expr, text: &[u8]) -> bool {
-    let mut room = [0; 40];
-    let mut tail = Tail::new(&mut room);
-    put_text(expr, &rec(&PAYLOAD), &mut tail);
-    tail.kept() == text && tail.total() == text.len() as u64
-}
-
-#[test]
-fn flags_and_symbols_are_those_of_the_kernel(rt: HostRuntime) -> Result<(), AllocError> {
-    let alloc = rt.alloc();
-    // A value, the entries, the text of the flags and the text of the symbol.
-    let none: &[(u64, &[u8])] = &[];
-    let rows: [(u64, &[(u64, &[u8])], &[u8], &[u8]); 10] = [
-        (13, &[(1, b"A"), (4, b"C")], b"A|C|0x8", b"0xd"),
-        (13, &[(1, b"A"), (5, b"X")], b"A|0xc", b"0xd"),
-        (4, &[(1, b"A"), (4, b"C"), (4, b"D")], b"C", b"C"),
-        (0, &[(0, b"none"), (0, b"again")], b"none", b"none"),
-        (3, &[(0, b"none"), (1, b"A"), (2, b"B")], b"A|B", b"0x3"),
-        (1, &[(1, b""), (0, b"none")], b"", b""),
-        (0, &[(1, b"A")], b"", b"0x0"),
-        (16, &[(1, b"one")], b"0x10", b"0x10"),
-        (
-            0xffffffffffffffff,
-            &[(0xffffffffffffffff, b"all")],
-            b"all",
-            b"all",
-        ),
-        (
-            0xffffffffffffffff,
-            none,
-            b"0xffffffffffffffff",
-            b"0xffffffffffffffff",
-        ),
-    ];
-    for (value, of, flags, symbol) in rows {
-        let expr = Expr::Flags {
-            value: boxed(alloc, int(value))?,
-            between: ByteText::copy(alloc, b"|")?,
-            entries: entries(alloc, of)?,
-        };
-        assert!(rt; text_is(&expr, flags), "flags of {value}");
-        let expr = Expr::Symbolic {
-            value: boxed(alloc, int(value))?,
-            entries: entries(alloc, of)?,
-        };
-        assert!(rt; text_is(&expr, symbol), "symbol of {value}");
-    }
-    Ok(())
-}
-
-#[test]
-fn bytes_are_shown_as_asked(rt: HostRuntime) -> Result<(), AllocError> {
-    let alloc = rt.alloc();
-    // How many of the first five bytes, and their digits.
-    let hex: [(u64, &[u8]); 4] = [
-        (3, b"61 62 00"),
-        (0, b""),
-        (0xffffffffffffffff, b""),
-        (9, b"61 62 00 64 ff"),
-    ];
-    for (count, text) in hex {
-        let field = field(alloc, FieldKind::Text, 0, 5, false, 1)?;
-        let expr = Expr::Hex {
-            bytes: boxed(alloc, Expr::FieldText { field })?,
-            count: boxed(alloc, int(count))?,
-        };
-        assert!(rt; text_is(&expr, text), "{count} bytes");
-    }
-    // How many elements, their size, and their text.
-    let arrays: [(u64, u64, &[u8]); 8] = [
-        (2, 1, b"{0x61,0x62}"),
-        (2, 2, b"{0x6261,0x6400}"),
-        (9, 2, b"{0x6261,0x6400}"),
-        (1, 4, b"{0x64006261}"),
-        (1, 8, b"{}"),
-        (2, 3, b"{}"),
-        (2, 0xffffffffffffffff, b"{}"),
-        (0xffffffffffffffff, 1, b"{}"),
-    ];
-    for (count, size, text) in arrays {
-        let field = field(alloc, FieldKind::Bytes, 0, 5, false, 1)?;
-        let expr = Expr::Array {
-            bytes: boxed(alloc, Expr::FieldBytes { field })?,
-            count: boxed(alloc, int(count))?,
-            size: boxed(alloc, int(size))?,
-        };
-        assert!(rt; text_is(&expr, text), "{count} of {size}");
-    }
-    let of = field(alloc, FieldKind::Text, 0, 5, false, 1)?;
-    let expr = Expr::FieldText { field: of };
-    assert!(rt; text_is(&expr, b"ab"));
-    assert_eq!(rt; bytes(&expr, &rec(&PAYLOAD)), b"ab\0d\xff".as_slice());
     Ok(())
 }
