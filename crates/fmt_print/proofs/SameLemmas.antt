@@ -10,8 +10,7 @@ use Rattle.fmt_directives.specs.declared.directive.Spec.{Spec}
 use Rattle.fmt_directives.specs.declared.directive.Directive.{Directive}
 use Rattle.fmt_directives.specs.declared.directive.Directive.TheVariants as directive
 use Rattle.fmt_directives.specs.declared.directive.PointerForm.{PointerForm}
-use Rattle.fmt_directives.specs.declared.directive.PointerForm.TheVariants.{Plain, Name, NameOffset, Ip4, Mac}
-use Rattle.symbols.specs.NameMap.{first_at, nearest}
+use Rattle.symbols.specs.NameMap.{first_at}
 use Rattle.symbols.specs.Maps.{Maps}
 use Rattle.fmt_expr.specs.Tree.{Tree}
 use Rattle.fmt_expr.specs.Kinds.{kind_of}
@@ -27,7 +26,7 @@ use Rattle.fmt_forms.specs.declared.form.Form.{Form}
 use Rattle.fmt_forms.specs.Integers.{integer_text}
 use Rattle.fmt_forms.specs.Texts.{padded, cut_to}
 use Rattle.fmt_print.specs.Strings.{letter_text, string_by, string_text}
-use Rattle.fmt_print.specs.Addresses.{name_or, offset_or, network_text, network_by, address_text, pointer_text}
+use Rattle.fmt_print.specs.Addresses.{number_address, bytes_address, address_by, address_text, pointer_text}
 use Rattle.fmt_forms.specs.Forms.{form_of}
 use Rattle.fmt_print.specs.Arguments.{first_of, amount_of, Taken, taken, by}
 use Rattle.fmt_print.specs.Printed.{bits_of, is_signed, number_text, printed_one, printed}
@@ -154,25 +153,19 @@ string_fair g maps = λ form t u h.
     ap (λ (text : List ℕ). padded form.left form.width (cut_to form.precision text))
     (string_is (kind_of t) g maps t ∙ ap (λ (m : Meaning). string_meant m.kind maps m) h ∙ sym (string_is (kind_of u) g maps u))
 
-abbrev network_meant : Kind → (List ℕ → List ℕ) → Meaning → List ℕ
-network_meant Number f m = hexadecimal (pattern m.number.exact)
-network_meant Text f m = f m.text
-network_meant Bytes f m = f m.bytes
+abbrev address_meant : Kind → PointerForm → Maps → Meaning → List ℕ
+address_meant Number p maps m = number_address p (pattern m.number.exact) maps
+address_meant Text p maps m = bytes_address p m.text
+address_meant Bytes p maps m = bytes_address p m.bytes
 
-network_is : (k : Kind) (f : List ℕ → List ℕ) (g : Given) (t : Tree) → network_by k f g t ≡ network_meant k f (meaning_of g t)
-network_is Number f g t = refl
-network_is Text f g t = refl
-network_is Bytes f g t = refl
-
-network_fair : (g : Given) (f : List ℕ → List ℕ) (t u : Tree) → meaning_of g t ≡ meaning_of g u → network_by (kind_of t) f g t ≡ network_by (kind_of u) f g u
-network_fair g f t u h = network_is (kind_of t) f g t ∙ ap (λ (m : Meaning). network_meant m.kind f m) h ∙ sym (network_is (kind_of u) f g u)
+address_is : (k : Kind) (p : PointerForm) (g : Given) (maps : Maps) (t : Tree) → address_by k p g maps t ≡ address_meant k p maps (meaning_of g t)
+address_is Number p g maps t = refl
+address_is Text p g maps t = refl
+address_is Bytes p g maps t = refl
 
 address_fair : (p : PointerForm) (g : Given) (maps : Maps) (t u : Tree) → meaning_of g t ≡ meaning_of g u → address_text p g maps t ≡ address_text p g maps u
-address_fair Plain g maps t u h = ap (λ (m : Meaning). hexadecimal (pattern m.number.exact)) h
-address_fair Name g maps t u h = ap (λ (m : Meaning). name_or (pattern m.number.exact) (nearest (pattern m.number.exact) maps.symbols)) h
-address_fair NameOffset g maps t u h = ap (λ (m : Meaning). offset_or (pattern m.number.exact) (nearest (pattern m.number.exact) maps.symbols)) h
-address_fair Ip4 g maps t u h = network_fair g (network_text true) t u h
-address_fair Mac g maps t u h = network_fair g (network_text false) t u h
+address_fair p g maps t u h =
+    address_is (kind_of t) p g maps t ∙ ap (λ (m : Meaning). address_meant m.kind p maps m) h ∙ sym (address_is (kind_of u) p g maps u)
 
 pointer_fair : (p : PointerForm) (g : Given) (maps : Maps) → IsFair g (pointer_text p g maps)
 pointer_fair p g maps = λ form t u h. ap (padded form.left form.width) (address_fair p g maps t u h)

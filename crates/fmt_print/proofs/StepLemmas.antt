@@ -17,7 +17,7 @@ use Rattle.fmt_directives.specs.declared.directive.PointerForm.{PointerForm}
 use Rattle.fmt_expr.specs.Tree.{Tree}
 use Rattle.fmt_expr.specs.Kinds.{kind_of}
 use Rattle.fmt_expr.specs.declared.kinds.Kind.{Kind}
-use Rattle.fmt_expr.specs.declared.kinds.Kind.TheVariants.{Text}
+use Rattle.fmt_expr.specs.declared.kinds.Kind.TheVariants.{Number, Text}
 use Rattle.fmt_eval.specs.Values.{Given}
 use Rattle.fmt_eval.specs.Texts.{up_to_nul, text_of}
 use Rattle.fmt_forms.specs.declared.form.Form.{Form}
@@ -26,11 +26,11 @@ use Rattle.fmt_print.specs.declared.step.Shown.{Shown}
 use Rattle.fmt_print.specs.declared.step.Step.{Step}
 use Rattle.fmt_forms.specs.Forms.{form_of}
 use Rattle.fmt_print.specs.Arguments.{Taken, first_of, taken, by}
-use Rattle.fmt_print.specs.Addresses.{address_text, pointer_text}
+use Rattle.fmt_print.specs.Addresses.{number_address, address_by, address_text, pointer_text}
 use Rattle.fmt_forms.specs.Integers.{integer_text}
 use Rattle.fmt_forms.specs.Plain.{minus}
 use Rattle.fmt_print.specs.Printed.{is_signed, printed}
-use Rattle.fmt_print.specs.Strings.{string_by, string_text}
+use Rattle.fmt_print.specs.Strings.{address_of, string_by, string_text}
 use Rattle.fmt_print.specs.Steps.{plain_spec, plain_form, decimal_base, literal_directive, shown_directive, directives_of, IsPlaced, printed_some, printed_step, held_with}
 use Rattle.fmt_forms.proofs.PlainLemmas.{plain_signed, plain_unsigned, padded_bare}
 use Rattle.fmt_print.proofs.WaitLemmas.{held_with_nothing}
@@ -47,8 +47,9 @@ pub plain_text : (g : Given) (maps : Maps) (t : Tree) → kind_of t ≡ Text →
 plain_text g maps t is =
     sym (ap (λ (k : Kind). string_by k g maps t) is) ∙ padded_bare false 0 (string_by (kind_of t) g maps t) refl
 
-pub plain_pointer : (pointer : PointerForm) (g : Given) (maps : Maps) (t : Tree) → address_text pointer g maps t ≡ pointer_text pointer g maps plain_form t
-plain_pointer pointer g maps t = padded_bare false 0 (address_text pointer g maps t) refl
+pub plain_number_address : (pointer : PointerForm) (g : Given) (maps : Maps) (t : Tree) → kind_of t ≡ Number → number_address pointer (address_of g t) maps ≡ pointer_text pointer g maps plain_form t
+plain_number_address pointer g maps t is =
+    sym (ap (λ (k : Kind). address_by k pointer g maps t) is) ∙ padded_bare false 0 (address_text pointer g maps t) refl
 
 -- what a plain conversion shows of the arguments
 abbrev pair : Tree → List Tree → Tree × List Tree

@@ -8,7 +8,9 @@ use Rattle.std.proofs.lemmas.List.{take-take, take_all, append-nil}
 use Rattle.trace_base.specs.Kept.{is_letter}
 use Rattle.fmt_eval.specs.Texts.{up_to_nul}
 use Rattle.fmt_forms.specs.Texts.{cut_to}
-use Rattle.fmt_print.specs.Addresses.{network_text}
+use Rattle.fmt_directives.specs.declared.directive.PointerForm.{PointerForm}
+use Rattle.fmt_directives.specs.declared.directive.PointerForm.TheVariants.{Plain, Name, NameOffset, Ip4, Mac}
+use Rattle.fmt_print.specs.Addresses.{network_text, bytes_address}
 
 one_more : (n : ℕ) → 1 + n ≡ suc n
 one_more n = omega arith
@@ -41,12 +43,19 @@ cut_two None ds = ap (λ l. 48 ∷ 120 ∷ l) (append-nil ds)
 cut_two (Some p) ds = ap (λ l. take p (48 ∷ 120 ∷ []) ++ l) (append-nil (take (p - 2) ds)) ∙ sym (cut_one p ds)
 
 -- six bytes are enough
-pub first_six : (ip4 : Bool) (text : List ℕ) → network_text ip4 (take 6 text) ≡ network_text ip4 text
-first_six ip4 [] = refl
-first_six ip4 (a ∷ []) = refl
-first_six ip4 (a ∷ b ∷ []) = refl
-first_six ip4 (a ∷ b ∷ c ∷ []) = refl
-first_six ip4 (a ∷ b ∷ c ∷ d ∷ []) = refl
-first_six ip4 (a ∷ b ∷ c ∷ d ∷ e ∷ []) = refl
-first_six true (a ∷ b ∷ c ∷ d ∷ e ∷ f ∷ text) = refl
-first_six false (a ∷ b ∷ c ∷ d ∷ e ∷ f ∷ text) = refl
+network_six : (ip4 : Bool) (text : List ℕ) → network_text ip4 (take 6 text) ≡ network_text ip4 text
+network_six ip4 [] = refl
+network_six ip4 (a ∷ []) = refl
+network_six ip4 (a ∷ b ∷ []) = refl
+network_six ip4 (a ∷ b ∷ c ∷ []) = refl
+network_six ip4 (a ∷ b ∷ c ∷ d ∷ []) = refl
+network_six ip4 (a ∷ b ∷ c ∷ d ∷ e ∷ []) = refl
+network_six true (a ∷ b ∷ c ∷ d ∷ e ∷ f ∷ text) = refl
+network_six false (a ∷ b ∷ c ∷ d ∷ e ∷ f ∷ text) = refl
+
+pub first_six : (pointer : PointerForm) (text : List ℕ) → bytes_address pointer (take 6 text) ≡ bytes_address pointer text
+first_six Plain text = refl
+first_six Name text = refl
+first_six NameOffset text = refl
+first_six Ip4 text = network_six true text
+first_six Mac text = network_six false text

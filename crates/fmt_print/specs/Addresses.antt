@@ -38,18 +38,30 @@ abbrev pub network_text : Bool → List ℕ → List ℕ
 network_text true bytes = join (codes ".") (map decimal (four_bytes bytes))
 network_text false bytes = join (codes ":") (map two_digits (six_bytes bytes))
 
--- an address of the network is read from a text or from bytes; of a number it is shown as a plain address
-abbrev pub network_by : Kind → (List ℕ → List ℕ) → Given → Tree → List ℕ
-network_by kinds.Number f g t = hexadecimal (address_of g t)
-network_by kinds.Text f g t = f (text_of g t)
-network_by kinds.Bytes f g t = f (bytes_of g t)
+-- of a number: the address, or the symbol that stands there
+abbrev pub number_address : PointerForm → ℕ → Maps → List ℕ
+number_address Plain address maps = hexadecimal address
+number_address Name address maps = name_or address (nearest address maps.symbols)
+number_address NameOffset address maps = offset_or address (nearest address maps.symbols)
+number_address Ip4 address maps = hexadecimal address
+number_address Mac address maps = hexadecimal address
+
+-- of a text or of bytes: the address of the network that they begin with, and else 0, whatever symbol stands there
+abbrev pub bytes_address : PointerForm → List ℕ → List ℕ
+bytes_address Plain bytes = hexadecimal 0
+bytes_address Name bytes = hexadecimal 0
+bytes_address NameOffset bytes = hexadecimal 0
+bytes_address Ip4 bytes = network_text true bytes
+bytes_address Mac bytes = network_text false bytes
+
+-- what is shown of an argument of a kind
+abbrev pub address_by : Kind → PointerForm → Given → Maps → Tree → List ℕ
+address_by kinds.Number pointer g maps t = number_address pointer (address_of g t) maps
+address_by kinds.Text pointer g maps t = bytes_address pointer (text_of g t)
+address_by kinds.Bytes pointer g maps t = bytes_address pointer (bytes_of g t)
 
 abbrev pub address_text : PointerForm → Given → Maps → Tree → List ℕ
-address_text Plain g maps t = hexadecimal (address_of g t)
-address_text Name g maps t = name_or (address_of g t) (nearest (address_of g t) maps.symbols)
-address_text NameOffset g maps t = offset_or (address_of g t) (nearest (address_of g t) maps.symbols)
-address_text Ip4 g maps t = network_by (kind_of t) (network_text true) g t
-address_text Mac g maps t = network_by (kind_of t) (network_text false) g t
+address_text pointer g maps t = address_by (kind_of t) pointer g maps t
 
 abbrev pub pointer_text : PointerForm → Given → Maps → Form → Tree → List ℕ
 pointer_text pointer g maps form t = padded form.left form.width (address_text pointer g maps t)

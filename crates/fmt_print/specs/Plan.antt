@@ -17,7 +17,7 @@ pub record Plan : Type 0 where
 -- the plan is that of the print fmt: its text, arguments and long size, with directives that spell the text
 pub record IsPlanOf (fmt : PrintFmt) (plan : Plan) : Type 0 where
   pub text : plan.text ≡ fmt.text
-  pub args : plan.args ≡ map tree_of fmt.args.items
+  pub args : plan.args ≡ map tree_of fmt.args
   pub long : plan.long ≡ fmt.long
   pub spelled : AreDirectives plan.text plan.directives
 
@@ -27,7 +27,7 @@ IsUnread text = (2 ^ 32 ≤ length text) ⊎ IsUnlisted text
 
 -- the plan, computed
 abbrev pub plan_with : PrintFmt → List Directive → Plan
-plan_with fmt directives = record { text = fmt.text; directives = directives; args = map tree_of fmt.args.items; long = fmt.long }
+plan_with fmt directives = record { text = fmt.text; directives = directives; args = map tree_of fmt.args; long = fmt.long }
 
 unfoldable pub plan_of : PrintFmt → Option Plan
 plan_of fmt = if nat_lt (length fmt.text) (2 ^ 32) then option_map (plan_with fmt) (directives_of fmt.text) else None

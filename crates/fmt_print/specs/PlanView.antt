@@ -5,4 +5,4 @@ use Rattle.fmt_print.specs.declared.plan.PrintPlan.{PrintPlan}
 use Rattle.fmt_print.specs.Plan.{Plan}
 
 abbrev pub plan_view : PrintPlan → Plan
-plan_view p = record { text = p.text; directives = p.directives.items; args = map tree_of p.args.items; long = p.long }
+plan_view p = record { text = p.text; directives = p.directives.items; args = map tree_of p.args; long = p.long }

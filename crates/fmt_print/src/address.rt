@@ -6,12 +6,11 @@ ghost use Rattle.trace_base.specs.Kept.{most, put};
 ghost use Rattle.trace_base.specs.TailView.{kept, lent};
 ghost use Rattle.symbols.specs.NameMap.{nearest};
 ghost use Rattle.fmt_expr.specs.TreeView.{tree_of};
-ghost use Rattle.fmt_expr.specs.Kinds.{kind_of};
 ghost use Rattle.fmt_eval.specs.Values.{given};
 ghost use Rattle.fmt_eval.specs.Texts.{text_of};
 ghost use Rattle.fmt_eval.specs.Pieces.{join, hexadecimal};
 ghost use Rattle.fmt_forms.specs.Texts.{padded};
-ghost use Rattle.fmt_print.specs.Addresses.{name_or, offset_or, four_bytes, six_bytes, network_text, network_by, pointer_text};
+ghost use Rattle.fmt_print.specs.Addresses.{name_or, offset_or, four_bytes, six_bytes, network_text, number_address, bytes_address, pointer_text};
 
 use crate::string::{address_of, put_address};
 use fmt_directives::PointerForm;
@@ -135,28 +134,56 @@ fn put_network_padded(form: &Form, ip4: bool, bytes: &[u8], into: &mut Tail<'_>)
     }
 }
 
-/// Puts the address of the network whose bytes begin the text of a tree.
-#[tactic(auto, using(crate::proofs::TextLemmas::first_six), unfolding(trace_base::specs::Kept::put))]
-fn put_network_text(form: &Form, ip4: bool, expr: &Expr, rec: &Rec<'_>, into: &mut Tail<'_>)
+/// Puts what a conversion `p` shows of a number.
+fn put_number_address(
+    pointer: PointerForm,
+    form: &Form,
+    address: u64,
+    symbols: &Symbols,
+    into: &mut Tail<'_>,
+)
     ensures same_slice { lent into.new ≡ lent into.old }
-    ensures value { kept into.new ≡ put (kept into.old) (padded form.now.left form.now.width (network_text ip4 (text_of (given rec.now) (tree_of expr.now)))) }
+    ensures value { kept into.new ≡ put (kept into.old) (padded form.now.left form.now.width (number_address pointer address symbols.now)) }
+{
+    match pointer {
+        PointerForm::Name => put_name(form, address, symbols, into),
+        PointerForm::NameOffset => put_name_offset(form, address, symbols, into),
+        PointerForm::Plain | PointerForm::Ip4 | PointerForm::Mac => {
+            put_address(form, None, address, into);
+        }
+    }
+}
+
+/// Puts what a conversion `p` shows of bytes.
+fn put_bytes_address(pointer: PointerForm, form: &Form, bytes: &[u8], into: &mut Tail<'_>)
+    ensures same_slice { lent into.new ≡ lent into.old }
+    ensures value { kept into.new ≡ put (kept into.old) (padded form.now.left form.now.width (bytes_address pointer bytes.now)) }
+{
+    match pointer {
+        PointerForm::Ip4 => put_network_padded(form, true, bytes, into),
+        PointerForm::Mac => put_network_padded(form, false, bytes, into),
+        PointerForm::Plain | PointerForm::Name | PointerForm::NameOffset => {
+            put_address(form, None, 0, into);
+        }
+    }
+}
+
+/// Puts what a conversion `p` shows of the text of a tree, of which six bytes are enough.
+#[tactic(auto, using(crate::proofs::TextLemmas::first_six), unfolding(trace_base::specs::Kept::put))]
+fn put_text_address(
+    pointer: PointerForm,
+    form: &Form,
+    expr: &Expr,
+    rec: &Rec<'_>,
+    into: &mut Tail<'_>,
+)
+    ensures same_slice { lent into.new ≡ lent into.old }
+    ensures value { kept into.new ≡ put (kept into.old) (padded form.now.left form.now.width (bytes_address pointer (text_of (given rec.now) (tree_of expr.now)))) }
 {
     let mut room = [0; 6];
     let mut tail = Tail::new(&mut room);
     put_text(expr, rec, &mut tail);
-    put_network_padded(form, ip4, tail.kept(), into);
-}
-
-/// Puts an address of the network, or else a plain address.
-fn put_network_of(form: &Form, ip4: bool, expr: &Expr, rec: &Rec<'_>, into: &mut Tail<'_>)
-    ensures same_slice { lent into.new ≡ lent into.old }
-    ensures value { kept into.new ≡ put (kept into.old) (padded form.now.left form.now.width (network_by (kind_of (tree_of expr.now)) (network_text ip4) (given rec.now) (tree_of expr.now))) }
-{
-    match kind(expr) {
-        Kind::Number => put_address(form, None, address_of(expr, rec), into),
-        Kind::Text => put_network_text(form, ip4, expr, rec, into),
-        Kind::Bytes => put_network_padded(form, ip4, bytes(expr, rec), into),
-    }
+    put_bytes_address(pointer, form, tail.kept(), into);
 }
 
 /// Puts the text of a conversion `p`.
@@ -171,11 +198,9 @@ pub fn put_pointer(
     ensures same_slice { lent into.new ≡ lent into.old }
     ensures value { kept into.new ≡ put (kept into.old) (pointer_text pointer (given rec.now) symbols.now form.now (tree_of expr.now)) }
 {
-    match pointer {
-        PointerForm::Plain => put_address(form, None, address_of(expr, rec), into),
-        PointerForm::Name => put_name(form, address_of(expr, rec), symbols, into),
-        PointerForm::NameOffset => put_name_offset(form, address_of(expr, rec), symbols, into),
-        PointerForm::Ip4 => put_network_of(form, true, expr, rec, into),
-        PointerForm::Mac => put_network_of(form, false, expr, rec, into),
+    match kind(expr) {
+        Kind::Number => put_number_address(pointer, form, address_of(expr, rec), symbols, into),
+        Kind::Text => put_text_address(pointer, form, expr, rec, into),
+        Kind::Bytes => put_bytes_address(pointer, form, bytes(expr, rec), into),
     }
 }

@@ -11,8 +11,6 @@ mod printing;
 mod reading;
 mod step;
 mod string;
-#[cfg(test)]
-mod tests;
 
 pub use fmt_directives::{Amount, Base, Directive, Length, PointerForm, Spec};
 pub use plan::PrintPlan;

@@ -13,7 +13,7 @@ ghost use Rattle.fmt_eval.specs.Texts.{up_to_nul, text_of};
 ghost use Rattle.fmt_eval.specs.Pieces.{hexadecimal};
 ghost use Rattle.symbols.specs.NameMap.{nearest};
 ghost use Rattle.fmt_print.specs.ArgumentView.{argument_tree};
-ghost use Rattle.fmt_print.specs.Addresses.{name_or, offset_or, pointer_text};
+ghost use Rattle.fmt_print.specs.Addresses.{name_or, offset_or, number_address, pointer_text};
 ghost use Rattle.fmt_forms.specs.Integers.{integer_text};
 ghost use Rattle.fmt_forms.specs.Plain.{minus};
 ghost use Rattle.fmt_print.specs.Printed.{number_text};
@@ -321,8 +321,29 @@ fn add_name_offset(address: u64, symbols: &Symbols, waiting: &mut Waiting, into:
     }
 }
 
+/// Adds what a plain conversion `p` shows of a number.
+#[inline(always)]
+fn add_number_address(
+    pointer: PointerForm,
+    address: u64,
+    symbols: &Symbols,
+    waiting: &mut Waiting,
+    into: &mut Tail<'_>,
+)
+    ensures same_slice { lent into.new ≡ lent into.old }
+    ensures value { held_with into.new waiting.new ≡ put_held (held_with into.old waiting.old) (number_address pointer address symbols.now) }
+{
+    match pointer {
+        PointerForm::Name => add_name(address, symbols, waiting, into),
+        PointerForm::NameOffset => add_name_offset(address, symbols, waiting, into),
+        PointerForm::Plain | PointerForm::Ip4 | PointerForm::Mac => {
+            add_address(address, waiting, into);
+        }
+    }
+}
+
 /// Adds the text of a plain conversion `p`.
-#[tactic(auto, using(crate::proofs::PrintLemmas::held_nothing, crate::proofs::StepLemmas::plain_pointer, trace_base::proofs::TailJoins::held_put))]
+#[tactic(auto, using(crate::proofs::PrintLemmas::held_nothing, crate::proofs::StepLemmas::plain_number_address, trace_base::proofs::TailJoins::held_put))]
 pub fn add_pointer(
     pointer: PointerForm,
     argument: &Argument,
@@ -334,13 +355,11 @@ pub fn add_pointer(
     ensures same_slice { lent into.new ≡ lent into.old }
     ensures value { held_with into.new waiting.new ≡ put_held (held_with into.old waiting.old) (pointer_text pointer (given rec.now) symbols.now plain_form (argument_tree argument.now)) }
 {
-    match pointer {
-        PointerForm::Plain => add_address(argument.address(rec), waiting, into),
-        PointerForm::Name => add_name(argument.address(rec), symbols, waiting, into),
-        PointerForm::NameOffset => {
-            add_name_offset(argument.address(rec), symbols, waiting, into);
+    match argument.kind {
+        Kind::Number => {
+            add_number_address(pointer, argument.address(rec), symbols, waiting, into);
         }
-        PointerForm::Ip4 | PointerForm::Mac => {
+        Kind::Text | Kind::Bytes => {
             waiting.put_into(into);
             put_pointer(pointer, &plain_form(), &argument.tree, rec, symbols, into);
         }

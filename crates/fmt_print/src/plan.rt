@@ -13,7 +13,7 @@ use crate::argument::Argument;
 use crate::step::Step;
 use fmt_directives::Directive;
 use fmt_expr::Expr;
-use trace_base::ByteText;
+use trace_base::{ByteText, ListOf};
 
 /// A print fmt whose format text was read: its directives, and the arguments that they show. Contracts see it as a `Plan`.
 #[derive(Drop)]
@@ -24,14 +24,14 @@ pub struct PrintPlan {
     pub(crate) directives: Vec<Directive>,
     /// The directives, by how they are shown.
     pub(crate) steps: Vec<Step>,
-    pub(crate) args: Vec<Expr>,
+    pub(crate) args: ListOf<Expr>,
     /// The arguments as they are computed: each the same over every record.
     pub(crate) folded: Vec<Argument>,
     pub(crate) long: u32,
     ghost within: { All (IsWithin (length text)) directives.items } by { Prim.hlevel (props, within_prop) },
     ghost zeros: { padded.items ≡ text ++ replicate 16 0 } by { Prim.hlevel (props, codes) },
     ghost shown: { flat_map directives_of steps.items ≡ directives.items } by { Prim.hlevel (props, codes) },
-    ghost same: { SameTrees (map argument_tree folded.items) (map tree_of args.items) } by { Prim.hlevel props },
+    ghost same: { SameTrees (map argument_tree folded.items) (map tree_of args) } by { Prim.hlevel props },
 }
 
 impl PrintPlan {

@@ -7,30 +7,29 @@ ghost use Rattle.line_columns.specs.Columns.{left, right, zeros, micros, time_te
 ghost use Rattle.line_columns.specs.Marks as spec;
 
 use crate::marks::latency_marks;
+use crate::widths::{
+    BEFORE_PID, BEFORE_PLACE, BEFORE_TASK, BEFORE_TIME, DIGITS, LONGEST_PID, LONGEST_PLACE,
+    LONGEST_TASK, LONGEST_TIME, PID, ROOM, USUAL_LABEL,
+};
 use itoa::{Buffer, write_digits};
 use std::marker::Model;
 
-/// How wide the columns of most lines are up to the event's name: the task and its pid, the processor, the time.
-pub const USUAL_COLUMNS: usize = 43;
-
-/// How wide the event's name is with its colon, where it is not longer than its column.
-pub const USUAL_LABEL: usize = 22;
-
-/// A text of at most 200 bytes that grows at its front, in a room of spaces. Contracts see the text.
+/// A text that grows at its front, in a room of spaces. Contracts see the text.
 #[derive(Drop)]
 pub struct Front {
-    buffer: [u8; 200],
+    buffer: [u8; ROOM],
     at: usize,
 }
 
 impl Model for Front {
     ghost use Rattle.std.specs.Prelude.{◌≡◌, ◌≤◌, ℕ, List, take, drop, replicate};
+    ghost use Rattle.line_columns.specs.declared.widths.TheConstants.{ROOM};
 
     ghost Value = { List ℕ };
 
     ghost view = { λ f. drop f.at f.buffer };
 
-    ghost invariant = { λ f. (f.at ≤ 200) × (take f.at f.buffer ≡ replicate f.at 32) };
+    ghost invariant = { λ f. (f.at ≤ ROOM) × (take f.at f.buffer ≡ replicate f.at 32) };
 }
 
 impl Front {
@@ -39,15 +38,15 @@ impl Front {
         ensures { result ≡ [] }
     {
         Front {
-            buffer: [b' '; 200],
-            at: 200,
+            buffer: [b' '; ROOM],
+            at: ROOM,
         }
     }
 
     /// Puts the first text.
     pub fn start(&mut self, text: &[u8])
         requires empty { self.old ≡ [] }
-        requires short { length text.now ≤ 200 }
+        requires short { length text.now ≤ ROOM }
         ensures { self.new ≡ text.now }
     {
         if text.len() == USUAL_LABEL {
@@ -60,7 +59,7 @@ impl Front {
 
     #[inline(never)]
     fn any_text(&mut self, text: &[u8])
-        requires { length self.old + length text.now ≤ 200 }
+        requires { length self.old + length text.now ≤ ROOM }
         ensures { self.new ≡ text.now ++ self.old }
     {
         self.text(text);
@@ -76,14 +75,14 @@ impl Front {
     /// Its length.
     pub fn len(&self) -> usize
         ensures value { result ≡ length self.now }
-        ensures small { result ≤ 200 }
+        ensures small { result ≤ ROOM }
     {
-        200 - self.at
+        ROOM - self.at
     }
 
     /// Puts one byte in front.
     pub fn byte(&mut self, byte: u8)
-        requires { length self.old < 200 }
+        requires { length self.old < ROOM }
         ensures longer { length self.new ≡ length self.old + 1 }
         ensures value { self.new ≡ byte ∷ self.old }
     {
@@ -93,7 +92,7 @@ impl Front {
 
     /// Puts a text in front.
     fn text(&mut self, text: &[u8])
-        requires { length self.old + length text.now ≤ 200 }
+        requires { length self.old + length text.now ≤ ROOM }
         ensures longer { length self.new ≡ length self.old + length text.now }
         ensures value { self.new ≡ text.now ++ self.old }
     {
@@ -104,19 +103,19 @@ impl Front {
 
     /// Puts spaces in front until the text is as long as this.
     fn fill(&mut self, len: usize)
-        requires { len ≤ 200 }
+        requires { len ≤ ROOM }
         ensures longer { length self.new ≡ max len (length self.old) }
         ensures value { self.new ≡ replicate (len - length self.old) 32 ++ self.old }
     {
-        self.at = self.at.min(200 - len);
+        self.at = self.at.min(ROOM - len);
     }
 
     /// Puts a number in front.
     #[inline(always)]
     #[tactic(auto, using(crate::proofs::Lengths::short))]
     fn digits(&mut self, n: u64)
-        requires { length self.old + 20 ≤ 200 }
-        ensures longer { length self.new ≤ length self.old + 20 }
+        requires { length self.old + DIGITS ≤ ROOM }
+        ensures longer { length self.new ≤ length self.old + DIGITS }
         ensures value { self.new ≡ decimal n ++ self.old }
     {
         self.at = write_digits(n, &mut self.buffer, self.at);
@@ -124,9 +123,9 @@ impl Front {
 
     /// Puts a number in front, at the right of its column.
     fn number(&mut self, width: usize, n: u64)
-        requires room { length self.old ≤ 180 }
-        requires narrow { width ≤ 20 }
-        ensures longer { length self.new ≤ length self.old + 20 }
+        requires room { length self.old + DIGITS ≤ ROOM }
+        requires narrow { width ≤ DIGITS }
+        ensures longer { length self.new ≤ length self.old + DIGITS }
         ensures value { self.new ≡ right width (decimal n) ++ self.old }
     {
         let len = self.len() + width;
@@ -137,12 +136,12 @@ impl Front {
     /// Puts a byte and a number in front, with the zeros that its column asks for. `power` is ten to the power of the width.
     #[inline(always)]
     fn zeros(&mut self, mark: u8, width: usize, power: u64, n: u64)
-        requires room { length self.old ≤ 180 }
+        requires room { length self.old + DIGITS ≤ ROOM }
         requires some { 0 < width }
         requires power { power ≡ 10 ^ width }
         requires small { power ≤ 10 ^ 9 }
         requires below { n < power }
-        ensures longer { length self.new ≤ length self.old + 20 }
+        ensures longer { length self.new ≤ length self.old + DIGITS }
         ensures value { self.new ≡ mark ∷ (zeros width (decimal n) ++ self.old) }
     {
         // The digits of the sum are a 1, the zeros, and the number's own digits.
@@ -154,8 +153,8 @@ impl Front {
     /// Puts seconds and their part in front.
     #[tactic(auto, unfolding(crate::specs::Columns::time_text))]
     pub fn time(&mut self, full: bool, time: u64)
-        requires { length self.old ≤ 48 }
-        ensures longer { length self.new ≤ length self.old + 41 }
+        requires { length self.old ≤ BEFORE_TIME }
+        ensures longer { length self.new ≤ length self.old + LONGEST_TIME }
         ensures value { self.new ≡ time_text full time ++ self.old }
     {
         if full {
@@ -170,7 +169,7 @@ impl Front {
 
     /// Puts one digit in front.
     fn digit(&mut self, digit: u32)
-        requires room { length self.old < 200 }
+        requires room { length self.old < ROOM }
         requires one { digit < 10 }
         ensures longer { length self.new ≡ length self.old + 1 }
         ensures value { self.new ≡ (48 + digit) ∷ self.old }
@@ -181,8 +180,8 @@ impl Front {
     /// Puts a number in front, of three digits at least.
     #[tactic(auto, using(crate::proofs::ZeroFills::three, crate::proofs::Lengths::no_zeros))]
     fn three_digits(&mut self, n: u32)
-        requires { length self.old ≤ 91 }
-        ensures longer { length self.new ≤ length self.old + 20 }
+        requires { length self.old + DIGITS ≤ ROOM }
+        ensures longer { length self.new ≤ length self.old + DIGITS }
         ensures value { self.new ≡ zeros 3 (decimal n) ++ self.old }
     {
         if n < 1000 {
@@ -196,8 +195,8 @@ impl Front {
 
     /// Puts the processor in front.
     pub fn processor(&mut self, cpu: u32)
-        requires { length self.old ≤ 89 }
-        ensures longer { length self.new ≤ length self.old + 26 }
+        requires { length self.old ≤ BEFORE_PLACE }
+        ensures longer { length self.new ≤ length self.old + LONGEST_PLACE }
         ensures value { self.new ≡ (codes " [" ++ (zeros 3 (decimal cpu) ++ codes "] ")) ++ self.old }
     {
         self.byte(b' ');
@@ -209,8 +208,8 @@ impl Front {
 
     /// Puts the processor in front, and what an event says of its context.
     pub fn latency(&mut self, cpu: u32, flags: u32, preempt_count: u32)
-        requires { length self.old ≤ 89 }
-        ensures longer { length self.new ≤ length self.old + 26 }
+        requires { length self.old ≤ BEFORE_PLACE }
+        ensures longer { length self.new ≤ length self.old + LONGEST_PLACE }
         ensures value { self.new ≡ (codes " " ++ (right 3 (decimal cpu) ++ (spec.latency_marks flags preempt_count ++ codes " "))) ++ self.old }
     {
         self.byte(b' ');
@@ -221,9 +220,9 @@ impl Front {
 
     /// Puts a task's name in front, at the right of its column.
     pub fn task(&mut self, width: usize, name: &[u8])
-        requires room { length self.old ≤ 155 }
+        requires room { length self.old ≤ BEFORE_TASK }
         requires narrow { width ≤ 16 }
-        requires short { length name.now ≤ 40 }
+        requires short { length name.now ≤ LONGEST_TASK }
         ensures { self.new ≡ right width name.now ++ self.old }
     {
         let len = self.len() + width;
@@ -233,9 +232,9 @@ impl Front {
 
     /// Puts a pid in front, at the left of its column.
     pub fn pid(&mut self, pid: i32)
-        requires room { length self.old ≤ 120 }
+        requires room { length self.old ≤ BEFORE_PID }
         requires range { FitsSigned w32 pid }
-        ensures longer { length self.new ≤ length self.old + 45 }
+        ensures longer { length self.new ≤ length self.old + LONGEST_PID }
         ensures value { self.new ≡ left 5 (signed_decimal pid) ++ self.old }
     {
         match u64::try_from(pid) {
@@ -246,9 +245,9 @@ impl Front {
 
     /// Puts a pid in front that is not wider than its column.
     fn short_pid(&mut self, pid: u64)
-        requires room { length self.old ≤ 120 }
+        requires room { length self.old ≤ BEFORE_PID }
         requires small { pid < 100000 }
-        ensures longer { length self.new ≡ length self.old + 5 }
+        ensures longer { length self.new ≡ length self.old + PID }
         ensures value { self.new ≡ left 5 (decimal pid) ++ self.old }
     {
         let mut column = [b' '; 10];
@@ -259,9 +258,9 @@ impl Front {
     /// Puts any pid in front.
     #[inline(never)]
     fn long_pid(&mut self, pid: i32)
-        requires room { length self.old ≤ 120 }
+        requires room { length self.old ≤ BEFORE_PID }
         requires range { FitsSigned w32 pid }
-        ensures longer { length self.new ≤ length self.old + 45 }
+        ensures longer { length self.new ≤ length self.old + LONGEST_PID }
         ensures value { self.new ≡ left 5 (signed_decimal pid) ++ self.old }
     {
         let mut buffer = Buffer::new();

@@ -15,7 +15,10 @@ use crate::head::Known;
 use crate::show::Show;
 use fmt_print::print;
 use itoa::Buffer;
-use line_columns::{Front, USUAL_COLUMNS, USUAL_LABEL};
+use line_columns::{
+    BEFORE_PLACE, Front, LONGEST_BEHIND, LONGEST_COLUMNS, LONGEST_PLACE, LONGEST_TASK,
+    USUAL_COLUMNS, USUAL_LABEL,
+};
 use subpage::Item;
 use trace_base::{Rec, Tail};
 
@@ -71,7 +74,7 @@ fn put_start(
     ensures same_slice { lent into.new ≡ lent into.old }
     ensures value { held into.new ≡ put_held (put_held (held into.old) (spec.front_text context.now cpu time payload.now)) label.now }
 {
-    if label.len() <= 40 {
+    if label.len() <= LONGEST_BEHIND {
         put_front(context, cpu, time, payload, label, into);
     } else {
         put_front(context, cpu, time, payload, b"", into);
@@ -89,7 +92,7 @@ fn put_front(
     behind: &[u8],
     into: &mut Tail<'_>,
 )
-    requires short { length behind.now ≤ 40 }
+    requires short { length behind.now ≤ LONGEST_BEHIND }
     ensures same_slice { lent into.new ≡ lent into.old }
     ensures value { held into.new ≡ put_held (put_held (held into.old) (spec.front_text context.now cpu time payload.now)) behind.now }
 {
@@ -99,7 +102,7 @@ fn put_front(
     front.start(behind);
     put_columns(context, cpu, time, pid, payload, &mut front);
     let width = task_width(context.show());
-    if name.len() <= 40 {
+    if name.len() <= LONGEST_TASK {
         front.task(width, name);
         put_known_length(front.as_bytes(), into);
     } else {
@@ -137,11 +140,11 @@ fn task_width(show: &Show) -> usize
 /// Puts the columns behind the task's name in front, of the task with this pid.
 #[tactic(auto, unfolding(crate::specs::Line::columns_text))]
 fn put_columns(context: &Context, cpu: u32, time: u64, pid: i32, payload: &[u8], front: &mut Front)
-    requires room { length front.old ≤ 40 }
+    requires room { length front.old ≤ LONGEST_BEHIND }
     requires pid { pid ≡ spec.pid_of context.now payload.now }
     requires range { FitsSigned w32 pid }
     ensures value { front.new ≡ spec.columns_text context.now cpu time payload.now ++ front.old }
-    ensures longer { length front.new ≤ length front.old + 115 }
+    ensures longer { length front.new ≤ length front.old + LONGEST_COLUMNS }
 {
     front.byte(b' ');
     front.byte(b':');
@@ -154,8 +157,8 @@ fn put_columns(context: &Context, cpu: u32, time: u64, pid: i32, payload: &[u8],
 /// Puts the processor in front, and with the latency columns what the event says of its context.
 #[tactic(auto, unfolding(crate::specs::Line::place_text))]
 fn put_place(context: &Context, cpu: u32, payload: &[u8], front: &mut Front)
-    requires { length front.old ≤ 89 }
-    ensures longer { length front.new ≤ length front.old + 26 }
+    requires { length front.old ≤ BEFORE_PLACE }
+    ensures longer { length front.new ≤ length front.old + LONGEST_PLACE }
     ensures value { front.new ≡ spec.place_text context.now.show cpu (spec.flags_of context.now payload.now) (spec.preempt_count_of context.now payload.now) ++ front.old }
 {
     if context.show().latency {

@@ -1,0 +1,57 @@
+// How long the columns of a front may be, from the right to the left.
+
+/// The longest decimal number of 64 bits.
+pub(crate) const DIGITS: usize = 20;
+
+/// The longest text that may stand behind the columns.
+pub const LONGEST_BEHIND: usize = 40;
+
+/// The mark between the time and what stands behind it.
+const COLON: usize = 2;
+
+/// The longest time: seconds, a point, and their part.
+pub(crate) const LONGEST_TIME: usize = DIGITS + 1 + DIGITS;
+
+/// The four latency characters, or as many bytes round the processor without them.
+const MARKS: usize = 4;
+
+/// The longest processor, with spaces round it.
+pub const LONGEST_PLACE: usize = 1 + DIGITS + MARKS + 1;
+
+/// How wide the pid is at the least.
+pub(crate) const PID: usize = 5;
+
+/// The longest pid: with what a column may lack, and as long as any number of 128 bits.
+pub(crate) const LONGEST_PID: usize = PID + 40;
+
+/// The mark between the task's name and its pid.
+const DASH: usize = 1;
+
+/// The longest name of a task.
+pub const LONGEST_TASK: usize = 40;
+
+/// The longest text that may be there before the time is put in front of it.
+pub const BEFORE_TIME: usize = LONGEST_BEHIND + COLON;
+
+/// The same before the processor is.
+pub const BEFORE_PLACE: usize = BEFORE_TIME + LONGEST_TIME;
+
+/// The same before the pid is.
+pub const BEFORE_PID: usize = BEFORE_PLACE + LONGEST_PLACE;
+
+/// The same before the task's name is.
+pub const BEFORE_TASK: usize = BEFORE_PID + LONGEST_PID + DASH;
+
+/// How much the columns make a text longer, the task's name apart.
+pub const LONGEST_COLUMNS: usize = BEFORE_TASK - LONGEST_BEHIND;
+
+/// How many bytes there is room for.
+pub(crate) const ROOM: usize = 200;
+
+const _: () = prove!(BEFORE_TASK + LONGEST_TASK <= ROOM);
+
+/// How wide the columns of most lines are up to the event's name: the task and its pid, the processor, the time.
+pub const USUAL_COLUMNS: usize = 43;
+
+/// How wide the event's name is with its colon, where it is not longer than its column.
+pub const USUAL_LABEL: usize = 22;
