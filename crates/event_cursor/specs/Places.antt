@@ -1,5 +1,5 @@
 -- Places among a processor's items that can be gone back to.
-use Rattle.std.specs.Prelude.{◌≡◌, ◌≢◌, ℕ, ◌+◌, ◌-◌, ◌≤◌, is_none, unwrap_or, List, [], ◌++◌, length, drop, Option, Some}
+use Rattle.std.specs.Prelude.{◌≡◌, ℕ, ◌+◌, ◌-◌, ◌≤◌, is_none, unwrap_or, List, [], ◌++◌, length, drop, Option, Some}
 use Rattle.std.specs.List.{position_from}
 use Rattle.trace_base.specs.declared.layout.Layout.{Layout}
 use Rattle.trace_base.specs.declared.part.Part.{Part}
@@ -7,7 +7,7 @@ use Rattle.subpage.specs.ItemData.{ItemData}
 use Rattle.subpage.specs.Processor.{items_at, page_count, pages_from, joined, list_of, bad_of}
 use Rattle.subpage.specs.Cut.{last_key}
 use Rattle.page_pool.specs.declared.lane.Lane.{Lane}
-use Rattle.page_pool.specs.declared.cursor.LaneState.TheVariants.{Held}
+use Rattle.page_pool.specs.declared.cursor.LaneState.TheVariants.{Fresh, Held}
 use Rattle.event_cursor.specs.declared.places.Place.{Place}
 use Rattle.event_cursor.specs.declared.seeking.Sought.{Sought}
 use Rattle.event_cursor.specs.declared.seeking.Sought.TheVariants as sought
@@ -58,10 +58,11 @@ pub record HoldsAt (place : Place) (lane : Lane) : Type 0 where
   pub high : lane.cursor.high ≡ place.high
   pub next : lane.cursor.next ≡ place.page + 1
 
+-- the lane stands there, or holds no sub-buffer
 abbrev pub IsSought : Place → Lane → Sought → Type 0
 IsSought place lane sought.Held = HoldsAt place lane
-IsSought place lane sought.Malformed = lane.cursor.state ≢ Held
-IsSought place lane sought.Read = lane.cursor.state ≢ Held
+IsSought place lane sought.Malformed = lane.cursor.state ≡ Fresh
+IsSought place lane sought.Read = lane.cursor.state ≡ Fresh
 
 -- The lane stands at the place, and has left what is behind it.
 pub record StandsAt (layout : Layout) (file : List ℕ) (place : Place) (lane : Lane) : Type 0 where

@@ -12,8 +12,6 @@ mod loading;
 mod places;
 mod seeking;
 mod stepping;
-#[cfg(test)]
-mod tests;
 
 pub use fetching::is_there;
 pub use laws::used_items;

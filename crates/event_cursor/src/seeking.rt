@@ -98,7 +98,7 @@ fn turn_to<F: File>(layout: &Layout, number: u64, file: &mut F, lane: &mut Lane)
 /// greatest time so far. It reads that sub-buffer, and nothing where the lane holds it.
 ///
 /// `Malformed` exactly where the sub-buffer is malformed or has fewer than `place.at` items: never for a place of the
-/// processor's items in a file that tells its bytes.
+/// processor's items in a file that tells its bytes. Behind `Malformed` and `Read` the lane holds no sub-buffer.
 pub fn seek<F: File>(layout: &Layout, place: &Place, file: &mut F, lane: &mut Lane) -> Sought
     requires allowed { IsLayout layout.now }
     requires in_order { IsInOrder layout.now lane.old }

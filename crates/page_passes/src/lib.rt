@@ -4,8 +4,6 @@
 
 mod count;
 mod laws;
-#[cfg(test)]
-mod tests;
 mod write;
 
 pub use count::PageCount;

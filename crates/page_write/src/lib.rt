@@ -12,8 +12,6 @@ mod open_page;
 mod packer;
 mod put;
 mod room;
-#[cfg(test)]
-mod tests;
 
 pub use added::Added;
 pub use fill::Fill;

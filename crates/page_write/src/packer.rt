@@ -68,6 +68,8 @@ impl<'a> Packer<'a> {
         requires packable { IsPackable self.old.layout (item_view item.now) }
         ensures layout { self.new.layout ≡ self.old.layout }
         ensures adds { Adds self.old.layout self.old.held (item_view item.now) (λ held. self.new.held ≡ held) result }
+        ensures full { result ≡ Added.Full → self.new ≡ self.old }
+        ensures some { result ≡ Added.Full → self.old.held ≢ [] }
     {
         match add_to(&self.layout, self.page, item, self.into) {
             Some(page) => {

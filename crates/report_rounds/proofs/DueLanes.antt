@@ -23,7 +23,7 @@ use Rattle.time_merge.specs.LaneRows.{parts_of}
 use Rattle.time_merge.specs.Reads.{all_reading, all_unread}
 use Rattle.time_merge.specs.Rows.{Each}
 use Rattle.round_print.specs.Prints.{CpuLine}
-use Rattle.report_rounds.specs.Due.{due_count, has_line, is_due, is_of, items_before, none_before, unwritten_before}
+use Rattle.report_rounds.specs.Due.{due_count, has_line, is_page_due, is_of, items_before, none_before, unwritten_before}
 use Rattle.report_rounds.proofs.Before.{asked_in, before_left, sound_to}
 use Rattle.report_rounds.proofs.LineCounts.{count_cons, one_if}
 use Rattle.report_rounds.proofs.Reading.{size_inside, size_none, there_inside}
@@ -58,7 +58,7 @@ module _ (text : ℕ → ItemData → List ℕ) (l : Layout) (file : List ℕ) (
           has,
         )
 
-    pub asked_due : (k : ℕ) → k < asked_in a.cursor.state a.cursor.next → is_there l file a.part k ≡ true → is_due text l file written (a.cpu, a.part) k ≡ true
+    pub asked_due : (k : ℕ) → k < asked_in a.cursor.state a.cursor.next → is_there l file a.part k ≡ true → is_page_due text l file written (a.cpu, a.part) k ≡ true
     asked_due k lt there =
         let inside : k < page_count l a.part = held_counts a.part.size l.page k some (there_inside l (length file) a.part k there) in
         let sound : none_before (bad_of l file a.part) k ≡ true = sound_before (bad_of l file a.part) a.cursor.next k (sound_to l file a s) (no_later a.cursor.state a.cursor.next k lt) in
@@ -183,11 +183,11 @@ parts_due text l file written [] some = omega arith
 parts_due text l file written (part ∷ parts) some =
     let all : l.page * sum_by (due_count text l file written) (part ∷ parts) ≡ l.page * (due_count text l file written part + sum_by (due_count text l file written) parts) =
     ap (λ (n : ℕ). l.page * n) (sum_by-cons (due_count text l file written) part parts) in
-    let there : (k : ℕ) → is_due text l file written part k ≡ true → is_there_in l (length file) part.1 k ≡ true = λ k due. (and_parts _ _ (and_parts _ _ due).0).0 in
+    let there : (k : ℕ) → is_page_due text l file written part k ≡ true → is_there_in l (length file) part.1 k ≡ true = λ k due. (and_parts _ _ (and_parts _ _ due).0).0 in
     omega (
       arith,
       all,
-      part_due l (length file) some part.1 (is_due text l file written part) there,
+      part_due l (length file) some part.1 (is_page_due text l file written part) there,
       parts_due text l file written parts some,
       sum_by-cons (λ (q : ℕ × Part). q.1.size) part parts,
     )

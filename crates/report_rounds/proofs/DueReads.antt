@@ -31,7 +31,7 @@ use Rattle.time_merge.proofs.Choosing.{each_of_all}
 use Rattle.time_merge.proofs.Starting.{fresh_stands}
 use Rattle.round_print.specs.Prints.{CpuLine, text_of}
 use Rattle.report_rounds.specs.Between.{IsAtStart, IsBetween}
-use Rattle.report_rounds.specs.Due.{ReadsDue, due_bytes, due_count, greatest_up_to, has_line, is_due, is_of, pieces_of, whole_pieces, written_pieces}
+use Rattle.report_rounds.specs.Due.{ReadsDue, due_bytes, due_count, greatest_up_to, has_line, is_page_due, is_of, pieces_of, whole_pieces, written_pieces}
 use Rattle.report_rounds.specs.Lines.{left_lines}
 use Rattle.report_rounds.specs.Turns.{HasLoaded, HasPrinted, IsEnding}
 use Rattle.report_rounds.proofs.DueLanes.{AsksDue, HasWritten, asked_due, asks_due, fresh_all, lanes_due}
@@ -164,7 +164,7 @@ module _ (text : ℕ → ItemData → List ℕ) (l : Layout) (file : List ℕ) w
         omega (arith, (all i d mid_lt).few.kept, (all i d mid_lt).few.used, ap (λ (r : Lines). length r.kept) one.place.region) in
         let has : HasWritten text l file whole_lines b =
         lane_written done_lines whole_lines (get_or first i d) a b (start i d first_lt) (going.further.own i d first_lt) one whole_count in
-        asks_due l len some b (is_due text l file whole_lines (b.cpu, b.part)) (λ k asked there.
+        asks_due l len some b (is_page_due text l file whole_lines (b.cpu, b.part)) (λ k asked there.
         asked_due text l file whole_lines b some (load.in_order i d lt) (one.stands (going.stands i d mid_lt)) few has k asked
         (subst (λ (n : ℕ). is_there_in l n b.part k ≡ true) (sym same_len) there))
 

@@ -53,8 +53,8 @@ none_before (Some bad) k = nat_le k bad
 
 -- Sub-buffer k of a processor is due where it is there, no sub-buffer of the processor before it is malformed, and no
 -- more lines of those before it are unwritten than a region keeps.
-abbrev pub is_due : (ℕ → ItemData → List ℕ) → Layout → List ℕ → List CpuLine → ℕ × Part → ℕ → Bool
-is_due text layout file written part k =
+abbrev pub is_page_due : (ℕ → ItemData → List ℕ) → Layout → List ℕ → List CpuLine → ℕ × Part → ℕ → Bool
+is_page_due text layout file written part k =
     is_there layout file part.1 k
     && none_before (bad_of layout file part.1) k
     && nat_le (length (unwritten_before text layout file written part k)) most_lines
@@ -62,7 +62,7 @@ is_due text layout file written part k =
 -- how many of a processor's sub-buffers are due
 abbrev pub due_count : (ℕ → ItemData → List ℕ) → Layout → List ℕ → List CpuLine → ℕ × Part → ℕ
 due_count text layout file written part =
-    count_by (is_due text layout file written part) (range_with_len 0 (page_count layout part.1))
+    count_by (is_page_due text layout file written part) (range_with_len 0 (page_count layout part.1))
 
 -- the bytes of the sub-buffers of these processors that are due by a text
 unfoldable pub due_bytes : (ℕ → ItemData → List ℕ) → Layout → List ℕ → List (ℕ × Part) → List ℕ → ℕ

@@ -19,6 +19,8 @@ fn print_first<O: Sink>(lane: &mut Lane, pending: &mut Pending, out: &mut O) -> 
     ensures name { O.name out.new ≡ O.name out.old }
     ensures cause { HasCause (O.faults out.old) (O.faults out.new) result }
     ensures dropped { IfOk result (λ _. IsLineDropped lane.old lane.new) }
+    ensures cpu { lane.new.cpu ≡ lane.old.cpu }
+    ensures part { lane.new.part ≡ lane.old.part }
 {
     let (text, _) = lane.region.line(0);
     pending.put(out, text)?;
@@ -41,6 +43,7 @@ fn put_round<O: Sink>(
     ensures cause { HasCause (O.faults out.old) (O.faults out.new) result }
     ensures lanes { IfOk result (λ _. (i : ℕ) (d : Lane) → i < length lanes.old
         → IsPrinted horizon.now (slice_index_or lanes.old i d) (slice_index_or lanes.new i d)) }
+    ensures parts { parts_of lanes.new ≡ parts_of lanes.old }
     ensures rise { IfOk result (λ _. CpusRise (parts_of lanes.new)) }
     ensures rises { IfOk result (λ _. All KeysRise lanes.new) }
 {
@@ -57,7 +60,8 @@ fn put_round<O: Sink>(
 /// and keeps them no longer. A region that keeps no line any more has all its bytes free.
 ///
 /// The lines go through `pending`, in which nothing waits before or behind: all of them are written when the call returns,
-/// in pieces as large as it has room for. After `Failed` the sink has a prefix of their text.
+/// in pieces as large as it has room for. After `Failed` the sink has a prefix of their text, and the lanes, which are
+/// still those of their processors, keep no longer what was put: they are not to be used again.
 pub fn print_round<O: Sink>(
     horizon: &Horizon,
     lanes: &mut [Lane],
@@ -73,6 +77,7 @@ pub fn print_round<O: Sink>(
     ensures empty { IfOk result (λ _. pending.new ≡ []) }
     ensures lanes { IfOk result (λ _. (i : ℕ) (d : Lane) → i < length lanes.old
         → IsPrinted horizon.now (slice_index_or lanes.old i d) (slice_index_or lanes.new i d)) }
+    ensures parts { parts_of lanes.new ≡ parts_of lanes.old }
     ensures rise { IfOk result (λ _. CpusRise (parts_of lanes.new)) }
     ensures rises { IfOk result (λ _. All KeysRise lanes.new) }
 {

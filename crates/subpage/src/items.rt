@@ -1,22 +1,19 @@
-ghost use Rattle.std.specs.Prelude.{◌≡◌, IsSome};
+ghost use Rattle.std.specs.Prelude.{◌≡◌};
 ghost use Rattle.std.specs.Iterator.{YieldsFirstBy, item_count};
 ghost use Rattle.subpage.specs.ItemView.{item_view};
-ghost use Rattle.subpage.specs.Left.{left};
-ghost use Rattle.subpage.specs.Reading.{walk};
+ghost use Rattle.subpage.specs.Marks.{IsMark, items_from};
 
 use crate::item::Item;
-use crate::loss::Loss;
-use crate::next::{Next, next_event};
+use crate::mark::{Mark, first_at};
 use std::marker::Model;
-use trace_base::Order;
+use trace_base::Layout;
 
 /// The items of a sub-buffer, one after another. It takes no memory, and a contract sees it as the items that are left.
 #[derive(Drop)]
 pub struct Items<'a> {
-    loss: Option<Loss>,
-    order: Order,
-    time: u64,
-    rest: &'a [u8],
+    layout: Layout,
+    page: &'a [u8],
+    mark: Mark,
 }
 
 impl<'a> Model for Items<'a> {
@@ -33,16 +30,11 @@ impl<'a> Model for Items<'a> {
 }
 
 impl<'a> Items<'a> {
-    pub(crate) fn new(loss: Option<Loss>, order: Order, time: u64, rest: &'a [u8]) -> Items<'a>
-        requires { IsSome (walk order time rest.now) }
-        ensures { result ≡ left loss order time rest.now }
+    pub(crate) fn new(layout: Layout, page: &'a [u8], mark: Mark) -> Items<'a>
+        requires { IsMark layout page.now mark }
+        ensures { result ≡ items_from layout page.now mark }
     {
-        Items {
-            loss,
-            order,
-            time,
-            rest,
-        }
+        Items { layout, page, mark }
     }
 }
 
@@ -54,25 +46,8 @@ impl<'a> Iterator for Items<'a> {
     ghost remaining = { item_count (λ s. s) };
 
     fn next(&mut self) -> Option<Item<'a>> {
-        if let Some(loss) = self.loss {
-            self.loss = None;
-            return Some(Item::Loss {
-                time: loss.time,
-                count: loss.count,
-            });
-        }
-        match next_event(self.order, self.time, self.rest) {
-            Next::Event {
-                time,
-                payload,
-                rest,
-            } => {
-                self.time = time;
-                self.rest = rest;
-                Some(Item::Event { time, payload })
-            }
-            // A checked page is not malformed.
-            Next::Done | Next::Malformed => None,
-        }
+        let (item, behind) = first_at(&self.layout, self.page, self.mark)?;
+        self.mark = behind;
+        Some(item)
     }
 }

@@ -20,10 +20,8 @@ mod page;
 mod reading;
 mod running_time;
 mod summary;
-#[cfg(test)]
-mod tests;
 
 pub use item::Item;
 pub use items::Items;
-pub use mark::{Mark, first_at, settle};
+pub use mark::{Mark, first_at};
 pub use page::{Page, check_page, open_page};

@@ -30,7 +30,7 @@ impl Mark {
 }
 
 /// The committed bytes behind a mark.
-pub(crate) fn bytes_behind(page: &[u8], mark: Mark) -> &[u8]
+fn bytes_behind(page: &[u8], mark: Mark) -> &[u8]
     requires forward { mark.from ≤ mark.to }
     requires within { mark.to ≤ length page.now }
     ensures { result.now ≡ bytes_from page.now mark }
@@ -41,7 +41,7 @@ pub(crate) fn bytes_behind(page: &[u8], mark: Mark) -> &[u8]
 }
 
 /// The same place, with everything passed over that tells no item.
-pub fn settle(layout: &Layout, page: &[u8], mark: Mark) -> Mark
+pub(crate) fn settle(layout: &Layout, page: &[u8], mark: Mark) -> Mark
     requires { IsMark layout.now page.now mark }
     ensures same { items_from layout.now page.now result ≡ items_from layout.now page.now mark }
     ensures mark { IsMark layout.now page.now result }

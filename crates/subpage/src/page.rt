@@ -9,7 +9,7 @@ ghost use Rattle.subpage.specs.Page.{items, AreItems, commit_word, committed_siz
 
 use crate::items::Items;
 use crate::loss::Loss;
-use crate::mark::{Mark, bytes_behind, settle};
+use crate::mark::{Mark, settle};
 use crate::summary::{Summary, summarize};
 use std::marker::Model;
 use trace_base::{Layout, Order, read_u32, read_u64};
@@ -26,10 +26,9 @@ const STORED_BIT: u32 = 30;
 /// A well-formed sub-buffer. A contract sees it as the list of its items.
 #[derive(Drop)]
 pub struct Page<'a> {
-    loss: Option<Loss>,
-    order: Order,
-    time: u64,
-    committed: &'a [u8],
+    layout: Layout,
+    bytes: &'a [u8],
+    first: Mark,
     summary: Summary,
 }
 
@@ -111,12 +110,11 @@ fn read_page<'a>(layout: &Layout, bytes: &'a [u8]) -> Option<Page<'a>>
     requires whole { length bytes.now ≡ layout.now.page }
     ensures { result ≡ items layout.now bytes.now }
 {
-    let (mark, summary) = read_front(layout, bytes)?;
+    let (first, summary) = read_front(layout, bytes)?;
     Some(Page {
-        loss: mark.loss,
-        order: layout.order,
-        time: mark.time,
-        committed: bytes_behind(bytes, mark),
+        layout: *layout,
+        bytes,
+        first,
         summary,
     })
 }
@@ -203,7 +201,7 @@ impl<'a> Page<'a> {
     pub fn items(&self) -> Items<'a>
         ensures { result ≡ self.now }
     {
-        Items::new(self.loss, self.order, self.time, self.committed)
+        Items::new(self.layout, self.bytes, self.first)
     }
 
     /// How many items there are.

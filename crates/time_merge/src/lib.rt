@@ -7,19 +7,15 @@
 
 mod best;
 mod ending;
-mod heads;
 mod highs;
 mod horizons;
 pub mod laws;
 mod next_lanes;
 mod ready;
-#[cfg(test)]
-mod tests;
 
 pub use best::better;
 pub use ending::End;
-pub use heads::least;
 pub use highs::horizon;
 pub use horizons::Horizon;
 pub use next_lanes::{Next, next_lane};
-pub use ready::{make_all_ready, make_ready};
+pub use ready::make_all_ready;

@@ -7,7 +7,7 @@ ghost use Rattle.event_cursor.specs.Standing.{IsInOrder, Stands, most_left};
 ghost use Rattle.time_merge.specs.Advancing.{Advances};
 ghost use Rattle.time_merge.specs.LaneRows.{IsReady, next_of, parts_of, rows_of};
 ghost use Rattle.time_merge.specs.Nexts.{HoldsNext, IsBest, IsLeastAt, IsNext};
-ghost use Rattle.time_merge.specs.Reads.{all_reading, all_unread};
+ghost use Rattle.time_merge.specs.Reads.{HasStopped, all_reading, all_unread};
 
 use crate::best::better;
 use crate::ready::make_all_ready;
@@ -99,6 +99,8 @@ pub fn next_lane<F: File>(layout: &Layout, file: &mut F, lanes: &mut [Lane]) -> 
     ensures reads { F.reads file.new ≤ raised (F.reads file.old)
         (all_unread layout.now (F.size file.old) lanes.old - all_unread layout.now (F.size file.old) lanes.new
         + all_reading layout.now (F.size file.old) lanes.new) }
+    ensures stops { result ≡ Next.Read → HasStopped layout.now (F.size file.old) lanes.old lanes.new (F.reads file.old)
+        (F.reads file.new) }
     ensures unread { all_unread layout.now (F.size file.old) lanes.new
         ≤ all_unread layout.now (F.size file.old) lanes.old }
     ensures bytes { F.bytes file.new ≡ F.bytes file.old }

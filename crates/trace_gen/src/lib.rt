@@ -5,8 +5,6 @@ mod file;
 mod generator;
 mod header;
 mod summary;
-#[cfg(test)]
-mod tests;
 mod write;
 
 pub use file::generate;

@@ -3,6 +3,7 @@ use Rattle.std.proofs.lemmas.List.{append-nil}
 use Rattle.trace_outside.specs.Pending.{Holds}
 use Rattle.trace_outside.specs.Writing.{GainedPrefix}
 use Rattle.trace_outside.proofs.PendingLemmas.{prefix_longer}
+use Rattle.time_merge.proofs.Readying.{set_parts}
 use Rattle.round_print.specs.Prints.{CpuLine, printed, text_of, first_text}
 use Rattle.round_print.specs.Rounds.{IsLineDropped}
 use Rattle.round_print.proofs.Printing.{print_none}
@@ -38,6 +39,7 @@ loop-i-preserved g c =
       );
       name = c.in-Ok.ensures.name ∙ c.loop-i.invariant.name;
       later = omega (arith, c.in-Ok.ensures.cause.later, c.loop-i.invariant.later);
+      parts = set_parts c.loop-i.lanes c.in-Some.i c.index-lanes-i.result c.print_first.new.lane c.in-Some.ensures.inside c.in-Ok.ensures.cpu c.in-Ok.ensures.part ∙ c.loop-i.invariant.parts;
       rise = step.rise;
       rises = step.rises;
       lanes = printing_on c.args.horizon.now c.args.lanes.now c.loop-i.lanes c.in-Some.i c.index-lanes-i.result c.print_first.new.lane c.in-Some.ensures.inside c.index-lanes-i.is step dropped c.loop-i.auto.lanes c.loop-i.invariant.lanes;
@@ -64,3 +66,6 @@ returns-clause-puts g c = λ before text held.
 
 pub returns-clause-lanes : goal.returns-clause-lanes
 returns-clause-lanes g c = printed_all c.args.horizon.now c.args.lanes.now c.loop-i.lanes c.in_default.ensures.least c.loop-i.auto.lanes c.loop-i.invariant.lanes
+
+pub returns-in-Err-clause-parts : goal.returns-in-Err-clause-parts
+returns-in-Err-clause-parts g c = set_parts c.loop-i.lanes c.in-Some.i c.index-lanes-i.result c.print_first.new.lane c.in-Some.ensures.inside c.in-Err.ensures.cpu c.in-Err.ensures.part ∙ c.loop-i.invariant.parts

@@ -14,6 +14,7 @@ invariant-loop-i g l = record {
   text : (done : List ℕ) × ((done ++ text_of (printed l.horizon l.lanes) ≡ text_of (printed l.horizon l.fn.lanes)) × ((before : Option (List ℕ)) → (text : List ℕ) → Holds before (g.O.Sink.written l.fn.out) l.fn.pending text → Holds before (g.O.Sink.written l.out) l.pending (text ++ done)));
   name : g.O.Sink.name l.out ≡ g.O.Sink.name l.fn.out;
   later : g.O.Sink.faults l.fn.out ≤ g.O.Sink.faults l.out;
+  parts : parts_of l.lanes ≡ parts_of l.fn.lanes;
   rise : CpusRise (parts_of l.lanes);
   rises : All KeysRise l.lanes;
   lanes : (i : ℕ) → (d : Lane) → i < length l.fn.lanes → IsPrinting l.horizon (slice_index_or l.fn.lanes i d) (slice_index_or l.lanes i d);

@@ -1,0 +1,4 @@
+pub mod FreshLanes
+pub mod FilledLanes
+pub mod TwoLanes
+pub mod GoneThrough

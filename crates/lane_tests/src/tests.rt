@@ -1,0 +1,10 @@
+mod cursors;
+mod generated;
+mod merging;
+mod packing;
+mod passes;
+mod pools;
+mod reports;
+mod rounds;
+mod sub_pages;
+mod workers;

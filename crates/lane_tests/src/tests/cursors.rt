@@ -1,0 +1,345 @@
+//! A lane gone through from several places, and places that are gone to. At each the key that the lane tells by itself is
+//! its head's.
+
+ghost use Rattle.std.specs.Prelude.{◌≡◌, ◌≢◌, ◌<◌, false, IsTrue, [], length};
+ghost use Rattle.trace_base.specs.Layout.{IsLayout};
+ghost use Rattle.page_pool.specs.Fresh.{IsNew};
+ghost use Rattle.event_cursor.specs.Standing.{IsInOrder, held_left};
+
+use event_cursor::{Loaded, Place, Sought, head, head_key, is_there, load, place, seek, step};
+use page_pool::{Lane, LaneState, Pool};
+use std::alloc::{AllocError, Global};
+use std::str::Split;
+use std::test::Fail;
+use subpage::Item;
+use trace_base::{Layout, Part};
+use trace_outside::File;
+use trace_samples::Page::{Lossy, Malformed, Of};
+use trace_samples::{DamagedFile, layout, put_pages};
+
+// A file of five sub-buffers: two events; nothing; a loss of seven and two events, with a time before the last one; one
+// that commits more than it can hold; one event.
+fn file_bytes(alloc: Global) -> Result<Vec<u8>, AllocError> {
+    let mut bytes = Vec::new(alloc);
+    let third = Lossy(25, Some(7), &[28, 40]);
+    put_pages(
+        &mut bytes,
+        &[Of(&[10, 30]), Of(&[]), third, Malformed, Of(&[60])],
+    )?;
+    Ok(bytes)
+}
+
+const A: Item<'static> = Item::Event {
+    time: 10,
+    payload: b"\x0a\0\0\0\0\0\0\0",
+};
+
+const B: Item<'static> = Item::Event {
+    time: 30,
+    payload: b"\x1e\0\0\0\0\0\0\0",
+};
+
+const LOSS: Item<'static> = Item::Loss {
+    time: 25,
+    count: Some(7),
+};
+
+const C: Item<'static> = Item::Event {
+    time: 28,
+    payload: b"\x1c\0\0\0\0\0\0\0",
+};
+
+const D: Item<'static> = Item::Event {
+    time: 40,
+    payload: b"\x28\0\0\0\0\0\0\0",
+};
+
+const E: Item<'static> = Item::Event {
+    time: 60,
+    payload: b"\x3c\0\0\0\0\0\0\0",
+};
+
+fn set_part(layout: &Layout, lane: &mut Lane, part: Part)
+    requires page { layout.now.page ≡ 4096 }
+    requires new { IsNew 4096 16 lane.old }
+    ensures in_order { IsInOrder layout.now lane.new }
+    ensures fresh { lane.new.cursor.state ≡ LaneState.Fresh }
+{
+    lane.part = part;
+}
+
+// Whether the lane holds an item.
+fn holds_item(layout: &Layout, lane: &Lane) -> bool
+    requires { IsInOrder layout.now lane.now }
+    ensures held { IsTrue result → lane.now.cursor.state ≡ LaneState.Held }
+    ensures some { IsTrue result → 0 < length (held_left layout.now lane.now) }
+    ensures none { result ≡ false → held_left layout.now lane.now ≡ [] }
+{
+    match lane.cursor.state {
+        LaneState::Held => match head(layout, lane) {
+            Some(_) => true,
+            None => false,
+        },
+        LaneState::Fresh | LaneState::Ended | LaneState::Malformed => false,
+    }
+}
+
+// The key that the lane tells by itself is that of its head.
+fn knows_key(layout: &Layout, lane: &Lane) -> bool
+    requires { IsInOrder layout.now lane.now }
+{
+    match head(layout, lane) {
+        Some((key, _)) => head_key(lane) == Some(key),
+        None => head_key(lane) == None,
+    }
+}
+
+// Loads the lane where it has no item.
+fn ready<F: File>(layout: &Layout, file: &mut F, lane: &mut Lane) -> Loaded
+    requires allowed { IsLayout layout.now }
+    requires in_order { IsInOrder layout.now lane.old }
+    requires sound { lane.old.cursor.state ≢ LaneState.Malformed }
+    ensures in_order { IsInOrder layout.now lane.new }
+    ensures held { result ≡ Loaded.Loaded → lane.new.cursor.state ≡ LaneState.Held }
+    ensures some { result ≡ Loaded.Loaded → 0 < length (held_left layout.now lane.new) }
+{
+    if holds_item(layout, lane) {
+        return Loaded::Loaded;
+    }
+    load(layout, file, lane)
+}
+
+// The item of a letter, with its key in the file: `a` to `e` are those of the first three sub-buffers, `l` and `m` the first
+// two of the third where nothing was before it, `f` that of the last one.
+fn keyed(letter: u8) -> (u64, Item<'static>) {
+    match letter {
+        b'a' => (10, A),
+        b'b' => (30, B),
+        b'c' => (30, LOSS),
+        b'd' => (30, C),
+        b'e' => (40, D),
+        b'l' => (25, LOSS),
+        b'm' => (28, C),
+        _ => (60, E),
+    }
+}
+
+// The lane has just these items left, with these keys, and then this is loaded.
+fn tells<F: File>(layout: &Layout, file: &mut F, lane: &mut Lane, items: &str, end: Loaded) -> bool
+    requires allowed { IsLayout layout.now }
+    requires in_order { IsInOrder layout.now lane.old }
+    requires sound { lane.old.cursor.state ≢ LaneState.Malformed }
+{
+    for letter in items.as_bytes() {
+        match ready(layout, file, lane) {
+            Loaded::Loaded => {}
+            Loaded::End | Loaded::Malformed(_) | Loaded::Read => return false,
+        }
+        if head(layout, lane) != Some(keyed(*letter)) || !knows_key(layout, lane) {
+            return false;
+        }
+        step(layout, lane);
+        if !knows_key(layout, lane) {
+            return false;
+        }
+    }
+    ready(layout, file, lane) == end && knows_key(layout, lane)
+}
+
+// Uses so many items up.
+fn go_on<F: File>(layout: &Layout, file: &mut F, lane: &mut Lane, count: u32)
+    requires allowed { IsLayout layout.now }
+    requires in_order { IsInOrder layout.now lane.old }
+    requires sound { lane.old.cursor.state ≢ LaneState.Malformed }
+    ensures in_order { IsInOrder layout.now lane.new }
+{
+    for _ in 0..count {
+        match ready(layout, file, lane) {
+            Loaded::Loaded => step(layout, lane),
+            Loaded::End | Loaded::Malformed(_) | Loaded::Read => return,
+        }
+    }
+}
+
+// The lane holds a sub-buffer at this place.
+fn stands_at(lane: &Lane, wanted: &Place) -> bool {
+    match lane.cursor.state {
+        LaneState::Held => {
+            let found = place(lane);
+            found.page == wanted.page && found.at == wanted.at && found.high == wanted.high
+        }
+        LaneState::Fresh | LaneState::Ended | LaneState::Malformed => false,
+    }
+}
+
+// Goes to a place, and tells what that came to, and how many bytes were read for it. What is left there is to be these
+// items, and then the malformed sub-buffer of this number.
+fn go_to(
+    layout: &Layout,
+    file: &mut DamagedFile,
+    lane: &mut Lane,
+    to: &Place,
+    items: &str,
+    bad: u64,
+) -> Option<(Sought, u64)>
+    requires allowed { IsLayout layout.now }
+    requires in_order { IsInOrder layout.now lane.old }
+{
+    let before = file.reads;
+    if !is_there(layout, file.len(), lane.part, to.page) {
+        return None;
+    }
+    let sought = seek(layout, to, file, lane);
+    let read = file.reads.wrapping_sub(before);
+    match sought {
+        Sought::Held => {
+            file.from = u64::MAX;
+            let is_right = stands_at(lane, to)
+                && knows_key(layout, lane)
+                && tells(layout, file, lane, items, Loaded::Malformed(bad));
+            if is_right { Some((sought, read)) } else { None }
+        }
+        Sought::Malformed | Sought::Read => Some((sought, read)),
+    }
+}
+
+// A lane over this part of the file, whose bytes from a place on cannot be read, tells just these items, and then this is
+// loaded.
+fn tells_part(
+    alloc: Global,
+    part: Part,
+    from: u64,
+    items: &str,
+    end: Loaded,
+) -> Result<bool, AllocError> {
+    let layout = layout();
+    let mut file = DamagedFile::new(file_bytes(alloc)?, from);
+    let mut pool = Pool::new(alloc, 1, 4096, 16)?;
+    let lanes = pool.lanes();
+    set_part(&layout, &mut lanes[0], part);
+    let told = tells(&layout, &mut file, &mut lanes[0], items, end);
+    Ok(told && file.faults == u64::from(end == Loaded::Read))
+}
+
+// A lane that used so many items up goes to a place, while the bytes from a place on cannot be read.
+fn goes_to(
+    alloc: Global,
+    used: u32,
+    to: Place,
+    from: u64,
+    behind: &str,
+) -> Result<Option<(Sought, u64)>, AllocError> {
+    let layout = layout();
+    let mut file = DamagedFile::new(file_bytes(alloc)?, u64::MAX);
+    let mut pool = Pool::new(alloc, 1, 4096, 16)?;
+    let lanes = pool.lanes();
+    let part = Part {
+        offset: 0,
+        size: 16384,
+    };
+    set_part(&layout, &mut lanes[0], part);
+    go_on(&layout, &mut file, &mut lanes[0], used);
+    file.from = from;
+    Ok(go_to(&layout, &mut file, &mut lanes[0], &to, behind, 3))
+}
+
+// The next word of a row.
+fn word<'a>(words: &mut Split<'a, char>) -> &'a str {
+    words.next().unwrap_or("")
+}
+
+// The number that a word spells, or else the greatest.
+fn number(word: &str) -> u64 {
+    word.parse::<u64>().unwrap_or(u64::MAX)
+}
+
+// The small number that a word spells.
+fn small(word: &str) -> u32 {
+    word.parse::<u32>().unwrap_or(0)
+}
+
+// What is loaded at last: the end, a failed read, or a malformed sub-buffer by its number.
+fn end_of(word: &str) -> Loaded {
+    match word {
+        "end" => Loaded::End,
+        "read" => Loaded::Read,
+        bad => Loaded::Malformed(number(bad)),
+    }
+}
+
+// Where the part begins, its length, from where on the file cannot be read, the items, and what is loaded then.
+const PARTS: &str = "\
+0 4096 - ab end
+0 12288 - abcde end
+4096 4096 -  end
+8192 4096 - lme end
+8192 12288 - lme 1
+12288 8192 -  0
+16384 4096 - f end
+16384 8192 - f 1
+20480 4096 -  0
+0 4095 -  0
+0 4097 - ab 1
+0 0 -  end
+0 4096 0  read
+0 4096 100  read
+0 12288 4096 ab read";
+
+#[test]
+fn items_of_a_part_with_keys_that_never_fall(rt: HostRuntime) -> Result<(), Fail> {
+    for row in PARTS.lines() {
+        let mut words = row.split(' ');
+        let part = Part {
+            offset: number(word(&mut words)),
+            size: number(word(&mut words)),
+        };
+        let from = number(word(&mut words));
+        let items = word(&mut words);
+        let end = end_of(word(&mut words));
+        assert!(rt; tells_part(rt.alloc(), part, from, items, end)?, "{row}");
+    }
+    Ok(())
+}
+
+fn sought_of(word: &str) -> Sought {
+    match word {
+        "held" => Sought::Held,
+        "read" => Sought::Read,
+        _ => Sought::Malformed,
+    }
+}
+
+// How many items were used up before, the place by its sub-buffer, its item and the greatest time so far, from where on
+// the file cannot be read, the items that are left then, what was found, and how many bytes were read for it.
+const PLACES: &str = "\
+0 2 1 30 - de held 4096
+0 1 0 30 - cde held 4096
+1 0 0 - 0 abcde held 0
+2 0 1 10 0 bcde held 0
+5 0 1 10 - bcde held 4096
+5 2 0 30 0 cde held 0
+1 2 3 40 -  held 4096
+2 0 3 30 0  malformed 0
+2 3 0 40 -  malformed 4096
+2 2 0 30 0  read 0
+2 2 0 30 8200  read 8";
+
+#[test]
+fn places_forth_and_back(rt: HostRuntime) -> Result<(), Fail> {
+    for row in PLACES.lines() {
+        let mut words = row.split(' ');
+        let used = small(word(&mut words));
+        let to = Place {
+            page: number(word(&mut words)),
+            at: small(word(&mut words)),
+            high: word(&mut words).parse::<u64>().ok(),
+        };
+        let from = number(word(&mut words));
+        let items = word(&mut words);
+        let sought = sought_of(word(&mut words));
+        let read = number(word(&mut words));
+        let found = goes_to(rt.alloc(), used, to, from, items)?;
+        assert!(rt; found == Some((sought, read)), "{row}");
+    }
+    Ok(())
+}

@@ -1,0 +1,143 @@
+//! Lanes gone through whole: two processors, and where a malformed sub-buffer ends them.
+
+ghost use Rattle.std.specs.Prelude.{◌≡◌, ◌+◌, ◌<◌, ◌≤◌, length, Some, All, IfOk, IfSome, option_map};
+ghost use Rattle.trace_base.specs.Layout.{IsLayout};
+ghost use Rattle.trace_outside.specs.Causes.{Rose};
+ghost use Rattle.subpage.specs.Arrangement.{CpusRise, key_of};
+ghost use Rattle.page_pool.specs.Fresh.{IsFresh, IsNew};
+ghost use Rattle.event_cursor.specs.Keys.{first_of};
+ghost use Rattle.event_cursor.specs.Standing.{IsInOrder, held_left, keyed_held, most_left};
+ghost use Rattle.event_cursor.specs.Stepping.{IsStepped};
+ghost use Rattle.time_merge.specs.LaneRows.{parts_of};
+ghost use Rattle.lane_tests.specs.Through.{IsThrough};
+
+use event_cursor::{head, step};
+use page_pool::{Lane, LaneState, Pool};
+use std::alloc::{AllocError, Global};
+use std::test::Fail;
+use time_merge::{Next, next_lane};
+use trace_base::{ByteText, Layout, Part};
+use trace_outside::{File, MemFile};
+use trace_samples::Page::{Malformed, Of};
+use trace_samples::{Page, layout, put_pages};
+
+// Uses a lane's head up, and answers its key.
+fn use_head(layout: &Layout, lane: &mut Lane) -> u64
+    requires in_order { IsInOrder layout.now lane.old }
+    requires held { lane.old.cursor.state ≡ LaneState.Held }
+    requires some { 0 < length (held_left layout.now lane.old) }
+    ensures in_order { IsInOrder layout.now lane.new }
+    ensures used { IsStepped layout.now lane.old lane.new }
+    ensures most { most_left layout.now lane.new + 1 ≡ most_left layout.now lane.old }
+    ensures key { option_map key_of (first_of (keyed_held layout.now lane.old)) ≡ Some result }
+{
+    let key = match head(layout, lane) {
+        Some((key, _)) => key,
+        None => 0,
+    };
+    step(layout, lane);
+    key
+}
+
+// The keys of all reached items in their order, and how they end.
+fn all_keys<F: File>(
+    alloc: Global,
+    layout: &Layout,
+    file: &mut F,
+    lanes: &mut [Lane],
+) -> Result<(Vec<u64>, Next), AllocError>
+    requires allowed { IsLayout layout.now }
+    requires in_order { All (IsInOrder layout.now) lanes.old }
+    requires rise { CpusRise (parts_of lanes.old) }
+    requires fresh { All (λ lane. IsFresh lane.cursor) lanes.old }
+    ensures through { IfOk result (λ r. IfSome (F.bytes file.old) (λ bytes.
+        IsThrough layout.now bytes (parts_of lanes.old) r.0.items r.1)) }
+    ensures read { IfOk result (λ r. r.1 ≡ Next.Read → Rose (F.faults file.old) (F.faults file.new)) }
+{
+    let mut keys = Vec::new(alloc);
+    loop {
+        match next_lane(layout, file, lanes) {
+            Next::Lane(i) => {
+                let key = use_head(layout, &mut lanes[i]);
+                keys.push(key)?;
+            }
+            Next::Done => return Ok((keys, Next::Done)),
+            Next::Malformed { cpu, page } => return Ok((keys, Next::Malformed { cpu, page })),
+            Next::Read => return Ok((keys, Next::Read)),
+        }
+    }
+}
+
+fn set_lane(lane: &mut Lane, cpu: u32, part: Part)
+    ensures cursor { lane.new.cursor ≡ lane.old.cursor }
+    ensures page { lane.new.page ≡ lane.old.page }
+    ensures cpu { lane.new.cpu ≡ cpu }
+{
+    lane.cpu = cpu;
+    lane.part = part;
+}
+
+// Processor 3 has the first three sub-buffers of the file, processor 7 the other two.
+fn set_lanes(layout: &Layout, lanes: &mut [Lane])
+    requires two { length lanes.old ≡ 2 }
+    requires page { layout.now.page ≡ 4096 }
+    requires new { All (IsNew 4096 16) lanes.old }
+    ensures in_order { All (IsInOrder layout.now) lanes.new }
+    ensures rise { CpusRise (parts_of lanes.new) }
+    ensures fresh { All (λ lane. IsFresh lane.cursor) lanes.new }
+{
+    set_lane(
+        &mut lanes[0],
+        3,
+        Part {
+            offset: 0,
+            size: 12288,
+        },
+    );
+    set_lane(
+        &mut lanes[1],
+        7,
+        Part {
+            offset: 12288,
+            size: 8192,
+        },
+    );
+}
+
+// A file of five sub-buffers, of which the third and the last are given.
+fn file_of(
+    alloc: Global,
+    third: Page<'static>,
+    last: Page<'static>,
+) -> Result<MemFile, AllocError> {
+    let mut bytes = Vec::new(alloc);
+    put_pages(
+        &mut bytes,
+        &[Of(&[10, 30]), Of(&[]), third, Of(&[20, 30]), last],
+    )?;
+    Ok(MemFile::new(ByteText::from_vec(bytes)))
+}
+
+#[test]
+fn items_come_by_key_up_to_the_least_cut(rt: HostRuntime) -> Result<(), Fail> {
+    // Worked out from the definition of the cut: none; (30, processor 3), which the other 30 is behind; (30, processor 7).
+    let all = [10, 20, 30, 30, 40, 44, 45, 54];
+    let (good, good_last) = (Of(&[40, 45]), Of(&[44, 54]));
+    for (third, last, reached, end) in [
+        (good, good_last, 8, Next::Done),
+        (Malformed, good_last, 3, Next::Malformed { cpu: 3, page: 2 }),
+        (good, Malformed, 4, Next::Malformed { cpu: 7, page: 1 }),
+    ] {
+        let mut file = file_of(rt.alloc(), third, last)?;
+        let mut pool = Pool::new(rt.alloc(), 2, 4096, 16)?;
+        let lanes = pool.lanes();
+        set_lanes(&layout(), lanes);
+        let (keys, ended) = all_keys(rt.alloc(), &layout(), &mut file, lanes)?;
+        assert!(rt; ended == end);
+        assert_eq!(rt; keys.len(), reached);
+        for (key, wanted) in keys.iter().zip(all) {
+            assert_eq!(rt; *key, wanted);
+        }
+    }
+    Ok(())
+}

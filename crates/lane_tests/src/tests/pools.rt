@@ -1,0 +1,102 @@
+use page_pool::{Lane, LaneState, Pool, Put, Region};
+use std::test::Fail;
+use trace_base::Tail;
+
+fn write_first(lane: &mut Lane, value: u8) {
+    if let Some(first) = lane.page.bytes_mut().first_mut() {
+        *first = value;
+    }
+}
+
+// A lane of processor 0 before its first item, whose buffers have these lengths; the first byte of the sub-buffer's is given.
+fn is_new(lane: &mut Lane, page: usize, text: usize, first: u8) -> bool {
+    lane.cpu == 0
+        && lane.part.size == 0
+        && lane.cursor.state == LaneState::Fresh
+        && lane.page.bytes().len() == page
+        && lane.page.bytes().first() == Some(&first)
+        && lane.region.lines() == 0
+        && lane.region.free().len() == text
+}
+
+// As many as a trace may have processors, and more than a byte counts.
+#[test]
+fn each_of_many_lanes_has_its_own_buffers(rt: HostRuntime) -> Result<(), Fail> {
+    for count in [0, 3, 1024] {
+        let mut pool = Pool::new(rt.alloc(), count, 64, 100)?;
+        let lanes = pool.lanes();
+        assert_eq!(rt; lanes.len(), count as usize);
+        if let Some(last) = lanes.last_mut() {
+            write_first(last, 9);
+        }
+        for i in 0..lanes.len() {
+            let first = if i + 1 == lanes.len() { 9 } else { 0 };
+            assert!(rt;
+                is_new(&mut lanes[i], 64, 100, first),
+                "lane {i} of {count}"
+            );
+        }
+    }
+    Ok(())
+}
+
+// The length of a text that was put into the bytes.
+fn form(into: &mut [u8], text: &[u8]) -> u32 {
+    let mut tail = Tail::new(into);
+    tail.put(text);
+    tail.total().min(u64::from(u32::MAX)) as u32
+}
+
+fn keep(region: &mut Region, key: u64, text: &[u8]) -> Put {
+    let len = form(region.free(), text);
+    region.put_line(key, len)
+}
+
+// The region keeps just these lines.
+fn keeps(region: &Region, lines: &[(u64, &[u8])]) -> bool {
+    let count = region.lines();
+    if count as usize != lines.len() {
+        return false;
+    }
+    for i in 0..count {
+        let (text, key) = region.line(i);
+        let (wanted_key, wanted) = lines[i as usize];
+        if key != wanted_key || text != wanted {
+            return false;
+        }
+    }
+    true
+}
+
+fn drop_lines(region: &mut Region, count: u32) {
+    if count <= region.lines() {
+        region.drop_front(count);
+    }
+}
+
+#[test]
+fn lines_are_kept_until_they_are_dropped(rt: HostRuntime) -> Result<(), Fail> {
+    let mut pool = Pool::new(rt.alloc(), 1, 4096, 10)?;
+    let lanes = pool.lanes();
+    let region = &mut lanes[0].region;
+    for (key, text, put) in [
+        (5, &b"abc"[..], Put::Kept),
+        (5, &b"longer than the rest"[..], Put::Full),
+        (7, &b""[..], Put::Kept),
+        (9, &b"defghij"[..], Put::Kept),
+        (9, &b"k"[..], Put::Full),
+    ] {
+        assert!(rt; keep(region, key, text) == put, "{key}");
+    }
+    assert!(rt; keeps(region, &[(5, b"abc"), (7, b""), (9, b"defghij")]));
+    assert!(rt; region.lines() == 3 && region.front(3) == b"abcdefghij".as_slice());
+    drop_lines(region, 2);
+    assert!(rt; keeps(region, &[(9, b"defghij")]));
+    assert!(rt; keep(region, 9, b"k") == Put::Full);
+    region.clear();
+    for _ in 0..1024 {
+        assert!(rt; keep(region, 1, b"") == Put::Kept);
+    }
+    assert!(rt; keep(region, 1, b"") == Put::Full);
+    Ok(())
+}

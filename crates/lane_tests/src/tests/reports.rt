@@ -1,0 +1,364 @@
+//! Reports of processors in memory: their order, their ends, and what is written before a fault.
+
+mod marks;
+mod pages;
+
+use End::{Done, Malformed, Read, Write};
+use marks::{Marks, len_of, mark};
+use page_pool::Pool;
+use pages::{Page, bytes_of, open_lanes};
+use report_rounds::report_rounds;
+use std::alloc::{AllocError, Global};
+use std::test::Fail;
+use std::thread::Threads;
+use time_merge::End;
+use trace_base::ByteText;
+use trace_outside::{File, MemFile, MemSink, NoGate, Pending, Sink};
+use trace_samples::{BoundedSink, DamagedFile, layout};
+
+// Reports processors from number 3 on, each with so many of the file's sub-buffers, in regions of `room` bytes. `None`:
+// there is no such call.
+fn report<R: Threads + Sync, F: File, O: Sink>(
+    rt: &R,
+    alloc: Global,
+    counts: &[u32],
+    room: u32,
+    workers: u32,
+    file: &mut F,
+    out: &mut O,
+) -> Result<Option<End>, AllocError> {
+    if counts.len() > 1024 || room < 2 || workers < 1 || workers > 64 {
+        return Ok(None);
+    }
+    let layout = layout();
+    let mut pool = Pool::new(alloc, counts.len() as u32, 4096, room)?;
+    let lanes = pool.lanes();
+    open_lanes(&layout, lanes, counts, room);
+    let mut pending = Pending::new(alloc)?;
+    Ok(Some(report_rounds(
+        rt,
+        &Marks,
+        &layout,
+        file,
+        lanes,
+        workers,
+        &NoGate,
+        &mut pending,
+        out,
+    )))
+}
+
+// Whether a report has this text and this end.
+fn reports<R: Threads + Sync>(
+    rt: &R,
+    alloc: Global,
+    counts: &[u32],
+    pages: &[Page],
+    room: u32,
+    workers: u32,
+    text: &[u8],
+    end: End,
+) -> Result<bool, AllocError> {
+    let bytes = bytes_of(alloc, pages)?;
+    let mut file = MemFile::new(ByteText::copy(alloc, bytes.as_slice())?);
+    let mut out = MemSink::new(alloc);
+    let found = report(rt, alloc, counts, room, workers, &mut file, &mut out)?;
+    Ok(found == Some(end) && out.bytes() == text)
+}
+
+fn events(time: u64, count: u32, step: u32) -> Page {
+    Page::Events { time, count, step }
+}
+
+// The number that a word spells, or else 0.
+fn number(word: &str) -> u32 {
+    word.parse::<u32>().unwrap_or(0)
+}
+
+// A sub-buffer by the time of its first event, how many there are, and how much later each is than the one before it.
+fn page_of(word: &str) -> Page {
+    let mut parts = word.split(',');
+    let time = number(parts.next().unwrap_or(""));
+    let count = number(parts.next().unwrap_or(""));
+    let step = number(parts.next().unwrap_or(""));
+    if word == "bad" {
+        Page::Malformed
+    } else {
+        events(u64::from(time), count, step)
+    }
+}
+
+// The end of a report, or the processor and the number of its malformed sub-buffer.
+fn end_of(word: &str) -> End {
+    let mut parts = word.split(',');
+    let cpu = number(parts.next().unwrap_or(""));
+    let page = number(parts.next().unwrap_or(""));
+    if word == "done" {
+        Done
+    } else {
+        Malformed {
+            cpu,
+            page: u64::from(page),
+        }
+    }
+}
+
+// How many sub-buffers processor 3 has, the four of it and of processor 4, the text, and the end: ties, first by processor
+// and then by position; items at 17 have no line; the key of the item at 15 is 20; a processor without sub-buffers; a cut at
+// the very start, of the first processor and of the second; two cuts: (30, processor 3), which an item at 30 of processor 4
+// is behind; then (20, processor 4); a malformed sub-buffer behind one without items.
+const REPORTS: &str = "\
+2 10,4,1 30,2,15 11,3,0 44,1,0 d0d1e1e1e1d2d3d0e4d5 done
+1 15,4,1 17,1,0 17,0,0 27,2,1 d5d6d8e8 done
+2 20,1,0 15,1,0 18,1,0 19,0,0 e8d0d5 done
+0 10,1,0 12,1,0 13,1,0 14,1,0 e0e2e3e4 done
+1 bad 10,1,0 10,1,0 10,1,0  3,0
+3 10,1,0 10,1,0 10,1,0 bad  4,0
+2 10,3,10 bad 20,2,10 bad d0d0e0d0 3,1
+2 10,3,10 bad 20,1,0 bad d0d0e0 4,1
+3 10,1,0 15,0,0 bad 12,1,0 d0 3,2";
+
+// A row's report in regions of so many bytes, on so many workers.
+fn row_reports<R: Threads + Sync>(
+    rt: &R,
+    alloc: Global,
+    row: &str,
+    room: u32,
+    workers: u32,
+) -> Result<bool, AllocError> {
+    let mut words = row.split(' ');
+    let first = number(words.next().unwrap_or("")).min(4);
+    let mut pages = Vec::new(alloc);
+    for _ in 0..4 {
+        pages.push(page_of(words.next().unwrap_or("")))?;
+    }
+    let text = words.next().unwrap_or("");
+    let end = end_of(words.next().unwrap_or(""));
+    reports(
+        rt,
+        alloc,
+        &[first, 4 - first],
+        pages.as_slice(),
+        room,
+        workers,
+        text.as_bytes(),
+        end,
+    )
+}
+
+#[test]
+fn items_come_by_key_up_to_the_least_cut(rt: HostRuntime) -> Result<(), Fail> {
+    for row in REPORTS.lines() {
+        for room in [2, 5, 65_537] {
+            for workers in [1, 3, 64] {
+                assert!(rt;
+                    row_reports(&rt, rt.alloc(), row, room, workers)?,
+                    "{row}: {room} bytes, {workers} workers"
+                );
+            }
+        }
+    }
+    Ok(())
+}
+
+fn put_mark(text: &mut Vec<u8>, cpu: u32, time: u64) -> Result<(), AllocError> {
+    let bytes = mark(cpu, time);
+    text.extend_from_slice(&bytes[..len_of(time) as usize])
+}
+
+// Sub-buffers with the 3,000 events of a processor, a nanosecond apart.
+fn put_many(pages: &mut Vec<Page>, first: u64) -> Result<(), AllocError> {
+    for i in 0..9_u64 {
+        let count = if i == 8 { 280 } else { 340 };
+        pages.push(events(first.saturating_add(340 * i), count, 1))?;
+    }
+    Ok(())
+}
+
+// The sub-buffers of two processors: 306 lines in each but the last of the first processor's nine, and behind them 21 with
+// at most a line each, whose events come first but for the last one.
+fn put_two_processors(pages: &mut Vec<Page>) -> Result<(), AllocError> {
+    put_many(pages, 10_000)?;
+    for time in 1..=20_u64 {
+        pages.push(events(time, 1, 0))?;
+    }
+    pages.push(events(20_000, 1, 0))?;
+    Ok(())
+}
+
+#[test]
+fn many_events_of_one_processor_against_two_of_another(rt: HostRuntime) -> Result<(), Fail> {
+    let mut pages = Vec::new(rt.alloc());
+    put_many(&mut pages, 1)?;
+    pages.push(events(2, 2, 4999))?;
+    let mut text = Vec::new(rt.alloc());
+    put_mark(&mut text, 3, 1)?;
+    put_mark(&mut text, 3, 2)?;
+    put_mark(&mut text, 4, 2)?;
+    for time in 3..=3000 {
+        put_mark(&mut text, 3, time)?;
+    }
+    put_mark(&mut text, 4, 5001)?;
+    for (room, workers) in [(2, 1), (9, 3), (65_537, 64)] {
+        assert!(rt;
+            reports(
+                &rt,
+                rt.alloc(),
+                &[9, 1],
+                pages.as_slice(),
+                room,
+                workers,
+                text.as_slice(),
+                Done
+            )?,
+            "{room}"
+        );
+    }
+    Ok(())
+}
+
+#[test]
+fn more_lines_wait_than_a_region_keeps(rt: HostRuntime) -> Result<(), Fail> {
+    let mut pages = Vec::new(rt.alloc());
+    put_two_processors(&mut pages)?;
+    let mut text = Vec::new(rt.alloc());
+    for time in 1..=20_u64 {
+        put_mark(&mut text, 4, time)?;
+    }
+    for time in 10_000..13_000 {
+        put_mark(&mut text, 3, time)?;
+    }
+    put_mark(&mut text, 4, 20_000)?;
+    for workers in [1, 3, 64] {
+        assert!(rt;
+            reports(
+                &rt,
+                rt.alloc(),
+                &[9, 21],
+                pages.as_slice(),
+                65_537,
+                workers,
+                text.as_slice(),
+                Done
+            )?,
+            "{workers}"
+        );
+    }
+    Ok(())
+}
+
+#[test]
+fn many_processors_with_an_event_each(rt: HostRuntime) -> Result<(), Fail> {
+    let mut pages = Vec::new(rt.alloc());
+    let mut text = Vec::new(rt.alloc());
+    for i in 0..1024_u32 {
+        pages.push(events(u64::from(5000 - i), 1, 0))?;
+        put_mark(&mut text, 1026 - i, u64::from(3977 + i))?;
+    }
+    let counts = vec![in rt.alloc(); 1_u32; 1024]?;
+    assert!(rt;
+        reports(
+            &rt,
+            rt.alloc(),
+            counts.as_slice(),
+            pages.as_slice(),
+            2,
+            64,
+            text.as_slice(),
+            Done
+        )?
+    );
+    Ok(())
+}
+
+// The report of which reads or writes fail: "d0d1e1e1e1d2d3d0e4d5".
+const FAILING: [Page; 4] = [
+    Page::Events {
+        time: 10,
+        count: 4,
+        step: 1,
+    },
+    Page::Events {
+        time: 30,
+        count: 2,
+        step: 15,
+    },
+    Page::Events {
+        time: 11,
+        count: 3,
+        step: 0,
+    },
+    Page::Events {
+        time: 44,
+        count: 1,
+        step: 0,
+    },
+];
+
+#[test]
+fn lines_are_whole_before_a_failed_read(rt: HostRuntime) -> Result<(), Fail> {
+    let all = "d0d1e1e1e1d2d3d0e4d5";
+    for (from, room, text, end, reads) in [
+        (0, 2, "", Read, 0),
+        (4096, 2, "", Read, 4096),
+        // The last sub-buffer is read before the second one where that is far from being needed.
+        (12_288, 2, "d0d1e1e1e1", Read, 8192),
+        (12_288, 65_537, "d0d1e1e1e1", Read, 12_288),
+        (16_384, 2, all, Done, 16_384),
+        (16_384, 65_537, all, Done, 16_384),
+    ] {
+        let mut file = DamagedFile::new(bytes_of(rt.alloc(), &FAILING)?, from);
+        let mut out = MemSink::new(rt.alloc());
+        let found = report(&rt, rt.alloc(), &[2, 2], room, 2, &mut file, &mut out)?;
+        assert!(rt; found == Some(end) && file.reads == reads, "{from}: {room}");
+        assert!(rt; out.bytes() == text.as_bytes(), "{from}: {room}");
+        assert!(rt; file.faults == u64::from(end == Read), "{from}: {room}");
+    }
+    Ok(())
+}
+
+#[test]
+fn a_prefix_is_written_before_a_failed_write(rt: HostRuntime) -> Result<(), Fail> {
+    for (room, text, end) in [
+        (0, "", Write),
+        (3, "d0d", Write),
+        (19, "d0d1e1e1e1d2d3d0e4d", Write),
+        (20, "d0d1e1e1e1d2d3d0e4d5", Done),
+    ] {
+        let bytes = bytes_of(rt.alloc(), &FAILING)?;
+        let mut file = MemFile::new(ByteText::copy(rt.alloc(), bytes.as_slice())?);
+        let mut out = BoundedSink::new(rt.alloc(), room);
+        let found = report(&rt, rt.alloc(), &[2, 2], 65_537, 2, &mut file, &mut out)?;
+        assert!(rt; found == Some(end), "{room}");
+        assert!(rt; out.bytes() == text.as_bytes(), "{room}");
+        assert!(rt; out.faults == u64::from(end == Write), "{room}");
+    }
+    Ok(())
+}
+
+#[test]
+fn no_more_is_read_than_is_due_by_what_was_written(rt: HostRuntime) -> Result<(), Fail> {
+    let mut pages = Vec::new(rt.alloc());
+    put_two_processors(&mut pages)?;
+    // Each row has the bytes that can be written, the sub-buffers that are read, and those that are due. All 21 of the
+    // second processor are due. The fifth of the first one has 1,224 lines before it: it is due from the 200th on, behind
+    // the second one's 18 lines of two bytes.
+    for (room, read, due, end) in [
+        (0, 2, 4 + 21, Write),
+        (1, 2, 4 + 21, Write),
+        (2, 4, 4 + 21, Write),
+        (36, 25, 4 + 21, Write),
+        (435, 25, 4 + 21, Write),
+        (436, 25, 5 + 21, Write),
+        (5437, 30, 9 + 21, Write),
+        (5438, 30, 9 + 21, Done),
+    ] {
+        let mut file = DamagedFile::new(bytes_of(rt.alloc(), pages.as_slice())?, u64::MAX);
+        let mut out = BoundedSink::new(rt.alloc(), room);
+        let found = report(&rt, rt.alloc(), &[9, 21], 65_537, 2, &mut file, &mut out)?;
+        assert!(rt; found == Some(end), "{room}");
+        assert!(rt; file.reads == 4096 * read, "{room}: {read}");
+        assert!(rt; file.reads <= 4096 * due, "{room}: {due}");
+    }
+    Ok(())
+}

@@ -1,0 +1,149 @@
+//! Lanes that are formatted by one thread and by several.
+
+mod gates;
+
+ghost use Rattle.std.specs.Prelude.{◌≡◌, ◌+◌, ◌<◌, ◌%◌, ◌==◌, if◌then◌else◌, [], ◌∷◌, All, length};
+ghost use Rattle.trace_base.specs.Layout.{IsLayout};
+ghost use Rattle.subpage.specs.ItemData.{item_time};
+ghost use Rattle.subpage.specs.ItemView.{item_view};
+ghost use Rattle.page_pool.specs.Fresh.{IsNew};
+ghost use Rattle.event_cursor.specs.Standing.{IsInOrder};
+
+use cpu_workers::{Form, format_lanes};
+use event_cursor::load;
+use page_pool::{Lane, LaneState, Pool};
+use std::alloc::{AllocError, Global};
+use std::test::Fail;
+use std::thread::Threads;
+use subpage::Item;
+use trace_base::{ByteText, Layout, Part, Tail};
+use trace_outside::{MemFile, NoGate};
+use trace_samples::Page::Of;
+use trace_samples::{Page, layout, put_pages};
+
+// A line of none, one or two letters, by the item's time.
+struct Letters;
+
+fn time_of(item: &Item<'_>) -> u64
+    ensures { result ≡ item_time (item_view item.now) }
+{
+    match item {
+        Item::Event { time, .. } => *time,
+        Item::Loss { time, .. } => *time,
+    }
+}
+
+fn letters_of(time: u64) -> &'static [u8]
+    ensures text { result.now
+        ≡ (if time % 3 == 0 then [] else if time % 3 == 1 then 97 ∷ [] else 98 ∷ 99 ∷ []) }
+    ensures small { length result.now < 3 }
+{
+    if time % 3 == 0 {
+        b"".as_slice()
+    } else if time % 3 == 1 {
+        b"a".as_slice()
+    } else {
+        b"bc".as_slice()
+    }
+}
+
+impl Form for Letters {
+    ghost text = { λ form cpu item.
+        if item_time item % 3 == 0 then [] else if item_time item % 3 == 1 then 97 ∷ [] else 98 ∷ 99 ∷ [] };
+
+    fn line(&self, _cpu: u32, item: &Item<'_>, into: &mut Tail<'_>) -> u32 {
+        let text = letters_of(time_of(item));
+        into.put(text);
+        text.len() as u32
+    }
+}
+
+// A file of processors, each with one sub-buffer.
+fn file_of(alloc: Global, pages: &[Page<'_>]) -> Result<MemFile, AllocError> {
+    let mut bytes = Vec::new(alloc);
+    put_pages(&mut bytes, pages)?;
+    Ok(MemFile::new(ByteText::from_vec(bytes)))
+}
+
+// Loads the sub-buffer of this number into a lane that is fresh.
+fn open_lane(layout: &Layout, file: &mut MemFile, lane: &mut Lane, number: u32)
+    requires allowed { IsLayout layout.now }
+    requires in_order { IsInOrder layout.now lane.old }
+    ensures { IsInOrder layout.now lane.new }
+{
+    if lane.cursor.state == LaneState::Fresh {
+        lane.cpu = number;
+        lane.part = Part {
+            offset: u64::from(number) * 4096,
+            size: 4096,
+        };
+        load(layout, file, lane);
+    }
+}
+
+fn open_lanes(layout: &Layout, file: &mut MemFile, lanes: &mut [Lane], room: u32)
+    requires allowed { IsLayout layout.now }
+    requires page { layout.now.page ≡ 4096 }
+    requires new { All (IsNew 4096 room) lanes.old }
+    ensures { All (IsInOrder layout.now) lanes.new }
+{
+    let mut number = 0_u32;
+    for i in 0..lanes.len() {
+        open_lane(layout, file, &mut lanes[i], number);
+        number = number.saturating_add(1);
+    }
+}
+
+// The texts of the lines that a lane keeps, how many these are, and how many items are used up.
+fn has(lane: &Lane, text: &str, lines: u32, used: u32) -> bool {
+    let region = &lane.region;
+    region.lines() == lines && region.front(lines) == text.as_bytes() && lane.cursor.at == used
+}
+
+fn have(lanes: &[Lane], first: (&str, u32, u32), second: (&str, u32, u32)) -> bool
+    requires { length lanes.now ≡ 3 }
+{
+    has(&lanes[0], first.0, first.1, first.2)
+        && has(&lanes[1], second.0, second.1, second.2)
+        && has(&lanes[2], "", 0, 0)
+}
+
+// What comes of the three lanes with so many bytes for lines, on so many threads.
+fn formats<R: Threads + Sync>(
+    rt: &R,
+    alloc: Global,
+    room: u32,
+    workers: u32,
+    first: (&str, u32, u32),
+    second: (&str, u32, u32),
+) -> Result<bool, AllocError> {
+    if workers < 1 || workers > 64 {
+        return Ok(false);
+    }
+    let layout = layout();
+    let mut file = file_of(alloc, &[Of(&[4, 5, 6, 7]), Of(&[8, 9]), Of(&[])])?;
+    let mut pool = Pool::new(alloc, 3, 4096, room)?;
+    let lanes = pool.lanes();
+    open_lanes(&layout, &mut file, lanes, room);
+    format_lanes(rt, &Letters, &layout, lanes, workers, &NoGate);
+    Ok(have(lanes, first, second))
+}
+
+#[test]
+fn lines_do_not_depend_on_the_workers(rt: HostRuntime) -> Result<(), Fail> {
+    for (room, first, second) in [
+        (100, ("abca", 3, 4), ("bc", 1, 2)),
+        (3, ("abc", 2, 3), ("bc", 1, 2)),
+        (2, ("a", 1, 1), ("bc", 1, 2)),
+        (1, ("a", 1, 1), ("", 0, 0)),
+        (0, ("", 0, 0), ("", 0, 0)),
+    ] {
+        for workers in [1, 2, 64] {
+            assert!(rt;
+                formats(&rt, rt.alloc(), room, workers, first, second)?,
+                "{workers} workers, {room} bytes"
+            );
+        }
+    }
+    Ok(())
+}

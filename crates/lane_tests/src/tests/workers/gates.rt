@@ -1,0 +1,90 @@
+//! Who passes the gate, how often, and how many at once.
+
+use super::{Letters, file_of, open_lanes};
+use cpu_workers::format_lanes;
+use page_pool::Pool;
+use std::alloc::{AllocError, Global};
+use std::sync::atomic::AtomicU64;
+use std::sync::atomic::Ordering::SeqCst;
+use std::test::Fail;
+use std::thread::Threads;
+use trace_outside::Gate;
+use trace_samples::Page::Of;
+use trace_samples::layout;
+
+/// A gate that counts who enters, and keeps each until so many are inside at once or its turns run out.
+#[derive(Drop)]
+struct Meeting {
+    wanted: u64,
+    turns: u32,
+    // The number of entries of processor n, below 16, is the hexadecimal digit n.
+    entries: AtomicU64,
+    inside: AtomicU64,
+    // 1 once so many were inside.
+    met: AtomicU64,
+}
+
+impl Gate for Meeting {
+    fn enter(&self, lane: u32) {
+        if lane < 16 {
+            self.entries.fetch_add(1_u64 << (4 * lane), SeqCst);
+        }
+        let others = self.inside.fetch_add(1, SeqCst);
+        if others.saturating_add(1) >= self.wanted {
+            self.met.store(1, SeqCst);
+        }
+        for _ in 0..self.turns {
+            if self.met.load(SeqCst) == 1 {
+                break;
+            }
+        }
+        self.inside.fetch_sub(1, SeqCst);
+    }
+}
+
+/// Of six lanes all but that of processor 2 hold a sub-buffer. The entries, and whether so many were inside at once.
+fn entries<R: Threads + Sync>(
+    rt: &R,
+    alloc: Global,
+    workers: u32,
+    wanted: u64,
+    turns: u32,
+) -> Result<(u64, bool), AllocError> {
+    if workers < 1 || workers > 64 {
+        return Ok((0, false));
+    }
+    let layout = layout();
+    let one = Of(&[4]);
+    let mut file = file_of(alloc, &[one, one, Of(&[]), one, one, one])?;
+    let mut pool = Pool::new(alloc, 6, 4096, 16)?;
+    let lanes = pool.lanes();
+    open_lanes(&layout, &mut file, lanes, 16);
+    let gate = Meeting {
+        wanted,
+        turns,
+        entries: AtomicU64::new(0),
+        inside: AtomicU64::new(0),
+        met: AtomicU64::new(0),
+    };
+    format_lanes(rt, &Letters, &layout, lanes, workers, &gate);
+    Ok((gate.entries.load(SeqCst), gate.met.load(SeqCst) == 1))
+}
+
+// As many lanes are inside at once as there are workers, where there are so many, and never more.
+#[test]
+fn each_lane_enters_once_and_no_more_at_once_than_workers(rt: HostRuntime) -> Result<(), Fail> {
+    let (short, long) = (10_000_000, 1_000_000_000);
+    for (workers, wanted, turns, met) in [
+        (1, 2, short, false),
+        (2, 2, long, true),
+        (2, 3, short, false),
+        (3, 3, long, true),
+        (3, 4, short, false),
+        (64, 5, long, true),
+    ] {
+        let (entries, found) = entries(&rt, rt.alloc(), workers, wanted, turns)?;
+        assert_eq!(rt; entries, 0x11_1011, "{workers} workers");
+        assert_eq!(rt; found, met, "{workers} workers, {wanted} inside");
+    }
+    Ok(())
+}

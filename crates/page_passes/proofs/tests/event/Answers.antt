@@ -1,6 +1,0 @@
-use Rattle.std.proofs.Common.{arith}
-use Rattle.page_write.proofs.Packable.{few_packable}
-use Rattle.page_passes.proofs.tests.event.Goals as goal
-
-pub returns : goal.returns
-returns c = λ layout allowed. few_packable layout c.args.time _ allowed (omega (arith, c.ranges.time.fits)) (omega arith)

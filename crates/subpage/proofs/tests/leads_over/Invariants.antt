@@ -1,5 +1,0 @@
-use Rattle.subpage.specs.Marks.{IsMark}
-use Rattle.subpage.proofs.tests.leads_over.Given as goal
-
-abbrev pub invariant-loop-item : goal.invariant-loop-item
-invariant-loop-item l = IsMark l.layout l.bytes l.mark
