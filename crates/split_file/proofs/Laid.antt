@@ -1,5 +1,5 @@
 -- The bytes of a new file, one behind another, and what is read from them.
-use Rattle.std.proofs.Common.{◌≡◌, ℕ, ◌+◌, ◌-◌, ◌*◌, ◌^◌, ◌<◌, ◌≤◌, List, [], ◌∷◌, ◌++◌, length, map, refl, sym, ap, subst, ◌∙◌, append_assoc, arith}
+use Rattle.std.proofs.Common.{◌≡◌, ℕ, ◌+◌, ◌-◌, ◌*◌, ◌^◌, ◌<◌, List, [], ◌∷◌, ◌++◌, length, map, refl, sym, ap, subst, ◌∙◌, append_assoc, arith}
 use Rattle.std.specs.List.{All, flat_map}
 use Rattle.std.specs.Prelude.{None}
 use Rattle.std.proofs.lemmas.List.{length-append, length-replicate}
@@ -22,7 +22,7 @@ use Rattle.page_write.specs.Record.{zeros}
 use Rattle.page_write.specs.Pack.{packed, pack}
 use Rattle.page_write.specs.Placed.{parts_from, data_of}
 use Rattle.page_write.proofs.Lifting.{file_again, pack_len}
-use Rattle.split_file.specs.NewFile.{up_to_page, blank, front_len, front_text, table_of, file_text, StandInRow, ReadsBack}
+use Rattle.split_file.specs.NewFile.{front_len, front_text, table_of, file_text, StandInRow, ReadsBack}
 use Rattle.split_file.proofs.Placing.{page_some, front_of}
 
 pub length-parts : (l : Layout) (at : ℕ) (lists : List (List ItemData)) → length (parts_from l at lists) ≡ length lists

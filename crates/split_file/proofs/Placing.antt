@@ -1,12 +1,11 @@
 -- Where the first sub-buffer stands.
-use Rattle.std.proofs.Common.{◌≡◌, ℕ, zero, suc, ◌+◌, ◌-◌, ◌*◌, ◌/◌, ◌%◌, ◌^◌, ◌<◌, ◌≤◌, min, List, [], ◌∷◌, length, replicate, refl, sym, ap, subst, ◌∙◌, inl, inr, arith}
-use Rattle.std.proofs.lemmas.Bool.{cases_eq}
+use Rattle.std.proofs.Common.{◌≡◌, ℕ, ◌+◌, ◌-◌, ◌*◌, ◌/◌, ◌%◌, ◌^◌, ◌<◌, min, List, length, sym, ap, ◌∙◌, arith}
 use Rattle.std.proofs.lemmas.List.{length-replicate}
 use Rattle.std.proofs.lemmas.Nat.{mod-pow-add, pow_pos}
 use Rattle.std.proofs.Math.Nat.{mul-add-mod_self_right, mod-lt, div-add-mod', mod-eq_of_lt}
 use Rattle.trace_base.specs.declared.part.Part.{Part}
 use Rattle.dat_header.specs.declared.header.Header.{Header}
-use Rattle.dat_header.specs.Allowed.{IsHeader, IsPageSize}
+use Rattle.dat_header.specs.Allowed.{IsPageSize}
 use Rattle.dat_header.specs.Written.{header_text}
 use Rattle.dat_header.proofs.Wrapped.{length-header_text}
 use Rattle.split_file.specs.NewFile.{up_to_page, blank, front_len}

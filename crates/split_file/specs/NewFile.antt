@@ -1,6 +1,6 @@
 -- A new file of a split: its bytes, and what is read from it.
 -- Source: trace-cmd.dat.v6(5), flyrecord: the processors' data stand behind the header, from a multiple of the page size on.
-use Rattle.std.specs.Prelude.{◌≡◌, ℕ, ◌+◌, ◌-◌, ◌*◌, List, [], ◌∷◌, ◌++◌, map, length, replicate, Ok, None}
+use Rattle.std.specs.Prelude.{◌≡◌, ℕ, ◌+◌, ◌-◌, ◌*◌, ◌%◌, ◌^◌, List, [], ◌∷◌, ◌++◌, map, length, replicate, Ok, None}
 use Rattle.std.specs.Int.{div_ceil}
 use Rattle.std.specs.List.{All}
 use Rattle.trace_base.specs.declared.part.Part.{Part}
@@ -36,6 +36,10 @@ table_of header lists = parts_from header.layout (front_len header) lists
 -- the very bytes
 unfoldable pub file_text : Header → List (List ItemData) → List ℕ
 file_text header lists = front_text header (table_of header lists) ++ data_of header.layout lists
+
+-- a part as a table tells it: its numbers modulo 2^64
+abbrev pub in_table : Part → Part
+in_table part = record { offset = part.offset % 2 ^ 64; size = part.size % 2 ^ 64 }
 
 -- The parts stand one behind another from the first place up to the second.
 abbrev pub StandInRow : ℕ → List Part → ℕ → Type 0

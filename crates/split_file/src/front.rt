@@ -1,8 +1,8 @@
 // What stands in front of a new file's sub-buffers.
 
-ghost use Rattle.std.specs.Prelude.{◌≡◌, ◌+◌, ◌-◌, ◌<◌, ◌%◌, ◌^◌, ℕ, length, OnOk};
+ghost use Rattle.std.specs.Prelude.{◌≡◌, ◌+◌, ◌-◌, ◌<◌, ◌%◌, ◌^◌, ℕ, length, OnErr, OnOk};
 ghost use Rattle.trace_outside.specs.Causes.{HasCause};
-ghost use Rattle.trace_outside.specs.Writing.{Gained};
+ghost use Rattle.trace_outside.specs.Writing.{Gained, GainedPrefix};
 ghost use Rattle.dat_header.specs.Allowed.{IsHeader, IsPageSize};
 ghost use Rattle.page_write.specs.Record.{zeros};
 ghost use Rattle.split_file.specs.NewFile.{front_len, front_text, up_to_page};
@@ -27,7 +27,7 @@ fn gap(page: u32, place: u64) -> u32
 /// The place of the first sub-buffer: the first multiple of the page size behind the header. It is told modulo 2^64.
 pub fn data_place(header: &Header) -> u64
     requires { IsHeader header.now }
-    ensures { front_len header.now < 2 ^ 64 → result ≡ front_len header.now }
+    ensures { result ≡ front_len header.now % 2 ^ 64 }
 {
     let len = header_len(header);
     len.wrapping_add(u64::from(gap(header.page, len)))
@@ -35,6 +35,7 @@ pub fn data_place(header: &Header) -> u64
 
 fn write_zeros<O: Sink>(count: u32, out: &mut O) -> Result<(), Failed>
     ensures gained { OnOk result (Gained (O.written out.old) (O.written out.new) (zeros count)) }
+    ensures prefix { OnErr result (GainedPrefix (O.written out.old) (O.written out.new) (zeros count)) }
     ensures name { O.name out.new ≡ O.name out.old }
     ensures cause { HasCause (O.faults out.old) (O.faults out.new) result }
 {
@@ -49,11 +50,12 @@ fn write_zeros<O: Sink>(count: u32, out: &mut O) -> Result<(), Failed>
 /// Writes the header with a table of these parts, and zero bytes up to the first sub-buffer.
 ///
 /// # Errors
-/// `Failed` where a write failed.
+/// `Failed` where a write failed; a prefix of all this was written then.
 pub fn write_front<O: Sink>(header: &Header, parts: &[Part], out: &mut O) -> Result<(), Failed>
     requires allowed { IsHeader header.now }
     requires each { length parts.now ≡ header.now.cpus }
     ensures gained { OnOk result (Gained (O.written out.old) (O.written out.new) (front_text header.now parts.now)) }
+    ensures prefix { OnErr result (GainedPrefix (O.written out.old) (O.written out.new) (front_text header.now parts.now)) }
     ensures name { O.name out.new ≡ O.name out.old }
     ensures cause { HasCause (O.faults out.old) (O.faults out.new) result }
 {

@@ -6,11 +6,12 @@ ghost use Rattle.split_file.specs.Names.{file_name};
 use arrayvec::ArrayString;
 use itoa::Buffer;
 
-// A base has up to 4,096 bytes; behind it stand a point and a number of 64 bits.
-const LONGEST: usize = 4096 + 21;
+// A base has up to 4,096 bytes; behind it stand a point and a number of 128 bits: whatever a file of 64 bits' length tells,
+// its items are fewer.
+const LONGEST: usize = 4096 + 40;
 
 /// The name of a new file: the base, a point and its number in decimal (trace-cmd-split(1)).
-pub fn file_name(base: &str, number: u64) -> ArrayString<LONGEST>
+pub fn file_name(base: &str, number: u128) -> ArrayString<LONGEST>
     requires { length base.now ≤ 4096 }
     ensures { result.bytes ≡ file_name base.now number }
 {

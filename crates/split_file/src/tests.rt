@@ -65,7 +65,7 @@ fn names_and_faults(rt: HostRuntime) -> Result<(), Fail> {
     for (base, number, name) in [
         ("trace.dat", 1, "trace.dat.1"),
         ("part", 10, "part.10"),
-        ("", u64::MAX, ".18446744073709551615"),
+        ("", u128::MAX, ".340282366920938463463374607431768211455"),
     ] {
         assert_eq!(rt; file_name(base, number).as_str(), name);
     }

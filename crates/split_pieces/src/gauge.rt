@@ -41,13 +41,16 @@ impl Gauge {
             → piece_by self.old (x ∷ xs) ≡ [] }
         ensures closed { result ≡ false → (x : Keyed) (xs : List Keyed) → x.key ≡ key → is_event x ≡ event
             → closes_by self.old (x ∷ xs) ≡ true }
+        ensures stays { result ≡ false → self.new ≡ self.old }
     {
         match *self {
             Gauge::All => true,
             Gauge::Nanos(nanos) => {
-                let limit = u128::from(key) + u128::from(nanos);
-                *self = Gauge::Below(limit);
-                u128::from(key) < limit
+                if nanos == 0 {
+                    return false;
+                }
+                *self = Gauge::Below(u128::from(key) + u128::from(nanos));
+                true
             }
             Gauge::Below(limit) => u128::from(key) < limit,
             Gauge::Events(events) => {

@@ -82,8 +82,6 @@ const FIVE: &[Entry] = &[Event(10), Event(20), Event(30), Event(40), Event(50)];
 
 const LOSSES: &[Entry] = &[Loss(10), Event(10), Loss(20), Event(20), Loss(30)];
 
-const TIES: &[Entry] = &[Event(10), Event(10), Event(20), Event(20), Event(30)];
-
 const LATE: &[Entry] = &[
     Event(499),
     Event(500),
@@ -167,14 +165,9 @@ const fn given(
 }
 
 #[test]
-fn whole_lists_and_units(rt: HostRuntime) -> Result<(), Fail> {
+fn files_of_lists(rt: HostRuntime) -> Result<(), Fail> {
     for (i, row) in [
-        given(NONE, by(All), &[&[]], false),
-        given(NONE, again(All), &[&[]], false),
-        given(NONE, by(Events(1)), &[&[]], false),
         given(NONE, again(Nanos(1)), &[&[]], false),
-        given(FIVE, by(All), &[&[10, 20, 30, 40, 50]], false),
-        given(FIVE, again(All), &[&[10, 20, 30, 40, 50]], false),
         given(FIVE, by(Events(2)), &[&[10, 20]], true),
         given(
             FIVE,
@@ -182,162 +175,23 @@ fn whole_lists_and_units(rt: HostRuntime) -> Result<(), Fail> {
             &[&[10, 20], &[30, 40], &[50]],
             false,
         ),
-        given(FIVE, by(Events(5)), &[&[10, 20, 30, 40, 50]], true),
         given(FIVE, by(Events(6)), &[&[10, 20, 30, 40, 50]], false),
-        given(FIVE, again(Events(5)), &[&[10, 20, 30, 40, 50]], false),
-        given(FIVE, by(Nanos(10)), &[&[10]], true),
         given(FIVE, by(Nanos(40)), &[&[10, 20, 30, 40]], true),
-        given(FIVE, by(Nanos(41)), &[&[10, 20, 30, 40, 50]], false),
-        given(
-            FIVE,
-            again(Nanos(11)),
-            &[&[10, 20], &[30, 40], &[50]],
-            false,
-        ),
         given(FIVE, again(Nanos(25)), &[&[10, 20, 30], &[40, 50]], false),
-        given(TIES, again(Nanos(1)), &[&[10, 10], &[20, 20], &[30]], false),
-        given(TIES, again(Events(3)), &[&[10, 10, 20], &[20, 30]], false),
-        given(
-            LOSSES,
-            again(Events(1)),
-            &[&[10, 10], &[20, 20], &[30]],
-            false,
-        ),
-        given(LOSSES, by(Events(1)), &[&[10, 10]], true),
         given(LOSSES, by(Events(2)), &[&[10, 10, 20, 20]], true),
-        given(LOSSES, by(Events(3)), &[&[10, 10, 20, 20, 30]], false),
         given(
             LOSSES,
-            again(Nanos(10)),
-            &[&[10, 10], &[20, 20], &[30]],
+            within(again(Events(1)), nanos(11), None),
+            &[&[20, 20], &[30]],
             false,
-        ),
-    ]
-    .iter()
-    .enumerate()
-    {
-        assert!(rt; agrees(row), "row {i}");
-    }
-    Ok(())
-}
-
-#[test]
-fn starts_and_ends(rt: HostRuntime) -> Result<(), Fail> {
-    for (i, row) in [
-        given(
-            FIVE,
-            within(by(All), nanos(30), None),
-            &[&[30, 40, 50]],
-            false,
-        ),
-        given(FIVE, within(by(All), nanos(31), None), &[&[40, 50]], false),
-        given(FIVE, within(by(All), nanos(51), None), &[&[]], false),
-        given(
-            FIVE,
-            within(by(All), None, nanos(30)),
-            &[&[10, 20, 30]],
-            true,
-        ),
-        given(FIVE, within(by(All), None, nanos(29)), &[&[10, 20]], true),
-        given(
-            FIVE,
-            within(by(All), None, nanos(50)),
-            &[&[10, 20, 30, 40, 50]],
-            false,
-        ),
-        given(FIVE, within(by(All), None, nanos(9)), &[&[]], true),
-        given(
-            FIVE,
-            within(by(All), nanos(20), nanos(30)),
-            &[&[20, 30]],
-            true,
         ),
         given(FIVE, within(by(All), nanos(40), nanos(20)), &[&[]], true),
         given(FIVE, within(by(All), nanos(60), nanos(20)), &[&[]], false),
-        given(
-            FIVE,
-            within(again(All), nanos(20), nanos(40)),
-            &[&[20, 30, 40]],
-            true,
-        ),
-        given(
-            FIVE,
-            within(again(Events(2)), nanos(20), nanos(40)),
-            &[&[20, 30], &[40]],
-            true,
-        ),
-        given(
-            FIVE,
-            within(again(Events(2)), nanos(20), nanos(50)),
-            &[&[20, 30], &[40, 50]],
-            false,
-        ),
-        given(
-            FIVE,
-            within(again(Nanos(20)), nanos(15), None),
-            &[&[20, 30], &[40, 50]],
-            false,
-        ),
-        given(
-            FIVE,
-            within(again(Nanos(20)), nanos(15), nanos(45)),
-            &[&[20, 30], &[40]],
-            true,
-        ),
-        given(
-            FIVE,
-            within(by(Events(2)), nanos(40), None),
-            &[&[40, 50]],
-            true,
-        ),
-        given(
-            FIVE,
-            within(by(Events(3)), nanos(40), None),
-            &[&[40, 50]],
-            false,
-        ),
-        given(
-            LOSSES,
-            within(by(All), nanos(11), None),
-            &[&[20, 20, 30]],
-            false,
-        ),
-        given(
-            LOSSES,
-            within(by(All), None, nanos(20)),
-            &[&[10, 10, 20, 20]],
-            true,
-        ),
-        given(
-            LATE,
-            within(by(All), micros(1), None),
-            &[&[500, 1499, 1500, 2499]],
-            false,
-        ),
-        given(
-            LATE,
-            within(by(All), micros(2), None),
-            &[&[1500, 2499]],
-            false,
-        ),
-        given(LATE, within(by(All), None, micros(0)), &[&[499]], true),
-        given(
-            LATE,
-            within(by(All), None, micros(1)),
-            &[&[499, 500, 1499]],
-            true,
-        ),
         given(
             LATE,
             within(by(All), micros(1), micros(1)),
             &[&[500, 1499]],
             true,
-        ),
-        given(
-            LATE,
-            within(again(Events(1)), micros(2), micros(2)),
-            &[&[1500], &[2499]],
-            false,
         ),
         given(
             LATE,

@@ -1,9 +1,10 @@
--- A new file is short: each item of it stands in a sub-buffer at most, and the input has room for few items.
-use Rattle.std.proofs.Common.{◌≡◌, ℕ, zero, suc, ◌+◌, ◌*◌, ◌^◌, ◌<◌, ◌≤◌, Bool, true, false, eqb, leb, max, not, if◌then◌else◌, List, [], ◌∷◌, ◌++◌, length, drop, map, Option, Some, None, refl, ap, ◌∙◌, arith}
+-- A new file is short, so that it reads back: each item of it stands in a sub-buffer at most, and the input has room for few
+-- items.
+use Rattle.std.proofs.Common.{◌≡◌, ℕ, zero, suc, ◌+◌, ◌*◌, ◌^◌, ◌<◌, ◌≤◌, Bool, true, false, eqb, leb, max, not, if◌then◌else◌, List, [], ◌∷◌, ◌++◌, length, drop, map, Option, Some, None, Ok, refl, ap, ◌∙◌, inl, inr, arith}
 use Rattle.std.specs.List.{All, filter, flat_map, range_with_len}
-use Rattle.std.proofs.lemmas.Bool.{eqb-true, leb-true, leb-false}
-use Rattle.std.proofs.lemmas.List.{length-append, length-map}
-use Rattle.std.proofs.lemmas.List.Elements.{All-nil, All-cons}
+use Rattle.std.proofs.lemmas.Bool.{cases_Bool, eqb-true, leb-true, leb-false}
+use Rattle.std.proofs.lemmas.List.{length-append, length-map, length-replicate}
+use Rattle.std.proofs.lemmas.List.Elements.{All-nil, All-cons, All-head, All-tail}
 use Rattle.std.proofs.lemmas.Grind.{div_ceil_times}
 use Rattle.std.proofs.Math.Nat.{mul-le-mul}
 use Rattle.std.proofs.Math.Pow.{pow_mono}
@@ -11,19 +12,22 @@ use Rattle.std.proofs.lemmas.List.FromFn.{length-range_with_len}
 use Rattle.trace_base.specs.declared.layout.Layout.{Layout}
 use Rattle.trace_base.specs.declared.part.Part.{Part}
 use Rattle.trace_base.specs.Layout.{IsLayout}
+use Rattle.dat_options.specs.Place.{AreBytes}
 use Rattle.dat_header.specs.declared.header.Header.{Header}
 use Rattle.dat_header.specs.Allowed.{IsHeader, IsPageSize}
-use Rattle.dat_header.specs.Written.{header_text}
+use Rattle.dat_header.specs.Header.{header_of}
+use Rattle.dat_header.specs.Written.{header_text, without_instances}
 use Rattle.dat_header.proofs.Headers.{header_layout}
 use Rattle.subpage.specs.ItemData.{ItemData, item_time}
 use Rattle.subpage.specs.Processor.{list_of}
-use Rattle.subpage.specs.Arrangement.{Keyed, CpusRise, cpu_of, with_key, key_of, by_key, keyed_from, all_keyed, arranged}
+use Rattle.subpage.specs.Arrangement.{Keyed, cpu_of, with_key, key_of, by_key, keyed_from, all_keyed, arranged}
 use Rattle.subpage.specs.Cut.{cut_of, is_up_to, reached_of, lists_of as lists_in}
-use Rattle.page_pool.specs.declared.lane.Lane.{Lane}
-use Rattle.page_write.specs.Pack.{pack}
+use Rattle.page_write.specs.PageBytes.{IsPackable, one_page}
+use Rattle.page_write.specs.Pack.{packed_behind, packed, pack}
 use Rattle.page_write.specs.Placed.{data_of}
+use Rattle.page_write.proofs.Lifting.{pack_len}
+use Rattle.page_write.proofs.Packable.{IsBytes, list_packable}
 use Rattle.time_merge.specs.Rows.{Each}
-use Rattle.time_merge.specs.LaneRows.{parts_of}
 use Rattle.trace_args.specs.Command.{SplitData}
 use Rattle.word_values.specs.declared.moment.Moment.{Moment}
 use Rattle.word_values.specs.declared.piece.PieceUnit.{PieceUnit}
@@ -32,21 +36,20 @@ use Rattle.split_pieces.specs.Moments.{is_before}
 use Rattle.split_pieces.specs.Cuts.{is_apart, items_of_cpu, own_list, lists_to_cut, file_items}
 use Rattle.split_pieces.specs.Pieces.{piece, joined_lists, next_file, behind_file, files_when, files_within, files_left, files, from_start, left_in}
 use Rattle.split_file.specs.NewFile.{blank, front_len, front_text, table_of, file_text}
-use Rattle.split_file.proofs.Laid.{length-front, length-table}
+use Rattle.split_file.proofs.Laid.{length-front, length-table, reads_back_all}
 use Rattle.split_file.proofs.Placing.{page_some}
+use Rattle.split_file.proofs.ShortHeader.{still_header, text_short}
 use Rattle.split_tool.specs.Counted.{lists_of}
-use Rattle.split_tool.specs.NewFiles.{files_from, new_files}
+use Rattle.split_tool.specs.NewFiles.{ReadBack, files_from, new_files}
 use Rattle.split_tool.specs.Rules.{rules_of}
-use Rattle.split_tool.specs.Stored.{NewFile}
-use Rattle.split_tool.proofs.Alone.{Alone, list_alone, pack_most}
 use Rattle.split_tool.proofs.FewItems.{filter_few}
 use Rattle.split_tool.proofs.FileAfterFile.{len_parts}
-use Rattle.split_tool.proofs.Making.{cut_few, left_few, few_lanes}
+use Rattle.split_tool.proofs.Making.{cut_few, left_few}
 use Rattle.split_tool.proofs.Owning.{each_append, each_filter, each_piece, each_up, each_by_key}
 use Rattle.split_tool.proofs.Tables.{lists_more}
 
 abbrev Told : Layout → Keyed → Type 0
-Told l x = Alone l x.item
+Told l x = IsPackable l x.item
 
 -- EACH ITEM IS ONE PROCESSOR'S
 
@@ -86,18 +89,44 @@ owned_few (suc n) xs =
 
 -- A FILE'S BYTES
 
-data_most : (l : Layout) (lists : List (List ItemData)) → IsLayout l → Each (Each (Alone l)) lists → length (data_of l lists) ≤ items_in lists * l.page
+few_behind : (l : Layout) (held xs : List ItemData) → length (packed_behind l held xs) ≤ length xs + 1
+unfolding packed_behind
+few_behind l held [] = omega arith
+few_behind l held (x ∷ xs) = elim (cases_Bool (one_page l (held ++ x ∷ []))) [
+  | inl more ↦ let h = few_behind l (held ++ x ∷ []) xs in rw more (omega (arith, h))
+  | inr full ↦ let h = few_behind l (x ∷ []) xs in rw full (omega (arith, h))
+]
+
+-- an item takes at most one sub-buffer
+packed_few : (l : Layout) (xs : List ItemData) → length (packed l xs) ≤ length xs
+unfolding packed
+packed_few l [] = omega arith
+packed_few l (x ∷ xs) = omega (arith, few_behind l (x ∷ []) xs)
+
+pack_most : (l : Layout) (xs : List ItemData) → IsLayout l → All (IsPackable l) xs → length (pack l xs) ≤ length xs * l.page
+pack_most l xs allowed a =
+    let same : l.page ≤ l.page = omega arith in
+    let most : length (packed l xs) * l.page ≤ length xs * l.page = mul-le-mul (packed_few l xs) same in
+    omega (arith, pack_len l xs allowed a, most)
+
+data_most : (l : Layout) (lists : List (List ItemData)) → IsLayout l → All (All (IsPackable l)) lists → length (data_of l lists) ≤ items_in lists * l.page
 unfolding data_of
 data_most l [] allowed a = omega arith
-data_most l (xs ∷ lists) allowed a = grind (arith, length-append (pack l xs) (flat_map (pack l) lists), pack_most l xs allowed a.0, data_most l lists allowed a.1)
+data_most l (xs ∷ lists) allowed a =
+    grind (arith, length-append (pack l xs) (flat_map (pack l) lists), pack_most l xs allowed (All-head (All (IsPackable l)) xs lists a), data_most l lists allowed (All-tail (All (IsPackable l)) xs lists a))
 
-each_item : (P : ItemData → Type 0) (xs : List Keyed) → Each (λ x. P x.item) xs → Each P (map (λ x. x.item) xs)
-each_item P [] a = tt
-each_item P (x ∷ xs) a = (a.0, each_item P xs a.1)
+all_items : (P : ItemData → Type 0) (xs : List Keyed) → Each (λ x. P x.item) xs → All P (map (λ x. x.item) xs)
+all_items P [] a = All-nil P
+all_items P (x ∷ xs) a = All-cons P x.item (map (λ x. x.item) xs) a.0 (all_items P xs a.1)
 
-owned_told : (l : Layout) (from n : ℕ) (xs : List Keyed) → Each (Told l) xs → Each (Each (Alone l)) (map (λ cpu. items_of_cpu cpu xs) (range_with_len from n))
-owned_told l from zero xs a = tt
-owned_told l from (suc n) xs a = (each_item (Alone l) (with_key cpu_of from xs) (each_filter (Told l) (λ x. eqb x.cpu from) xs a), owned_told l (from + 1) n xs a)
+owned_told : (l : Layout) (from n : ℕ) (xs : List Keyed) → Each (Told l) xs → All (All (IsPackable l)) (map (λ cpu. items_of_cpu cpu xs) (range_with_len from n))
+owned_told l from zero xs a = All-nil (All (IsPackable l))
+owned_told l from (suc n) xs a =
+    All-cons (All (IsPackable l)) (items_of_cpu from xs) (map (λ cpu. items_of_cpu cpu xs) (range_with_len (from + 1) n))
+    (all_items (IsPackable l) (with_key cpu_of from xs) (each_filter (Told l) (λ x. eqb x.cpu from) xs a)) (owned_told l (from + 1) n xs a)
+
+lists_long : (cpus : ℕ) (xs : List Keyed) → length (lists_of cpus xs) ≡ cpus
+lists_long cpus xs = length-map (range_with_len 0 cpus) (λ cpu. items_of_cpu cpu xs) ∙ length-range_with_len 0 cpus
 
 page_most : (page : ℕ) → IsPageSize page → page ≤ 65536
 page_most page p = omega (arith, p.3, pow_mono p.2)
@@ -118,7 +147,7 @@ text_most header xs n allowed told few =
     let table = table_of header lists in
     let owned : items_in lists ≤ n = omega (arith, owned_few header.cpus xs, few) in
     let most : items_in lists * l.page ≤ n * 65536 = mul-le-mul owned layout.page_most in
-    let many : length table ≡ header.cpus = length-table header lists ∙ lists_long header.cpus in
+    let many : length table ≡ header.cpus = length-table header lists ∙ lists_long header.cpus xs in
     omega (
       arith,
       length-append (front_text header table) (data_of l lists),
@@ -127,9 +156,6 @@ text_most header xs n allowed told few =
       data_most l lists layout (owned_told l 0 header.cpus xs told),
       most,
     )
-  where
-    lists_long : (cpus : ℕ) → length (lists_of cpus xs) ≡ cpus
-    lists_long cpus = length-map (range_with_len 0 cpus) (λ cpu. items_of_cpu cpu xs) ∙ length-range_with_len 0 cpus
 
 -- WHAT A FILE TAKES
 
@@ -189,59 +215,59 @@ files_fit l most rules lists told few =
 
 -- WHAT THE INPUT TELLS
 
-keyed_told : (l : Layout) (cpu high : ℕ) (xs : List ItemData) → Each (Alone l) xs → Each (Told l) (keyed_from cpu high xs)
+keyed_told : (l : Layout) (cpu high : ℕ) (xs : List ItemData) → All (IsPackable l) xs → Each (Told l) (keyed_from cpu high xs)
 keyed_told l cpu high [] a = tt
-keyed_told l cpu high (x ∷ xs) a = (a.0, keyed_told l cpu (max high (item_time x)) xs a.1)
+keyed_told l cpu high (x ∷ xs) a = (All-head (IsPackable l) x xs a, keyed_told l cpu (max high (item_time x)) xs (All-tail (IsPackable l) x xs a))
 
-all_told : (l : Layout) (file : List ℕ) (parts : List (ℕ × Part)) → IsLayout l → Each (Told l) (all_keyed (lists_in l file parts))
-all_told l file [] allowed = tt
-all_told l file (p ∷ parts) allowed =
-    each_append (Told l) (own_list l file p) (all_keyed (lists_in l file parts)) (keyed_told l p.0 0 (list_of l file p.1) (list_alone l file p.1 allowed)) (all_told l file parts allowed)
+own_told : (l : Layout) (file : List ℕ) (part : ℕ × Part) → IsLayout l → IsBytes file → Each (Told l) (own_list l file part)
+own_told l file part allowed bytes = keyed_told l part.0 0 (list_of l file part.1) (list_packable l file part.1 allowed bytes)
 
-reached_told : (l : Layout) (file : List ℕ) (parts : List (ℕ × Part)) → IsLayout l → Each (Told l) (reached_of l file parts)
+all_told : (l : Layout) (file : List ℕ) (parts : List (ℕ × Part)) → IsLayout l → IsBytes file → Each (Told l) (all_keyed (lists_in l file parts))
+all_told l file [] allowed bytes = tt
+all_told l file (p ∷ parts) allowed bytes =
+    each_append (Told l) (own_list l file p) (all_keyed (lists_in l file parts)) (own_told l file p allowed bytes) (all_told l file parts allowed bytes)
+
+reached_told : (l : Layout) (file : List ℕ) (parts : List (ℕ × Part)) → IsLayout l → IsBytes file → Each (Told l) (reached_of l file parts)
 unfolding reached_of arranged
-reached_told l file parts allowed =
+reached_told l file parts allowed bytes =
     let all = all_keyed (lists_in l file parts) in
-    each_filter (Told l) (is_up_to (cut_of l file parts)) (by_key key_of all) (each_by_key (Told l) all (all_told l file parts allowed))
+    each_filter (Told l) (is_up_to (cut_of l file parts)) (by_key key_of all) (each_by_key (Told l) all (all_told l file parts allowed bytes))
 
-cut_told : (l : Layout) (file : List ℕ) (rules : Rules) (parts : List (ℕ × Part)) → IsLayout l → Each (Each (Told l)) (lists_to_cut rules l file parts)
-cut_told l file rules parts allowed = by_apart (is_apart rules)
+cut_told : (l : Layout) (file : List ℕ) (rules : Rules) (parts : List (ℕ × Part)) → IsLayout l → IsBytes file → Each (Each (Told l)) (lists_to_cut rules l file parts)
+cut_told l file rules parts allowed bytes = by_apart (is_apart rules)
   where
     owns_told : (ps : List (ℕ × Part)) → Each (Each (Told l)) (map (own_list l file) ps)
     owns_told [] = tt
-    owns_told (p ∷ ps) = (keyed_told l p.0 0 (list_of l file p.1) (list_alone l file p.1 allowed), owns_told ps)
+    owns_told (p ∷ ps) = (own_told l file p allowed bytes, owns_told ps)
 
     by_apart : (b : Bool) → Each (Each (Told l)) (if b then map (own_list l file) parts else reached_of l file parts ∷ [])
     by_apart true = owns_told parts
-    by_apart false = (reached_told l file parts allowed, tt)
+    by_apart false = (reached_told l file parts allowed bytes, tt)
 
 -- ALL NEW FILES
 
-abbrev pub IsShort : NewFile → Type 0
-IsShort new = length new.content < 2 ^ 64
-
-named_short : (header : Header) (base : List ℕ) (number most : ℕ) (lists : List (List Keyed)) → IsHeader header → length (header_text header (blank header.cpus)) ≤ 2 ^ 41 → most ≤ 1024 * 2 ^ 39
-    → Each (Fits header.layout most) lists → All IsShort (files_from header base number lists)
-named_short header base number most [] allowed text few fit = All-nil IsShort
-named_short header base number most (xs ∷ lists) allowed text few fit =
+named_back : (header : Header) (base : List ℕ) (number most : ℕ) (lists : List (List Keyed)) → IsHeader header → length (header_text header (blank header.cpus)) ≤ 2 ^ 41 → most ≤ 1024 * 2 ^ 39
+    → Each (Fits header.layout most) lists → ReadBack header lists (files_from header base number lists)
+named_back header base number most [] allowed text few fit = tt
+named_back header base number most (xs ∷ lists) allowed text few fit =
     let items : length xs ≤ 2 ^ 47 = omega (arith, fit.0.few, few) in
-    All-cons IsShort _ (files_from header base (number + 1) lists)
-    (omega (arith, text_most header xs (2 ^ 47) allowed fit.0.told items, text))
-    (named_short header base (number + 1) most lists allowed text few fit.1)
+    let short : length (file_text header (lists_of header.cpus xs)) < 2 ^ 64 = omega (arith, text_most header xs (2 ^ 47) allowed fit.0.told items, text) in (
+      reads_back_all header (lists_of header.cpus xs) allowed (lists_long header.cpus xs) (owned_told header.layout 0 header.cpus xs fit.0.told) short,
+      named_back header base (number + 1) most lists allowed text few fit.1,
+    )
 
-pub short_parts : (words : SplitData) (header : Header) (bytes : List ℕ) (parts : List (ℕ × Part)) → IsHeader header → length (header_text header (blank header.cpus)) ≤ 2 ^ 41
-    → length parts ≤ 1024 → length bytes ≤ 2 ^ 39 → All IsShort (new_files words header bytes parts)
-short_parts words header bytes parts allowed text some small =
+are_bytes : (bytes : List ℕ) → AreBytes bytes → IsBytes bytes
+are_bytes [] are i = omega arith
+are_bytes (b ∷ bytes) are zero = All-head (λ byte. byte < 256) b bytes are
+are_bytes (b ∷ bytes) are (suc i) = are_bytes bytes (All-tail (λ byte. byte < 256) b bytes are) i
+
+pub files_back : (words : SplitData) (header : Header) (bytes : List ℕ) (parts : List (ℕ × Part)) → AreBytes bytes → header_of bytes ≡ Ok header → IsHeader header → length bytes ≤ 2 ^ 39 → length parts ≤ 1024
+    → ReadBack (without_instances header) (file_items (rules_of words) header.layout bytes parts) (new_files words (without_instances header) bytes parts)
+files_back words header bytes parts are read is small some =
     let l = header.layout in
-    let layout = header_layout header allowed in
+    let layout = header_layout header is in
     let rules = rules_of words in
     let lists = lists_to_cut rules l bytes parts in
-    let most = length parts * length bytes in
-    named_short header words.base 1 most (file_items rules l bytes parts) allowed text (mul-le-mul some small)
-    (files_fit l most rules lists (cut_told l bytes rules parts layout) (cut_few l bytes rules parts layout))
-
-pub short_lanes : (words : SplitData) (header : Header) (bytes : List ℕ) (lanes : List Lane) → IsHeader header → length (header_text header (blank header.cpus)) ≤ 2 ^ 41
-    → CpusRise (parts_of lanes) → All (λ lane. lane.cpu < header.cpus) lanes → length bytes ≤ 2 ^ 39 → All IsShort (new_files words header bytes (parts_of lanes))
-short_lanes words header bytes lanes allowed text rise cpus small =
-    let long : length (parts_of lanes) ≡ length lanes = length-map lanes (λ (a : Lane). (a.cpu, a.part)) in
-    short_parts words header bytes (parts_of lanes) allowed text (omega (arith, long, few_lanes header.cpus lanes rise cpus, allowed.cpus)) small
+    named_back (without_instances header) words.base 1 (length parts * length bytes) (file_items rules l bytes parts) (still_header header is)
+    (text_short header bytes (blank header.cpus) read is.cpus (length-replicate header.cpus _) small) (mul-le-mul some small)
+    (files_fit l (length parts * length bytes) rules lists (cut_told l bytes rules parts layout (are_bytes bytes are)) (cut_few l bytes rules parts layout))

@@ -6,7 +6,6 @@ pub mod OneLaneOn
 pub mod Budget
 pub mod Starting
 pub mod Owning
-pub mod Alone
 pub mod Tables
 pub mod Beginning
 pub mod OneByOne
@@ -15,4 +14,3 @@ pub mod Measuring
 pub mod Preparing
 pub mod Making
 pub mod FewBytes
-pub mod LanesInRow

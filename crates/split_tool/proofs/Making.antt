@@ -11,6 +11,7 @@ use Rattle.std.proofs.lemmas.List.Elements.{All-nil, All-cons, All-head, All-tai
 use Rattle.trace_base.specs.declared.layout.Layout.{Layout}
 use Rattle.trace_base.specs.declared.part.Part.{Part}
 use Rattle.trace_base.specs.Layout.{IsLayout}
+use Rattle.trace_outside.specs.declared.counts.Counts.{Counts}
 use Rattle.trace_outside.specs.Causes.{raised}
 use Rattle.trace_outside.specs.Names.{NamedFiles, stored}
 use Rattle.trace_outside.specs.Folders.{IsEmptySink, Stores}
@@ -41,6 +42,7 @@ use Rattle.split_passes.specs.AllAgain.{owns}
 use Rattle.split_passes.specs.declared.tally.Tally.{Tally}
 use Rattle.split_file.specs.Names.{file_name}
 use Rattle.split_file.specs.NewFile.{file_text, front_text, table_of}
+use Rattle.split_file.proofs.Wrapped.{front_wrapped}
 use Rattle.split_tool.specs.declared.lists.Ends.{Ends}
 use Rattle.split_tool.specs.Counted.{lists_of}
 use Rattle.split_tool.specs.Lists.{files_of, files_behind, lists_left, bad_left}
@@ -55,7 +57,7 @@ use Rattle.split_tool.proofs.FewItems.{few_keyed, few_reached, filter_few}
 use Rattle.split_tool.proofs.FileAfterFile.{goes_on, ends as no_files, fewer_left, some_length}
 use Rattle.split_tool.proofs.Owning.{tail_rises, above, each_as}
 use Rattle.split_tool.proofs.Preparing.{left_still, first_cpu, other_parts}
-use Rattle.split_tool.proofs.Storing.{Stages, stages_none, stages_more, all_stored, some_stored, first_stored}
+use Rattle.split_tool.proofs.Storing.{Stages, stages_none, stages_more, all_stored, some_stored, first_stored, unmade_since}
 
 -- A FILE WAS FINISHED
 
@@ -73,7 +75,8 @@ unfolding file_text
 finished header file rules name name1 first mid now fronts tallies table old old1 new w0 w ends e n empty stores p written =
     let lists = lists_of header.cpus (taken_of header.layout file rules first) in
     let content : front_text header table ++ data_of header.layout (owns first (taken_of header.layout file rules first)) ≡ front_text header (table_of header lists) ++ data_of header.layout lists =
-    ap (λ (bytes : List ℕ). front_text header table ++ bytes) p.bytes ∙ ap (λ (ps : List Part). front_text header ps ++ data_of header.layout lists) p.table_is in
+    ap (λ (bytes : List ℕ). front_text header table ++ bytes) p.bytes ∙ ap (λ (ps : List Part). front_text header ps ++ data_of header.layout lists) p.table_is
+    ∙ ap (λ (front : List ℕ). front ++ data_of header.layout lists) (front_wrapped header (table_of header lists)) in
     record {
       left = left_still header.layout file rules first first mid now ends refl written.rows written.stands p.left;
       stored = stored_is old1 old new w0 w name name1 _ e n empty (subst (Gained w0 w) content written.gained) stores;
@@ -130,15 +133,15 @@ few_lanes cpus lanes rise below =
 pub record Progress (header : Header) (base : List ℕ) (file : List ℕ) (rules : Rules) (news : List NewFile) (bad : Option (ℕ × ℕ)) (number : ℕ) (now : List Lane) (old new : Option NamedFiles) : Type 0 where
   pub stands : All (Stands header.layout file) now
   pub stage : Stages news (files_from header base number (files_of rules (lists_left header.layout file rules now))) old new
-  pub short : All (λ (f : NewFile). length f.content < 2 ^ 64) (files_from header base number (files_of rules (lists_left header.layout file rules now)))
+  pub small : length file < 2 ^ 64
   pub bad_is : bad_left header.layout file rules now ≡ bad
   pub counted : length news + 1 ≡ number + length (files_from header base number (files_of rules (lists_left header.layout file rules now)))
-  pub few : number + length (joined_lists (lists_left header.layout file rules now)) ≤ 2 ^ 62
+  pub few : number + length (joined_lists (lists_left header.layout file rules now)) ≤ 2 ^ 75
 
 pub progress_none : (header : Header) (words : SplitData) (rules : Rules) (file : List ℕ) (first now : List Lane) (old : Option NamedFiles) → IsHeader header → rules ≡ rules_of words → CpusRise (parts_of first) → All (λ (a : Lane). a.cpu < header.cpus) first
-    → All (λ (a : Lane). IsFresh a.cursor) first → parts_of now ≡ parts_of first → length file ≤ 2 ^ 39 → All (λ (f : NewFile). length f.content < 2 ^ 64) (new_files words header file (parts_of first)) → Started header.layout file rules first now
+    → All (λ (a : Lane). IsFresh a.cursor) first → parts_of now ≡ parts_of first → length file < 2 ^ 64 → Started header.layout file rules first now
     → Progress header words.base file rules (new_files words header file (parts_of first)) (bad_reached (rules_of words) header.layout file (parts_of first)) 1 now old old
-progress_none header words rules file first now old allowed is rise cpus fresh parts small short s =
+progress_none header words rules file first now old allowed is rise cpus fresh parts small s =
     let l = header.layout in
     let lists : lists_left l file rules now ≡ map (left_in rules) (lists_to_cut rules l file (parts_of first)) = started_lists l file rules first now fresh s in
     let items : files_of rules (lists_left l file rules now) ≡ file_items (rules_of words) l file (parts_of first) =
@@ -152,24 +155,18 @@ progress_none header words rules file first now old allowed is rise cpus fresh p
     let long : length (parts_of first) * length file ≡ length first * length file = ap (λ (n : ℕ). n * length file) (length-map first (λ (a : Lane). (a.cpu, a.part))) in
     omega (arith, some, left_few rules (lists_to_cut rules l file (parts_of first)), cut, long) in
     let most_lanes : length first ≤ 1024 = omega (arith, lanes, allowed.cpus) in
-    let most : length first * length file ≤ 1024 * 2 ^ 39 = mul-le-mul most_lanes small in
+    let room : length file ≤ 2 ^ 64 = omega (arith, small) in
+    let most : length first * length file ≤ 1024 * 2 ^ 64 = mul-le-mul most_lanes room in
     record {
       stands = s.stands;
       stage = subst (λ (more : List NewFile). Stages (new_files words header file (parts_of first)) more old old) news (stages_none (new_files words header file (parts_of first)) old);
-      short = subst (All (λ (f : NewFile). length f.content < 2 ^ 64)) news short;
+      small = small;
       counted = omega (arith, ap (λ (fs : List NewFile). length fs) news);
       bad_is = started_bad l file rules first now fresh parts s ∙ ap (λ (r : Rules). bad_reached r l file (parts_of first)) is;
       few = omega (arith, few, most);
     }
 
 module _ (header : Header) (base : List ℕ) (file : List ℕ) (rules : Rules) (news : List NewFile) (bad : Option (ℕ × ℕ)) (number : ℕ) (now later : List Lane) (old mid new : Option NamedFiles) where
-  -- the next file is short, and there are few items
-  pub next_short : Progress header base file rules news bad number now old mid → length (next_text header file rules now) < 2 ^ 64
-  next_short p = All-head (λ (f : NewFile). length f.content < 2 ^ 64) _ _ p.short
-
-  pub next_few : Progress header base file rules news bad number now old mid → length (joined_lists (lists_left header.layout file rules now)) < 2 ^ 63
-  next_few p = omega (arith, p.few)
-
   pub progress_more : (ends : Ends) → IsUnit rules.unit → (ends.more && rules.repeat) ≡ true → Made header file rules (file_name base number) now later mid new ends
       → Progress header base file rules news bad number now old mid → Progress header base file rules news bad (number + 1) later old new
   progress_more ends unit more m p =
@@ -183,15 +180,15 @@ module _ (header : Header) (base : List ℕ) (file : List ℕ) (rules : Rules) (
       record {
         stands = m.left.stands;
         stage = subst (λ (fs : List (List Keyed)). Stages news (files_from header base (number + 1) fs) old new) rest (stages_more news _ _ old mid new m.stored p.stage);
-        short = subst (λ (fs : List (List Keyed)). All (λ (f : NewFile). length f.content < 2 ^ 64) (files_from header base (number + 1) fs)) rest (All-tail (λ (f : NewFile). length f.content < 2 ^ 64) _ _ p.short);
+        small = p.small;
         counted = subst (λ (fs : List (List Keyed)). length news + 1 ≡ number + 1 + length (files_from header base (number + 1) fs)) rest (omega (arith, p.counted));
         bad_is = m.left.bad both.1 ∙ p.bad_is;
         few = omega (arith, p.few, fewer, long);
       }
 
-  pub progress_last : (ends : Ends) (result : End) → (ends.more && rules.repeat) ≡ false → result ≡ end_by ends.bad → Made header file rules (file_name base number) now later mid new ends
-      → Progress header base file rules news bad number now old mid → IsSplit news (end_by bad) old new result
-  progress_last ends result more is m p =
+  pub progress_last : (ends : Ends) (result : End) (counts now_counts : Counts) → (ends.more && rules.repeat) ≡ false → result ≡ end_by ends.bad → Made header file rules (file_name base number) now later mid new ends
+      → Progress header base file rules news bad number now old mid → IsSplit news (end_by bad) counts now_counts old new result
+  progress_last ends result counts now_counts more is m p =
       let l = header.layout in
       let lists = lists_left l file rules now in
       let none : (is_some_left (joined_lists (behind_file rules.unit lists)) && rules.repeat) ≡ false =
@@ -199,9 +196,9 @@ module _ (header : Header) (base : List ℕ) (file : List ℕ) (rules : Rules) (
       let stored : Stages news [] old new = subst (λ (fs : List (List Keyed)). Stages news (files_from header base (number + 1) fs) old new) (no_files rules lists none) (stages_more news _ _ old mid new m.stored p.stage) in
       ended_by ends.bad bad result is (m.left.bad_ends more ∙ p.bad_is) (all_stored news old new stored)
     where
-      ended_by : (o b : Option (ℕ × ℕ)) (result : End) → result ≡ end_by o → o ≡ b → FilesStored news old new → IsSplit news (end_by b) old new result
-      ended_by None b result is same s = subst (λ (e : End). IsSplit news (end_by b) old new e) (sym is) (ap end_by same, s)
-      ended_by (Some place) b result is same s = subst (λ (e : End). IsSplit news (end_by b) old new e) (sym is) (ap end_by same, s)
+      ended_by : (o b : Option (ℕ × ℕ)) (result : End) → result ≡ end_by o → o ≡ b → FilesStored news old new → IsSplit news (end_by b) counts now_counts old new result
+      ended_by None b result is same s = subst (λ (e : End). IsSplit news (end_by b) counts now_counts old new e) (sym is) (ap end_by same, s)
+      ended_by (Some place) b result is same s = subst (λ (e : End). IsSplit news (end_by b) counts now_counts old new e) (sym is) (ap end_by same, s)
 
   none_behind : (ends : Ends) → (ends.more && rules.repeat) ≡ false → Made header file rules (file_name base number) now later mid new ends
       → files_behind rules (lists_left header.layout file rules now) ≡ []
@@ -230,20 +227,23 @@ module _ (header : Header) (base : List ℕ) (file : List ℕ) (rules : Rules) (
       by_bad None result is e = subst (λ (r : End). Creates (length news) first after r) (sym is) e
       by_bad (Some place) result is e = subst (λ (r : End). Creates (length news) first after r) (sym is) e
 
-  pub created_stops : (end result : End) (first before after : ℕ) → result ≡ end → IsMade header file rules (file_name base number) now later mid new (Err end)
+  pub created_stops : (end result : End) (unfinished now_unfinished first before after : ℕ) → result ≡ end → IsMade header file rules (file_name base number) now later unfinished now_unfinished mid new (Err end)
       → 1 ≤ number → before ≡ raised first (number - 1) → after ≤ raised before 1
       → Progress header base file rules news bad number now old mid → Creates (length news) first after result
-  created_stops code.Done result first before after is m least so_far one p = absurd m
-  created_stops (code.Malformed cpu page) result first before after is m least so_far one p = absurd m
-  created_stops code.Read result first before after is m least so_far one p = subst (λ (r : End). Creates (length news) first after r) (sym is) (omega (arith, some_counted p, least, so_far, one))
-  created_stops code.Write result first before after is m least so_far one p = subst (λ (r : End). Creates (length news) first after r) (sym is) (omega (arith, some_counted p, least, so_far, one))
+  created_stops code.Done result unfinished now_unfinished first before after is m least so_far one p = absurd m
+  created_stops (code.Malformed cpu page) result unfinished now_unfinished first before after is m least so_far one p = absurd m
+  created_stops code.Read result unfinished now_unfinished first before after is m least so_far one p = subst (λ (r : End). Creates (length news) first after r) (sym is) (omega (arith, some_counted p, least, so_far, one))
+  created_stops code.Write result unfinished now_unfinished first before after is m least so_far one p = subst (λ (r : End). Creates (length news) first after r) (sym is) (omega (arith, some_counted p, least, so_far, one))
 
-  pub progress_stops : (end result : End) → result ≡ end → IsMade header file rules (file_name base number) now later mid new (Err end)
-      → Progress header base file rules news bad number now old mid → IsSplit news (end_by bad) old new result
-  progress_stops code.Done result is m p = absurd m
-  progress_stops (code.Malformed cpu page) result is m p = absurd m
-  progress_stops code.Read result is m p = subst (λ (e : End). IsSplit news (end_by bad) old new e) (sym is) (some_stored news _ old mid new m p.stage)
-  progress_stops code.Write result is m p = subst (λ (e : End). IsSplit news (end_by bad) old new e) (sym is) (first_stored news _ _ old mid new m p.stage)
+  pub progress_stops : (end result : End) (counts between now_counts : Counts) → result ≡ end → counts.unfinished ≤ between.unfinished
+      → IsMade header file rules (file_name base number) now later between.unfinished now_counts.unfinished mid new (Err end)
+      → Progress header base file rules news bad number now old mid → IsSplit news (end_by bad) counts now_counts old new result
+  progress_stops code.Done result counts between now_counts is since m p = absurd m
+  progress_stops (code.Malformed cpu page) result counts between now_counts is since m p = absurd m
+  progress_stops code.Read result counts between now_counts is since m p = subst (λ (e : End). IsSplit news (end_by bad) counts now_counts old new e) (sym is) (some_stored news _ old mid new m p.stage)
+  progress_stops code.Write result counts between now_counts is since m p =
+      subst (λ (e : End). IsSplit news (end_by bad) counts now_counts old new e) (sym is)
+      (first_stored news _ _ counts now_counts old mid new (unmade_since counts.unfinished between.unfinished now_counts.unfinished (file_name base number) mid new since m) p.stage)
 
 -- lanes of the same processors
 pub same_cpus : (n : ℕ) (first now : List Lane) → parts_of now ≡ parts_of first → All (λ (a : Lane). a.cpu < n) first → All (λ (a : Lane). a.cpu < n) now

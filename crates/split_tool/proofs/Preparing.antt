@@ -1,19 +1,21 @@
 -- A file between its two passes.
-use Rattle.std.proofs.Common.{◌≡◌, ℕ, ◌+◌, ◌^◌, ◌<◌, ◌≤◌, eqb, List, [], ◌∷◌, ◌++◌, length, get_or, map, Option, Some, None, refl, sym, ap, subst, ◌∙◌, arith}
+use Rattle.std.proofs.Common.{◌≡◌, ℕ, ◌+◌, ◌%◌, ◌^◌, ◌<◌, ◌≤◌, List, [], ◌∷◌, ◌++◌, length, get_or, map, Option, Some, None, refl, sym, ap, subst, ◌∙◌, arith}
 use Rattle.std.specs.Option.{IfSome}
 use Rattle.std.specs.List.{All, filter_map}
 use Rattle.std.proofs.lemmas.List.{length-append, length-map, get_or-map}
 use Rattle.std.proofs.lemmas.List.Elements.{All-get_or, All-head, All-tail}
-use Rattle.std.proofs.lemmas.List.FromFn.{length-map-range_with_len}
 use Rattle.trace_base.specs.declared.layout.Layout.{Layout}
 use Rattle.trace_base.specs.declared.part.Part.{Part}
+use Rattle.trace_base.specs.Layout.{IsLayout}
 use Rattle.trace_outside.specs.Writing.{Gained}
 use Rattle.trace_outside.proofs.Gains.{gained_both}
 use Rattle.dat_header.specs.declared.header.Header.{Header}
 use Rattle.dat_header.specs.Allowed.{IsHeader}
+use Rattle.dat_header.proofs.Headers.{header_layout}
 use Rattle.subpage.specs.ItemData.{ItemData}
-use Rattle.subpage.specs.Arrangement.{Keyed, CpusRise, cpu_of, with_key}
+use Rattle.subpage.specs.Arrangement.{Keyed, CpusRise}
 use Rattle.subpage.specs.Marks.{items_from}
+use Rattle.subpage.specs.Processor.{list_of}
 use Rattle.page_pool.specs.declared.lane.Lane.{Lane}
 use Rattle.page_pool.specs.declared.cursor.LaneState.{LaneState}
 use Rattle.page_pool.specs.declared.cursor.LaneState.TheVariants.{Fresh, Held, Ended, Malformed}
@@ -36,22 +38,31 @@ use Rattle.split_passes.specs.Again.{IsFront}
 use Rattle.split_passes.specs.AllAgain.{AreFronts, owns, IsPackedAll}
 use Rattle.time_merge.proofs.Advancing.{same_length}
 use Rattle.split_passes.proofs.Running.{same_cpu}
-use Rattle.split_file.specs.NewFile.{front_len, front_text, table_of, file_text}
-use Rattle.split_file.proofs.Laid.{length-front, length-table}
+use Rattle.split_file.specs.NewFile.{front_len, front_text, table_of, in_table}
 use Rattle.split_tool.specs.declared.lists.Ends.{Ends}
 use Rattle.split_tool.specs.Counted.{lists_of, AreCounted}
 use Rattle.split_tool.specs.Lists.{groups, left_in_rows, bad_in_rows, lists_left, bad_left}
 use Rattle.split_tool.specs.Measured.{taken_of, FileMeasured, IsFileMeasured}
-use Rattle.split_tool.specs.Made.{next_text, FileLeft, Prepared, IsPrepared, IsWritten}
-use Rattle.split_tool.proofs.FileAfterFile.{len_parts}
-use Rattle.split_tool.proofs.FewItems.{filter_few}
+use Rattle.split_tool.specs.Made.{FileLeft, Prepared, IsPrepared, IsWritten}
+use Rattle.split_tool.proofs.FewItems.{few_in_list}
 use Rattle.split_tool.proofs.Owning.{IsNotLane, none_else}
 use Rattle.split_tool.proofs.Tables.{same_data}
 
 -- FRONTS
 
-own_fewer : (cpu : ℕ) (taken : List Keyed) → length (items_of_cpu cpu taken) ≤ length taken
-own_fewer cpu taken = omega (arith, length-map (with_key cpu_of cpu taken) (λ (x : Keyed). x.item), filter_few (λ (y : Keyed). eqb y.cpu cpu) taken)
+-- no processor's items are more than a tally counts
+abbrev pub FewEach : List Lane → List Keyed → Type 0
+FewEach lanes taken = (i : ℕ) (d : Lane) → i < length lanes → length (items_of_cpu (get_or lanes i d).cpu taken) < 2 ^ 63
+
+few_each : (l : Layout) (file : List ℕ) (first now : List Lane) (taken : List Keyed) → IsLayout l → length file < 2 ^ 64 → All (Stands l file) first
+    → ((i : ℕ) (d : Lane) → i < length first → left_of l file (get_or first i d) ≡ items_of_cpu (get_or first i d).cpu taken ++ left_of l file (get_or now i d)) → FewEach first taken
+few_each l file first now taken allowed small stands lefts i d lt =
+    let a = get_or first i d in
+    let b = get_or now i d in
+    let s = All-get_or (Stands l file) first i d lt stands in
+    let own : length (left_of l file a) ≡ length (items_of_cpu a.cpu taken ++ left_of l file b) = ap length (lefts i d lt) in
+    let whole : length (list_of l file a.part) ≡ length (s.used ++ left_of l file a) = ap length s.parted in
+    omega (arith, few_in_list l file a.part allowed, whole, length-append s.used (left_of l file a), own, length-append (items_of_cpu a.cpu taken) (left_of l file b), small)
 
 same_part : (ks bs : List Lane) (i : ℕ) (d : Lane) → i < length ks → i < length bs → parts_of ks ≡ parts_of bs → (get_or ks i d).part ≡ (get_or bs i d).part
 same_part ks bs i d lt lt2 e =
@@ -75,7 +86,7 @@ holds_some l file a xs ys ready s left some = by_state a.cursor.state refl
 fronts_all : (l : Layout) (file : List ℕ) (first now : List Lane) (fronts : List Place) (tallies : List Tally) (taken : List Keyed) → All (IsInOrder l) first → All (IsReady l) first → All (Stands l file) first
     → parts_of now ≡ parts_of first → ((i : ℕ) (d : Lane) (p : Place) → i < length first → get_or fronts i p ≡ place_in (get_or first i d))
     → ((i : ℕ) (d : Lane) → i < length first → left_of l file (get_or first i d) ≡ items_of_cpu (get_or first i d).cpu taken ++ left_of l file (get_or now i d))
-    → Tallied l first taken tallies → length taken < 2 ^ 63 → AreFronts l file now fronts tallies (owns first taken)
+    → Tallied l first taken tallies → FewEach first taken → AreFronts l file now fronts tallies (owns first taken)
 fronts_all l file first now fronts tallies taken order ready stands parts noted lefts tallied few =
     let same : length now ≡ length first = same_length now first parts in
     record {
@@ -85,7 +96,7 @@ fronts_all l file first now fronts tallies taken order ready stands parts noted 
           let a = get_or first i d in
           let b = get_or now i d in
           let list : get_or (owns first taken) i [] ≡ items_of_cpu a.cpu taken = get_or-map (λ (x : Lane). items_of_cpu x.cpu taken) first i d [] lt in
-          let count : (get_or tallies i t).items ≡ length (items_of_cpu a.cpu taken) = (tallied i d t lt (omega (arith, own_fewer a.cpu taken, few))).count in
+          let count : (get_or tallies i t).items ≡ length (items_of_cpu a.cpu taken) = (tallied i d t lt (few i d lt)).count in
           let part : b.part ≡ a.part = same_part now first i d lt0 lt parts in
           let s = All-get_or (Stands l file) first i d lt stands in
           let o = All-get_or (IsInOrder l) first i d lt order in
@@ -119,7 +130,7 @@ other_lanes c (b ∷ now) (f ∷ first) e a =
     let more : parts_of now ≡ parts_of first = ap other_parts e in
     ((λ same. a.0 (cpu ∙ same)), other_lanes c now first more a.1)
 
-counted : (l : Layout) (file : List ℕ) (rules : Rules) (first now : List Lane) (tallies : List Tally) → parts_of now ≡ parts_of first → Tallied l first (taken_of l file rules first) tallies → length (taken_of l file rules first) < 2 ^ 63
+counted : (l : Layout) (file : List ℕ) (rules : Rules) (first now : List Lane) (tallies : List Tally) → parts_of now ≡ parts_of first → Tallied l first (taken_of l file rules first) tallies → FewEach first (taken_of l file rules first)
     → AreCounted l now tallies (taken_of l file rules first)
 counted l file rules first now tallies parts tallied few =
     let taken = taken_of l file rules first in
@@ -128,8 +139,7 @@ counted l file rules first now tallies parts tallied few =
           let same : length now ≡ length first = same_length now first parts in
           let lt2 : i < length first = omega (arith, same, lt) in
           let cpu : (get_or now i d).cpu ≡ (get_or first i d).cpu = same_cpu now first i d lt lt2 parts in
-          let short : length (items_of_cpu (get_or first i d).cpu taken) < 2 ^ 63 = omega (arith, own_fewer (get_or first i d).cpu taken, few) in
-          subst (λ (c : ℕ). (length (items_of_cpu c taken) < 2 ^ 63) × IsTally l (get_or tallies i t) (items_of_cpu c taken)) (sym cpu) (short, tallied i d t lt2);
+          subst (λ (c : ℕ). (length (items_of_cpu c taken) < 2 ^ 63) × IsTally l (get_or tallies i t) (items_of_cpu c taken)) (sym cpu) (few i d lt2, tallied i d t lt2);
       none_else = λ c others. none_else l file rules first c (other_lanes c now first parts others);
     }
 
@@ -174,47 +184,28 @@ data_all : (l : Layout) (file : List ℕ) (rules : Rules) (lanes : List Lane) (c
 unfolding data_of
 data_all l file rules lanes cpus rise below = same_data l (taken_of l file rules lanes) cpus 0 lanes rise (cpus_from lanes) (cpus_below cpus lanes below) (λ c le others. none_else l file rules lanes c others)
 
-record Fits (header : Header) (file : List ℕ) (rules : Rules) (lanes : List Lane) : Type 0 where
-  front : front_len header < 2 ^ 64
-  whole : front_len header + length (data_of header.layout (lists_of header.cpus (taken_of header.layout file rules lanes))) < 2 ^ 64
-
-fits_in : (header : Header) (file : List ℕ) (rules : Rules) (lanes : List Lane) → IsHeader header → length (next_text header file rules lanes) < 2 ^ 64 → Fits header file rules lanes
-unfolding file_text
-fits_in header file rules lanes allowed short =
-    let lists = lists_of header.cpus (taken_of header.layout file rules lanes) in
-    let parts = table_of header lists in
-    let many : length parts ≡ header.cpus = length-table header lists ∙ length-map-range_with_len (λ cpu. items_of_cpu cpu (taken_of header.layout file rules lanes)) 0 header.cpus in
-    let front = length-front header parts allowed many in
-    let both = length-append (front_text header parts) (data_of header.layout lists) in
-    record { front = omega (arith, front, both, short); whole = omega (arith, front, both, short) }
-
 pub prepared : (header : Header) (file : List ℕ) (rules : Rules) (first ready now : List Lane) (fronts : List Place) (tallies : List Tally) (table0 table : List Part) (at : ℕ) (result : Option Ends)
     → IsHeader header → CpusRise (parts_of first) → All (λ (a : Lane). a.cpu < header.cpus) first → rows_of header.layout file ready ≡ rows_of header.layout file first → parts_of ready ≡ parts_of first → parts_of now ≡ parts_of ready
     → All (IsInOrder header.layout) ready → All (IsReady header.layout) ready → All (Stands header.layout file) ready
     → ((i : ℕ) (d : Lane) (p : Place) → i < length ready → get_or fronts i p ≡ place_in (get_or ready i d))
-    → (front_len header < 2 ^ 64 → at ≡ front_len header) → length table0 ≡ header.cpus
-    → ((xs : List Keyed) → AreCounted header.layout now tallies xs → at + length (data_of header.layout (lists_of (length table0) xs)) < 2 ^ 64 → table ≡ parts_from header.layout at (lists_of (length table0) xs))
-    → length (joined_lists (lists_left header.layout file rules first)) < 2 ^ 63 → length (next_text header file rules first) < 2 ^ 64
+    → at ≡ front_len header % 2 ^ 64 → length table0 ≡ header.cpus
+    → ((xs : List Keyed) (place : ℕ) → at ≡ place % 2 ^ 64 → AreCounted header.layout now tallies xs → table ≡ map in_table (parts_from header.layout place (lists_of (length table0) xs)))
+    → length file < 2 ^ 64
     → IsFileMeasured header.layout file rules ready now tallies result → IsPrepared header file rules first now fronts tallies table result
 unfolding table_of
-prepared header file rules first ready now fronts tallies table0 table at None allowed rise below rows parts later order are_ready stands noted place cpus filled few short m = tt
-prepared header file rules first ready now fronts tallies table0 table at (Some ends) allowed rise below rows parts later order are_ready stands noted place cpus filled few short m =
+prepared header file rules first ready now fronts tallies table0 table at None allowed rise below rows parts later order are_ready stands noted place cpus filled small m = tt
+prepared header file rules first ready now fronts tallies table0 table at (Some ends) allowed rise below rows parts later order are_ready stands noted place cpus filled small m =
     let l = header.layout in
     let taken1 = taken_of l file rules ready in
     let taken = taken_of l file rules first in
     let same : taken1 ≡ taken = ap (next_file rules.unit) (same_lists l file rules ready first rows) in
-    let some : length taken < 2 ^ 63 = omega (arith, few, len_parts rules.unit (lists_left l file rules first)) in
-    let some1 : length taken1 < 2 ^ 63 = subst (λ (xs : List Keyed). length xs < 2 ^ 63) (sym same) some in
-    let fits = fits_in header file rules first allowed short in
-    let at_is : at ≡ front_len header = place fits.front in
-    let count : AreCounted l now tallies taken = subst (AreCounted l now tallies) same (counted l file rules ready now tallies later m.tallied some1) in
-    let size : length (data_of l (lists_of (length table0) taken)) ≡ length (data_of l (lists_of header.cpus taken)) = ap (λ (n : ℕ). length (data_of l (lists_of n taken))) cpus in
-    let room : at + length (data_of l (lists_of (length table0) taken)) < 2 ^ 64 = omega (arith, at_is, size, fits.whole) in
+    let few : FewEach ready taken1 = few_each l file ready now taken1 (header_layout header allowed) small stands m.lefts in
+    let count : AreCounted l now tallies taken = subst (AreCounted l now tallies) same (counted l file rules ready now tallies later m.tallied few) in
     record {
       left = left_still l file rules first ready now now ends rows refl m.stands (record { stands = m.stands; left = m.left; more = m.more; bad_ends = m.bad_ends; bad = m.bad });
       fronts_are = subst (AreFronts l file now fronts tallies) (ap (owns ready) same ∙ same_owns ready first taken parts)
-          (fronts_all l file ready now fronts tallies taken1 order are_ready stands later noted m.lefts m.tallied some1);
-      table_is = filled taken count room ∙ ap (λ (n : ℕ). parts_from l at (lists_of n taken)) cpus ∙ ap (λ (n : ℕ). parts_from l n (lists_of header.cpus taken)) at_is;
+          (fronts_all l file ready now fronts tallies taken1 order are_ready stands later noted m.lefts m.tallied few);
+      table_is = filled taken (front_len header) place count ∙ ap (λ (n : ℕ). map in_table (parts_from l (front_len header) (lists_of n taken))) cpus;
       bytes = data_all l file rules first header.cpus rise below;
     }
 
@@ -222,26 +213,26 @@ pub prepared_told : (header : Header) (rules : Rules) (first ready now : List La
     → IsHeader header → CpusRise (parts_of first) → All (λ (a : Lane). a.cpu < header.cpus) first → parts_of ready ≡ parts_of first → parts_of now ≡ parts_of ready
     → All (IsInOrder header.layout) ready → All (IsReady header.layout) ready
     → ((i : ℕ) (d : Lane) (p : Place) → i < length ready → get_or fronts i p ≡ place_in (get_or ready i d))
-    → (front_len header < 2 ^ 64 → at ≡ front_len header) → length table0 ≡ header.cpus
-    → ((xs : List Keyed) → AreCounted header.layout now tallies xs → at + length (data_of header.layout (lists_of (length table0) xs)) < 2 ^ 64 → table ≡ parts_from header.layout at (lists_of (length table0) xs))
+    → at ≡ front_len header % 2 ^ 64 → length table0 ≡ header.cpus
+    → ((xs : List Keyed) (place : ℕ) → at ≡ place % 2 ^ 64 → AreCounted header.layout now tallies xs → table ≡ map in_table (parts_from header.layout place (lists_of (length table0) xs)))
     → ((i : ℕ) (t : Tally) → i < length tallies0 → IsTally header.layout (get_or tallies0 i t) [])
     → IfSome told (λ file. rows_of header.layout file ready ≡ rows_of header.layout file first)
     → IfSome told (λ file. All (Stands header.layout file) first → All (Stands header.layout file) ready)
     → IfSome now_told (λ file. All (Stands header.layout file) ready → ((i : ℕ) (t : Tally) → i < length tallies0 → IsTally header.layout (get_or tallies0 i t) []) → FileMeasured header.layout file rules ready now tallies ends)
-    → IfSome told (λ file. All (Stands header.layout file) first → length (joined_lists (lists_left header.layout file rules first)) < 2 ^ 63 → length (next_text header file rules first) < 2 ^ 64
+    → IfSome told (λ file. All (Stands header.layout file) first → length file < 2 ^ 64
     → Prepared header file rules first now fronts tallies table ends)
 prepared_told header rules first ready now fronts tallies0 tallies table0 table at ends None now_told e allowed rise below parts later order are_ready noted place cpus filled clear rows stands m = tt
-prepared_told header rules first ready now fronts tallies0 tallies table0 table at ends (Some file) now_told e allowed rise below parts later order are_ready noted place cpus filled clear rows stands m = λ s few short.
+prepared_told header rules first ready now fronts tallies0 tallies table0 table at ends (Some file) now_told e allowed rise below parts later order are_ready noted place cpus filled clear rows stands m = λ s small.
     let Measures : List ℕ → Type 0 = λ file. All (Stands header.layout file) ready → ((i : ℕ) (t : Tally) → i < length tallies0 → IsTally header.layout (get_or tallies0 i t) []) → FileMeasured header.layout file rules ready now tallies ends in
     let measured : Measures file = subst (λ (o : Option (List ℕ)). IfSome o Measures) e m in
-    prepared header file rules first ready now fronts tallies table0 table at (Some ends) allowed rise below rows parts later order are_ready (stands s) noted place cpus filled few short (measured (stands s) clear)
+    prepared header file rules first ready now fronts tallies table0 table at (Some ends) allowed rise below rows parts later order are_ready (stands s) noted place cpus filled small (measured (stands s) clear)
 
 -- the lists as they were written back
 pub prepared_back : (header : Header) (rules : Rules) (first now : List Lane) (fronts fronts1 : List Place) (tallies tallies1 : List Tally) (table table1 : List Part) (ends : Ends) (told : Option (List ℕ)) → fronts1 ≡ fronts → tallies1 ≡ tallies → table1 ≡ table
-    → IfSome told (λ file. All (Stands header.layout file) first → length (joined_lists (lists_left header.layout file rules first)) < 2 ^ 63 → length (next_text header file rules first) < 2 ^ 64 → Prepared header file rules first now fronts tallies table ends)
-    → IfSome told (λ file. All (Stands header.layout file) first → length (joined_lists (lists_left header.layout file rules first)) < 2 ^ 63 → length (next_text header file rules first) < 2 ^ 64 → Prepared header file rules first now fronts1 tallies1 table1 ends)
+    → IfSome told (λ file. All (Stands header.layout file) first → length file < 2 ^ 64 → Prepared header file rules first now fronts tallies table ends)
+    → IfSome told (λ file. All (Stands header.layout file) first → length file < 2 ^ 64 → Prepared header file rules first now fronts1 tallies1 table1 ends)
 prepared_back header rules first now fronts fronts1 tallies tallies1 table table1 ends told a b c p =
-    let Goal : List Place → List Tally → List Part → Type 0 = λ fs ts ps. IfSome told (λ file. All (Stands header.layout file) first → length (joined_lists (lists_left header.layout file rules first)) < 2 ^ 63 → length (next_text header file rules first) < 2 ^ 64
+    let Goal : List Place → List Tally → List Part → Type 0 = λ fs ts ps. IfSome told (λ file. All (Stands header.layout file) first → length file < 2 ^ 64
     → Prepared header file rules first now fs ts ps ends) in
     subst (λ (fs : List Place). Goal fs tallies1 table1) (sym a) (subst (λ (ts : List Tally). Goal fronts ts table1) (sym b) (subst (λ (ps : List Part). Goal fronts tallies ps) (sym c) p))
 

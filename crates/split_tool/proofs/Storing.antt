@@ -1,12 +1,16 @@
 -- Files that stand in a folder, one more after another.
-use Rattle.std.proofs.Common.{◌≡◌, ℕ, List, [], ◌∷◌, ◌++◌, length, take, slice_get, Option, Some, None, refl, sym, ap, subst, ◌∙◌, append_assoc, append-nil, Result, arith}
+use Rattle.std.proofs.Common.{◌≡◌, ◌≤◌, ◌⊎◌, ℕ, List, [], ◌∷◌, ◌++◌, inl, inr, length, take, slice_get, Option, Some, None, refl, sym, ap, subst, ◌∙◌, append_assoc, append-nil, arith}
 use Rattle.std.specs.Option.{IfSome, IsSomeAnd}
 use Rattle.std.specs.FinMap.{insert}
 use Rattle.std.proofs.lemmas.List.{take_at}
 use Rattle.trace_outside.specs.Names.{NamedFiles, SameBut}
 use Rattle.trace_outside.specs.declared.counts.Counts.{Counts}
-use Rattle.trace_outside.specs.Folders.{Creates, Drops, Finishes, KeepsOthers}
-use Rattle.split_tool.specs.Stored.{KeepsCounts, NewFile, Stored, FilesStored, SameButNext, FirstFilesStored}
+use Rattle.trace_outside.specs.Causes.{Rose, raised}
+use Rattle.trace_outside.specs.Folders.{KeepsOthers}
+use Rattle.time_merge.specs.declared.ending.End.{End}
+use Rattle.split_tool.specs.Made.{IsUnmade}
+use Rattle.split_tool.specs.NewFiles.{LeavesUnfinished, end_by}
+use Rattle.split_tool.specs.Stored.{KeepsCounts, NewFile, Stored, FilesStored, IsNextOpen, FirstFilesStored}
 
 -- files that stand in the folder by now, and those that are to come
 pub record Stage (news more : List NewFile) (files : NamedFiles) (now : Option NamedFiles) : Type 0 where
@@ -53,6 +57,10 @@ first_few news more files now s =
     let few : s.done ≡ take (length s.done) news = sym (take_at s.done more (length s.done) refl) ∙ ap (take (length s.done)) (sym s.whole) in
     subst (λ (ds : List NewFile). Stored ds files s.middle) few s.stored
 
+some_after : (new : Option NamedFiles) (P Q : NamedFiles → Type 0) → ((after : NamedFiles) → P after → Q after) → IsSomeAnd new P → IsSomeAnd new Q
+some_after None P Q f h = h
+some_after (Some after) P Q f h = f after h
+
 -- the folder is as before
 pub some_stored : (news more : List NewFile) (old now new : Option NamedFiles) → new ≡ now → Stages news more old now → (count : ℕ) × FilesStored (take count news) old new
 some_stored news more None now new same s = (0, tt)
@@ -63,22 +71,41 @@ next_at : (done : List NewFile) (f : NewFile) (more : List NewFile) → slice_ge
 next_at [] f more = refl
 next_at (d ∷ done) f more = next_at done f more
 
-some_after : (new : Option NamedFiles) (P Q : NamedFiles → Type 0) → ((after : NamedFiles) → P after → Q after) → IsSomeAnd new P → IsSomeAnd new Q
-some_after None P Q f h = h
-some_after (Some after) P Q f h = f after h
+-- a fault of writing at the next file, whose name may be open
+pub first_stored : (news more : List NewFile) (f : NewFile) (counts now_counts : Counts) (old now new : Option NamedFiles) → IsUnmade counts.unfinished now_counts.unfinished f.name now new → Stages news (f ∷ more) old now
+    → FirstFilesStored news counts now_counts old new
+first_stored news more f counts now_counts None now new unmade s = tt
+first_stored news more f counts now_counts (Some files) now new unmade s = elim unmade [
+  | inl same ↦ subst (λ (o : Option NamedFiles). IsSomeAnd o Few) (sym (same ∙ s.told)) (count, s.middle, few, inl refl)
+  | inr both ↦
+      let others : IsSomeAnd new (λ after. SameBut f.name s.middle after) = subst (λ (o : Option NamedFiles). IfSome o (λ m. IsSomeAnd new (λ after. SameBut f.name m after))) s.told both.1 in
+      some_after new _ Few (λ after h. (count, s.middle, few, inr (both.0, subst (λ (o : Option NewFile). IsNextOpen o s.middle after) (sym next) h))) others
+]
+  where
+    count : ℕ
+    count = length s.done
 
--- of the next file's name nothing is said
-pub first_stored : (news more : List NewFile) (f : NewFile) (old now new : Option NamedFiles) → KeepsOthers now new f.name → Stages news (f ∷ more) old now → FirstFilesStored news old new
-first_stored news more f None now new keeps s = tt
-first_stored news more f (Some files) now new keeps s =
-    let others : IsSomeAnd new (λ after. SameBut f.name s.middle after) = subst (λ (o : Option NamedFiles). IfSome o (λ m. IsSomeAnd new (λ after. SameBut f.name m after))) s.told keeps in
-    let next : slice_get news (length s.done) ≡ Some f = ap (λ (ns : List NewFile). slice_get ns (length s.done)) s.whole ∙ next_at s.done f more in
-    some_after new _ _ (λ after h. (length s.done, s.middle, first_few news (f ∷ more) files now s, subst (λ (o : Option NewFile). SameButNext o s.middle after) (sym next) h)) others
+    few : Stored (take count news) files s.middle
+    few = first_few news (f ∷ more) files now s
 
--- a folder that is as before keeps the others too
-pub same_others : (now new : Option NamedFiles) (name : List ℕ) → new ≡ now → KeepsOthers now new name
-same_others None new name same = tt
-same_others (Some files) new name same = subst (λ (o : Option NamedFiles). IsSomeAnd o (λ after. SameBut name files after)) (sym same) (λ other differs. refl)
+    next : slice_get news count ≡ Some f
+    next = ap (λ (ns : List NewFile). slice_get ns count) s.whole ∙ next_at s.done f more
+
+    Few : NamedFiles → Type 0
+    Few after = (n : ℕ) × (middle : NamedFiles) × Stored (take n news) files middle
+        × ((after ≡ middle) ⊎ (Rose counts.unfinished now_counts.unfinished × IsNextOpen (slice_get news n) middle after))
+
+-- finishing a file failed
+pub unmade_finish : (first before now : ℕ) (name own : List ℕ) (old mid new : Option NamedFiles) → mid ≡ old → own ≡ name → before ≡ first → now ≡ raised before 1 → KeepsOthers mid new own → IsUnmade first now name old new
+unmade_finish first before now name own old mid new files named same one keeps =
+    inr (omega (arith, same, one), subst (λ (m : Option NamedFiles). KeepsOthers m new name) files (subst (KeepsOthers mid new) named keeps))
+
+-- a count that rose since then rose since before
+pub unmade_since : (first before now : ℕ) (name : List ℕ) (old new : Option NamedFiles) → first ≤ before → IsUnmade before now name old new → IsUnmade first now name old new
+unmade_since first before now name old new later unmade = elim unmade [
+  | inl same ↦ inl same
+  | inr both ↦ inr (omega (arith, both.0, later), both.1)
+]
 
 -- ---- counts
 
@@ -86,17 +113,18 @@ pub kept_twice : (before mid now : Counts) → KeepsCounts before mid → KeepsC
 kept_twice before mid now one two = record {
   reading = omega (arith, one.reading, two.reading);
   writing = omega (arith, one.writing, two.writing);
+  unfinished = omega (arith, one.unfinished, two.unfinished);
   misses = two.misses ∙ one.misses;
   opened = two.opened ∙ one.opened;
   closed = two.closed ∙ one.closed;
   bytes = two.bytes ∙ one.bytes;
 }
 
-pub created_kept : {O E : Type 0} (before now : Counts) (result : Result O E) → Creates before now result → KeepsCounts before now
-created_kept before now result c = record { reading = c.reading; writing = c.writing; misses = c.misses; opened = c.opened; closed = c.closed; bytes = c.bytes }
+-- HOW MANY FILES COULD NOT BE FINISHED
 
-pub finished_kept : {E : Type 0} (faults : ℕ) (before now : Counts) (result : Result Unit E) → Finishes faults before now result → KeepsCounts before now
-finished_kept faults before now result f = record { reading = f.reading; writing = f.writing; misses = f.use_kept.misses; opened = f.use_kept.opened; closed = f.use_kept.closed; bytes = f.use_kept.bytes }
+pub leaves_none : (o : Option (ℕ × ℕ)) (result : End) (before now : ℕ) → result ≡ end_by o → now ≡ before → LeavesUnfinished before now result
+leaves_none None result before now is same = subst (λ (end : End). LeavesUnfinished before now end) (sym is) same
+leaves_none (Some bad) result before now is same = subst (λ (end : End). LeavesUnfinished before now end) (sym is) same
 
-pub dropped_kept : (faults : ℕ) (before now : Counts) → Drops faults before now → KeepsCounts before now
-dropped_kept faults before now d = record { reading = d.reading; writing = d.writing; misses = d.use_kept.misses; opened = d.use_kept.opened; closed = d.use_kept.closed; bytes = d.use_kept.bytes }
+pub leaves_since : (result : End) (first before now : ℕ) → before ≡ first → LeavesUnfinished before now result → LeavesUnfinished first now result
+leaves_since result first before now same leaves = subst (λ (n : ℕ). LeavesUnfinished n now result) same leaves

@@ -2,63 +2,32 @@
 use Rattle.std.proofs.Common.{◌≡◌, ℕ, zero, suc, ◌+◌, ◌-◌, ◌*◌, ◌%◌, ◌^◌, ◌<◌, ◌≤◌, eqb, List, [], ◌∷◌, ◌++◌, length, get_or, set, take, map, refl, sym, ap, subst, ◌∙◌, inl, inr, arith}
 use Rattle.std.specs.List.{flat_map, range_with_len}
 use Rattle.std.proofs.lemmas.Bool.{cases_Bool, cases_lt, eqb-true, eqb-false}
-use Rattle.std.proofs.lemmas.List.{length-append, length-replicate, take_all}
-use Rattle.std.proofs.Math.Nat.{mod-eq_of_lt}
+use Rattle.std.proofs.lemmas.List.{take_all}
 use Rattle.std.proofs.lemmas.List.FromFn.{map-range_with_len_more}
 use Rattle.trace_base.specs.declared.layout.Layout.{Layout}
 use Rattle.trace_base.specs.declared.part.Part.{Part}
-use Rattle.trace_base.specs.Layout.{IsLayout}
 use Rattle.subpage.specs.ItemData.{ItemData}
 use Rattle.subpage.specs.Arrangement.{Keyed, CpusRise}
 use Rattle.page_pool.specs.declared.lane.Lane.{Lane}
-use Rattle.page_write.specs.PageBytes.{page_of, front_text, data_text, area_len}
+use Rattle.page_write.specs.PageBytes.{page_of}
 use Rattle.page_write.specs.Pack.{packed, pack}
-use Rattle.page_write.specs.Placed.{parts_from, data_of}
-use Rattle.page_write.specs.Record.{zeros}
-use Rattle.page_write.proofs.Pages.{front_long}
+use Rattle.page_write.specs.Placed.{parts_from}
 use Rattle.time_merge.specs.Rows.{Each}
 use Rattle.time_merge.specs.LaneRows.{parts_of}
 use Rattle.split_pieces.specs.Cuts.{items_of_cpu}
 use Rattle.split_passes.specs.AllAgain.{owns}
 use Rattle.split_passes.specs.Tallies.{IsTally}
 use Rattle.split_passes.specs.declared.tally.Tally.{Tally}
+use Rattle.split_file.specs.NewFile.{in_table}
 use Rattle.split_tool.specs.Counted.{lists_of, AreCounted}
 use Rattle.split_tool.proofs.Owning.{IsNotLane, each_as, each_at, above, tail_rises}
 use Rattle.split_tool.proofs.OneByOne.{each_from}
 
 -- SIZES
 
-page_least : (l : Layout) (xs : List ItemData) → IsLayout l → l.page ≤ length (page_of l xs)
-unfolding page_of
-page_least l xs allowed =
-    let told = data_text l xs in
-    let padding = zeros (area_len l - length told) in
-    omega (
-      arith,
-      length-append (front_text l xs) (told ++ padding),
-      length-append told padding,
-      length-replicate {A = ℕ} (area_len l - length told) 0,
-      front_long l xs allowed,
-      allowed.data_in_front,
-      allowed.page_least,
-    )
-
-pages_least : (l : Layout) (pages : List (List ItemData)) → IsLayout l → length pages * l.page ≤ length (flat_map (page_of l) pages)
-pages_least l [] allowed = omega arith
-pages_least l (xs ∷ pages) allowed = omega (arith, length-append (page_of l xs) (flat_map (page_of l) pages), page_least l xs allowed, pages_least l pages allowed)
-
-pub pack_least : (l : Layout) (xs : List ItemData) → IsLayout l → length (packed l xs) * l.page ≤ length (pack l xs)
-unfolding pack
-pack_least l xs allowed = pages_least l (packed l xs) allowed
-
 abbrev pub size_in : Layout → List (List ItemData) → ℕ
 size_in l [] = 0
 size_in l (xs ∷ lists) = length (packed l xs) * l.page + size_in l lists
-
-pub size_least : (l : Layout) (lists : List (List ItemData)) → IsLayout l → size_in l lists ≤ length (data_of l lists)
-unfolding data_of
-size_least l [] allowed = omega arith
-size_least l (xs ∷ lists) allowed = omega (arith, length-append (pack l xs) (flat_map (pack l) lists), pack_least l xs allowed, size_least l lists allowed)
 
 pub size_push : (l : Layout) (lists : List (List ItemData)) (xs : List ItemData) → size_in l (lists ++ xs ∷ []) ≡ size_in l lists + length (packed l xs) * l.page
 size_push l [] xs = omega arith
@@ -95,14 +64,14 @@ size_upto l xs n cpus le =
     let same : size_in l (lists_of (n + (cpus - n)) xs) ≡ size_in l (lists_of cpus xs) = ap (λ (k : ℕ). size_in l (lists_of k xs)) (omega (arith, le)) in
     omega (arith, same, fewer_by l xs n (cpus - n))
 
--- what one processor adds to the table
+-- what one processor adds to the table, whose numbers are told modulo 2^64
 pub record FilledTo (l : Layout) (at : ℕ) (n : ℕ) (xs : List Keyed) (place : ℕ) (table : List Part) : Type 0 where
-  pub place_is : place ≡ at + size_in l (lists_of n xs)
-  pub parts : take n table ≡ parts_from l at (lists_of n xs)
+  pub place_is : place ≡ (at + size_in l (lists_of n xs)) % 2 ^ 64
+  pub parts : take n table ≡ map in_table (parts_from l at (lists_of n xs))
 
-pub filled_none : (l : Layout) (at : ℕ) (xs : List Keyed) (table : List Part) → FilledTo l at 0 xs at table
+pub filled_none : (l : Layout) (at place : ℕ) (xs : List Keyed) (table : List Part) → place ≡ at % 2 ^ 64 → FilledTo l at 0 xs place table
 unfolding parts_from
-filled_none l at xs table = record { place_is = omega arith; parts = refl }
+filled_none l at place xs table is = record { place_is = omega (arith, is); parts = refl }
 
 take_set_more : (table : List Part) (n : ℕ) (part : Part) → n < length table → take (n + 1) (set table n part) ≡ take n table ++ part ∷ []
 take_set_more [] n part lt = absurd (omega (arith, lt))
@@ -111,8 +80,12 @@ take_set_more (p ∷ table) (suc n) part lt =
     let further : suc n + 1 ≡ suc (n + 1) = omega arith in
     ap (λ (m : ℕ). take m (p ∷ set table n part)) further ∙ ap (λ (ps : List Part). p ∷ ps) (take_set_more table n part (omega (arith, lt)))
 
+in_table_more : (parts : List Part) (part : Part) → map in_table (parts ++ part ∷ []) ≡ map in_table parts ++ in_table part ∷ []
+in_table_more [] part = refl
+in_table_more (p ∷ parts) part = ap (λ (ps : List Part). in_table p ∷ ps) (in_table_more parts part)
+
 pub filled_more : (l : Layout) (at n : ℕ) (xs : List Keyed) (place after size : ℕ) (table : List Part) → n < length table
-    → size ≡ length (packed l (items_of_cpu n xs)) * l.page → after ≡ place + size → FilledTo l at n xs place table
+    → size ≡ (length (packed l (items_of_cpu n xs)) * l.page) % 2 ^ 64 → after ≡ (place + size) % 2 ^ 64 → FilledTo l at n xs place table
     → FilledTo l at (n + 1) xs after (set table n (record { offset = place; size = size }))
 filled_more l at n xs place after size table lt size_is after_is f =
     let lists = lists_of n xs in
@@ -122,10 +95,11 @@ filled_more l at n xs place after size table lt size_is after_is f =
       place_is = omega (arith, more, size_push l lists mine, size_is, after_is, f.place_is);
       parts = take_set_more table n (made place size) lt
           ∙ ap (λ (ps : List Part). ps ++ made place size ∷ []) f.parts
-          ∙ ap (λ (k : ℕ). parts_from l at lists ++ made k size ∷ []) f.place_is
-          ∙ ap (λ (k : ℕ). parts_from l at lists ++ made (at + size_in l lists) k ∷ []) size_is
-          ∙ sym (parts_push l at lists mine)
-          ∙ ap (parts_from l at) (sym (lists_more n xs));
+          ∙ ap (λ (k : ℕ). map in_table (parts_from l at lists) ++ made k size ∷ []) f.place_is
+          ∙ ap (λ (k : ℕ). map in_table (parts_from l at lists) ++ made ((at + size_in l lists) % 2 ^ 64) k ∷ []) size_is
+          ∙ sym (in_table_more (parts_from l at lists) (made (at + size_in l lists) (length (packed l mine) * l.page)))
+          ∙ ap (map in_table) (sym (parts_push l at lists mine))
+          ∙ ap (λ (more : List (List ItemData)). map in_table (parts_from l at more)) (sym (lists_more n xs));
     }
   where
     made : ℕ → ℕ → Part
@@ -222,29 +196,21 @@ pub filled_empty : (l : Layout) (at cpu next : ℕ) (lanes : List Lane) (tallies
 filled_empty l at cpu next lanes tallies xs place table lt rise never before behind counted f =
     let none : items_of_cpu cpu xs ≡ [] = counted.none_else cpu (no_lane lanes next cpu before (behind_more lanes next cpu rise never behind)) in
     let empty : length (packed l (items_of_cpu cpu xs)) ≡ 0 = ap (λ (ys : List ItemData). length (packed l ys)) none ∙ ap length (packed_nil l) in
-    let zero_size : 0 ≡ 0 * l.page = omega arith in
-    let size : 0 ≡ length (packed l (items_of_cpu cpu xs)) * l.page = zero_size ∙ ap (λ (n : ℕ). n * l.page) (sym empty) in
-    filled_more l at cpu xs place place 0 table lt size (omega arith) f
+    let zero_size : 0 ≡ (0 * l.page) % 2 ^ 64 = omega arith in
+    let size : 0 ≡ (length (packed l (items_of_cpu cpu xs)) * l.page) % 2 ^ 64 = zero_size ∙ ap (λ (n : ℕ). (n * l.page) % 2 ^ 64) (sym empty) in
+    filled_more l at cpu xs place place 0 table lt size (omega (arith, f.place_is)) f
 
-pub filled_lane : (l : Layout) (at cpu next : ℕ) (lanes : List Lane) (tallies : List Tally) (t : Tally) (pages : ℕ) (xs : List Keyed) (place after size : ℕ) (table old : List Part) → IsLayout l → cpu < length table → length table ≡ length old → next < length lanes
+pub filled_lane : (l : Layout) (at cpu next : ℕ) (lanes : List Lane) (tallies : List Tally) (t : Tally) (pages : ℕ) (xs : List Keyed) (place after size : ℕ) (table : List Part) → cpu < length table → next < length lanes
     → ((d : Lane) → (get_or lanes next d).cpu ≡ cpu) → t ≡ get_or tallies next t → ((ys : List ItemData) → length ys < 2 ^ 63 → IsTally l t ys → pages ≡ length (packed l ys)) → size ≡ (pages * l.page) % 2 ^ 64 → after ≡ (place + size) % 2 ^ 64
-    → AreCounted l lanes tallies xs → at + length (data_of l (lists_of (length old) xs)) < 2 ^ 64 → FilledTo l at cpu xs place table → FilledTo l at (cpu + 1) xs after (set table cpu (record { offset = place; size = size }))
-filled_lane l at cpu next [] tallies t pages xs place after size table old allowed lt same inside here is known size_is after_is counted short f = absurd (omega (arith, inside))
-filled_lane l at cpu next (a ∷ lanes) tallies t pages xs place after size table old allowed lt same inside here is known size_is after_is counted short f =
+    → AreCounted l lanes tallies xs → FilledTo l at cpu xs place table → FilledTo l at (cpu + 1) xs after (set table cpu (record { offset = place; size = size }))
+filled_lane l at cpu next [] tallies t pages xs place after size table lt inside here is known size_is after_is counted f = absurd (omega (arith, inside))
+filled_lane l at cpu next (a ∷ lanes) tallies t pages xs place after size table lt inside here is known size_is after_is counted f =
     let told : (length (items_of_cpu cpu xs) < 2 ^ 63) × IsTally l (get_or tallies next t) (items_of_cpu cpu xs) =
     subst (λ (c : ℕ). (length (items_of_cpu c xs) < 2 ^ 63) × IsTally l (get_or tallies next t) (items_of_cpu c xs)) (here a) (counted.tallied next a t inside) in
     let count : pages ≡ length (packed l (items_of_cpu cpu xs)) = known (items_of_cpu cpu xs) told.0 (subst (λ (u : Tally). IsTally l u (items_of_cpu cpu xs)) (sym is) told.1) in
-    let mine = length (packed l (items_of_cpu cpu xs)) * l.page in
-    let exact : pages * l.page ≡ mine = ap (λ (n : ℕ). n * l.page) count in
-    let most = size_upto l xs (cpu + 1) (length old) (omega (arith, lt, same)) in
-    let least = size_least l (lists_of (length old) xs) allowed in
-    let more : size_in l (lists_of (cpu + 1) xs) ≡ size_in l (lists_of cpu xs) + mine = ap (size_in l) (lists_more cpu xs) ∙ size_push l (lists_of cpu xs) (items_of_cpu cpu xs) in
-    let fits : mine < 2 ^ 64 = omega (arith, more, most, least, short) in
-    let whole : size ≡ mine = size_is ∙ ap (λ (n : ℕ). n % 2 ^ 64) exact ∙ mod-eq_of_lt fits in
-    let room : place + size < 2 ^ 64 = omega (arith, f.place_is, whole, more, most, least, short) in
-    filled_more l at cpu xs place after size table lt whole (after_is ∙ mod-eq_of_lt room) f
+    filled_more l at cpu xs place after size table lt (size_is ∙ ap (λ (n : ℕ). (n * l.page) % 2 ^ 64) count) after_is f
 
-pub all_filled : (l : Layout) (at n : ℕ) (xs : List Keyed) (place : ℕ) (table old : List Part) → length table ≡ length old → length old ≤ n → n ≤ length old → FilledTo l at n xs place table → table ≡ parts_from l at (lists_of (length old) xs)
+pub all_filled : (l : Layout) (at n : ℕ) (xs : List Keyed) (place : ℕ) (table old : List Part) → length table ≡ length old → length old ≤ n → n ≤ length old → FilledTo l at n xs place table → table ≡ map in_table (parts_from l at (lists_of (length old) xs))
 all_filled l at n xs place table old same le ge f =
     let is : n ≡ length old = omega (arith, le, ge) in
-    sym (take_all n table (omega (arith, same, le))) ∙ f.parts ∙ ap (λ (k : ℕ). parts_from l at (lists_of k xs)) is
+    sym (take_all n table (omega (arith, same, le))) ∙ f.parts ∙ ap (λ (k : ℕ). map in_table (parts_from l at (lists_of k xs))) is

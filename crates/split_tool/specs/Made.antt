@@ -1,9 +1,10 @@
 -- One new file on its way.
-use Rattle.std.specs.Prelude.{◌≡◌, ℕ, true, false, ◌&&◌, List, ◌++◌, IfSome, Option, Result, Some, None, Ok, Err}
+use Rattle.std.specs.Prelude.{◌≡◌, ℕ, true, false, ◌&&◌, ◌⊎◌, List, ◌++◌, map, IfSome, Option, Result, Some, None, Ok, Err}
 use Rattle.std.specs.List.{All}
 use Rattle.std.specs.FinMap.{insert}
 use Rattle.trace_base.specs.declared.layout.Layout.{Layout}
 use Rattle.trace_base.specs.declared.part.Part.{Part}
+use Rattle.trace_outside.specs.Causes.{Rose}
 use Rattle.trace_outside.specs.Names.{NamedFiles}
 use Rattle.trace_outside.specs.Folders.{KeepsOthers}
 use Rattle.trace_outside.specs.Writing.{Gained}
@@ -20,7 +21,7 @@ use Rattle.split_pieces.specs.declared.rules.Rules.{Rules}
 use Rattle.split_pieces.specs.Pieces.{is_some_left, joined_lists, behind_file}
 use Rattle.split_passes.specs.AllAgain.{AreFronts, owns}
 use Rattle.split_passes.specs.declared.tally.Tally.{Tally}
-use Rattle.split_file.specs.NewFile.{file_text, front_text, table_of}
+use Rattle.split_file.specs.NewFile.{file_text, front_text, in_table, table_of}
 use Rattle.split_tool.specs.declared.lists.Ends.{Ends}
 use Rattle.split_tool.specs.Counted.{lists_of}
 use Rattle.split_tool.specs.Lists.{lists_left, bad_left}
@@ -38,11 +39,11 @@ pub record FileLeft (layout : Layout) (file : List ℕ) (rules : Rules) (first n
   pub bad_ends : (ends.more && rules.repeat) ≡ false → ends.bad ≡ bad_left layout file rules first
   pub bad : rules.repeat ≡ true → bad_left layout file rules now ≡ bad_left layout file rules first
 
--- a file was measured, and its table is known
+-- a file was measured, and its table is known, whose numbers are told modulo 2^64
 pub record Prepared (header : Header) (file : List ℕ) (rules : Rules) (first now : List Lane) (fronts : List Place) (tallies : List Tally) (table : List Part) (ends : Ends) : Type 0 where
   pub left : FileLeft header.layout file rules first now ends
   pub fronts_are : AreFronts header.layout file now fronts tallies (owns first (taken_of header.layout file rules first))
-  pub table_is : table ≡ table_of header (lists_of header.cpus (taken_of header.layout file rules first))
+  pub table_is : table ≡ map in_table (table_of header (lists_of header.cpus (taken_of header.layout file rules first)))
   pub bytes : data_of header.layout (owns first (taken_of header.layout file rules first))
       ≡ data_of header.layout (lists_of header.cpus (taken_of header.layout file rules first))
 
@@ -67,9 +68,14 @@ pub record Made (header : Header) (file : List ℕ) (rules : Rules) (name : List
   pub left : FileLeft header.layout file rules first now ends
   pub stored : IfSome old (λ files. new ≡ Some (insert files name (next_text header file rules first)))
 
-abbrev pub IsMade : Header → List ℕ → Rules → List ℕ → List Lane → List Lane → Option NamedFiles → Option NamedFiles → Result Ends End → Type 0
-IsMade header file rules name first now old new (Ok ends) = Made header file rules name first now old new ends
-IsMade header file rules name first now old new (Err code.Done) = ⊥
-IsMade header file rules name first now old new (Err (code.Malformed cpu page)) = ⊥
-IsMade header file rules name first now old new (Err code.Read) = new ≡ old
-IsMade header file rules name first now old new (Err code.Write) = KeepsOthers old new name
+-- A fault of writing: the map is as it was. Only where the count of files that could not be finished rose, nothing is said of
+-- this one name.
+abbrev pub IsUnmade : ℕ → ℕ → List ℕ → Option NamedFiles → Option NamedFiles → Type 0
+IsUnmade unfinished now_unfinished name old new = (new ≡ old) ⊎ (Rose unfinished now_unfinished × KeepsOthers old new name)
+
+abbrev pub IsMade : Header → List ℕ → Rules → List ℕ → List Lane → List Lane → ℕ → ℕ → Option NamedFiles → Option NamedFiles → Result Ends End → Type 0
+IsMade header file rules name first now unfinished now_unfinished old new (Ok ends) = Made header file rules name first now old new ends
+IsMade header file rules name first now unfinished now_unfinished old new (Err code.Done) = ⊥
+IsMade header file rules name first now unfinished now_unfinished old new (Err (code.Malformed cpu page)) = ⊥
+IsMade header file rules name first now unfinished now_unfinished old new (Err code.Read) = new ≡ old
+IsMade header file rules name first now unfinished now_unfinished old new (Err code.Write) = IsUnmade unfinished now_unfinished name old new

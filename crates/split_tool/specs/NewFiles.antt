@@ -2,6 +2,7 @@
 -- Source: trace-cmd-split(1).
 use Rattle.std.specs.Prelude.{◌≡◌, ◌≤◌, ℕ, ◌+◌, List, [], ◌∷◌, take, Option, Some, None}
 use Rattle.trace_base.specs.declared.part.Part.{Part}
+use Rattle.trace_outside.specs.declared.counts.Counts.{Counts}
 use Rattle.trace_outside.specs.Names.{NamedFiles}
 use Rattle.trace_outside.specs.Causes.{raised}
 use Rattle.trace_args.specs.Command.{SplitData}
@@ -11,12 +12,12 @@ use Rattle.time_merge.specs.declared.ending.End.{End}
 use Rattle.time_merge.specs.declared.ending.End.TheVariants as code
 use Rattle.split_pieces.specs.Cuts.{bad_reached, file_items}
 use Rattle.split_file.specs.Names.{file_name}
-use Rattle.split_file.specs.NewFile.{file_text}
+use Rattle.split_file.specs.NewFile.{ReadsBack, file_text}
 use Rattle.split_tool.specs.Counted.{lists_of}
 use Rattle.split_tool.specs.Rules.{rules_of}
 use Rattle.split_tool.specs.Stored.{NewFile, FilesStored, FirstFilesStored}
 
--- the files of these items, numbered from n on
+-- the files of these items, numbered from n on; their tables tell numbers modulo 2^64
 abbrev pub files_from : Header → List ℕ → ℕ → List (List Keyed) → List NewFile
 files_from header base n [] = []
 files_from header base n (xs ∷ more) =
@@ -36,13 +37,26 @@ abbrev pub end_of : SplitData → Header → List ℕ → List (ℕ × Part) →
 end_of words header bytes parts = end_by (bad_reached (rules_of words) header.layout bytes parts)
 
 -- what a split that was to make these files and end so did to a folder, by its answer
-abbrev pub IsSplit : List NewFile → End → Option NamedFiles → Option NamedFiles → End → Type 0
-IsSplit news end before now code.Read = (count : ℕ) × FilesStored (take count news) before now
-IsSplit news end before now code.Write = FirstFilesStored news before now
-IsSplit news end before now answer = (answer ≡ end) × FilesStored news before now
+abbrev pub IsSplit : List NewFile → End → Counts → Counts → Option NamedFiles → Option NamedFiles → End → Type 0
+IsSplit news end counts now_counts before now code.Read = (count : ℕ) × FilesStored (take count news) before now
+IsSplit news end counts now_counts before now code.Write = FirstFilesStored news counts now_counts before now
+IsSplit news end counts now_counts before now answer = (answer ≡ end) × FilesStored news before now
 
 -- a file is created for each new one, after a fault for at most so many
 abbrev pub Creates : ℕ → ℕ → ℕ → End → Type 0
 Creates count before now code.Read = now ≤ raised before count
 Creates count before now code.Write = now ≤ raised before count
 Creates count before now answer = now ≡ raised before count
+
+-- how many files could not be finished: none, and after a fault of writing at most one
+abbrev pub LeavesUnfinished : ℕ → ℕ → End → Type 0
+LeavesUnfinished before now code.Write = (before ≤ now) × (now ≤ raised before 1)
+LeavesUnfinished before now answer = now ≡ before
+
+-- each of these files reads back to just its items, processor by processor
+abbrev pub ReadBack : Header → List (List Keyed) → List NewFile → Type 0
+ReadBack header [] [] = Unit {0}
+ReadBack header [] (file ∷ files) = ⊥
+ReadBack header (xs ∷ items) [] = ⊥
+ReadBack header (xs ∷ items) (file ∷ files) =
+    ReadsBack header (lists_of header.cpus xs) file.content × ReadBack header items files

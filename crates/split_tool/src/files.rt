@@ -7,12 +7,11 @@ ghost use Rattle.subpage.specs.Arrangement.{CpusRise};
 ghost use Rattle.subpage.specs.ItemData.{ItemData};
 ghost use Rattle.event_cursor.specs.Standing.{IsInOrder, Stands};
 ghost use Rattle.time_merge.specs.LaneRows.{parts_of};
-ghost use Rattle.split_pieces.specs.Pieces.{joined_lists};
 ghost use Rattle.split_passes.specs.AllAgain.{AreFronts};
 ghost use Rattle.split_passes.specs.Reads.{all_packing};
 ghost use Rattle.split_file.specs.Names.{file_name};
-ghost use Rattle.split_tool.specs.Lists.{lists_left};
-ghost use Rattle.split_tool.specs.Made.{IsMade, IsPrepared, IsWritten, next_text};
+ghost use Rattle.split_tool.specs.Made.{IsMade, IsPrepared, IsWritten};
+ghost use Rattle.split_tool.specs.NewFiles.{LeavesUnfinished};
 ghost use Rattle.split_tool.specs.Reads.{Spent, to_read};
 ghost use Rattle.split_tool.specs.Stored.{KeepsCounts};
 ghost use Rattle.split_tool.specs.Work.{IsWorkFor};
@@ -45,8 +44,7 @@ fn measure_file<F: File>(
     ensures parts { parts_of lanes.new ≡ parts_of lanes.old }
     ensures work { IsWorkFor plan.now.header.now (length lanes.new) work.new }
     ensures told { IfSome (F.bytes file.old) (λ bytes. All (Stands plan.now.header.now.layout bytes) lanes.old
-        → length (joined_lists (lists_left plan.now.header.now.layout bytes rules.now lanes.old)) < 2 ^ 63
-        → length (next_text plan.now.header.now bytes rules.now lanes.old) < 2 ^ 64
+        → length bytes < 2 ^ 64
         → IsPrepared plan.now.header.now bytes rules.now lanes.old lanes.new work.new.fronts.items work.new.tallies.items work.new.table.items result) }
     ensures reads { F.reads file.new
         ≤ raised (F.reads file.old) (to_read plan.now.header.now.layout (F.size file.old) lanes.old) }
@@ -128,7 +126,7 @@ fn write_file<F: File, O: Sink>(
 pub(crate) fn make_file<F: File, D: Folder>(
     plan: &SplitPlan<'_>,
     rules: &Rules,
-    number: u64,
+    number: u128,
     file: &mut F,
     lanes: &mut [Lane],
     work: &mut SplitWork,
@@ -144,9 +142,10 @@ pub(crate) fn make_file<F: File, D: Folder>(
     ensures parts { parts_of lanes.new ≡ parts_of lanes.old }
     ensures work { IsWorkFor plan.now.header.now (length lanes.new) work.new }
     ensures told { IfSome (F.bytes file.old) (λ bytes. All (Stands plan.now.header.now.layout bytes) lanes.old
-        → length (joined_lists (lists_left plan.now.header.now.layout bytes rules.now lanes.old)) < 2 ^ 63
-        → length (next_text plan.now.header.now bytes rules.now lanes.old) < 2 ^ 64
-        → IsMade plan.now.header.now bytes rules.now (file_name plan.now.words.now.base.now number) lanes.old lanes.new (D.files folder.old) (D.files folder.new) result) }
+        → length bytes < 2 ^ 64
+        → IsMade plan.now.header.now bytes rules.now (file_name plan.now.words.now.base.now number) lanes.old lanes.new (D.counts folder.old).unfinished (D.counts folder.new).unfinished (D.files folder.old) (D.files folder.new) result) }
+    ensures unfinished { MatchResult result (λ _. (D.counts folder.new).unfinished ≡ (D.counts folder.old).unfinished)
+        (λ end. LeavesUnfinished (D.counts folder.old).unfinished (D.counts folder.new).unfinished end) }
     ensures reads { F.reads file.new
         ≤ raised (F.reads file.old) (to_read plan.now.header.now.layout (F.size file.old) lanes.old) }
     ensures spent { IfOk result (λ ends. Spent (to_read plan.now.header.now.layout (F.size file.old) lanes.old)

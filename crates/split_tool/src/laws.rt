@@ -1,26 +1,23 @@
-//! Laws of this crate's definitions. Each is the contract of a function that does nothing.
+//! A law of this crate's definitions. It is the contract of a function that does nothing.
 
-ghost use Rattle.std.specs.Prelude.{◌<◌, ◌≤◌, ◌^◌, All, List, ℕ, length};
+ghost use Rattle.std.specs.Prelude.{◌≡◌, ◌≤◌, ◌^◌, List, Ok, ℕ, length};
 ghost use Rattle.trace_base.specs.declared.part.Part.{Part};
+ghost use Rattle.dat_options.specs.Place.{AreBytes};
 ghost use Rattle.dat_header.specs.declared.header.Header.{Header};
 ghost use Rattle.dat_header.specs.Allowed.{IsHeader};
-ghost use Rattle.dat_header.specs.Written.{header_text};
-ghost use Rattle.subpage.specs.Arrangement.{CpusRise};
-ghost use Rattle.page_pool.specs.declared.lane.Lane.{Lane};
-ghost use Rattle.time_merge.specs.LaneRows.{parts_of};
+ghost use Rattle.dat_header.specs.Header.{header_of};
+ghost use Rattle.dat_header.specs.Written.{without_instances};
 ghost use Rattle.trace_args.specs.Command.{SplitData};
-ghost use Rattle.split_file.specs.NewFile.{blank};
-ghost use Rattle.split_tool.specs.NewFiles.{new_files};
+ghost use Rattle.split_pieces.specs.Cuts.{file_items};
+ghost use Rattle.split_tool.specs.NewFiles.{ReadBack, new_files};
+ghost use Rattle.split_tool.specs.Rules.{rules_of};
 
-/// Every new file of an input of at most 2^39 bytes, with a header of at most 2^41, has fewer than 2^64 bytes. An item has
-/// at least four bytes of the input, each processor may have all of these, and a sub-buffer of the new file has an item.
-pub fn short_files()
-    ensures parts { (words : SplitData) (header : Header) (bytes : List ℕ) (parts : List (ℕ × Part))
-        → IsHeader header → length (header_text header (blank header.cpus)) ≤ 2 ^ 41
-        → length parts ≤ 1024 → length bytes ≤ 2 ^ 39
-        → All (λ new. length new.content < 2 ^ 64) (new_files words header bytes parts) }
-    ensures lanes { (words : SplitData) (header : Header) (bytes : List ℕ) (lanes : List Lane)
-        → IsHeader header → length (header_text header (blank header.cpus)) ≤ 2 ^ 41
-        → CpusRise (parts_of lanes) → All (λ lane. lane.cpu < header.cpus) lanes → length bytes ≤ 2 ^ 39
-        → All (λ new. length new.content < 2 ^ 64) (new_files words header bytes (parts_of lanes)) }
+/// Each new file of an input of at most 2^39 bytes reads back to just its items, under the input's header without the options
+/// of instances. An item has at least four bytes of the input, each processor may have all of these, and a sub-buffer of the
+/// new file has an item, so all numbers of its table are below 2^64.
+pub fn new_files_read_back()
+    ensures { (words : SplitData) (header : Header) (bytes : List ℕ) (parts : List (ℕ × Part))
+        → AreBytes bytes → header_of bytes ≡ Ok header → IsHeader header → length bytes ≤ 2 ^ 39 → length parts ≤ 1024
+        → ReadBack (without_instances header) (file_items (rules_of words) header.layout bytes parts)
+        (new_files words (without_instances header) bytes parts) }
 {}

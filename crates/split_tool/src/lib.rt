@@ -12,8 +12,6 @@ mod rules;
 mod splitting;
 mod start;
 mod table;
-#[cfg(test)]
-mod tests;
 mod work;
 
 pub use splitting::{SplitPlan, split};

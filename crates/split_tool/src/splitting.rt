@@ -1,4 +1,4 @@
-ghost use Rattle.std.specs.Prelude.{◌≡◌, ◌*◌, ◌<◌, ◌≤◌, ◌^◌, ◌&&◌, All, IfSome, List, length, sum_by};
+ghost use Rattle.std.specs.Prelude.{◌≡◌, ◌*◌, ◌<◌, ◌≤◌, ◌&&◌, All, IfSome, List, length, sum_by};
 ghost use Rattle.trace_base.specs.declared.part.Part.{Part};
 ghost use Rattle.trace_outside.specs.Causes.{Rose, raised};
 ghost use Rattle.dat_header.specs.Allowed.{IsHeader};
@@ -7,10 +7,9 @@ ghost use Rattle.page_pool.specs.Fresh.{IsFresh};
 ghost use Rattle.event_cursor.specs.Standing.{IsInOrder};
 ghost use Rattle.time_merge.specs.LaneRows.{parts_of};
 ghost use Rattle.split_pieces.specs.Pieces.{IsUnit};
-ghost use Rattle.split_file.specs.NewFile.{file_text};
 ghost use Rattle.trace_args.specs.Command.{split_view};
 ghost use Rattle.split_tool.specs.Stored.{KeepsCounts};
-ghost use Rattle.split_tool.specs.NewFiles.{Creates, IsSplit, end_by, end_of, new_files};
+ghost use Rattle.split_tool.specs.NewFiles.{Creates, IsSplit, LeavesUnfinished, end_by, end_of, new_files};
 ghost use Rattle.split_tool.specs.Work.{IsWorkFor};
 
 use crate::files::make_file;
@@ -70,17 +69,15 @@ pub fn split<F: File, D: Folder>(
     requires rise { CpusRise (parts_of lanes.old) }
     requires cpus { All (λ lane. lane.cpu < plan.now.header.now.cpus) lanes.old }
     requires work { IsWorkFor plan.now.header.now (length lanes.old) work.old }
-    // Past these sizes the numbers of a table are told modulo 2^64.
-    ensures told { IfSome (F.bytes file.old) (λ bytes. length bytes ≤ 2 ^ 39
-        → All (λ new. length new.content < 2 ^ 64) (new_files (split_view plan.now.words.now) plan.now.header.now bytes (parts_of lanes.old))
-        → IsSplit (new_files (split_view plan.now.words.now) plan.now.header.now bytes (parts_of lanes.old))
+    ensures told { IfSome (F.bytes file.old) (λ bytes. IsSplit
+        (new_files (split_view plan.now.words.now) plan.now.header.now bytes (parts_of lanes.old))
         (end_of (split_view plan.now.words.now) plan.now.header.now bytes (parts_of lanes.old))
-        (D.files folder.old) (D.files folder.new) result) }
-    ensures created { IfSome (F.bytes file.old) (λ bytes. length bytes ≤ 2 ^ 39
-        → All (λ new. length new.content < 2 ^ 64) (new_files (split_view plan.now.words.now) plan.now.header.now bytes (parts_of lanes.old))
-        → Creates (length (new_files (split_view plan.now.words.now) plan.now.header.now bytes (parts_of lanes.old)))
+        (D.counts folder.old) (D.counts folder.new) (D.files folder.old) (D.files folder.new) result) }
+    ensures created { IfSome (F.bytes file.old) (λ bytes. Creates
+        (length (new_files (split_view plan.now.words.now) plan.now.header.now bytes (parts_of lanes.old)))
         (D.counts folder.old).created (D.counts folder.new).created result) }
     ensures counts { KeepsCounts (D.counts folder.old) (D.counts folder.new) }
+    ensures unfinished { LeavesUnfinished (D.counts folder.old).unfinished (D.counts folder.new).unfinished result }
     // Each sub-buffer is read at most three times: to measure the pieces, to pack the one that ends in it, and to pack the
     // next one.
     ensures reads { F.reads file.new
@@ -90,11 +87,13 @@ pub fn split<F: File, D: Folder>(
     ensures read { result ≡ End.Read → Rose (F.faults file.old) (F.faults file.new) }
     ensures write { result ≡ End.Write → Rose (D.counts folder.old).writing (D.counts folder.new).writing }
 {
+    // A file's length is a number of 64 bits, so there are fewer items than 128 bits count.
+    let _size = file.len();
     let rules = rules_of(plan.words);
     if !pass_start(&plan.header.layout, file, lanes, &rules) {
         return End::Read;
     }
-    for number in 1..u64::MAX {
+    for number in 1..u128::MAX {
         match make_file(plan, &rules, number, file, lanes, work, folder) {
             Ok(ends) => {
                 if !goes_on(&rules, ends) {

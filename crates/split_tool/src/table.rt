@@ -1,11 +1,11 @@
 // The table of a new file.
 
-ghost use Rattle.std.specs.Prelude.{◌≡◌, ℕ, ◌+◌, ◌^◌, ◌<◌, IsTrue, false, List, length, slice_index_or};
-ghost use Rattle.trace_base.specs.Layout.{IsLayout};
+ghost use Rattle.std.specs.Prelude.{◌≡◌, ℕ, ◌%◌, ◌^◌, ◌<◌, IsTrue, false, List, length, map, slice_index_or};
 ghost use Rattle.subpage.specs.Arrangement.{CpusRise, Keyed};
 ghost use Rattle.page_pool.specs.declared.lane.Lane.{Lane};
-ghost use Rattle.page_write.specs.Placed.{data_of, parts_from};
+ghost use Rattle.page_write.specs.Placed.{parts_from};
 ghost use Rattle.time_merge.specs.LaneRows.{parts_of};
+ghost use Rattle.split_file.specs.NewFile.{in_table};
 ghost use Rattle.split_tool.specs.Counted.{AreCounted, lists_of};
 
 use page_pool::Lane;
@@ -37,12 +37,10 @@ pub(crate) fn fill_table(
     tallies: &[Tally],
     table: &mut [Part],
 )
-    requires allowed { IsLayout layout.now }
     requires rise { CpusRise (parts_of lanes.now) }
     requires long { length tallies.now ≡ length lanes.now }
-    ensures { (xs : List Keyed) → AreCounted layout.now lanes.now tallies.now xs
-        → at + length (data_of layout.now (lists_of (length table.old) xs)) < 2 ^ 64
-        → table.new ≡ parts_from layout.now at (lists_of (length table.old) xs) }
+    ensures { (xs : List Keyed) (place : ℕ) → at ≡ place % 2 ^ 64 → AreCounted layout.now lanes.now tallies.now xs
+        → table.new ≡ map in_table (parts_from layout.now place (lists_of (length table.old) xs)) }
 {
     let mut next = 0;
     let mut place = at;

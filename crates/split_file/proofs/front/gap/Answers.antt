@@ -1,4 +1,4 @@
-use Rattle.std.proofs.Common.{◌≡◌, ◌+◌, ◌-◌, ◌%◌, ℕ, sym, ap, ◌∙◌, arith}
+use Rattle.std.proofs.Common.{◌+◌, ◌-◌, ◌%◌, sym, ap, ◌∙◌, arith}
 use Rattle.split_file.proofs.Placing.{same_rest, at_page, before_page}
 use Rattle.split_file.proofs.front.gap.Goals as goal
 

@@ -1,24 +1,34 @@
-use Rattle.std.proofs.Common.{refl, ◌∙◌}
-use Rattle.event_cursor.proofs.Told.{told_again}
+use Rattle.std.proofs.Common.{inl, refl, ◌∙◌}
+use Rattle.event_cursor.proofs.Told.{told_all, told_again}
 use Rattle.split_file.specs.Names.{file_name}
 use Rattle.split_passes.specs.AllAgain.{owns}
 use Rattle.split_tool.specs.Measured.{taken_of}
 use Rattle.split_tool.proofs.Budget.{written_stops, written_spent}
 use Rattle.split_tool.proofs.Making.{finished}
+use Rattle.split_tool.proofs.Storing.{unmade_finish}
 use Rattle.split_tool.proofs.files.make_file.Goals as goal
 
 pub returns-in-Ok-finish_file-clause-told : goal.returns-in-Ok-finish_file-clause-told
 returns-in-Ok-finish_file-clause-told g c =
     let header = c.args.plan.now.header.now in
     let work = c.measure_file.new.work in
-    told_again _ _ _ (g.F.File.bytes c.args.file.now) (g.F.File.bytes c.measure_file.new.file) c.measure_file.ensures.bytes (λ file m w s few short.
-    let p = m s few short in
+    told_again _ _ _ (g.F.File.bytes c.args.file.now) (g.F.File.bytes c.measure_file.new.file) c.measure_file.ensures.bytes (λ file m w s small.
+    let p = m s small in
     finished header file c.args.rules.now (file_name c.args.plan.now.words.now.base.now c.args.number) (g.D.Out.Sink.name c.write_file.new.out) c.args.lanes.now c.measure_file.new.lanes c.write_file.new.lanes
     work.fronts.items work.tallies.items work.table.items (g.D.Folder.files c.args.folder.now) (g.D.Folder.files c.create_file.new.self) (g.D.Folder.files c.finish_file.new.self)
     (g.D.Out.Sink.written c.in-Ok.out) (g.D.Out.Sink.written c.write_file.new.out) c.in-Some.ends
     c.in-Ok.ensures.files (c.write_file.ensures.name ∙ c.in-Ok.ensures.named ∙ c.as_str.ensures.value ∙ c.file_name-name.ensures) c.in-Ok.ensures.empty c.in-Ok-finish_file.ensures.stored
     p (w p.left.stands (owns c.args.lanes.now (taken_of header.layout file c.args.rules.now c.args.lanes.now)) p.fronts_are))
     c.in-Some.ensures.told c.in-Done.ensures.told
+
+pub returns-in-Err-clause-told : goal.returns-in-Err-clause-told
+returns-in-Err-clause-told g c =
+    told_all _ (g.F.File.bytes c.args.file.now) (λ file stands small.
+    unmade_finish _ _ _ (file_name c.args.plan.now.words.now.base.now c.args.number) (g.D.Out.Sink.name c.write_file.new.out) (g.D.Folder.files c.args.folder.now) (g.D.Folder.files c.create_file.new.self) (g.D.Folder.files c.finish_file.new.self)
+    c.in-Ok.ensures.files (c.write_file.ensures.name ∙ c.in-Ok.ensures.named ∙ c.as_str.ensures.value ∙ c.file_name-name.ensures) c.create_file.ensures.counts.unfinished c.in-Err.ensures.counts.unfinished c.in-Err.ensures.others)
+
+pub returns-in-Write-clause-told : goal.returns-in-Write-clause-told
+returns-in-Write-clause-told g c = told_all _ (g.F.File.bytes c.args.file.now) (λ file stands small. inl (c.drop_file-in-Write.ensures.files ∙ c.in-Ok.ensures.files))
 
 pub returns-in-Ok-finish_file-clause-spent : goal.returns-in-Ok-finish_file-clause-spent
 returns-in-Ok-finish_file-clause-spent g c =

@@ -15,9 +15,6 @@ make_all_ready-requires-clause-allowed g c = header_layout c.args.plan.now.heade
 pub measure_lists-requires-clause-allowed : goal.measure_lists-requires-clause-allowed
 measure_lists-requires-clause-allowed g c = header_layout c.args.plan.now.header.now c.requires.allowed
 
-pub fill_table-requires-clause-allowed : goal.fill_table-requires-clause-allowed
-fill_table-requires-clause-allowed g c = header_layout c.args.plan.now.header.now c.requires.allowed
-
 pub returns-clause-told : goal.returns-clause-told
 returns-clause-told g c =
     let header = c.args.plan.now.header.now in
@@ -40,7 +37,7 @@ returns-clause-told g c =
     c.data_place-at.result c.in_ok-ends.ends (g.F.File.bytes c.args.file.now) (g.F.File.bytes c.make_all_ready.new.file) c.make_all_ready.ensures.bytes
     c.requires.allowed c.requires.rise c.requires.cpus c.make_all_ready.ensures.parts c.measure_lists.ensures.parts c.make_all_ready.ensures.in_order (c.if-not-make_all_ready.ensures.ready refl)
     c.note_fronts.ensures.noted c.data_place-at.ensures (ap length table_is ∙ c.requires.work.table)
-    (λ xs are short. c.fill_table.ensures xs (subst (λ (ts : List Tally). AreCounted l c.measure_lists.new.lanes ts xs) (sym counted) are) short)
+    (λ xs place at are. c.fill_table.ensures xs place at (subst (λ (ts : List Tally). AreCounted l c.measure_lists.new.lanes ts xs) (sym counted) are))
     (λ i t lt. subst (λ (ts : List Tally). IsTally l (get_or ts i t) []) (sym cleared) (c.clear.ensures.none l i t (omega (arith, lt, ap length cleared, c.clear.ensures.long))))
     c.make_all_ready.ensures.rows c.make_all_ready.ensures.stands c.in_ok-ends.ensures.told)
 

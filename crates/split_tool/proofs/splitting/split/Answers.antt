@@ -1,7 +1,7 @@
-use Rattle.std.proofs.Common.{refl, arith, sym, subst, ◌∙◌}
+use Rattle.std.proofs.Common.{◌<◌, ◌^◌, refl, arith, rules, sym, subst, ◌∙◌}
 use Rattle.subpage.specs.Arrangement.{CpusRise}
 use Rattle.dat_header.proofs.Headers.{header_layout}
-use Rattle.event_cursor.proofs.Told.{told_all, told_map, told_again}
+use Rattle.event_cursor.proofs.Told.{told_all, told_both, told_map, told_again}
 use Rattle.trace_args.specs.Command.{split_view}
 use Rattle.split_pieces.specs.declared.rules.Rules.{Rules}
 use Rattle.split_pieces.specs.Cuts.{bad_reached}
@@ -12,35 +12,38 @@ use Rattle.split_tool.specs.Rules.{rules_of}
 use Rattle.split_tool.specs.Work.{IsWorkFor}
 use Rattle.time_merge.specs.LaneRows.{parts_of}
 use Rattle.split_tool.proofs.Budget.{passed_spent, same_spent, spent_all, spent_more, spent_stops, start_less}
-use Rattle.split_tool.proofs.Making.{created_last, created_stops, progress_none, progress_more, progress_last, progress_stops, next_short, next_few, same_cpus, fresh_stand}
-use Rattle.split_tool.proofs.Storing.{kept_twice, some_stored, stages_none}
+use Rattle.split_tool.proofs.Making.{created_last, created_stops, progress_none, progress_more, progress_last, progress_stops, same_cpus, fresh_stand}
+use Rattle.split_tool.proofs.Storing.{kept_twice, leaves_none, leaves_since, some_stored, stages_none}
 use Rattle.split_tool.proofs.splitting.split.Goals as goal
 
 pub returns-then-not-pass_start-clause-told : goal.returns-then-not-pass_start-clause-told
 returns-then-not-pass_start-clause-told g c =
     let old = g.D.Folder.files c.args.folder.now in
-    told_all _ (g.F.File.bytes c.args.file.now) (λ file small short.
+    told_all _ (g.F.File.bytes c.args.file.now) (λ file.
     let news = new_files (split_view c.args.plan.now.words.now) c.args.plan.now.header.now file (parts_of c.args.lanes.now) in
     some_stored news news old old old refl (stages_none news old))
 
 pub loop-number-init : goal.loop-number-init
-loop-number-init g c = record {
-  in_order = c.pass_start.ensures.in_order;
-  parts = c.pass_start.ensures.parts;
-  work = subst (λ n. IsWorkFor c.args.plan.now.header.now n c.args.work.now) (sym (same_length c.pass_start.new.lanes c.args.lanes.now c.pass_start.ensures.parts)) c.requires.work;
-  progress = told_map _ _ (g.F.File.bytes c.args.file.now) (λ file started small short.
-      progress_none c.args.plan.now.header.now (split_view c.args.plan.now.words.now) c.rules_of-rules.result file c.args.lanes.now c.pass_start.new.lanes (g.D.Folder.files c.args.folder.now) c.requires.allowed c.rules_of-rules.ensures c.requires.rise c.requires.cpus
-      c.requires.fresh c.pass_start.ensures.parts small short (started (fresh_stand c.args.plan.now.header.now.layout file c.args.lanes.now c.requires.fresh) c.if-not-pass_start.false))
-      c.pass_start.ensures.told;
-  spent = passed_spent c.args.plan.now.header.now.layout (g.F.File.size c.args.file.now) (omega (arith, (header_layout c.args.plan.now.header.now c.requires.allowed).page_least)) c.args.lanes.now c.pass_start.new.lanes _ _
-      (same_length c.pass_start.new.lanes c.args.lanes.now c.pass_start.ensures.parts) c.pass_start.ensures.advance (c.pass_start.ensures.reads_done c.if-not-pass_start.false) c.pass_start.ensures.unread;
-  bytes = c.pass_start.ensures.bytes;
-  size = c.pass_start.ensures.size;
-  later = c.pass_start.ensures.later;
-  counts = record { reading = omega arith; writing = omega arith; misses = refl; opened = refl; closed = refl; bytes = refl };
-  created = omega arith;
-  least = omega arith;
-}
+loop-number-init g c =
+    let size : g.F.File.size c.args.file.now < 2 ^ 64 = omega arith in
+    record {
+      in_order = c.pass_start.ensures.in_order;
+      parts = c.pass_start.ensures.parts;
+      work = subst (λ n. IsWorkFor c.args.plan.now.header.now n c.args.work.now) (sym (same_length c.pass_start.new.lanes c.args.lanes.now c.pass_start.ensures.parts)) c.requires.work;
+      progress = told_both _ _ _ (g.F.File.bytes c.args.file.now) (λ file long started.
+          progress_none c.args.plan.now.header.now (split_view c.args.plan.now.words.now) c.rules_of-rules.result file c.args.lanes.now c.pass_start.new.lanes (g.D.Folder.files c.args.folder.now) c.requires.allowed c.rules_of-rules.ensures c.requires.rise c.requires.cpus
+          c.requires.fresh c.pass_start.ensures.parts (omega (arith, long, size)) (started (fresh_stand c.args.plan.now.header.now.layout file c.args.lanes.now c.requires.fresh) c.if-not-pass_start.false))
+          (g.met.F.File.size_is c.args.file.now) c.pass_start.ensures.told;
+      spent = passed_spent c.args.plan.now.header.now.layout (g.F.File.size c.args.file.now) (omega (arith, (header_layout c.args.plan.now.header.now c.requires.allowed).page_least)) c.args.lanes.now c.pass_start.new.lanes _ _
+          (same_length c.pass_start.new.lanes c.args.lanes.now c.pass_start.ensures.parts) c.pass_start.ensures.advance (c.pass_start.ensures.reads_done c.if-not-pass_start.false) c.pass_start.ensures.unread;
+      bytes = c.pass_start.ensures.bytes;
+      size = c.pass_start.ensures.size;
+      later = c.pass_start.ensures.later;
+      counts = record { reading = omega arith; writing = omega arith; unfinished = omega arith; misses = refl; opened = refl; closed = refl; bytes = refl };
+      unfinished = refl;
+      created = omega arith;
+      least = omega arith;
+    }
 
 pub make_file-requires-clause-rise : goal.make_file-requires-clause-rise
 make_file-requires-clause-rise g c = subst CpusRise (sym c.loop-number.invariant.parts) c.requires.rise
@@ -55,12 +58,11 @@ returns-then-not-goes_on-clause-told g c =
     let old = g.D.Folder.files c.args.folder.now in
     let mid = g.D.Folder.files c.loop-number.folder in
     let new = g.D.Folder.files c.make_file.new.folder in
-    told_again _ _ _ (g.F.File.bytes c.args.file.now) (g.F.File.bytes c.loop-number.file) c.loop-number.invariant.bytes (λ file p m small short.
-    let q = p small short in
+    told_again _ _ _ (g.F.File.bytes c.args.file.now) (g.F.File.bytes c.loop-number.file) c.loop-number.invariant.bytes (λ file p m.
     let news = new_files words header file (parts_of c.args.lanes.now) in
     let bad = bad_reached (rules_of words) header.layout file (parts_of c.args.lanes.now) in
-    progress_last header words.base file c.rules_of-rules.result news bad c.loop-number.number c.loop-number.lanes c.make_file.new.lanes old mid new c.in-Ok.ends c.end_by.result (sym c.goes_on.ensures ∙ c.if-not-goes_on.true) c.end_by.ensures
-    (m q.stands (next_few header words.base file c.rules_of-rules.result news bad c.loop-number.number c.loop-number.lanes c.make_file.new.lanes old mid new q) (next_short header words.base file c.rules_of-rules.result news bad c.loop-number.number c.loop-number.lanes c.make_file.new.lanes old mid new q)) q)
+    progress_last header words.base file c.rules_of-rules.result news bad c.loop-number.number c.loop-number.lanes c.make_file.new.lanes old mid new c.in-Ok.ends c.end_by.result (g.D.Folder.counts c.args.folder.now) (g.D.Folder.counts c.make_file.new.folder) (sym c.goes_on.ensures ∙ c.if-not-goes_on.true) c.end_by.ensures
+    (m p.stands p.small) p)
     c.loop-number.invariant.progress c.in-Ok.ensures.told
 
 pub loop-number-preserved : goal.loop-number-preserved
@@ -75,12 +77,11 @@ loop-number-preserved g c =
       in_order = c.make_file.ensures.in_order;
       parts = c.make_file.ensures.parts ∙ c.loop-number.invariant.parts;
       work = c.make_file.ensures.work;
-      progress = told_again _ _ _ (g.F.File.bytes c.args.file.now) (g.F.File.bytes c.loop-number.file) c.loop-number.invariant.bytes (λ file p m small short.
-          let q = p small short in
+      progress = told_again _ _ _ (g.F.File.bytes c.args.file.now) (g.F.File.bytes c.loop-number.file) c.loop-number.invariant.bytes (λ file p m.
           let news = new_files words header file (parts_of c.args.lanes.now) in
           let bad = bad_reached (rules_of words) header.layout file (parts_of c.args.lanes.now) in
           progress_more header words.base file c.rules_of-rules.result news bad c.loop-number.number c.loop-number.lanes c.make_file.new.lanes old mid new c.in-Ok.ends unit (sym c.goes_on.ensures ∙ c.if-not-goes_on.false)
-          (m q.stands (next_few header words.base file c.rules_of-rules.result news bad c.loop-number.number c.loop-number.lanes c.make_file.new.lanes old mid new q) (next_short header words.base file c.rules_of-rules.result news bad c.loop-number.number c.loop-number.lanes c.make_file.new.lanes old mid new q)) q)
+          (m p.stands p.small) p)
           c.loop-number.invariant.progress c.in-Ok.ensures.told;
       spent = spent_more _ _ _ _ _ _ c.loop-number.invariant.spent
           (same_spent header.layout (g.F.File.size c.args.file.now) (g.F.File.size c.loop-number.file) c.loop-number.lanes c.make_file.new.lanes _ _ c.loop-number.invariant.size c.in-Ok.ensures.spent);
@@ -88,6 +89,7 @@ loop-number-preserved g c =
       size = c.make_file.ensures.size ∙ c.loop-number.invariant.size;
       later = omega (arith, c.make_file.ensures.later, c.loop-number.invariant.later);
       counts = kept_twice _ _ _ c.loop-number.invariant.counts c.make_file.ensures.counts;
+      unfinished = c.in-Ok.ensures.unfinished ∙ c.loop-number.invariant.unfinished;
       created = omega (arith, c.loop-number.invariant.created, c.in-Ok.ensures.created, c.loop-number.invariant.least);
       least = omega (arith, c.loop-number.invariant.least);
     }
@@ -99,12 +101,11 @@ returns-in-Err-clause-told g c =
     let old = g.D.Folder.files c.args.folder.now in
     let mid = g.D.Folder.files c.loop-number.folder in
     let new = g.D.Folder.files c.make_file.new.folder in
-    told_again _ _ _ (g.F.File.bytes c.args.file.now) (g.F.File.bytes c.loop-number.file) c.loop-number.invariant.bytes (λ file p m small short.
-    let q = p small short in
+    told_again _ _ _ (g.F.File.bytes c.args.file.now) (g.F.File.bytes c.loop-number.file) c.loop-number.invariant.bytes (λ file p m.
     let news = new_files words header file (parts_of c.args.lanes.now) in
     let bad = bad_reached (rules_of words) header.layout file (parts_of c.args.lanes.now) in
-    progress_stops header words.base file c.rules_of-rules.result news bad c.loop-number.number c.loop-number.lanes c.make_file.new.lanes old mid new c.in-Err.end c.in-Err.end refl
-    (m q.stands (next_few header words.base file c.rules_of-rules.result news bad c.loop-number.number c.loop-number.lanes c.make_file.new.lanes old mid new q) (next_short header words.base file c.rules_of-rules.result news bad c.loop-number.number c.loop-number.lanes c.make_file.new.lanes old mid new q)) q)
+    progress_stops header words.base file c.rules_of-rules.result news bad c.loop-number.number c.loop-number.lanes c.make_file.new.lanes old mid new c.in-Err.end c.in-Err.end (g.D.Folder.counts c.args.folder.now) (g.D.Folder.counts c.loop-number.folder) (g.D.Folder.counts c.make_file.new.folder) refl c.loop-number.invariant.counts.unfinished
+    (m p.stands p.small) p)
     c.loop-number.invariant.progress c.in-Err.ensures.told
 
 pub returns-in-Err-clause-read : goal.returns-in-Err-clause-read
@@ -115,16 +116,14 @@ returns-in-Err-clause-write g c = λ is. let rose = c.in-Err.ensures.write is in
 
 pub returns-clause-told : goal.returns-clause-told
 returns-clause-told g c =
-    told_map _ _ (g.F.File.bytes c.args.file.now) (λ file p small short.
-    let q = p small short in
-    absurd (omega (arith, q.few)))
+    told_map _ _ (g.F.File.bytes c.args.file.now) (λ file p. absurd (omega (arith, p.few)))
     c.loop-number.invariant.progress
 
 pub pass_start-requires-clause-allowed : goal.pass_start-requires-clause-allowed
 pass_start-requires-clause-allowed g c = header_layout c.args.plan.now.header.now c.requires.allowed
 
 pub returns-then-not-pass_start-clause-created : goal.returns-then-not-pass_start-clause-created
-returns-then-not-pass_start-clause-created g c = told_all _ (g.F.File.bytes c.args.file.now) (λ file small short. omega arith)
+returns-then-not-pass_start-clause-created g c = told_all _ (g.F.File.bytes c.args.file.now) (λ file. omega arith)
 
 pub returns-then-not-goes_on-clause-created : goal.returns-then-not-goes_on-clause-created
 returns-then-not-goes_on-clause-created g c =
@@ -133,15 +132,14 @@ returns-then-not-goes_on-clause-created g c =
     let old = g.D.Folder.files c.args.folder.now in
     let mid = g.D.Folder.files c.loop-number.folder in
     let new = g.D.Folder.files c.make_file.new.folder in
-    told_again _ _ _ (g.F.File.bytes c.args.file.now) (g.F.File.bytes c.loop-number.file) c.loop-number.invariant.bytes (λ file p m small short.
-    let q = p small short in
+    told_again _ _ _ (g.F.File.bytes c.args.file.now) (g.F.File.bytes c.loop-number.file) c.loop-number.invariant.bytes (λ file p m.
     let news = new_files words header file (parts_of c.args.lanes.now) in
     let bad = bad_reached (rules_of words) header.layout file (parts_of c.args.lanes.now) in
     created_last header words.base file c.rules_of-rules.result news bad c.loop-number.number c.loop-number.lanes c.make_file.new.lanes old mid new c.in-Ok.ends c.end_by.result
     (g.D.Folder.counts c.args.folder.now).created (g.D.Folder.counts c.loop-number.folder).created (g.D.Folder.counts c.make_file.new.folder).created
     (sym c.goes_on.ensures ∙ c.if-not-goes_on.true) c.end_by.ensures
-    (m q.stands (next_few header words.base file c.rules_of-rules.result news bad c.loop-number.number c.loop-number.lanes c.make_file.new.lanes old mid new q) (next_short header words.base file c.rules_of-rules.result news bad c.loop-number.number c.loop-number.lanes c.make_file.new.lanes old mid new q))
-    c.loop-number.invariant.least c.loop-number.invariant.created c.in-Ok.ensures.created q)
+    (m p.stands p.small)
+    c.loop-number.invariant.least c.loop-number.invariant.created c.in-Ok.ensures.created p)
     c.loop-number.invariant.progress c.in-Ok.ensures.told
 
 pub returns-in-Err-clause-created : goal.returns-in-Err-clause-created
@@ -151,22 +149,25 @@ returns-in-Err-clause-created g c =
     let old = g.D.Folder.files c.args.folder.now in
     let mid = g.D.Folder.files c.loop-number.folder in
     let new = g.D.Folder.files c.make_file.new.folder in
-    told_again _ _ _ (g.F.File.bytes c.args.file.now) (g.F.File.bytes c.loop-number.file) c.loop-number.invariant.bytes (λ file p m small short.
-    let q = p small short in
+    told_again _ _ _ (g.F.File.bytes c.args.file.now) (g.F.File.bytes c.loop-number.file) c.loop-number.invariant.bytes (λ file p m.
     let news = new_files words header file (parts_of c.args.lanes.now) in
     let bad = bad_reached (rules_of words) header.layout file (parts_of c.args.lanes.now) in
-    created_stops header words.base file c.rules_of-rules.result news bad c.loop-number.number c.loop-number.lanes c.make_file.new.lanes old mid new c.in-Err.end c.in-Err.end
+    created_stops header words.base file c.rules_of-rules.result news bad c.loop-number.number c.loop-number.lanes c.make_file.new.lanes old mid new c.in-Err.end c.in-Err.end (g.D.Folder.counts c.loop-number.folder).unfinished (g.D.Folder.counts c.make_file.new.folder).unfinished
     (g.D.Folder.counts c.args.folder.now).created (g.D.Folder.counts c.loop-number.folder).created (g.D.Folder.counts c.make_file.new.folder).created refl
-    (m q.stands (next_few header words.base file c.rules_of-rules.result news bad c.loop-number.number c.loop-number.lanes c.make_file.new.lanes old mid new q) (next_short header words.base file c.rules_of-rules.result news bad c.loop-number.number c.loop-number.lanes c.make_file.new.lanes old mid new q))
-    c.loop-number.invariant.least c.loop-number.invariant.created c.in-Err.ensures.created q)
+    (m p.stands p.small)
+    c.loop-number.invariant.least c.loop-number.invariant.created c.in-Err.ensures.created p)
     c.loop-number.invariant.progress c.in-Err.ensures.told
 
 pub returns-clause-created : goal.returns-clause-created
 returns-clause-created g c =
-    told_map _ _ (g.F.File.bytes c.args.file.now) (λ file p small short.
-    let q = p small short in
-    absurd (omega (arith, q.few)))
+    told_map _ _ (g.F.File.bytes c.args.file.now) (λ file p. absurd (omega (arith, p.few)))
     c.loop-number.invariant.progress
+
+pub returns-then-not-goes_on-clause-unfinished : goal.returns-then-not-goes_on-clause-unfinished
+returns-then-not-goes_on-clause-unfinished g c = leaves_none c.in-Ok.ends.bad c.end_by.result _ _ c.end_by.ensures (c.in-Ok.ensures.unfinished ∙ c.loop-number.invariant.unfinished)
+
+pub returns-in-Err-clause-unfinished : goal.returns-in-Err-clause-unfinished
+returns-in-Err-clause-unfinished g c = leaves_since c.in-Err.end _ _ _ c.loop-number.invariant.unfinished c.in-Err.ensures.unfinished
 
 pub returns-in-Err-clause-counts : goal.returns-in-Err-clause-counts
 returns-in-Err-clause-counts g c = kept_twice _ _ _ c.loop-number.invariant.counts c.make_file.ensures.counts

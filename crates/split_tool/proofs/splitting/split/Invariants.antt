@@ -9,7 +9,7 @@ use Rattle.split_pieces.specs.Cuts.{bad_reached}
 use Rattle.split_tool.specs.NewFiles.{new_files}
 use Rattle.split_tool.specs.Reads.{Spent, to_read}
 use Rattle.split_tool.specs.Rules.{rules_of}
-use Rattle.split_tool.specs.Stored.{KeepsCounts, NewFile}
+use Rattle.split_tool.specs.Stored.{KeepsCounts}
 use Rattle.split_tool.specs.Work.{IsWorkFor}
 use Rattle.split_tool.proofs.Making.{Progress}
 use Rattle.split_tool.proofs.splitting.split.Given as goal
@@ -19,15 +19,18 @@ invariant-loop-number g l = record {
   in_order : All (IsInOrder l.plan.header.now.layout) l.lanes;
   parts : parts_of l.lanes ≡ parts_of l.fn.lanes;
   work : IsWorkFor l.plan.header.now (length l.lanes) l.work;
-  progress : IfSome (g.F.File.bytes l.fn.file) (λ file. length file ≤ 2 ^ 39
-      → All (λ (new : NewFile). length new.content < 2 ^ 64) (new_files (split_view l.plan.words.now) l.plan.header.now file (parts_of l.fn.lanes))
-      → Progress l.plan.header.now l.plan.words.now.base.now file l.rules (new_files (split_view l.plan.words.now) l.plan.header.now file (parts_of l.fn.lanes))
+  progress : IfSome (g.F.File.bytes l.fn.file) (λ file. Progress l.plan.header.now l.plan.words.now.base.now file l.rules (new_files (split_view l.plan.words.now) l.plan.header.now file (parts_of l.fn.lanes))
       (bad_reached (rules_of (split_view l.plan.words.now)) l.plan.header.now.layout file (parts_of l.fn.lanes)) l.number l.lanes (g.D.Folder.files l.fn.folder) (g.D.Folder.files l.folder));
   spent : Spent (to_read l.plan.header.now.layout (g.F.File.size l.fn.file) l.fn.lanes) (to_read l.plan.header.now.layout (g.F.File.size l.fn.file) l.lanes) (g.F.File.reads l.fn.file) (g.F.File.reads l.file);
   bytes : g.F.File.bytes l.file ≡ g.F.File.bytes l.fn.file;
   size : g.F.File.size l.file ≡ g.F.File.size l.fn.file;
   later : g.F.File.faults l.fn.file ≤ g.F.File.faults l.file;
   counts : KeepsCounts (g.D.Folder.counts l.fn.folder) (g.D.Folder.counts l.folder);
+  unfinished : (g.D.Folder.counts l.folder).unfinished ≡ (g.D.Folder.counts l.fn.folder).unfinished;
   created : (g.D.Folder.counts l.folder).created ≡ raised (g.D.Folder.counts l.fn.folder).created (l.number - 1);
   least : 1 ≤ l.number;
 }
+
+-- a range of 128 bits has no measure of its own
+abbrev pub decreases-loop-number : goal.decreases-loop-number
+decreases-loop-number g l = 2 ^ 128 - l.number

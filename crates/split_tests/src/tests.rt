@@ -1,0 +1,11 @@
+//! Traces in memory, split and read back.
+
+mod faults;
+mod folder;
+mod items;
+mod lanes;
+mod passes;
+mod splits;
+mod traces;
+mod watched;
+mod whole;

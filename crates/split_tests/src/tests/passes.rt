@@ -1,0 +1,372 @@
+// Pieces of two processors' traces: measured, packed, and told from the bytes.
+
+ghost use Rattle.std.specs.Prelude.{◌≡◌, All, length};
+ghost use Rattle.trace_base.specs.Layout.{IsLayout};
+ghost use Rattle.subpage.specs.Arrangement.{CpusRise};
+ghost use Rattle.page_pool.specs.Fresh.{IsNew};
+ghost use Rattle.event_cursor.specs.Standing.{IsInOrder};
+ghost use Rattle.time_merge.specs.LaneRows.{parts_of};
+
+use super::items::put_item;
+use super::lanes::set_lane;
+use super::watched::{Then, WatchedFile};
+use PieceEnd::{Done, Full};
+use PieceUnit::{All, Events, Nanos};
+use event_cursor::Place;
+use page_pool::{Lane, Pool};
+use split_passes::{PieceEnd, Tally, clear, measure, note_fronts, pack_all};
+use split_pieces::Gauge;
+use std::alloc::Global;
+use std::test::Fail;
+use subpage::check_page;
+use time_merge::{End, make_all_ready};
+use trace_base::{Layout, Part};
+use trace_outside::{File, MemSink, Sink};
+use trace_samples::Page::{Lossy, Malformed, Of};
+use trace_samples::{BoundedSink, PAGE, Page, layout, put_pages};
+use word_values::{Moment, PieceUnit};
+
+/// A row a line: the sub-buffers of two processors, what a piece takes, the items of all pieces, why the last one ends, and
+/// how many sub-buffers are read.
+///
+/// `|` stands behind each processor's items of a piece, `/` behind the piece.
+const ROWS: &str = "\
+five;all;10 20 30 40 50 ||/;done 2
+five;events 2;10 20 ||/30 40 ||/50 ||/;done 2
+five;nanos 15;10 20 ||/30 40 ||/50 ||/;done 2
+five;events 2 to 35;10 20 ||/30 ||/;past 1
+five;to 9;||/;past 1
+none;all;||/;done 0
+late;events 1;|7 |/;done 3
+two;all;10 30 50 |20 30 40 |/;done 8
+two;events 2;10 |20 |/30 |30 |/50 |40 |/;done 10
+loss;nanos 2;10 !11#2 |11 |/12 ||/;done 7
+loss;events 1;10 ||/!11#2 |11 |/12 ||/;done 7
+cut;all;10 |20 |/;malformed 1 1 4
+cut;events 1;10 ||/|20 |/;malformed 1 1 4
+";
+
+const NONE: [&[Page]; 2] = [&[], &[]];
+
+const FIVE: [&[Page]; 2] = [&[Of(&[10_000, 20_000, 30_000, 40_000, 50_000])], &[]];
+
+const LATE: [&[Page]; 2] = [&[], &[Of(&[]), Of(&[7_000])]];
+
+const TWO: [&[Page]; 2] = [
+    &[Of(&[10_000, 30_000]), Of(&[50_000])],
+    &[Of(&[20_000]), Of(&[30_000, 40_000])],
+];
+
+const LOSS: [&[Page]; 2] = [
+    &[Of(&[10_000]), Lossy(11_000, Some(2), &[12_000])],
+    &[Of(&[11_000])],
+];
+
+const CUT: [&[Page]; 2] = [&[Of(&[10_000, 30_000])], &[Of(&[20_000]), Malformed]];
+
+fn cpus_of(name: &str) -> [&'static [Page<'static>]; 2] {
+    match name {
+        "five" => FIVE,
+        "late" => LATE,
+        "two" => TWO,
+        "loss" => LOSS,
+        "cut" => CUT,
+        _ => NONE,
+    }
+}
+
+fn unit_of(words: &str) -> PieceUnit {
+    match words {
+        "events 1" => Events(1),
+        "events 2" | "events 2 to 35" => Events(2),
+        "nanos 2" => Nanos(2_000),
+        "nanos 15" => Nanos(15_000),
+        _ => All,
+    }
+}
+
+fn stop_of(words: &str) -> Option<Moment> {
+    let value = match words {
+        "events 2 to 35" => 35_000,
+        "to 9" => 9_000,
+        _ => return None,
+    };
+    Some(Moment {
+        micro: false,
+        value,
+    })
+}
+
+// The first processor's sub-buffers are followed by the other's.
+fn set_lanes(layout: &Layout, lanes: &mut [Lane], cpus: [&[Page<'_>]; 2])
+    requires two { length lanes.old ≡ 2 }
+    requires page { layout.now.page ≡ 4096 }
+    requires new { All (IsNew 4096 16) lanes.old }
+    ensures in_order { All (IsInOrder layout.now) lanes.new }
+    ensures rise { CpusRise (parts_of lanes.new) }
+{
+    let size = (cpus[0].len() as u64).wrapping_mul(PAGE as u64);
+    let other = (cpus[1].len() as u64).wrapping_mul(PAGE as u64);
+    set_lane(&mut lanes[0], 0, Part { offset: 0, size });
+    set_lane(
+        &mut lanes[1],
+        1,
+        Part {
+            offset: size,
+            size: other,
+        },
+    );
+}
+
+fn bytes_of(alloc: Global, cpus: [&[Page<'_>]; 2]) -> Result<Vec<u8>, Fail> {
+    let mut bytes = Vec::new(alloc);
+    for pages in cpus {
+        put_pages(&mut bytes, pages)?;
+    }
+    Ok(bytes)
+}
+
+/// How the passes over a piece ended, and how many sub-buffers each processor's items take.
+#[derive(Clone, Copy)]
+struct Passed {
+    end: PieceEnd,
+    packed: End,
+    pages: [u64; 2],
+}
+
+// Both passes over the next piece.
+fn pass_piece<F: File, O: Sink>(
+    layout: &Layout,
+    file: &mut F,
+    lanes: &mut [Lane],
+    unit: PieceUnit,
+    stop: Option<Moment>,
+    out: &mut O,
+) -> Passed
+    requires allowed { IsLayout layout.now }
+    requires page { layout.now.page ≡ 4096 }
+    requires two { length lanes.old ≡ 2 }
+    requires in_order { All (IsInOrder layout.now) lanes.old }
+    requires rise { CpusRise (parts_of lanes.old) }
+    ensures in_order { All (IsInOrder layout.now) lanes.new }
+    ensures parts { parts_of lanes.new ≡ parts_of lanes.old }
+{
+    let place = Place {
+        page: 0,
+        at: 0,
+        high: None,
+    };
+    let mut fronts = [place; 2];
+    let mut tallies = [Tally::new(), Tally::new()];
+    let mut page = [0; 4096];
+    if !make_all_ready(layout, file, lanes) {
+        return Passed {
+            end: PieceEnd::Read,
+            packed: End::Read,
+            pages: [0; 2],
+        };
+    }
+    note_fronts(lanes, &mut fronts);
+    clear(&mut tallies);
+    let mut gauge = Gauge::new(unit);
+    let end = measure(layout, file, lanes, stop, &mut gauge, &mut tallies);
+    if end == PieceEnd::Read {
+        return Passed {
+            end,
+            packed: End::Read,
+            pages: [0; 2],
+        };
+    }
+    let packed = pack_all(layout, file, lanes, &fronts, &tallies, &mut page, out);
+    Passed {
+        end,
+        packed,
+        pages: [tallies[0].pages(), tallies[1].pages()],
+    }
+}
+
+// The items of so many sub-buffers at the front, and the bytes behind them.
+fn put_told<'a>(text: &mut String, bytes: &'a [u8], pages: u64) -> Result<&'a [u8], Fail> {
+    let layout = layout();
+    let mut rest = bytes;
+    for _ in 0..pages {
+        let Some((page, behind)) = rest.split_at_checked(PAGE) else {
+            break;
+        };
+        match check_page(&layout, page) {
+            Some(page) => {
+                for item in page.items() {
+                    put_item(text, &item)?;
+                }
+            }
+            None => text.push_str("malformed ")?,
+        }
+        rest = behind;
+    }
+    text.push_str("|")?;
+    Ok(rest)
+}
+
+// The next piece, as it is packed.
+fn put_piece<F: File>(
+    alloc: Global,
+    layout: &Layout,
+    file: &mut F,
+    lanes: &mut [Lane],
+    words: &str,
+    text: &mut String,
+) -> Result<PieceEnd, Fail>
+    requires allowed { IsLayout layout.now }
+    requires page { layout.now.page ≡ 4096 }
+    requires two { length lanes.old ≡ 2 }
+    requires in_order { All (IsInOrder layout.now) lanes.old }
+    requires rise { CpusRise (parts_of lanes.old) }
+    ensures in_order { All (IsInOrder layout.now) lanes.new }
+    ensures parts { parts_of lanes.new ≡ parts_of lanes.old }
+{
+    let mut out = MemSink::new(alloc);
+    let passed = pass_piece(
+        layout,
+        file,
+        lanes,
+        unit_of(words),
+        stop_of(words),
+        &mut out,
+    );
+    let rest = put_told(text, out.bytes(), passed.pages[0])?;
+    let rest = put_told(text, rest, passed.pages[1])?;
+    if passed.packed != End::Done || !rest.is_empty() {
+        text.push_str("?")?;
+    }
+    text.push_str("/")?;
+    Ok(passed.end)
+}
+
+// All pieces, one behind the other.
+fn put_pieces<F: File>(
+    alloc: Global,
+    layout: &Layout,
+    file: &mut F,
+    lanes: &mut [Lane],
+    words: &str,
+    text: &mut String,
+) -> Result<PieceEnd, Fail>
+    requires allowed { IsLayout layout.now }
+    requires page { layout.now.page ≡ 4096 }
+    requires two { length lanes.old ≡ 2 }
+    requires in_order { All (IsInOrder layout.now) lanes.old }
+    requires rise { CpusRise (parts_of lanes.old) }
+{
+    for _ in 0..8 {
+        let end = put_piece(alloc, layout, file, lanes, words, text)?;
+        if end != Full {
+            return Ok(end);
+        }
+    }
+    Ok(Full)
+}
+
+fn put_end(text: &mut String, end: PieceEnd) -> Result<(), Fail> {
+    match end {
+        PieceEnd::Full => text.push_str(";full")?,
+        PieceEnd::Past => text.push_str(";past")?,
+        PieceEnd::Done => text.push_str(";done")?,
+        PieceEnd::Malformed { cpu, page } => write!(text, ";malformed {cpu} {page}")?,
+        PieceEnd::Read => text.push_str(";read")?,
+    }
+    Ok(())
+}
+
+// What the two passes make of these sub-buffers.
+fn text_of(alloc: Global, name: &str, words: &str) -> Result<String, Fail> {
+    let cpus = cpus_of(name);
+    let mut file = WatchedFile {
+        bytes: bytes_of(alloc, cpus)?,
+        good: u64::MAX,
+        then: Then::Fails,
+        faults: 0,
+        reads: 0,
+    };
+    let mut pool = Pool::new(alloc, 2, 4096, 16)?;
+    let lanes = pool.lanes();
+    let layout = layout();
+    set_lanes(&layout, lanes, cpus);
+    let mut text = String::new(alloc);
+    let end = put_pieces(alloc, &layout, &mut file, lanes, words, &mut text)?;
+    put_end(&mut text, end)?;
+    let reads = file.reads / PAGE as u64;
+    write!(text, " {reads}")?;
+    Ok(text)
+}
+
+fn agrees(alloc: Global, row: &str) -> Result<bool, Fail> {
+    let Some((name, row)) = row.split_once(';') else {
+        return Ok(false);
+    };
+    let Some((words, told)) = row.split_once(';') else {
+        return Ok(false);
+    };
+    Ok(text_of(alloc, name, words)?.as_str() == told)
+}
+
+#[test]
+fn pieces_are_packed(rt: HostRuntime) -> Result<(), Fail> {
+    for row in ROWS.lines() {
+        assert!(rt; agrees(rt.alloc(), row)?, "{row}");
+    }
+    Ok(())
+}
+
+const THREE: [&[Page]; 2] = [&[Of(&[10, 20]), Of(&[30])], &[Of(&[15])]];
+
+// How the passes over all items end, where so many reads are good and the sink has room for so many bytes.
+fn passes(alloc: Global, reads: u64, then: Then, room: usize) -> Result<(PieceEnd, End), Fail> {
+    let mut file = WatchedFile {
+        bytes: bytes_of(alloc, THREE)?,
+        good: reads,
+        then,
+        faults: 0,
+        reads: 0,
+    };
+    let mut out = BoundedSink::new(alloc, room);
+    let mut pool = Pool::new(alloc, 2, 4096, 16)?;
+    let lanes = pool.lanes();
+    let layout = layout();
+    set_lanes(&layout, lanes, THREE);
+    let passed = pass_piece(&layout, &mut file, lanes, All, None, &mut out);
+    Ok((passed.end, passed.packed))
+}
+
+#[test]
+fn faults_and_other_bytes(rt: HostRuntime) -> Result<(), Fail> {
+    // Three sub-buffers, each of which both passes read.
+    for (reads, then, room, end, packed) in [
+        (6, Then::Fails, 8192, Done, End::Done),
+        (0, Then::Fails, 8192, PieceEnd::Read, End::Read),
+        (2, Then::Fails, 8192, PieceEnd::Read, End::Read),
+        (3, Then::Fails, 8192, Done, End::Read),
+        (5, Then::Fails, 8192, Done, End::Read),
+        (
+            3,
+            Then::Zeros,
+            8192,
+            Done,
+            End::Malformed { cpu: 0, page: 1 },
+        ),
+        (
+            5,
+            Then::Zeros,
+            8192,
+            Done,
+            End::Malformed { cpu: 1, page: 0 },
+        ),
+        (6, Then::Fails, 0, Done, End::Write),
+        (6, Then::Fails, 4096, Done, End::Write),
+    ] {
+        assert!(rt;
+            passes(rt.alloc(), reads, then, room)? == (end, packed),
+            "{reads} reads"
+        );
+    }
+    Ok(())
+}

@@ -1,0 +1,163 @@
+// Files that are split, and the items of a file.
+
+ghost use Rattle.std.specs.Prelude.{◌≡◌, ◌+◌, ◌≤◌, true, length};
+ghost use Rattle.trace_base.specs.Layout.{IsLayout};
+ghost use Rattle.dat_header.specs.Allowed.{IsHeader};
+ghost use Rattle.split_pieces.specs.Pieces.{IsUnit};
+
+use super::items::put_item;
+use super::lanes::set_lanes;
+use dat_header::{Body, read_header};
+use page_pool::Pool;
+use split_tool::{End, SplitPlan, SplitWork, split};
+use std::alloc::{AllocError, Global};
+use std::test::Fail;
+use subpage::check_page;
+use trace_args::SplitWords;
+use trace_base::{ByteText, Layout, Part, Words};
+use trace_outside::{Folder, MemFile};
+use word_values::PieceUnit;
+
+// The items of a part, and `|`.
+fn put_part(text: &mut String, layout: &Layout, part: Part, bytes: &[u8]) -> Result<(), Fail>
+    requires { IsLayout layout.now }
+{
+    let (_, mut rest) = bytes
+        .split_at_checked(part.offset as usize)
+        .unwrap_or((&[], &[]));
+    for _ in 0..part.size / u64::from(layout.page) {
+        let Some((page, behind)) = rest.split_at_checked(layout.page as usize) else {
+            break;
+        };
+        match check_page(layout, page) {
+            Some(page) => {
+                for item in page.items() {
+                    put_item(text, &item)?;
+                }
+            }
+            None => text.push_str("malformed ")?,
+        }
+        rest = behind;
+    }
+    text.push_str("|")?;
+    Ok(())
+}
+
+// The items of a whole file, and `/`.
+pub(super) fn put_file(alloc: Global, text: &mut String, bytes: &[u8]) -> Result<(), Fail> {
+    let mut file = MemFile::new(ByteText::copy(alloc, bytes)?);
+    match read_header(alloc, &mut file) {
+        Ok(header) => {
+            if let Body::Fly(parts) = &header.body {
+                for part in parts.as_slice() {
+                    put_part(text, &header.layout, *part, bytes)?;
+                }
+            }
+        }
+        Err(_) => text.push_str("no header")?,
+    }
+    text.push_str("/")?;
+    Ok(())
+}
+
+// The number of the first selected processor, and the parts of the selected ones.
+fn selected(one: Option<u32>, parts: &[Part]) -> (u32, &[Part])
+    ensures { result.0 + length result.1.now ≤ length parts.now }
+{
+    match one {
+        None => (0, parts),
+        Some(cpu) => {
+            let at = cpu as usize;
+            if at < parts.len() {
+                (cpu, &parts[at..at + 1])
+            } else {
+                (0, &[])
+            }
+        }
+    }
+}
+
+fn is_allowed(words: &SplitWords<'_>) -> bool
+    ensures unit { result ≡ true → IsUnit words.now.unit }
+    ensures base { result ≡ true → length words.now.base.now ≤ 4096 }
+{
+    let unit = match words.unit {
+        PieceUnit::All => true,
+        PieceUnit::Nanos(count) => count > 0,
+        PieceUnit::Events(count) => count > 0,
+    };
+    unit && words.base.len() <= 4096
+}
+
+// Splits the parts of processors that are numbered from a first one on.
+fn split_parts<D: Folder>(
+    alloc: Global,
+    plan: &SplitPlan<'_>,
+    file: &mut MemFile,
+    first: u32,
+    parts: &[Part],
+    folder: &mut D,
+) -> Result<End, Fail>
+    requires allowed { IsHeader plan.now.header.now }
+    requires unit { IsUnit plan.now.words.now.unit }
+    requires base { length plan.now.words.now.base.now ≤ 4096 }
+    requires inside { first + length parts.now ≤ plan.now.header.now.cpus }
+{
+    let count = parts.len() as u32;
+    let layout = &plan.header.layout;
+    let mut pool = Pool::new(alloc, count, layout.page, 0)?;
+    let mut work = SplitWork::new(alloc, plan.header, count)?;
+    let lanes = pool.lanes();
+    set_lanes(layout, lanes, first, parts);
+    Ok(split(plan, file, lanes, &mut work, folder))
+}
+
+// Splits a file into a folder.
+pub(super) fn split_into<D: Folder>(
+    alloc: Global,
+    words: &SplitWords<'_>,
+    bytes: Vec<u8>,
+    folder: &mut D,
+) -> Result<End, Fail> {
+    let mut file = MemFile::new(ByteText::from_vec(bytes));
+    let Ok(header) = read_header(alloc, &mut file) else {
+        return Ok(End::Read);
+    };
+    let Body::Fly(parts) = &header.body else {
+        return Ok(End::Read);
+    };
+    if !is_allowed(words) {
+        return Ok(End::Read);
+    }
+    let plan = SplitPlan {
+        words,
+        header: &header,
+    };
+    let (first, parts) = selected(words.cpu, parts.as_slice());
+    split_parts(alloc, &plan, &mut file, first, parts, folder)
+}
+
+// How a split ended, in a word of the rows.
+pub(super) fn put_end(text: &mut String, end: End) -> Result<(), Fail> {
+    match end {
+        End::Done => text.push_str("done")?,
+        End::Malformed { cpu, page } => write!(text, "malformed {cpu} {page}")?,
+        End::Read => text.push_str("read")?,
+        End::Write => text.push_str("write")?,
+    }
+    Ok(())
+}
+
+// The words of a split, behind the input and the first part of the new names.
+pub(super) fn words_of(alloc: Global, line: &str) -> Result<Words, AllocError> {
+    let mut words = Words::new(alloc);
+    for word in ["split", "-i", "trace.dat", "-o", "part"] {
+        words.push(word)?;
+    }
+    for word in line.split(' ') {
+        if !word.is_empty() {
+            words.push(word)?;
+        }
+    }
+    Ok(words)
+}
