@@ -2,8 +2,8 @@
 #![tactic(auto)]
 
 use std::process::ExitCode;
-use trace_program::program;
+use trace_program::{program, words_of};
 
 fn main(rt: HostRuntime) -> ExitCode {
-    ExitCode::from(program(&rt, rt.stdout(), rt.stderr()))
+    ExitCode::from(program(&rt, words_of(&rt), rt.stdout(), rt.stderr()))
 }

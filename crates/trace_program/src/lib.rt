@@ -1,7 +1,9 @@
-//! The program over a runtime and two writers: its words come from the environment, its files from the file system.
+//! The program over a runtime, its words and two writers: its files are those of the file system.
 #![tactic(auto)]
 
-use std::alloc::Global;
+ghost use Rattle.std.specs.Prelude.{◌≡◌, ◌⊎◌, IfErr, IfOk};
+ghost use Rattle.trace_run.specs.Answers.{IsNumberOf};
+
 use std::io::{ErrorKind, Write};
 use std::rt::{Env, Files};
 use std::thread::Threads;
@@ -13,19 +15,22 @@ use trace_run::{Status, run};
 /// The number with which the program ends where its words cannot be read, which no run answers.
 pub const UNREADABLE_WORDS: u8 = 7;
 
-/// Runs the program on its words, and answers the number with which it is to end.
+/// Runs the program on its words, and answers the number with which it is to end: that of the run's status, or where the
+/// words are not there 6 for want of memory and 7 for any other reason.
 ///
 /// The output goes to `out`, and the message to `err`.
-pub fn program<R, O, E>(rt: &R, out: O, err: E) -> u8
+pub fn program<R, O, E>(rt: &R, words: io::Result<Words>, out: O, err: E) -> u8
 where
-    R: Threads + Sync + Env + Files + AllocGlobal,
+    R: Threads + Sync + Files + AllocGlobal,
     O: Write + Drop,
     E: Write + Drop,
+    ensures ran { IfOk words (λ words. IsNumberOf words result) }
+    ensures unread { IfErr words (λ error. (result ≡ 6) ⊎ (result ≡ 7)) }
 {
     let alloc = rt.alloc();
     let mut out = RealSink::new(out);
     let mut err = RealSink::new(err);
-    match words_of(rt, alloc) {
+    match words {
         Ok(words) => {
             let mut folder = RealFolder::new(rt, alloc);
             run(rt, alloc, &words, &mut folder, &mut out, &mut err, &NoGate).number()
@@ -41,9 +46,9 @@ where
     }
 }
 
-// The words of the command line behind the program's own name.
-fn words_of(rt: &(impl Env + AllocGlobal), alloc: Global) -> io::Result<Words> {
-    let mut words = Words::new(alloc);
+/// The words of the command line behind the program's own name.
+pub fn words_of(rt: &(impl Env + AllocGlobal)) -> io::Result<Words> {
+    let mut words = Words::new(rt.alloc());
     for word in env::args(rt)?.skip(1) {
         words.push(word.as_str())?;
     }

@@ -1,8 +1,10 @@
 -- The report of a generated file is that of its events.
 use Rattle.std.proofs.Common.{◌≡◌, ℕ, zero, suc, ◌+◌, arith, true, List, [], ◌∷◌, map, filter, Option, None, Some, IfSome, Result, Ok, refl, ap, ◌∙◌, subst}
+use Rattle.std.specs.Option.{option_map}
 use Rattle.std.specs.List.{All, enumerate_from, fold}
 use Rattle.trace_base.specs.declared.layout.Layout.{Layout}
 use Rattle.trace_base.specs.declared.part.Part.{Part}
+use Rattle.trace_outside.specs.Folders.{no_counts}
 use Rattle.trace_outside.specs.Writing.{Gained}
 use Rattle.subpage.specs.ItemData.{ItemData}
 use Rattle.subpage.specs.Processor.{list_of, bad_of}
@@ -12,17 +14,20 @@ use Rattle.dat_header.specs.declared.header.Header.{Header}
 use Rattle.dat_header.specs.Header.{header_of, ReadsHeader}
 use Rattle.dat_header.specs.Written.{written}
 use Rattle.trace_args.specs.Command.{ReportData}
-use Rattle.word_values.specs.declared.listing.Listing.TheVariants.{Nothing}
 use Rattle.trace_gen.specs.Generated.{lists_of}
 use Rattle.trace_gen.specs.GeneratedFile.{IsGenerated}
 use Rattle.trace_gen.specs.GeneratedHeader.{header_but_parts}
 use Rattle.trace_run.specs.declared.status.Status.TheVariants.{Done}
 use Rattle.trace_run.specs.Context.{context_of}
-use Rattle.trace_run.specs.Meaning.{report_by}
-use Rattle.trace_run.specs.Report.{is_chosen, report_pieces, selected}
+use Rattle.trace_run.specs.Ending.{Ends, Prints}
+use Rattle.trace_run.specs.Lists.{listed_in}
+use Rattle.trace_run.specs.Meaning.{Meaning, report_by}
+use Rattle.trace_run.specs.Outside.{FolderSeen, SinkSeen, beside}
+use Rattle.trace_run.specs.Report.{report_pieces}
+use Rattle.trace_run.specs.Selection.{Every, chosen, has}
 use Rattle.trace_run.specs.Selftest.{plain_report, generated_items, generated_report}
 use Rattle.trace_run.specs.Text.{text}
-use Rattle.trace_run.specs.Work.{Writes, WritesFor}
+use Rattle.trace_run.proofs.Endings.{known_so}
 use Rattle.trace_run.proofs.Filters.{filter-all, filter-same}
 
 -- sound parts have no cut
@@ -54,37 +59,51 @@ all_reached layout file parts lists are sound =
     ∙ filter-all (arranged (lists_in layout file (enumerate_from 0 parts)))
     ∙ ap arranged (lists_are layout file 0 parts ∙ ap (enumerate_from 0) are)
 
-all_selected : (parts : List Part) → selected None parts ≡ enumerate_from 0 parts
-all_selected parts =
-    filter-same (λ part. is_chosen None part.0) (λ part. true) (λ part. refl) (enumerate_from 0 parts) ∙ filter-all (enumerate_from 0 parts)
+all_chosen : (parts : List Part) → chosen Every parts ≡ enumerate_from 0 parts
+all_chosen parts =
+    filter-same (λ part. has Every part.0) (λ part. true) (λ part. refl) (enumerate_from 0 parts) ∙ filter-all (enumerate_from 0 parts)
+
+-- what an answer Done leaves on the output
+abbrev Written : Option (List ℕ) → Option (List ℕ) → Meaning → Type 0
+Written old now m = Gained old now (text m.pieces)
 
 reported : (header : Header) (parts : List Part) (bytes : List ℕ) (lists : List (List ItemData)) (old now : Option (List ℕ))
     → map (list_of header.layout bytes) parts ≡ lists → All (λ part. bad_of header.layout bytes part ≡ None) parts
-    → Writes (report_by Nothing plain_report (written header parts) bytes) Done old now
+    → Written old now (report_by None plain_report (written header parts) bytes)
     → Gained old now (text (report_pieces header.cpus (context_of plain_report header) (arranged (enumerate_from 0 lists))))
 reported header parts bytes lists old now are sound writes =
     subst (λ (items : List Keyed). Gained old now (text (report_pieces header.cpus (context_of plain_report header) items)))
-    (ap (reached_of header.layout bytes) (all_selected parts) ∙ all_reached header.layout bytes parts lists are sound) writes.1
+    (ap (reached_of header.layout bytes) (all_chosen parts) ∙ all_reached header.layout bytes parts lists are sound) writes
 
 ok_is : {T E : Type 0} (x y : T) (read : Result T E) → read ≡ Ok x → read ≡ Ok y → x ≡ y
 ok_is x y read first second = cc
 
 -- a report without options of a generated file, on any number of threads
 generated_reported : (seed events workers : ℕ) (bytes : List ℕ) (header : Header) (words : ReportData) (old now : Option (List ℕ)) → IsGenerated seed events bytes
-    → header_of bytes ≡ Ok header → words ≡ record plain_report { workers = workers } → Writes (report_by words.list words header bytes) Done old now → Gained old now (generated_report seed events)
+    → header_of bytes ≡ Ok header → words ≡ record plain_report { workers = workers } → Written old now (report_by (listed_in words.list) words header bytes) → Gained old now (generated_report seed events)
 unfolding generated_report generated_items
 generated_reported seed events workers bytes header words old now is found plain writes =
     reported header_but_parts is.parts bytes (lists_of seed events) old now is.lists is.sound
-    (subst (λ (h : Header). Writes (report_by Nothing plain_report h bytes) Done old now) (ok_is header (written header_but_parts is.parts) (header_of bytes) found is.header_is)
-    (subst (λ (w : ReportData). Writes (report_by w.list w header bytes) Done old now) plain writes))
+    (subst (λ (h : Header). Written old now (report_by None plain_report h bytes)) (ok_is header (written header_but_parts is.parts) (header_of bytes) found is.header_is)
+    (subst (λ (w : ReportData). Written old now (report_by (listed_in w.list) w header bytes)) plain writes))
 
--- the same, of a file that tells its bytes
-pub told_reported : (seed events workers : ℕ) (told same : Option (List ℕ)) (bytes : List ℕ) (header : Header) (words : ReportData) (old now : Option (List ℕ)) → told ≡ Some bytes
+told_reported : (seed events workers : ℕ) (told same : Option (List ℕ)) (bytes : List ℕ) (header : Header) (words : ReportData) (old now : Option (List ℕ)) → told ≡ Some bytes
     → IfSome told (IsGenerated seed events) → same ≡ told → ReadsHeader told (Ok header) → words ≡ record plain_report { workers = workers }
-    → WritesFor (report_by words.list words header) same Done old now → Gained old now (generated_report seed events)
+    → IfSome (option_map (report_by (listed_in words.list) words header) same) (Written old now) → Gained old now (generated_report seed events)
 told_reported seed events workers told same bytes header words old now is generated kept found plain writes =
     generated_reported seed events workers bytes header words old now
     (subst (λ (t : Option (List ℕ)). IfSome t (IsGenerated seed events)) is generated)
     (subst (λ (t : Option (List ℕ)). ReadsHeader t (Ok header)) is found)
     plain
-    (subst (λ (t : Option (List ℕ)). WritesFor (report_by words.list words header) t Done old now) (kept ∙ is) writes)
+    (subst (λ (t : Option (List ℕ)). IfSome (option_map (report_by (listed_in words.list) words header) t) (Written old now)) (kept ∙ is) writes)
+
+-- the same, of a file that tells its bytes, by how its report ended beside an empty folder
+pub generated_printed : (seed events workers : ℕ) (told same : Option (List ℕ)) (bytes : List ℕ) (header : Header) (words : ReportData) (unread : Type 0) (before now : SinkSeen) → told ≡ Some bytes
+    → IfSome told (IsGenerated seed events) → same ≡ told → ReadsHeader told (Ok header) → words ≡ record plain_report { workers = workers }
+    → Prints unread (option_map (report_by (listed_in words.list) words header) same) Done before now → Gained before.written now.written (generated_report seed events)
+generated_printed seed events workers told same bytes header words unread before now is generated kept found plain prints =
+    let none : FolderSeen = record { files = None; counts = no_counts } in
+    let ended = prints none in
+    told_reported seed events workers told same bytes header words before.written now.written is generated kept found plain
+    (known_so (λ m. Ends m Done (beside none before) (beside none now)) (Written before.written now.written)
+    (option_map (report_by (listed_in words.list) words header) same) (λ m ends. ends.output) ended.ends)

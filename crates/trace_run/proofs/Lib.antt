@@ -5,12 +5,12 @@ pub mod Copying
 pub mod Printing
 pub mod Latency
 pub mod PartsPrinted
-pub mod Selection
+pub mod Printed
+pub mod Reports
+pub mod Chosen
 pub mod Endings
 pub mod SplitWords
-pub mod HeaderLength
 pub mod Taken
-pub mod FewBytes
 pub mod Splits
 pub mod UnusedLanes
 pub mod Jobs

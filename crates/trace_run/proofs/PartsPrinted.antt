@@ -19,11 +19,12 @@ use Rattle.dat_header.specs.declared.header.Header.{Header}
 use Rattle.trace_args.specs.Command.{ReportData}
 use Rattle.trace_run.specs.declared.status.Status.TheVariants.{WriteFault}
 use Rattle.trace_run.specs.Context.{context_of}
-use Rattle.trace_run.specs.Meaning.{ended, parts_report, prints}
-use Rattle.trace_run.specs.Report.{cpus_line, entry_line, report_pieces, selected}
+use Rattle.trace_run.specs.Meaning.{Meaning, ended, events_report, prints}
+use Rattle.trace_run.specs.Report.{cpus_line, entry_line, parts_events, report_pieces}
+use Rattle.trace_run.specs.Selection.{chosen, set_or_all}
 use Rattle.trace_run.specs.Split.{status_of}
 use Rattle.trace_run.specs.Text.{text}
-use Rattle.trace_run.specs.Work.{Writes, WritesFor}
+use Rattle.trace_run.proofs.Printed.{Writes, WritesFor}
 
 lines_are : (given : Given) (items : List Keyed) → lines_text (line given) items ≡ text (map (entry_line given) items)
 lines_are given [] = refl
@@ -66,18 +67,22 @@ module _ (cpus : ℕ) (given : Given) (layout : Layout) (bytes : List ℕ) (part
       (sym (report_text cpus given items) ∙ ap (λ rest. cpus_line cpus ++ rest) (sym (append-nil (lines_text (line given) items))))
       first report
 
-pub parts_written : (words : ReportData) (header : Header) (parts : List Part) (told : Option (List ℕ)) (chosen : List (ℕ × Part)) (given : Given)
-    (old mid now : Option (List ℕ)) (end : End) → given ≡ context_of words header → chosen ≡ selected words.cpus parts → Gained old mid (cpus_line header.cpus)
-    → IfSome told (λ bytes. IsReport (line given) header.layout bytes chosen mid now end) → WritesFor (parts_report words header parts) told (status_of end) old now
-parts_written words header parts None chosen given old mid now end shown all first report = tt
-parts_written words header parts (Some bytes) chosen given old mid now end shown all first report =
-    subst (λ (ps : List (ℕ × Part)). Writes (prints (report_pieces header.cpus (context_of words header) (reached_of header.layout bytes ps)) (ended (cut_of header.layout bytes ps))) (status_of end) old now) all
-    (subst (λ (by : Given). Writes (prints (report_pieces header.cpus by (reached_of header.layout bytes chosen)) (ended (cut_of header.layout bytes chosen))) (status_of end) old now) shown
-    (report_written header.cpus given header.layout bytes chosen old mid now end first report))
+module _ (words : ReportData) (header : Header) (parts : List Part) where
+  abbrev means : List ℕ → Meaning
+  means bytes = events_report (parts_events words header parts bytes)
 
-pub parts_unbegun : (words : ReportData) (header : Header) (parts : List Part) (told : Option (List ℕ)) (old now : Option (List ℕ))
-    → GainedPrefix old now (cpus_line header.cpus) → WritesFor (parts_report words header parts) told WriteFault old now
-parts_unbegun words header parts None old now first = tt
-parts_unbegun words header parts (Some bytes) old now first =
-    subst (λ (all : List ℕ). GainedPrefix old now all) (report_text header.cpus (context_of words header) (reached_of header.layout bytes (selected words.cpus parts)))
-    (prefix_longer old now (cpus_line header.cpus) (lines_text (line (context_of words header)) (reached_of header.layout bytes (selected words.cpus parts))) first)
+  pub parts_written : (told : Option (List ℕ)) (shown : List (ℕ × Part)) (given : Given) (old mid now : Option (List ℕ)) (end : End)
+      → given ≡ context_of words header → shown ≡ chosen (set_or_all words.cpus) parts → Gained old mid (cpus_line header.cpus)
+      → IfSome told (λ bytes. IsReport (line given) header.layout bytes shown mid now end) → WritesFor means told (status_of end) old now
+  parts_written None shown given old mid now end given_is shown_is first report = tt
+  parts_written (Some bytes) shown given old mid now end given_is shown_is first report =
+      subst (λ (ps : List (ℕ × Part)). Writes (prints (report_pieces header.cpus (context_of words header) (reached_of header.layout bytes ps)) (ended (cut_of header.layout bytes ps))) (status_of end) old now) shown_is
+      (subst (λ (by : Given). Writes (prints (report_pieces header.cpus by (reached_of header.layout bytes shown)) (ended (cut_of header.layout bytes shown))) (status_of end) old now) given_is
+      (report_written header.cpus given header.layout bytes shown old mid now end first report))
+
+  pub parts_unbegun : (told : Option (List ℕ)) (old now : Option (List ℕ)) → GainedPrefix old now (cpus_line header.cpus) → WritesFor means told WriteFault old now
+  parts_unbegun None old now first = tt
+  parts_unbegun (Some bytes) old now first =
+      let items = reached_of header.layout bytes (chosen (set_or_all words.cpus) parts) in
+      subst (λ (all : List ℕ). GainedPrefix old now all) (report_text header.cpus (context_of words header) items)
+      (prefix_longer old now (cpus_line header.cpus) (lines_text (line (context_of words header)) items) first)

@@ -1,20 +1,20 @@
--- How many bytes of its input a command reads.
-use Rattle.std.proofs.Common.{◌≡◌, ◌≤◌, ◌+◌, ℕ, List, length, Option, None, Some, IfSome, Result, Ok, Err, IfOk, sym, subst, arith}
-use Rattle.std.specs.FinMap.{get}
+-- How many bytes of its input a run reads.
+use Rattle.std.proofs.Common.{◌≡◌, ◌≤◌, ◌+◌, ℕ, List, length, Option, None, Some, IfSome, Result, Ok, sym, subst, arith}
 use Rattle.trace_outside.specs.Causes.{raised}
 use Rattle.trace_outside.specs.Folders.{IsFileOf}
 use Rattle.trace_outside.specs.Names.{NamedFiles}
-use Rattle.trace_run.specs.Job.{FileCommand}
 use Rattle.dat_options.specs.declared.fault.OpenFault.{OpenFault}
 use Rattle.dat_header.specs.declared.header.Header.{Header}
-use Rattle.dat_header.specs.Header.{header_of, ReadsHeader}
+use Rattle.dat_header.specs.Header.{ReadsHeader}
 use Rattle.trace_run.specs.declared.status.Status.{Status}
 use Rattle.trace_run.specs.declared.status.Status.TheVariants.{Done, Usage, Refused, Malformed, ReadFault, WriteFault, NoMemory}
+use Rattle.trace_run.specs.Input.{BehindHeader, Input, Progress, ReadsDue, ReadsInput, ReadsNoMore, events_of, input_of_run, input_told, progress_at, share, with_header}
+use Rattle.trace_run.specs.Job.{FileCommand, OnFile}
 use Rattle.trace_run.specs.Meaning.{input_of}
-use Rattle.trace_run.specs.Counts.{BehindHeader, ReadsAtMost, ReadsInput, share}
+use Rattle.trace_run.specs.Report.{Events}
 
 -- what follows from a claim for the answers behind a header
-pub behind_header_map : {one two : Type 0} → (status : Status) → (one → two) → BehindHeader status one → BehindHeader status two
+behind_header_map : {one two : Type 0} → (status : Status) → (one → two) → BehindHeader status one → BehindHeader status two
 behind_header_map Done follows claim = follows claim
 behind_header_map (Malformed cpu page) follows claim = follows claim
 behind_header_map WriteFault follows claim = follows claim
@@ -24,7 +24,7 @@ behind_header_map ReadFault follows claim = tt
 behind_header_map NoMemory follows claim = tt
 
 -- what holds for any answer
-pub any_answer : {claim : Type 0} → (status : Status) → claim → BehindHeader status claim
+any_answer : {claim : Type 0} → (status : Status) → claim → BehindHeader status claim
 any_answer Done holds = holds
 any_answer (Malformed cpu page) holds = holds
 any_answer WriteFault holds = holds
@@ -33,36 +33,57 @@ any_answer (Refused fault) holds = tt
 any_answer ReadFault holds = tt
 any_answer NoMemory holds = tt
 
--- a header and behind it the command's share
-header_and_share : (command : FileCommand) (header : Header) (told : Option (List ℕ)) (size before mid now : ℕ) → IfSome told (λ bytes. length bytes ≡ size)
-    → ReadsHeader told (Ok header) → mid ≤ raised before header.end → now ≤ raised mid (share command header size) → ReadsAtMost command told before now
-header_and_share command header None size before mid now is found first then = tt
-header_and_share command header (Some bytes) size before mid now is found first then =
-    subst (λ (read : Result Header OpenFault). IfOk read (λ h. now ≤ raised before (h.end + share command h (length bytes)))) (sym found)
-    (subst (λ (n : ℕ). now ≤ raised before (header.end + share command header n)) (sym is) (omega arith))
+-- where a run works on nothing
+pub no_input : (status : Status) (before now : Progress) → ReadsInput None status before now
+no_input status before now = any_answer status tt
 
-pub read_behind_header : (command : FileCommand) (header : Header) (told : Option (List ℕ)) (status : Status) (size before mid now : ℕ) → IfSome told (λ bytes. length bytes ≡ size)
-    → ReadsHeader told (Ok header) → mid ≤ raised before header.end → now ≤ raised mid (share command header size) → ReadsInput command told status before now
-read_behind_header command header told status size before mid now is found first then =
-    any_answer status (header_and_share command header told size before mid now is found first then)
+-- what is due by a text, where so many bytes were read before
+due_later : (known : Option Events) (old now : Option (List ℕ)) (first before mid reads : ℕ) → mid ≤ raised before first
+    → IfSome known (λ events. ReadsDue events 0 (progress_at old mid) (progress_at now reads)) → IfSome known (λ events. ReadsDue events first (progress_at old before) (progress_at now reads))
+due_later None old now first before mid reads most due = tt
+due_later (Some events) old now first before mid reads most due = (due.0, (due.1.0, omega (arith, most, due.1.1)))
 
-most_closed : (command : FileCommand) (told : Option (List ℕ)) (reads before now : ℕ) → now ≡ raised before reads → ReadsAtMost command told 0 reads → ReadsAtMost command told before now
-most_closed command None reads before now is most = tt
-most_closed command (Some bytes) reads before now is most = by_header (header_of bytes) most
+-- a header, and behind it the command's share
+pub read_behind_header : (command : FileCommand) (header : Header) (told same old now : Option (List ℕ)) (status : Status) (size before mid reads : ℕ) → same ≡ told
+    → IfSome told (λ bytes. length bytes ≡ size) → ReadsHeader told (Ok header) → mid ≤ raised before header.end → reads ≤ raised mid (share command header size)
+    → IfSome same (λ bytes. IfSome (events_of command header bytes) (λ events. ReadsDue events 0 (progress_at old mid) (progress_at now reads)))
+    → ReadsInput (input_told command told) status (progress_at old before) (progress_at now reads)
+read_behind_header command header told same old now status size before mid reads kept is found first then due =
+    any_answer status (by_told told is found
+    (subst (λ (known : Option (List ℕ)). IfSome known (λ bytes. IfSome (events_of command header bytes) (λ events. ReadsDue events 0 (progress_at old mid) (progress_at now reads)))) kept due))
   where
-    by_header : (read : Result Header OpenFault) → IfOk read (λ h. reads ≤ raised 0 (h.end + share command h (length bytes)))
-        → IfOk read (λ h. now ≤ raised before (h.end + share command h (length bytes)))
-    by_header (Ok header) within = omega arith
-    by_header (Err fault) within = tt
+    by_told : (known : Option (List ℕ)) → IfSome known (λ bytes. length bytes ≡ size) → ReadsHeader known (Ok header)
+        → IfSome known (λ bytes. IfSome (events_of command header bytes) (λ events. ReadsDue events 0 (progress_at old mid) (progress_at now reads)))
+        → IfSome (input_told command known) (λ input. ReadsNoMore input.header.end input (progress_at old before) (progress_at now reads))
+    by_told None long is due = tt
+    by_told (Some bytes) long is due =
+        subst (λ (read : Result Header OpenFault). IfSome (with_header command bytes read) (λ input. ReadsNoMore input.header.end input (progress_at old before) (progress_at now reads))) (sym is) record {
+          needed = subst (λ (n : ℕ). reads ≤ raised before (header.end + share command header n)) (sym long) (omega (arith, first, then));
+          due = due_later (events_of command header bytes) old now header.end before mid reads first due;
+        }
 
 -- what was read from a file is what the folder counts when it is closed
-closed : (command : FileCommand) (told : Option (List ℕ)) (status : Status) (reads before now : ℕ) → now ≡ raised before reads → ReadsInput command told status 0 reads
-    → ReadsInput command told status before now
-closed command told status reads before now is = behind_header_map status (most_closed command told reads before now is)
+due_counted : (known : Option Events) (old now : Option (List ℕ)) (first reads before last : ℕ) → last ≡ raised before reads
+    → IfSome known (λ events. ReadsDue events first (progress_at old 0) (progress_at now reads)) → IfSome known (λ events. ReadsDue events first (progress_at old before) (progress_at now last))
+due_counted None old now first reads before last is due = tt
+due_counted (Some events) old now first reads before last is due = (due.0, (due.1.0, omega (arith, is, due.1.1)))
 
-pub command_reads : (command : FileCommand) (told : Option NamedFiles) (bytes : Option (List ℕ)) (status : Status) (reads before now : ℕ)
-    → IsFileOf told (input_of command) bytes → now ≡ raised before reads → ReadsInput command bytes status 0 reads
-    → IfSome told (λ files. ReadsInput command (get files (input_of command)) status before now)
-command_reads command None bytes status reads before now file is most = tt
-command_reads command (Some files) bytes status reads before now file is most =
-    subst (λ (found : Option (List ℕ)). ReadsInput command found status before now) file.1 (closed command bytes status reads before now is most)
+counted : (known : Option Input) (status : Status) (old now : Option (List ℕ)) (reads before last : ℕ) → last ≡ raised before reads
+    → ReadsInput known status (progress_at old 0) (progress_at now reads) → ReadsInput known status (progress_at old before) (progress_at now last)
+counted known status old now reads before last is = behind_header_map status (by_input known)
+  where
+    by_input : (k : Option Input) → IfSome k (λ input. ReadsNoMore input.header.end input (progress_at old 0) (progress_at now reads))
+        → IfSome k (λ input. ReadsNoMore input.header.end input (progress_at old before) (progress_at now last))
+    by_input None most = tt
+    by_input (Some input) most = record {
+      needed = omega (arith, is, most.needed);
+      due = due_counted (events_of input.command input.header input.bytes) old now input.header.end reads before last is most.due;
+    }
+
+pub command_reads : (command : FileCommand) (told : Option NamedFiles) (bytes : Option (List ℕ)) (status : Status) (old now : Option (List ℕ)) (reads before last : ℕ)
+    → IsFileOf told (input_of command) bytes → last ≡ raised before reads → ReadsInput (input_told command bytes) status (progress_at old 0) (progress_at now reads)
+    → ReadsInput (input_of_run (Ok (OnFile command)) told) status (progress_at old before) (progress_at now last)
+command_reads command None bytes status old now reads before last file is most = no_input status (progress_at old before) (progress_at now last)
+command_reads command (Some files) bytes status old now reads before last file is most =
+    subst (λ (found : Option (List ℕ)). ReadsInput (input_told command found) status (progress_at old before) (progress_at now last)) file.1
+    (counted (input_told command bytes) status old now reads before last is most)

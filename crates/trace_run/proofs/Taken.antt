@@ -1,5 +1,5 @@
 -- The processors that a split takes.
-use Rattle.std.proofs.Common.{◌≡◌, ℕ, ◌+◌, ◌<◌, ◌≤◌, Bool, true, false, cond, List, [], ◌∷◌, length, Option, Result, Ok, Err, IfOk, ap, sym, subst, arith}
+use Rattle.std.proofs.Common.{◌≡◌, ℕ, ◌+◌, ◌<◌, ◌≤◌, Bool, true, false, cond, List, [], ◌∷◌, length, Option, Result, Ok, Err, IfOk, ap, ◌∙◌, sym, subst, arith}
 use Rattle.std.specs.Prelude.{filter}
 use Rattle.std.specs.List.{All, enumerate_from}
 use Rattle.std.proofs.lemmas.List.{get_or-map, length-map}
@@ -11,22 +11,26 @@ use Rattle.dat_header.specs.Allowed.{IsBody}
 use Rattle.subpage.specs.Arrangement.{CpusRise}
 use Rattle.page_pool.specs.declared.lane.Lane.{Lane}
 use Rattle.time_merge.specs.LaneRows.{parts_of}
-use Rattle.trace_run.specs.Split.{is_taken, taken, taken_of}
-use Rattle.trace_run.proofs.Selection.{chosen_few, chosen_rise}
+use Rattle.trace_run.specs.Selection.{Selection, chosen, has, one_or_all}
+use Rattle.trace_run.specs.Split.{taken_of}
+use Rattle.trace_run.proofs.Chosen.{chosen_few, chosen_rise}
 
 -- their numbers rise
 pub taken_rise : (one : Option ℕ) (body : Body) → CpusRise (taken_of one body)
 taken_rise one Latency = tt
-taken_rise one (Fly parts) = (chosen_rise (λ part. is_taken one part.0) 0 parts).1
+taken_rise one (Fly parts) = (chosen_rise (λ part. has (one_or_all one) part.0) 0 parts).1
 
-pub taken_few : {V E : Type 0} (items : V → List (ℕ × Part)) (one : Option ℕ) (parts : List Part) (result : Result V E)
-    → IfOk result (λ chosen. items chosen ≡ taken one parts) → length parts ≤ 1024 → IfOk result (λ chosen. length (items chosen) ≤ 1024)
-taken_few items one parts (Err error) is most = tt
-taken_few items one parts (Ok chosen) is most = omega (arith, ap length is, chosen_few (λ (part : ℕ × Part). is_taken one part.0) 0 parts, most)
+-- what was chosen of the body's parts
+pub taken_is : {V E : Type 0} (items : V → List (ℕ × Part)) (one : Option ℕ) (own slice : List Part) (body : Body) (selection : Selection) (result : Result V E)
+    → body ≡ Fly own → slice ≡ own → selection ≡ one_or_all one
+    → IfOk result (λ found. items found ≡ chosen selection slice) → IfOk result (λ found. items found ≡ taken_of one body)
+taken_is items one own slice body selection (Err error) of same is all = tt
+taken_is items one own slice body selection (Ok found) of same is all =
+    all ∙ ap (λ (by : Selection). chosen by slice) is ∙ ap (chosen (one_or_all one)) same ∙ ap (taken_of one) (sym of)
 
 pub taken_within : (one : Option ℕ) (cpus : ℕ) (body : Body) → IsBody cpus body → length (taken_of one body) ≤ cpus
 taken_within one cpus Latency allowed = omega arith
-taken_within one cpus (Fly parts) allowed = omega (arith, chosen_few (λ (part : ℕ × Part). is_taken one part.0) 0 parts, allowed.0)
+taken_within one cpus (Fly parts) allowed = omega (arith, chosen_few (λ (part : ℕ × Part). has (one_or_all one) part.0) 0 parts, allowed.0)
 
 -- and each is one of them
 chosen_below : {X : Type 0} (p : ℕ × X → Bool) (n end : ℕ) (xs : List X) → n + length xs ≤ end → All (λ (x : ℕ × X). x.0 < end) (filter p (enumerate_from n xs))
@@ -40,7 +44,7 @@ chosen_below p n end (x ∷ xs) within = by_test (p (n, x)) (chosen_below p (n +
 
 taken_below : (one : Option ℕ) (cpus : ℕ) (body : Body) → IsBody cpus body → All (λ (part : ℕ × Part). part.0 < cpus) (taken_of one body)
 taken_below one cpus Latency allowed = All-nil (λ (part : ℕ × Part). part.0 < cpus)
-taken_below one cpus (Fly parts) allowed = chosen_below (λ (part : ℕ × Part). is_taken one part.0) 0 cpus parts (omega (arith, allowed.0))
+taken_below one cpus (Fly parts) allowed = chosen_below (λ (part : ℕ × Part). has (one_or_all one) part.0) 0 cpus parts (omega (arith, allowed.0))
 
 pub lanes_below : (one : Option ℕ) (cpus : ℕ) (body : Body) (lanes : List Lane) → IsBody cpus body → parts_of lanes ≡ taken_of one body
     → All (λ (lane : Lane). lane.cpu < cpus) lanes

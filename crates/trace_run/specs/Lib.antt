@@ -1,5 +1,7 @@
 pub mod Text
+pub mod Selection
 pub mod Context
+pub mod Lists
 pub mod Report
 pub mod Job
 pub mod Allowed
@@ -9,11 +11,12 @@ pub mod Usage
 pub mod UsageView
 pub mod Selftest
 pub mod Meaning
+pub mod Outside
 pub mod Ending
 pub mod Work
-pub mod Counts
-pub mod Causes
+pub mod Input
+pub mod Ran
 pub mod Messages
 pub mod StatusNumber
+pub mod Answers
 pub mod Rest
-pub mod Due

@@ -1,8 +1,8 @@
 -- What a run means, from its words and the files alone.
 use Rattle.std.specs.Prelude.{Option, Result, Ok, Err, None, Some, ℕ, List, [], ◌∷◌, map, drop}
 use Rattle.std.specs.FinMap.{get}
+use Rattle.std.specs.Option.{option_map}
 use Rattle.trace_outside.specs.Names.{NamedFiles}
-use Rattle.trace_base.specs.declared.part.Part.{Part}
 use Rattle.dat_options.specs.declared.fault.OpenFault.{OpenFault}
 use Rattle.dat_header.specs.declared.header.Header.{Header}
 use Rattle.dat_header.specs.declared.header.Body.{Body}
@@ -14,50 +14,46 @@ use Rattle.trace_run.specs.declared.status.Status.TheVariants.{Done, Usage, Refu
 use Rattle.trace_run.specs.declared.usage.UsageFault.{UsageFault}
 use Rattle.trace_run.specs.Usage.{asked}
 use Rattle.trace_args.specs.Command.{ReportData, DumpData, SelfData, SplitData}
-use Rattle.report_lists.specs.Lists.{names_list, formats_list, symbols_list, printk_list}
-use Rattle.format_parse.specs.declared.format.EventFormat.{EventFormat}
-use Rattle.symbols.specs.Maps.{Maps}
-use Rattle.word_values.specs.declared.listing.Listing.{Listing}
-use Rattle.word_values.specs.declared.listing.Listing.TheVariants.{Nothing, Names, Formats, Symbols, Printk}
-use Rattle.trace_run.specs.Context.{context_of, formats_of, symbols_of}
+use Rattle.trace_run.specs.declared.list.Listed.{Listed}
+use Rattle.trace_run.specs.Context.{formats_of, symbols_of}
+use Rattle.trace_run.specs.Lists.{list_text, listed_in}
 use Rattle.trace_run.specs.Job.{FileCommand, Report, Dump, Split, Job, OnFile, SelfTest}
-use Rattle.trace_run.specs.Report.{cpus_line, report_pieces, selected}
+use Rattle.trace_run.specs.Report.{Events, cpus_line, parts_events, report_pieces}
 use Rattle.trace_run.specs.Selftest.{self_test_line}
 use Rattle.trace_run.specs.Split.{split_end, split_files, status_of}
 use Rattle.dump_tool.specs.Dump.{dump_text}
 use Rattle.split_tool.specs.Stored.{NewFile}
 
--- the object whose fault a fault of writing is
+-- what a command writes to, whose fault a fault of writing is; words without a reading write to nothing
 pub data Target : Type 0 where
+  on_nothing : Target
   on_out : Target
   on_folder : Target
 
--- the output, in the pieces between which a fault of reading may end it; the status; the new files; and what is written
--- to
+-- the output, in the pieces between which a fault of reading may end it; the status; and the new files
 pub record Meaning : Type 0 where
   pub pieces : List (List ℕ)
   pub status : Status
   pub files : List NewFile
-  pub target : Target
+
+-- this is written to the output, and no file made
+abbrev pub prints : List (List ℕ) → Status → Meaning
+prints pieces status = record { pieces = pieces; status = status; files = [] }
 
 -- nothing is written
-abbrev pub only : Target → Status → Meaning
-only target status = record { pieces = []; status = status; files = []; target = target }
-
--- this is written to the output
-abbrev pub prints : List (List ℕ) → Status → Meaning
-prints pieces status = record { pieces = pieces; status = status; files = []; target = on_out }
+abbrev pub only : Status → Meaning
+only status = prints [] status
 
 -- a report ends at the first malformed sub-buffer in the order of its lines
 abbrev pub ended : Option Cut → Status
 ended None = Done
 ended (Some cut) = Malformed cut.cpu cut.page
 
--- the report of processors' parts: the lines of the reached items, in the order in which these happened
-abbrev pub parts_report : ReportData → Header → List Part → List ℕ → Meaning
-parts_report words header parts bytes =
-    prints (report_pieces header.cpus (context_of words header) (reached_of header.layout bytes (selected words.cpus parts)))
-    (ended (cut_of header.layout bytes (selected words.cpus parts)))
+-- the report of events: the lines of the reached items, in the order in which these happened
+abbrev pub events_report : Events → Meaning
+events_report events =
+    prints (report_pieces events.header.cpus events.given (reached_of events.header.layout events.bytes events.parts))
+    (ended (cut_of events.header.layout events.bytes events.parts))
 
 -- the report of a latency file: the rest of its bytes
 abbrev pub latency_report : ℕ → ℕ → List ℕ → Meaning
@@ -66,24 +62,16 @@ latency_report cpus end bytes = prints (cpus_line cpus ∷ map (λ byte. byte �
 -- the report of the events
 abbrev pub body_report : ReportData → Header → Body → List ℕ → Meaning
 body_report words header Latency bytes = latency_report header.cpus header.end bytes
-body_report words header (Fly parts) bytes = parts_report words header parts bytes
-
--- the text of a list; none where the events are asked for
-abbrev pub list_text : List EventFormat → Maps → Listing → List ℕ
-list_text formats symbols Nothing = []
-list_text formats symbols Names = names_list formats
-list_text formats symbols Formats = formats_list formats
-list_text formats symbols Symbols = symbols_list symbols.symbols
-list_text formats symbols Printk = printk_list symbols.printk
+body_report words header (Fly parts) bytes = events_report (parts_events words header parts bytes)
 
 -- a list, in place of the events
-abbrev pub list_report : Header → Listing → Meaning
+abbrev pub list_report : Header → Listed → Meaning
 list_report header list = prints (list_text (formats_of header) (symbols_of header) list ∷ []) Done
 
 -- the report that the words ask for
-abbrev pub report_by : Listing → ReportData → Header → List ℕ → Meaning
-report_by Nothing words header bytes = body_report words header header.body bytes
-report_by list words header bytes = list_report header list
+abbrev pub report_by : Option Listed → ReportData → Header → List ℕ → Meaning
+report_by None words header bytes = body_report words header header.body bytes
+report_by (Some list) words header bytes = list_report header list
 
 -- the header's sections
 abbrev pub dump_of : DumpData → Header → Meaning
@@ -95,7 +83,6 @@ split_by words header bytes = record {
   pieces = [];
   status = status_of (split_end words header bytes);
   files = split_files words header bytes;
-  target = on_folder;
 }
 
 -- the line of a self-test
@@ -110,14 +97,14 @@ target_of (Split words) = on_folder
 
 -- a command, of a file's bytes with the header that they begin with
 abbrev pub header_means : FileCommand → Header → List ℕ → Meaning
-header_means (Report words) header bytes = report_by words.list words header bytes
+header_means (Report words) header bytes = report_by (listed_in words.list) words header bytes
 header_means (Dump words) header bytes = dump_of words header
 header_means (Split words) header bytes = split_by words header bytes
 
 -- the same, or why they begin with none
 abbrev pub file_means : FileCommand → Result Header OpenFault → List ℕ → Meaning
 file_means command (Ok header) bytes = header_means command header bytes
-file_means command (Err fault) bytes = only (target_of command) (Refused fault)
+file_means command (Err fault) bytes = only (Refused fault)
 
 -- a command, of its input's bytes
 abbrev pub input_means : FileCommand → List ℕ → Meaning
@@ -125,7 +112,7 @@ input_means command bytes = file_means command (header_of bytes) bytes
 
 -- a command, of what the folder has under the input's name
 abbrev pub command_means : FileCommand → Option (List ℕ) → Meaning
-command_means command None = only (target_of command) ReadFault
+command_means command None = only ReadFault
 command_means command (Some bytes) = input_means command bytes
 
 -- the name of the input
@@ -137,11 +124,6 @@ input_of (Split words) = words.input
 abbrev pub command_meaning : FileCommand → NamedFiles → Meaning
 command_meaning command files = command_means command (get files (input_of command))
 
--- a job, of the folder's files
-abbrev pub job_meaning : Job → NamedFiles → Meaning
-job_meaning (OnFile command) files = command_meaning command files
-job_meaning (SelfTest words) files = self_test words
-
 abbrev pub job_target : Job → Target
 job_target (OnFile command) = target_of command
 job_target (SelfTest words) = on_out
@@ -151,9 +133,15 @@ abbrev pub job_input : Job → List ℕ
 job_input (OnFile command) = input_of command
 job_input (SelfTest words) = []
 
-abbrev pub meaning_of : Result Job UsageFault → NamedFiles → Meaning
-meaning_of (Ok job) files = job_meaning job files
-meaning_of (Err fault) files = only on_out Usage
+abbrev pub target_read : Result Job UsageFault → Target
+target_read (Ok job) = job_target job
+target_read (Err fault) = on_nothing
 
-abbrev pub meaning : List (List ℕ) → NamedFiles → Meaning
-meaning words files = meaning_of (asked words) files
+-- What a run means, by what its words ask for. Only a command on a file needs a folder that tells its files.
+abbrev pub meaning_read : Result Job UsageFault → Option NamedFiles → Option Meaning
+meaning_read (Ok (OnFile command)) told = option_map (command_meaning command) told
+meaning_read (Ok (SelfTest words)) told = Some (self_test words)
+meaning_read (Err fault) told = Some (only Usage)
+
+abbrev pub meaning : List (List ℕ) → Option NamedFiles → Option Meaning
+meaning words told = meaning_read (asked words) told

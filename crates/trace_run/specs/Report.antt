@@ -1,22 +1,19 @@
--- A report of items: which processors it shows, its first line, and a line for each item.
+-- A report of events: its first line, and a line for each item.
 -- Source: trace-cmd-report(1).
-use Rattle.std.specs.Prelude.{Option, None, Some, ℕ, Bool, true, false, List, [], ◌∷◌, map, filter, codes}
-use Rattle.std.specs.List.{enumerate_from, slice_index_or}
+use Rattle.std.specs.Prelude.{Option, None, Some, ℕ, List, [], ◌∷◌, map, codes}
 use Rattle.std.specs.Fmt.{decimal}
 use Rattle.trace_base.specs.declared.part.Part.{Part}
+use Rattle.dat_header.specs.declared.header.Header.{Header}
+use Rattle.dat_header.specs.declared.header.Body.{Body}
+use Rattle.dat_header.specs.declared.header.Body.TheVariants.{Latency, Fly}
 use Rattle.subpage.specs.Arrangement.{Keyed}
 use Rattle.report_print.specs.Given.{Given}
 use Rattle.report_print.specs.Line.{line}
+use Rattle.trace_args.specs.Command.{ReportData}
+use Rattle.trace_run.specs.Context.{context_of}
+use Rattle.trace_run.specs.declared.list.Listed.{Listed}
+use Rattle.trace_run.specs.Selection.{chosen, set_or_all}
 use Rattle.trace_run.specs.Text.{text}
-
--- whether the words choose this processor: all of them where they name none
-abbrev pub is_chosen : Option (List Bool) → ℕ → Bool
-is_chosen None cpu = true
-is_chosen (Some cpus) cpu = slice_index_or cpus cpu false
-
--- the processors that a report shows, with their numbers
-abbrev pub selected : Option (List Bool) → List Part → List (ℕ × Part)
-selected cpus parts = filter (λ part. is_chosen cpus part.0) (enumerate_from 0 parts)
 
 -- a report's first line
 abbrev pub cpus_line : ℕ → List ℕ
@@ -29,3 +26,25 @@ entry_line given keyed = line given keyed.cpu keyed.item
 -- the pieces of a report of these items: a line for each behind the first line
 abbrev pub report_pieces : ℕ → Given → List Keyed → List (List ℕ)
 report_pieces cpus given items = cpus_line cpus ∷ map (entry_line given) items
+
+-- A report of events: what its lines stand on, the parts that it shows with their processors, and the file's header and
+-- bytes.
+pub record Events : Type 0 where
+  pub given : Given
+  pub parts : List (ℕ × Part)
+  pub header : Header
+  pub bytes : List ℕ
+
+abbrev pub parts_events : ReportData → Header → List Part → List ℕ → Events
+parts_events words header parts bytes =
+    record { given = context_of words header; parts = chosen (set_or_all words.cpus) parts; header = header; bytes = bytes }
+
+-- a latency file has none
+abbrev pub body_events : ReportData → Header → Body → List ℕ → Option Events
+body_events words header Latency bytes = None
+body_events words header (Fly parts) bytes = Some (parts_events words header parts bytes)
+
+-- nor has a list
+abbrev pub listed_events : Option Listed → ReportData → Header → List ℕ → Option Events
+listed_events None words header bytes = body_events words header header.body bytes
+listed_events (Some list) words header bytes = None

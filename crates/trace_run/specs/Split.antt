@@ -1,7 +1,6 @@
--- A split of a file with a header: the processors that it takes, the new files that it makes of them, and how it ends.
+-- A split of a file with a header: the new files that it makes, and how it ends.
 -- Source: trace-cmd-split(1).
-use Rattle.std.specs.Prelude.{ℕ, Bool, true, ◌==◌, Option, None, Some, List, [], filter}
-use Rattle.std.specs.List.{enumerate_from}
+use Rattle.std.specs.Prelude.{ℕ, Option, List, []}
 use Rattle.trace_base.specs.declared.part.Part.{Part}
 use Rattle.trace_args.specs.Command.{SplitData}
 use Rattle.dat_header.specs.declared.header.Header.{Header}
@@ -10,24 +9,19 @@ use Rattle.dat_header.specs.declared.header.Body.TheVariants.{Latency, Fly}
 use Rattle.dat_header.specs.Written.{without_instances}
 use Rattle.time_merge.specs.declared.ending.End.{End}
 use Rattle.time_merge.specs.declared.ending.End.TheVariants as end
+use Rattle.split_pieces.specs.Cuts.{file_items}
+use Rattle.subpage.specs.Arrangement.{Keyed}
+use Rattle.split_tool.specs.Rules.{rules_of}
 use Rattle.split_tool.specs.NewFiles.{new_files, end_of}
 use Rattle.split_tool.specs.Stored.{NewFile}
+use Rattle.trace_run.specs.Selection.{chosen, one_or_all}
 use Rattle.trace_run.specs.declared.status.Status.{Status}
 use Rattle.trace_run.specs.declared.status.Status.TheVariants.{Done, Malformed, ReadFault, WriteFault}
 
--- whether a split takes this processor: all of them where its words name none
-abbrev pub is_taken : Option ℕ → ℕ → Bool
-is_taken None cpu = true
-is_taken (Some one) cpu = cpu == one
-
--- the processors of these parts that a split takes, with their numbers
-abbrev pub taken : Option ℕ → List Part → List (ℕ × Part)
-taken one parts = filter (λ part. is_taken one part.0) (enumerate_from 0 parts)
-
--- a latency file has data of no processor
+-- the processors that a split takes; a latency file has data of none
 abbrev pub taken_of : Option ℕ → Body → List (ℕ × Part)
 taken_of one Latency = []
-taken_of one (Fly parts) = taken one parts
+taken_of one (Fly parts) = chosen (one_or_all one) parts
 
 -- new files say nothing of further instances, whose data they do not have
 abbrev pub split_files : SplitData → Header → List ℕ → List NewFile
@@ -36,6 +30,10 @@ split_files words header bytes =
 
 abbrev pub split_end : SplitData → Header → List ℕ → End
 split_end words header bytes = end_of words (without_instances header) bytes (taken_of words.cpu header.body)
+
+-- the items of each new file, in order
+abbrev pub split_items : SplitData → Header → List ℕ → List (List Keyed)
+split_items words header bytes = file_items (rules_of words) header.layout bytes (taken_of words.cpu header.body)
 
 -- the answer of a run for the answer of a split
 abbrev pub status_of : End → Status

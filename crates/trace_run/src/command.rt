@@ -1,19 +1,19 @@
 // One job. Where it is a command on a file, that is opened, its header read, the work done, and the file closed. This
 // stands here once for all such commands.
 
+ghost use Rattle.std.specs.Option.{option_map};
 ghost use Rattle.std.specs.Prelude.{Ok, ◌≡◌, ◌≤◌, map, IfSome};
 ghost use Rattle.trace_base.specs.Layout.{IsLayout};
-ghost use Rattle.trace_outside.specs.Causes.{raised};
+ghost use Rattle.trace_outside.specs.Causes.{Rose, raised};
 ghost use Rattle.dat_header.specs.Allowed.{IsHeader};
 ghost use Rattle.dat_header.specs.Header.{ReadsHeader};
 ghost use Rattle.trace_run.specs.Allowed.{IsAllowed, IsAllowedJob};
-ghost use Rattle.trace_run.specs.Causes.{RanJob};
-ghost use Rattle.trace_run.specs.Counts.{ReadsInput, share};
-ghost use Rattle.trace_run.specs.Due.{DueInput, ReadsCommand};
-ghost use Rattle.trace_run.specs.Ending.{beside, sink_seen};
+ghost use Rattle.trace_run.specs.Input.{ReadsDue, ReadsInput, events_of, input_told, progress_at, share};
 ghost use Rattle.trace_run.specs.Job.{OnFile, command_view, job_view};
 ghost use Rattle.trace_run.specs.Meaning as spec;
 ghost use Rattle.trace_run.specs.Meaning.{header_means, input_means, job_input};
+ghost use Rattle.trace_run.specs.Outside.{beside, folder_seen, sink_seen};
+ghost use Rattle.trace_run.specs.Ran.{Ran};
 ghost use Rattle.trace_run.specs.Usage.{command_filters, job_filters, uses_in};
 ghost use Rattle.trace_run.specs.Work.{Worked};
 ghost use Rattle.filter_truth.specs.SelectionView.{use_of};
@@ -63,9 +63,9 @@ pub(crate) fn run_job<R: Threads + Sync, F: Folder, O: Sink, G: Gate>(
 ) -> Status
     requires allowed { IsAllowedJob (job_view job.now) }
     requires filters { uses_in (job_filters (job_view job.now)) ≡ map use_of filters.items }
-    ensures { RanJob (job_view job.now) result
-        (beside F.files F.counts folder.old (sink_seen O.written O.faults out.old))
-        (beside F.files F.counts folder.new (sink_seen O.written O.faults out.new)) }
+    ensures { Ran (Ok (job_view job.now)) result
+        (beside (folder_seen F.files F.counts folder.old) (sink_seen O.written O.faults out.old))
+        (beside (folder_seen F.files F.counts folder.new) (sink_seen O.written O.faults out.new)) }
 {
     match job {
         Job::OnFile(command) => run_command(rt, alloc, command, filters, folder, out, gate),
@@ -85,9 +85,9 @@ fn run_command<R: Threads + Sync, F: Folder, O: Sink, G: Gate>(
 ) -> Status
     requires allowed { IsAllowed (command_view command.now) }
     requires filters { uses_in (command_filters (command_view command.now)) ≡ map use_of filters.items }
-    ensures { RanJob (OnFile (command_view command.now)) result
-        (beside F.files F.counts folder.old (sink_seen O.written O.faults out.old))
-        (beside F.files F.counts folder.new (sink_seen O.written O.faults out.new)) }
+    ensures { Ran (Ok (OnFile (command_view command.now))) result
+        (beside (folder_seen F.files F.counts folder.old) (sink_seen O.written O.faults out.old))
+        (beside (folder_seen F.files F.counts folder.new) (sink_seen O.written O.faults out.new)) }
 {
     match folder.open_file(input_of(command)) {
         Err(Failed) => Status::ReadFault,
@@ -112,12 +112,12 @@ fn run_on_file<R: Threads + Sync, F: Folder, O: Sink, G: Gate>(
 ) -> Status
     requires allowed { IsAllowed (command_view command.now) }
     requires filters { uses_in (command_filters (command_view command.now)) ≡ map use_of filters.items }
-    ensures worked { Worked (command_view command.now) (input_means (command_view command.now)) (F.In.bytes file.old) (F.In.faults file.old) (F.In.faults file.new) result
-        (beside F.files F.counts folder.old (sink_seen O.written O.faults out.old))
-        (beside F.files F.counts folder.new (sink_seen O.written O.faults out.new)) }
-    ensures reads { ReadsInput (command_view command.now) (F.In.bytes file.old) result (F.In.reads file.old) (F.In.reads file.new) }
-    ensures due { DueInput (command_view command.now) (F.In.bytes file.old) result (O.written out.old) (O.written out.new)
-        (F.In.reads file.old) (F.In.reads file.new) }
+    ensures worked { Worked (command_view command.now) (Rose (F.In.faults file.old) (F.In.faults file.new))
+        (option_map (input_means (command_view command.now)) (F.In.bytes file.old)) result
+        (beside (folder_seen F.files F.counts folder.old) (sink_seen O.written O.faults out.old))
+        (beside (folder_seen F.files F.counts folder.new) (sink_seen O.written O.faults out.new)) }
+    ensures reads { ReadsInput (input_told (command_view command.now) (F.In.bytes file.old)) result
+        (progress_at (O.written out.old) (F.In.reads file.old)) (progress_at (O.written out.new) (F.In.reads file.new)) }
 {
     match read_header(alloc, file) {
         Ok(header) => {
@@ -148,12 +148,13 @@ fn run_on_header<R: Threads + Sync, F: Folder, O: Sink, G: Gate>(
     requires layout { IsLayout header.layout }
     requires read { ReadsHeader (F.In.bytes file.old) (Ok header) }
     requires inside { header.end ≤ F.In.size file.old }
-    ensures worked { Worked (command_view command.now) (header_means (command_view command.now) header) (F.In.bytes file.old) (F.In.faults file.old) (F.In.faults file.new) result
-        (beside F.files F.counts folder.old (sink_seen O.written O.faults out.old))
-        (beside F.files F.counts folder.new (sink_seen O.written O.faults out.new)) }
+    ensures worked { Worked (command_view command.now) (Rose (F.In.faults file.old) (F.In.faults file.new))
+        (option_map (header_means (command_view command.now) header) (F.In.bytes file.old)) result
+        (beside (folder_seen F.files F.counts folder.old) (sink_seen O.written O.faults out.old))
+        (beside (folder_seen F.files F.counts folder.new) (sink_seen O.written O.faults out.new)) }
     ensures reads { F.In.reads file.new ≤ raised (F.In.reads file.old) (share (command_view command.now) header (F.In.size file.old)) }
-    ensures due { IfSome (F.In.bytes file.old) (λ bytes. ReadsCommand (command_view command.now) header 0 bytes
-        (O.written out.old) (O.written out.new) (F.In.reads file.old) (F.In.reads file.new)) }
+    ensures due { IfSome (F.In.bytes file.old) (λ bytes. IfSome (events_of (command_view command.now) header bytes)
+        (λ events. ReadsDue events 0 (progress_at (O.written out.old) (F.In.reads file.old)) (progress_at (O.written out.new) (F.In.reads file.new)))) }
 {
     match command {
         FileCommand::Report(words) => {

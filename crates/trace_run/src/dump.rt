@@ -1,7 +1,8 @@
-ghost use Rattle.std.specs.Prelude.{◌≡◌};
+ghost use Rattle.std.specs.Prelude.{Some};
 ghost use Rattle.trace_args.specs.Command.{dump_view};
+ghost use Rattle.trace_run.specs.Ending.{Prints};
 ghost use Rattle.trace_run.specs.Meaning.{dump_of};
-ghost use Rattle.trace_run.specs.Work.{IsCaused, Writes};
+ghost use Rattle.trace_run.specs.Outside.{sink_seen};
 
 use crate::status::Status;
 use dat_header::Header;
@@ -16,8 +17,7 @@ pub(crate) fn print_dump<O: Sink>(
     header: &Header,
     out: &mut O,
 ) -> Status
-    ensures writes { Writes (dump_of (dump_view words.now) header.now) result (O.written out.old) (O.written out.new) }
-    ensures causes { IsCaused result 0 0 (O.faults out.old) (O.faults out.new) }
+    ensures { Prints ⊥ (Some (dump_of (dump_view words.now) header.now)) result (sink_seen O.written O.faults out.old) (sink_seen O.written O.faults out.new) }
 {
     let Ok(mut pending) = Pending::new(alloc) else {
         return Status::NoMemory;

@@ -1,12 +1,32 @@
 // Laws of this crate's definitions. Each is the contract of a function that does nothing.
 
-ghost use Rattle.std.specs.Prelude.{Bool, List, Option};
+ghost use Rattle.std.specs.Prelude.{Ok, ◌≡◌, ◌≤◌, ◌^◌, List, Option, ℕ, length};
 ghost use Rattle.trace_base.specs.declared.part.Part.{Part};
+ghost use Rattle.dat_options.specs.Place.{AreBytes};
+ghost use Rattle.dat_header.specs.declared.header.Body.{Body};
+ghost use Rattle.dat_header.specs.declared.header.Header.{Header};
+ghost use Rattle.dat_header.specs.Header.{header_of};
+ghost use Rattle.dat_header.specs.Written.{without_instances};
 ghost use Rattle.subpage.specs.Arrangement.{CpusRise};
-ghost use Rattle.trace_run.specs.Report.{selected};
+ghost use Rattle.trace_args.specs.Command.{SplitData};
+ghost use Rattle.split_tool.specs.NewFiles.{ReadBack};
+ghost use Rattle.trace_run.specs.Job.{Split};
+ghost use Rattle.trace_run.specs.Meaning.{input_means};
+ghost use Rattle.trace_run.specs.Selection.{Selection, chosen};
+ghost use Rattle.trace_run.specs.Split.{split_items, taken_of};
 
-/// The processors that a report shows come by rising numbers, which is what the laws of `subpage` on arrangements and on
-/// reached items ask for: a report's items have exactly one arrangement.
+/// The processors that a command takes come by rising numbers, which is what the laws of `subpage` on arrangements and on
+/// reached items ask for: the items of a report, and those of a split, have exactly one arrangement.
 pub fn selection_rises()
-    ensures { (cpus : Option (List Bool)) (parts : List Part) → CpusRise (selected cpus parts) }
+    ensures chosen { (selection : Selection) (parts : List Part) → CpusRise (chosen selection parts) }
+    ensures taken { (one : Option ℕ) (body : Body) → CpusRise (taken_of one body) }
+{}
+
+/// Each new file that a split means to make of a file of at most 2^39 bytes reads back to just its items, processor by
+/// processor: the file's header without the options of instances, with a table of its own, zero bytes up to the first
+/// sub-buffer, and no more bytes than the parts have. Past that size the numbers of a table are told modulo 2^64.
+pub fn split_files_read_back()
+    ensures { (words : SplitData) (header : Header) (bytes : List ℕ)
+        → AreBytes bytes → header_of bytes ≡ Ok header → length bytes ≤ 2 ^ 39
+        → ReadBack (without_instances header) (split_items words header bytes) (input_means (Split words) bytes).files }
 {}

@@ -12,15 +12,13 @@ mod list;
 mod messages;
 mod report;
 mod rest;
-mod select;
+mod selection;
 mod selftest;
 mod split;
 mod status;
-#[cfg(test)]
-mod tests;
 mod top;
 mod usage;
 
-pub use laws::selection_rises;
+pub use laws::{selection_rises, split_files_read_back};
 pub use status::Status;
 pub use top::run;

@@ -1,11 +1,13 @@
 // The lists that a report prints in place of the events.
 
-ghost use Rattle.std.specs.Prelude.{◌≡◌, [], OnOk, OnErr};
+ghost use Rattle.std.specs.Prelude.{Some, ◌≡◌, [], OnOk, OnErr};
 ghost use Rattle.trace_outside.specs.Causes.{HasCause};
 ghost use Rattle.trace_outside.specs.Pending.{PutsText, on_way};
 ghost use Rattle.trace_outside.specs.Writing.{Gained, GainedPrefix};
-ghost use Rattle.trace_run.specs.Meaning.{list_report, list_text};
-ghost use Rattle.trace_run.specs.Work.{IsCaused, Writes};
+ghost use Rattle.trace_run.specs.Ending.{Prints};
+ghost use Rattle.trace_run.specs.Lists.{list_text, listed_in};
+ghost use Rattle.trace_run.specs.Meaning.{list_report};
+ghost use Rattle.trace_run.specs.Outside.{sink_seen};
 
 use crate::context::{read_formats, read_symbols};
 use crate::status::Status;
@@ -17,15 +19,36 @@ use symbols::Symbols;
 use trace_outside::{Failed, Pending, Sink};
 use word_values::Listing;
 
+/// A list of a header's formats or names.
+#[derive(Clone, Copy)]
+pub(crate) enum Listed {
+    Names,
+    Formats,
+    Symbols,
+    Printk,
+}
+
+/// The list that words ask for, if they ask for one.
+pub(crate) fn listed_in(list: Listing) -> Option<Listed>
+    ensures { result ≡ listed_in list }
+{
+    match list {
+        Listing::Nothing => None,
+        Listing::Names => Some(Listed::Names),
+        Listing::Formats => Some(Listed::Formats),
+        Listing::Symbols => Some(Listed::Symbols),
+        Listing::Printk => Some(Listed::Printk),
+    }
+}
+
 /// Prints a list of a header's. No file is read.
 pub(crate) fn print_list<O: Sink>(
     alloc: Global,
-    list: Listing,
+    list: Listed,
     header: &Header,
     out: &mut O,
 ) -> Status
-    ensures writes { Writes (list_report header.now list) result (O.written out.old) (O.written out.new) }
-    ensures causes { IsCaused result 0 0 (O.faults out.old) (O.faults out.new) }
+    ensures { Prints ⊥ (Some (list_report header.now list)) result (sink_seen O.written O.faults out.old) (sink_seen O.written O.faults out.new) }
 {
     let Ok(formats) = read_formats(alloc, header) else {
         return Status::NoMemory;
@@ -44,7 +67,7 @@ pub(crate) fn print_list<O: Sink>(
 
 // Puts a list and writes all of it.
 fn put_whole<O: Sink>(
-    list: Listing,
+    list: Listed,
     formats: &FormatTable,
     symbols: &Symbols,
     pending: &mut Pending,
@@ -60,7 +83,7 @@ fn put_whole<O: Sink>(
 }
 
 fn put_list<O: Sink>(
-    list: Listing,
+    list: Listed,
     formats: &FormatTable,
     symbols: &Symbols,
     pending: &mut Pending,
@@ -69,10 +92,9 @@ fn put_list<O: Sink>(
     ensures { PutsText (list_text formats.now symbols.now list) (on_way O.written O.name O.faults out.old pending.old) (on_way O.written O.name O.faults out.new pending.new) result }
 {
     match list {
-        Listing::Nothing => pending.put(out, b""),
-        Listing::Names => put_event_names(pending, out, formats),
-        Listing::Formats => put_event_formats(pending, out, formats),
-        Listing::Symbols => put_symbols(pending, out, symbols),
-        Listing::Printk => put_printk_formats(pending, out, symbols),
+        Listed::Names => put_event_names(pending, out, formats),
+        Listed::Formats => put_event_formats(pending, out, formats),
+        Listed::Symbols => put_symbols(pending, out, symbols),
+        Listed::Printk => put_printk_formats(pending, out, symbols),
     }
 }

@@ -1,25 +1,27 @@
+ghost use Rattle.std.specs.Option.{option_map};
 ghost use Rattle.std.specs.Prelude.{◌≡◌, ◌≤◌, ◌-◌, [], map, length, sum_by, IfOk, IfSome, OnOk, OnErr};
-ghost use Rattle.trace_outside.specs.Causes.{HasCause, raised};
+ghost use Rattle.trace_outside.specs.Causes.{HasCause, Rose, raised};
 ghost use Rattle.trace_base.specs.Layout.{IsLayout};
 ghost use Rattle.trace_outside.specs.Writing.{Gained, GainedPrefix};
 ghost use Rattle.dat_header.specs.Allowed.{IsBody};
 ghost use Rattle.trace_args.specs.Command.{report_view};
 ghost use Rattle.trace_run.specs.Allowed.{IsWorkers};
-ghost use Rattle.trace_run.specs.Counts.{body_share, share};
-ghost use Rattle.trace_run.specs.Due.{ReadsBody, ReadsEvents, ReadsParts};
+ghost use Rattle.trace_run.specs.Ending.{Prints};
+ghost use Rattle.trace_run.specs.Input.{ReadsDue, body_share, events_of, progress_at, share};
 ghost use Rattle.trace_run.specs.Job.{Report};
-ghost use Rattle.trace_run.specs.Meaning.{body_report, latency_report, parts_report, report_by};
-ghost use Rattle.trace_run.specs.Report.{cpus_line, selected};
-ghost use Rattle.trace_run.specs.Work.{IsCaused, WritesFor};
+ghost use Rattle.trace_run.specs.Meaning.{body_report, events_report, header_means, latency_report};
+ghost use Rattle.trace_run.specs.Outside.{sink_seen};
+ghost use Rattle.trace_run.specs.Report.{body_events, cpus_line, parts_events};
+ghost use Rattle.trace_run.specs.Selection.{chosen, set_or_all};
 ghost use Rattle.filter_truth.specs.SelectionView.{use_of};
 ghost use Rattle.trace_run.specs.Usage.{uses_in};
 
 use crate::context::context_of;
 use crate::lanes::{set_lanes, status_of};
 use crate::lines::{ItemLines, LINES_ROOM, put_cpus};
-use crate::list::print_list;
+use crate::list::{listed_in, print_list};
 use crate::rest::{CopyFault, copy_rest};
-use crate::select::select;
+use crate::selection::Selection;
 use crate::status::Status;
 use dat_header::{Body, Header};
 use filter_truth::FilterUse;
@@ -30,7 +32,6 @@ use std::thread::Threads;
 use trace_args::ReportWords;
 use trace_base::Part;
 use trace_outside::{Failed, File, Gate, Pending, Sink};
-use word_values::Listing;
 
 /// Prints the report of a file with this header: the events, or the list that the words ask for.
 pub(crate) fn print_report<R: Threads + Sync, I: File, O: Sink, G: Gate>(
@@ -49,18 +50,16 @@ pub(crate) fn print_report<R: Threads + Sync, I: File, O: Sink, G: Gate>(
     requires inside { header.now.end ≤ I.size file.old }
     requires parts { IsBody header.now.cpus header.now.body }
     requires few { header.now.cpus ≤ 1024 }
-    ensures writes { WritesFor (report_by words.now.list (report_view words.now) header.now) (I.bytes file.old) result (O.written out.old) (O.written out.new) }
-    ensures causes { IsCaused result (I.faults file.old) (I.faults file.new) (O.faults out.old) (O.faults out.new) }
+    ensures prints { Prints (Rose (I.faults file.old) (I.faults file.new))
+        (option_map (header_means (Report (report_view words.now)) header.now) (I.bytes file.old)) result
+        (sink_seen O.written O.faults out.old) (sink_seen O.written O.faults out.new) }
     ensures reads { I.reads file.new ≤ raised (I.reads file.old) (share (Report (report_view words.now)) header.now (I.size file.old)) }
-    ensures due { IfSome (I.bytes file.old) (λ bytes. ReadsEvents words.now.list (report_view words.now) header.now 0 bytes
-        (O.written out.old) (O.written out.new) (I.reads file.old) (I.reads file.new)) }
+    ensures due { IfSome (I.bytes file.old) (λ bytes. IfSome (events_of (Report (report_view words.now)) header.now bytes)
+        (λ events. ReadsDue events 0 (progress_at (O.written out.old) (I.reads file.old)) (progress_at (O.written out.new) (I.reads file.new)))) }
 {
-    match words.list {
-        Listing::Nothing => print_events(rt, alloc, words, filters, header, file, out, gate),
-        Listing::Names => print_list(alloc, Listing::Names, header, out),
-        Listing::Formats => print_list(alloc, Listing::Formats, header, out),
-        Listing::Symbols => print_list(alloc, Listing::Symbols, header, out),
-        Listing::Printk => print_list(alloc, Listing::Printk, header, out),
+    match listed_in(words.list) {
+        None => print_events(rt, alloc, words, filters, header, file, out, gate),
+        Some(list) => print_list(alloc, list, header, out),
     }
 }
 
@@ -81,11 +80,12 @@ fn print_events<R: Threads + Sync, I: File, O: Sink, G: Gate>(
     requires inside { header.now.end ≤ I.size file.old }
     requires parts { IsBody header.now.cpus header.now.body }
     requires few { header.now.cpus ≤ 1024 }
-    ensures writes { WritesFor (body_report (report_view words.now) header.now header.now.body) (I.bytes file.old) result (O.written out.old) (O.written out.new) }
-    ensures causes { IsCaused result (I.faults file.old) (I.faults file.new) (O.faults out.old) (O.faults out.new) }
+    ensures prints { Prints (Rose (I.faults file.old) (I.faults file.new))
+        (option_map (body_report (report_view words.now) header.now header.now.body) (I.bytes file.old)) result
+        (sink_seen O.written O.faults out.old) (sink_seen O.written O.faults out.new) }
     ensures reads { I.reads file.new ≤ raised (I.reads file.old) (body_share words.now.cpus header.now.end (I.size file.old) header.now.body) }
-    ensures due { IfSome (I.bytes file.old) (λ bytes. ReadsBody (report_view words.now) header.now 0 bytes header.now.body
-        (O.written out.old) (O.written out.new) (I.reads file.old) (I.reads file.new)) }
+    ensures due { IfSome (I.bytes file.old) (λ bytes. IfSome (body_events (report_view words.now) header.now header.now.body bytes)
+        (λ events. ReadsDue events 0 (progress_at (O.written out.old) (I.reads file.old)) (progress_at (O.written out.new) (I.reads file.new)))) }
 {
     match &header.body {
         Body::Latency => print_latency(alloc, header.cpus, header.end, file, out),
@@ -105,8 +105,9 @@ fn print_latency<I: File, O: Sink>(
     out: &mut O,
 ) -> Status
     requires { end ≤ I.size file.old }
-    ensures writes { WritesFor (latency_report cpus end) (I.bytes file.old) result (O.written out.old) (O.written out.new) }
-    ensures causes { IsCaused result (I.faults file.old) (I.faults file.new) (O.faults out.old) (O.faults out.new) }
+    ensures prints { Prints (Rose (I.faults file.old) (I.faults file.new))
+        (option_map (latency_report cpus end) (I.bytes file.old)) result
+        (sink_seen O.written O.faults out.old) (sink_seen O.written O.faults out.new) }
     ensures reads { I.reads file.new ≤ raised (I.reads file.old) (I.size file.old - end) }
 {
     let (Ok(mut buffer), Ok(mut pending)) = (copy_buffer(alloc), Pending::new(alloc)) else {
@@ -146,19 +147,21 @@ fn print_parts<R: Threads + Sync, I: File, O: Sink, G: Gate>(
     requires filters { uses_in (report_view words.now).filters ≡ map use_of filters.items }
     requires allowed { IsLayout header.now.layout }
     requires few { length parts.now ≤ 1024 }
-    ensures writes { WritesFor (parts_report (report_view words.now) header.now parts.now) (I.bytes file.old) result (O.written out.old) (O.written out.new) }
-    ensures causes { IsCaused result (I.faults file.old) (I.faults file.new) (O.faults out.old) (O.faults out.new) }
-    ensures reads { I.reads file.new ≤ raised (I.reads file.old) (sum_by (λ part. part.1.size) (selected words.now.cpus parts.now)) }
-    ensures due { IfSome (I.bytes file.old) (λ bytes. ReadsParts (report_view words.now) header.now 0 bytes parts.now
-        (O.written out.old) (O.written out.new) (I.reads file.old) (I.reads file.new)) }
+    ensures prints { Prints (Rose (I.faults file.old) (I.faults file.new))
+        (option_map (λ bytes. events_report (parts_events (report_view words.now) header.now parts.now bytes)) (I.bytes file.old)) result
+        (sink_seen O.written O.faults out.old) (sink_seen O.written O.faults out.new) }
+    ensures reads { I.reads file.new
+        ≤ raised (I.reads file.old) (sum_by (λ part. part.1.size) (chosen (set_or_all words.now.cpus) parts.now)) }
+    ensures due { IfSome (I.bytes file.old) (λ bytes. ReadsDue (parts_events (report_view words.now) header.now parts.now bytes) 0
+        (progress_at (O.written out.old) (I.reads file.old)) (progress_at (O.written out.new) (I.reads file.new))) }
 {
     let Ok(context) = context_of(alloc, words, filters, header) else {
         return Status::NoMemory;
     };
-    let Ok(selected) = select(alloc, &words.cpus, parts) else {
+    let Ok(chosen) = Selection::set_or_all(&words.cpus).chosen(alloc, parts) else {
         return Status::NoMemory;
     };
-    let count = selected.len() as u32;
+    let count = chosen.len() as u32;
     let (Ok(mut pool), Ok(mut pending)) = (
         Pool::new(alloc, count, header.layout.page, LINES_ROOM),
         Pending::new(alloc),
@@ -166,7 +169,7 @@ fn print_parts<R: Threads + Sync, I: File, O: Sink, G: Gate>(
         return Status::NoMemory;
     };
     let lanes = pool.lanes();
-    set_lanes(lanes, &selected);
+    set_lanes(lanes, &chosen);
     match print_cpus(header.cpus, &mut pending, out) {
         Ok(()) => {}
         Err(Failed) => return Status::WriteFault,

@@ -4,9 +4,10 @@ ghost use Rattle.std.specs.Prelude.{◌≡◌, [], Some, IfOk, OnOk};
 ghost use Rattle.trace_outside.specs.Writing.{Gained};
 ghost use Rattle.trace_args.specs.Command.{report_view, self_view};
 ghost use Rattle.trace_run.specs.Allowed.{IsWorkers};
+ghost use Rattle.trace_run.specs.Ending.{Prints};
 ghost use Rattle.trace_run.specs.Meaning.{self_test};
+ghost use Rattle.trace_run.specs.Outside.{sink_seen};
 ghost use Rattle.trace_run.specs.Selftest.{generated_report, plain_report, self_test_line};
-ghost use Rattle.trace_run.specs.Work.{IsCaused, Writes};
 
 use crate::report::print_report;
 use crate::status::Status;
@@ -28,8 +29,7 @@ pub(crate) fn print_self_test<R: Threads + Sync, O: Sink, G: Gate>(
     gate: &G,
 ) -> Status
     requires { IsWorkers words.now.workers }
-    ensures writes { Writes (self_test (self_view words.now)) result (O.written out.old) (O.written out.new) }
-    ensures causes { IsCaused result 0 0 (O.faults out.old) (O.faults out.new) }
+    ensures { Prints ⊥ (Some (self_test (self_view words.now))) result (sink_seen O.written O.faults out.old) (sink_seen O.written O.faults out.new) }
 {
     let Ok(line) = line_of(rt, alloc, words, gate) else {
         return Status::NoMemory;

@@ -1,22 +1,21 @@
 // A split: its memory is taken, each processor that it takes has a lane, and the new files are made.
 
-ghost use Rattle.std.specs.Prelude.{Ok, ◌≡◌, ◌≤◌, ◌+◌, ◌++◌, [], ◌∷◌, IfOk, IfSome, OnOk, filter, length};
-ghost use Rattle.trace_base.specs.declared.part.Part.{Part};
+ghost use Rattle.std.specs.Option.{option_map};
+ghost use Rattle.std.specs.Prelude.{Ok, ◌≡◌, ◌≤◌, IfOk, length};
 ghost use Rattle.trace_outside.specs.Causes.{Rose, raised};
 ghost use Rattle.dat_header.specs.Allowed.{IsHeader};
 ghost use Rattle.dat_header.specs.Header.{ReadsHeader};
 ghost use Rattle.trace_args.specs.Command.{split_view};
 ghost use Rattle.split_tool.specs.Stored.{KeepsCounts};
 ghost use Rattle.trace_run.specs.Allowed.{IsAllowedSplit};
-ghost use Rattle.trace_run.specs.Counts.{split_share};
-ghost use Rattle.trace_run.specs.Ending.{EndsBy, IsClaimed, SinkSeen, beside};
-ghost use Rattle.trace_run.specs.Job.{Split};
+ghost use Rattle.trace_run.specs.Ending.{MakesFiles};
+ghost use Rattle.trace_run.specs.Input.{split_share};
 ghost use Rattle.trace_run.specs.Meaning.{split_by};
-ghost use Rattle.trace_run.specs.Split as spec;
-ghost use Rattle.trace_run.specs.Split.{taken, taken_of};
-ghost use Rattle.trace_run.specs.Work.{IsCaused};
+ghost use Rattle.trace_run.specs.Outside.{folder_seen};
+ghost use Rattle.trace_run.specs.Split.{taken_of};
 
 use crate::lanes::{set_lanes, status_of};
+use crate::selection::Selection;
 use crate::status::Status;
 use dat_header::{Body, Header};
 use page_pool::Pool;
@@ -37,10 +36,9 @@ pub(crate) fn cut_file<F: Folder>(
     requires words { IsAllowedSplit (split_view words.now) }
     requires allowed { IsHeader header }
     requires read { ReadsHeader (F.In.bytes file.old) (Ok header) }
-    ensures ends { (out : SinkSeen) → IfSome (F.In.bytes file.old) (λ bytes. IsClaimed (Split (split_view words.now)) bytes
-        → EndsBy (Rose (F.In.faults file.old) (F.In.faults file.new)) (split_by (split_view words.now) header bytes) result
-        (beside F.files F.counts folder.old out) (beside F.files F.counts folder.new out)) }
-    ensures causes { IsCaused result (F.In.faults file.old) (F.In.faults file.new) (F.counts folder.old).writing (F.counts folder.new).writing }
+    ensures makes { MakesFiles (Rose (F.In.faults file.old) (F.In.faults file.new))
+        (option_map (split_by (split_view words.now) header) (F.In.bytes file.old)) result
+        (folder_seen F.files F.counts folder.old) (folder_seen F.files F.counts folder.new) }
     ensures counts { KeepsCounts (F.counts folder.old) (F.counts folder.new) }
     ensures reads { F.In.reads file.new ≤ raised (F.In.reads file.old) (split_share words.now.cpu header.body) }
 {
@@ -73,45 +71,6 @@ fn take(alloc: Global, one: Option<u32>, header: &Header) -> Result<Vec<(u32, Pa
 {
     match &header.body {
         Body::Latency => Ok(Vec::new(alloc)),
-        Body::Fly(parts) => take_parts(alloc, one, parts.as_slice()),
-    }
-}
-
-fn take_parts(
-    alloc: Global,
-    one: Option<u32>,
-    parts: &[Part],
-) -> Result<Vec<(u32, Part)>, AllocError>
-    requires { length parts.now ≤ 1024 }
-    ensures { IfOk result (λ chosen. chosen.items ≡ taken one parts.now) }
-{
-    let mut chosen = Vec::with_capacity(alloc, parts.len())?;
-    let mut cpu = 0;
-    for part in parts {
-        push_taken(&mut chosen, one, (cpu, *part))?;
-        cpu += 1;
-    }
-    Ok(chosen)
-}
-
-fn push_taken(
-    chosen: &mut Vec<(u32, Part)>,
-    one: Option<u32>,
-    part: (u32, Part),
-) -> Result<(), AllocError>
-    ensures { OnOk result (chosen.new.items ≡ chosen.old.items ++ filter (λ numbered. spec.is_taken one numbered.0) (part ∷ [])) }
-{
-    if is_taken(one, part.0) {
-        chosen.push(part)?;
-    }
-    Ok(())
-}
-
-fn is_taken(one: Option<u32>, cpu: u32) -> bool
-    ensures { result ≡ spec.is_taken one cpu }
-{
-    match one {
-        None => true,
-        Some(one) => cpu == one,
+        Body::Fly(parts) => Selection::one_or_all(one).chosen(alloc, parts.as_slice()),
     }
 }

@@ -1,10 +1,7 @@
-ghost use Rattle.std.specs.Prelude.{◌≡◌};
 ghost use Rattle.trace_run.specs.Usage.{asked};
-ghost use Rattle.trace_run.specs.Ending.{Runs, beside, sink_seen};
-ghost use Rattle.trace_run.specs.Causes.{AnswersUsage, HasRisen, RunIsComplete, target_read};
-ghost use Rattle.trace_run.specs.Counts.{ClosesAll, OpensAtMostOne, RunMisses, RunReads};
-ghost use Rattle.trace_run.specs.Due.{RunDue};
 ghost use Rattle.trace_run.specs.Messages.{line_of, Says};
+ghost use Rattle.trace_run.specs.Outside.{beside, folder_seen, sink_seen};
+ghost use Rattle.trace_run.specs.Ran.{Ran};
 
 use crate::command::{job_input, run_job};
 use crate::messages::{say, say_usage};
@@ -32,29 +29,9 @@ pub fn run<R: Threads + Sync, F: Folder, O: Sink, E: Sink, G: Gate>(
     err: &mut E,
     gate: &G,
 ) -> Status
-    ensures ends { Runs words.now result
-        (beside F.files F.counts folder.old (sink_seen O.written O.faults out.old))
-        (beside F.files F.counts folder.new (sink_seen O.written O.faults out.new)) }
-    ensures causes { HasRisen (target_read (asked words.now)) result
-        (beside F.files F.counts folder.old (sink_seen O.written O.faults out.old))
-        (beside F.files F.counts folder.new (sink_seen O.written O.faults out.new)) }
-    ensures complete { RunIsComplete words.now result
-        (beside F.files F.counts folder.old (sink_seen O.written O.faults out.old))
-        (beside F.files F.counts folder.new (sink_seen O.written O.faults out.new)) }
-    ensures misses { RunMisses words.now
-        (beside F.files F.counts folder.old (sink_seen O.written O.faults out.old))
-        (beside F.files F.counts folder.new (sink_seen O.written O.faults out.new)) }
-    ensures usage { AnswersUsage (asked words.now) result
-        (beside F.files F.counts folder.old (sink_seen O.written O.faults out.old))
-        (beside F.files F.counts folder.new (sink_seen O.written O.faults out.new)) }
-    ensures closes { ClosesAll (F.counts folder.old) (F.counts folder.new) }
-    ensures opens { OpensAtMostOne (F.counts folder.old) (F.counts folder.new) }
-    ensures reads { RunReads words.now result
-        (beside F.files F.counts folder.old (sink_seen O.written O.faults out.old))
-        (beside F.files F.counts folder.new (sink_seen O.written O.faults out.new)) }
-    ensures due { RunDue words.now result
-        (beside F.files F.counts folder.old (sink_seen O.written O.faults out.old))
-        (beside F.files F.counts folder.new (sink_seen O.written O.faults out.new)) }
+    ensures ran { Ran (asked words.now) result
+        (beside (folder_seen F.files F.counts folder.old) (sink_seen O.written O.faults out.old))
+        (beside (folder_seen F.files F.counts folder.new) (sink_seen O.written O.faults out.new)) }
     ensures says { Says (line_of words.now result) (E.written err.old) (E.written err.new) (E.faults err.old) (E.faults err.new) }
 {
     match ask(alloc, words) {

@@ -1,25 +1,33 @@
-use Rattle.std.proofs.Common.{◌∙◌, ap, subst, refl, rules, arith, ℕ}
+use Rattle.std.proofs.Common.{◌∙◌, ap, subst, refl, arith, ℕ, Ok}
 use Rattle.trace_outside.specs.Causes.{Rose, raised}
-use Rattle.trace_run.specs.Job.{command_view}
-use Rattle.trace_run.specs.Counts.{ReadsInput}
-use Rattle.trace_run.specs.Due.{DueInput}
-use Rattle.trace_run.specs.Ending.{beside, sink_seen}
-use Rattle.trace_run.proofs.DueReading.{command_due}
-use Rattle.trace_run.proofs.Endings.{Around, command_ends, command_misses, command_risen, unopened_ends}
+use Rattle.trace_run.specs.declared.status.Status.TheVariants.{ReadFault}
+use Rattle.trace_run.specs.Input.{ReadsInput, input_told, progress_at}
+use Rattle.trace_run.specs.Job.{OnFile, command_view}
+use Rattle.trace_run.specs.Meaning.{meaning_read, target_of}
+use Rattle.trace_run.specs.Outside.{beside, folder_seen, sink_seen}
+use Rattle.trace_run.specs.Ran.{Unread}
+use Rattle.trace_run.proofs.Endings.{Around, command_asked, command_ended, command_misses, ended_complete, not_usage, unopened_ended}
 use Rattle.trace_run.proofs.Reading.{command_reads}
 use Rattle.trace_run.proofs.command.run_command.Goals as goal
 
 pub returns-in-Err : goal.returns-in-Err
-returns-in-Err g c = record {
-  ends = unopened_ends (command_view c.args.command.now) _ _ _ refl c.in-Err.ensures.counts.failed refl c.open_file.ensures.files c.open_file.ensures.counts.created;
-  causes = c.in-Err.ensures.counts.failed;
-  of_file = tt;
-  misses = command_misses (command_view c.args.command.now) _ _ (g.F.Folder.counts c.args.folder.now) (g.F.Folder.counts c.open_file.new.self) (g.F.Folder.counts c.open_file.new.self) c.input_of.ensures c.open_file.ensures.counts.misses refl;
-  closes = λ opened closed. omega (arith, c.in-Err.ensures.counts.opened, c.open_file.ensures.counts.closed);
-  opens = omega (arith, c.in-Err.ensures.counts.opened);
-  reads = search rules;
-  due = search rules;
-}
+returns-in-Err g c =
+    let command = command_view c.args.command.now in
+    let out = sink_seen g.O.Sink.written g.O.Sink.faults c.args.out.now in
+    let before = beside (folder_seen g.F.Folder.files g.F.Folder.counts c.args.folder.now) out in
+    let now = beside (folder_seen g.F.Folder.files g.F.Folder.counts c.open_file.new.self) out in
+    let opens = c.open_file.ensures.counts in
+    let unread = Unread (Ok (OnFile command)) before now in
+    let ended = unopened_ended command before.folder.files unread before now c.in-Err.ensures.counts.failed refl c.open_file.ensures.files opens.created in
+    record {
+      ended = ended;
+      complete = ended_complete (target_of command) unread (meaning_read (Ok (OnFile command)) before.folder.files) ReadFault before now ended;
+      usage = λ is. cc;
+      misses = command_misses command _ _ before.folder.counts now.folder.counts now.folder.counts c.input_of.ensures opens.misses refl;
+      closes = λ opened closed. omega (arith, c.in-Err.ensures.counts.opened, opens.closed);
+      opens = omega (arith, c.in-Err.ensures.counts.opened);
+      reads = tt;
+    }
 
 pub returns-in-Ok : goal.returns-in-Ok
 returns-in-Ok g c =
@@ -28,10 +36,10 @@ returns-in-Ok g c =
     let reads = g.F.In.File.reads c.run_on_file-status.new.file in
     let out = sink_seen g.O.Sink.written g.O.Sink.faults c.args.out.now in
     let out_now = sink_seen g.O.Sink.written g.O.Sink.faults c.run_on_file-status.new.out in
-    let before = beside g.F.Folder.files g.F.Folder.counts c.args.folder.now out in
-    let opened = beside g.F.Folder.files g.F.Folder.counts c.open_file.new.self out in
-    let worked = beside g.F.Folder.files g.F.Folder.counts c.run_on_file-status.new.folder out_now in
-    let now = beside g.F.Folder.files g.F.Folder.counts c.close_file.new.self out_now in
+    let before = beside (folder_seen g.F.Folder.files g.F.Folder.counts c.args.folder.now) out in
+    let opened = beside (folder_seen g.F.Folder.files g.F.Folder.counts c.open_file.new.self) out in
+    let worked = beside (folder_seen g.F.Folder.files g.F.Folder.counts c.run_on_file-status.new.folder) out_now in
+    let now = beside (folder_seen g.F.Folder.files g.F.Folder.counts c.close_file.new.self) out_now in
     let work = c.run_on_file-status.ensures.worked in
     let opens = c.open_file.ensures.counts in
     let closes = c.close_file.ensures.counts in
@@ -42,24 +50,25 @@ returns-in-Ok g c =
       out_then = refl;
       created_first = opens.created;
       created_then = closes.created;
+      unfinished_first = opens.unfinished;
+      unfinished_then = closes.unfinished;
       writing_first = opens.writing;
       writing_then = closes.writing;
     } in
     let given = rw c.input_of.ensures at c.in-Ok.ensures.given in
-    let risen : Rose (g.F.In.File.faults c.in-Ok.file) (g.F.In.File.faults c.run_on_file-status.new.file) → Rose before.counts.reading now.counts.reading = λ rose.
+    let unread = Unread (Ok (OnFile command)) before now in
+    let risen : Rose (g.F.In.File.faults c.in-Ok.file) (g.F.In.File.faults c.run_on_file-status.new.file) → unread = λ rose.
     let faulty = closes.faulty (omega (arith, rose)) in
     omega (arith, faulty, work.counts.reading, opens.reading) in
+    let ended = command_ended before opened worked now around command before.folder.files (g.F.In.File.bytes c.in-Ok.file) _ unread status given risen work.ended in
     record {
-      ends = command_ends before opened worked now around command _ _ _ status given risen work.ends;
-      causes = command_risen before opened worked now around command status (λ is. risen (work.causes.read_fault is)) work.causes.write_fault work.causes.of_file;
-      of_file = work.causes.of_file;
-      misses = command_misses command _ _ before.counts opened.counts now.counts c.input_of.ensures opens.misses (closes.misses ∙ work.counts.misses);
+      ended = ended;
+      complete = ended_complete (target_of command) unread (meaning_read (Ok (OnFile command)) before.folder.files) status before now ended;
+      usage = not_usage (target_of command) unread status before now (command_asked command) ended.causes;
+      misses = command_misses command _ _ before.folder.counts opened.folder.counts now.folder.counts c.input_of.ensures opens.misses (closes.misses ∙ work.counts.misses);
       closes = λ last_opened last_closed. omega (arith, c.in-Ok.ensures.counts.opened, opens.closed, work.counts.opened, work.counts.closed, closes.opened, closes.closed);
       opens = omega (arith, c.in-Ok.ensures.counts.opened, work.counts.opened, closes.opened);
-      reads = command_reads command _ _ status reads _ _ given
+      reads = command_reads command _ _ status out.written out_now.written reads _ _ given
           (closes.bytes ∙ ap (λ (b : ℕ). raised b reads) (work.counts.bytes ∙ opens.bytes))
-          (subst (λ (n : ℕ). ReadsInput command (g.F.In.File.bytes c.in-Ok.file) status n reads) c.in-Ok.ensures.no_reads c.run_on_file-status.ensures.reads);
-      due = command_due command _ _ status _ _ reads _ _ given
-          (closes.bytes ∙ ap (λ (b : ℕ). raised b reads) (work.counts.bytes ∙ opens.bytes))
-          (subst (λ (n : ℕ). DueInput command (g.F.In.File.bytes c.in-Ok.file) status out.written out_now.written n reads) c.in-Ok.ensures.no_reads c.run_on_file-status.ensures.due);
+          (subst (λ (n : ℕ). ReadsInput (input_told command (g.F.In.File.bytes c.in-Ok.file)) status (progress_at out.written n) (progress_at out_now.written reads)) c.in-Ok.ensures.no_reads c.run_on_file-status.ensures.reads);
     }

@@ -1,8 +1,8 @@
-use Rattle.std.proofs.Common.{rules, ℕ, List, Option, Ok, subst, sym}
+use Rattle.std.proofs.Common.{◌≡◌, length, rules, arith, List, ℕ, IfSome, Option, Ok, subst, sym}
 use Rattle.dat_header.specs.Header.{ReadsHeader}
 use Rattle.trace_run.specs.Job.{command_view}
-use Rattle.trace_run.proofs.DueReading.{due_behind_header}
 use Rattle.trace_run.proofs.Endings.{behind_header, header_unread}
+use Rattle.trace_run.proofs.Reading.{read_behind_header}
 use Rattle.trace_run.proofs.command.run_on_file.Goals as goal
 
 pub run_on_header-requires-clause-read : goal.run_on_header-requires-clause-read
@@ -11,13 +11,14 @@ run_on_header-requires-clause-read g c κs live =
 
 pub returns-in-Ok-clause-worked : goal.returns-in-Ok-clause-worked
 returns-in-Ok-clause-worked g c =
-    behind_header (command_view c.args.command.now) c.in-Ok.header _ _ _ _ _ c.run_on_header.result _ _ c.read_header.ensures.bytes c.in-Ok.ensures.answer
-    c.read_header.ensures.later c.run_on_header.ensures.worked
+    behind_header (command_view c.args.command.now) c.in-Ok.header _ _ _ _ c.run_on_header.result _ _ c.read_header.ensures.bytes c.in-Ok.ensures.answer
+    (λ rose. omega (arith, c.read_header.ensures.later, rose)) c.run_on_header.ensures.worked
 
-pub returns-in-Ok-clause-due : goal.returns-in-Ok-clause-due
-returns-in-Ok-clause-due g c =
-    due_behind_header (command_view c.args.command.now) c.in-Ok.header _ _ _ _ c.run_on_header.result _ _ _ c.read_header.ensures.bytes c.in-Ok.ensures.answer
-    c.in-Ok.ensures.reads c.run_on_header.ensures.due
+pub returns-in-Ok-clause-reads : goal.returns-in-Ok-clause-reads
+returns-in-Ok-clause-reads g c =
+    let long = subst (λ (n : ℕ). IfSome (g.F.In.File.bytes c.args.file.now) (λ bytes. length bytes ≡ n)) (sym c.read_header.ensures.size) (g.met.F.In.File.size_is c.args.file.now) in
+    read_behind_header (command_view c.args.command.now) c.in-Ok.header _ _ _ _ c.run_on_header.result _ _ _ _ c.read_header.ensures.bytes long c.in-Ok.ensures.answer
+    c.in-Ok.ensures.reads c.run_on_header.ensures.reads c.run_on_header.ensures.due
 
 pub returns-in-Err-Read-clause-worked : goal.returns-in-Err-Read-clause-worked
-returns-in-Err-Read-clause-worked g c = header_unread (command_view c.args.command.now) _ _ _ _ (search rules)
+returns-in-Err-Read-clause-worked g c = header_unread (command_view c.args.command.now) _ _ _ (search rules)

@@ -1,18 +1,16 @@
-use Rattle.trace_run.proofs.Endings.{dump_worked, report_worked}
+use Rattle.std.proofs.Common.{refl}
+use Rattle.trace_run.specs.Job.{Dump, Report}
+use Rattle.trace_run.proofs.Endings.{printed_worked, prints_always}
 use Rattle.trace_run.proofs.command.run_on_header.Goals as goal
 
 pub returns-in-Report-clause-worked : goal.returns-in-Report-clause-worked
 returns-in-Report-clause-worked g c =
-    rw c.in-Report.is (report_worked _ _ _ _ _ c.print_report.result _ _ _ _ c.print_report.ensures.writes c.print_report.ensures.causes)
+    rw c.in-Report.is (printed_worked (Report _) _ _ c.print_report.result _ _ _ refl c.print_report.ensures.prints)
 
 pub returns-in-Dump-clause-worked : goal.returns-in-Dump-clause-worked
 returns-in-Dump-clause-worked g c =
-    rw c.in-Dump.is (dump_worked _ c.args.header _ _ c.print_dump.result _ _ _ _ c.print_dump.ensures.writes c.print_dump.ensures.causes)
+    rw c.in-Dump.is (printed_worked (Dump _) _ _ c.print_dump.result _ _ _ refl (prints_always _ _ _ c.print_dump.result _ _ c.print_dump.ensures))
 
 pub returns-in-Split-clause-worked : goal.returns-in-Split-clause-worked
 returns-in-Split-clause-worked g c =
-    rw c.in-Split.is record {
-      ends = c.cut_file.ensures.ends _;
-      causes = c.cut_file.ensures.causes;
-      counts = c.cut_file.ensures.counts;
-    }
+    rw c.in-Split.is record { ended = c.cut_file.ensures.makes _; counts = c.cut_file.ensures.counts }

@@ -1,6 +1,10 @@
-use Rattle.trace_run.specs.Report.{is_chosen}
-use Rattle.trace_run.proofs.Selection.{chosen_rise}
+use Rattle.trace_run.specs.Selection.{has}
+use Rattle.trace_run.proofs.Chosen.{chosen_rise}
+use Rattle.trace_run.proofs.Taken.{taken_rise}
 use Rattle.trace_run.proofs.laws.selection_rises.Goals as goal
 
-pub returns : goal.returns
-returns c = λ cpus parts. (chosen_rise (λ part. is_chosen cpus part.0) 0 parts).1
+pub returns-clause-chosen : goal.returns-clause-chosen
+returns-clause-chosen c = λ selection parts. (chosen_rise (λ part. has selection part.0) 0 parts).1
+
+pub returns-clause-taken : goal.returns-clause-taken
+returns-clause-taken c = λ one body. taken_rise one body

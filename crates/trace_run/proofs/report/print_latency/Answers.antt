@@ -1,17 +1,29 @@
+use Rattle.std.proofs.Common.{Err, refl, ap, arith}
+use Rattle.trace_outside.specs.Causes.{Rose}
+use Rattle.trace_run.specs.Meaning.{latency_report}
+use Rattle.trace_run.specs.declared.status.Status.TheVariants.{Done, ReadFault, WriteFault}
 use Rattle.trace_run.proofs.Latency.{latency_done, latency_unread, latency_unwritten, latency_unbegun}
+use Rattle.trace_run.proofs.Printed.{printed_of}
 use Rattle.trace_run.proofs.report.print_latency.Goals as goal
 
-pub returns-in-Err-clause-writes : goal.returns-in-Err-clause-writes
-returns-in-Err-clause-writes g c = latency_unbegun _ c.args.cpus c.args.end _ _ c.in-Err.ensures.prefix
+pub returns-in-Err-clause-prints : goal.returns-in-Err-clause-prints
+returns-in-Err-clause-prints g c =
+    printed_of _ (latency_report c.args.cpus c.args.end) _ WriteFault _ _ (λ bytes. refl)
+    (latency_unbegun _ c.args.cpus c.args.end _ _ c.in-Err.ensures.prefix) c.in-Err.ensures.cause.failed
 
-pub returns-in-Ok-copy_rest-clause-writes : goal.returns-in-Ok-copy_rest-clause-writes
-returns-in-Ok-copy_rest-clause-writes g c =
-    latency_done _ _ c.args.cpus c.args.end _ _ _ (g.met.I.File.size_is c.args.file.now) c.in-Ok.ensures.gained c.in-Ok-copy_rest.ensures.copies
+pub returns-in-Ok-copy_rest-clause-prints : goal.returns-in-Ok-copy_rest-clause-prints
+returns-in-Ok-copy_rest-clause-prints g c =
+    printed_of _ (latency_report c.args.cpus c.args.end) _ Done _ _ (λ bytes. refl)
+    (latency_done _ _ c.args.cpus c.args.end _ _ _ (g.met.I.File.size_is c.args.file.now) c.in-Ok.ensures.gained c.in-Ok-copy_rest.ensures.copies) tt
 
-pub returns-in-Err-Read-clause-writes : goal.returns-in-Err-Read-clause-writes
-returns-in-Err-Read-clause-writes g c =
-    latency_unread _ _ c.args.cpus c.args.end _ _ _ (g.met.I.File.size_is c.args.file.now) c.in-Ok.ensures.gained c.in-Err-Read.ensures.copies
+pub returns-in-Err-Read-clause-prints : goal.returns-in-Err-Read-clause-prints
+returns-in-Err-Read-clause-prints g c =
+    printed_of _ (latency_report c.args.cpus c.args.end) _ ReadFault _ _ (λ bytes. refl)
+    (latency_unread _ _ c.args.cpus c.args.end _ _ _ (g.met.I.File.size_is c.args.file.now) c.in-Ok.ensures.gained c.in-Err-Read.ensures.copies) (c.in-Err-Read.ensures.read (ap Err c.in-Err-Read.field-0-is))
 
-pub returns-clause-writes : goal.returns-clause-writes
-returns-clause-writes g c =
-    latency_unwritten _ _ c.args.cpus c.args.end _ _ _ (g.met.I.File.size_is c.args.file.now) c.in-Ok.ensures.gained c.in-Err-Write.ensures.copies
+pub returns-clause-prints : goal.returns-clause-prints
+returns-clause-prints g c =
+    let rose : Rose (g.O.Sink.faults c.print_cpus.new.out) (g.O.Sink.faults c.copy_rest.new.out) = c.in-Err-Write.ensures.write (ap Err c.in-Err-Write.field-0-is) in
+    printed_of _ (latency_report c.args.cpus c.args.end) _ WriteFault _ _ (λ bytes. refl)
+    (latency_unwritten _ _ c.args.cpus c.args.end _ _ _ (g.met.I.File.size_is c.args.file.now) c.in-Ok.ensures.gained c.in-Err-Write.ensures.copies)
+    (omega (arith, rose, c.in-Ok.ensures.cause.later))

@@ -2,13 +2,13 @@ use Rattle.std.proofs.Common.{◌<◌, ◌≤◌, ◌*◌, ℕ, List, subst, sym
 use Rattle.std.specs.Prelude.{sum_by}
 use Rattle.std.specs.List.{All}
 use Rattle.trace_base.specs.declared.part.Part.{Part}
-use Rattle.trace_outside.specs.Causes.{Rose, raised}
+use Rattle.trace_outside.specs.Causes.{raised}
 use Rattle.trace_args.specs.Command.{split_view}
 use Rattle.dat_header.specs.declared.header.Header.{Header}
 use Rattle.subpage.specs.Arrangement.{CpusRise}
 use Rattle.page_pool.specs.declared.lane.Lane.{Lane}
 use Rattle.trace_run.proofs.UnusedLanes.{new_unused, unused_fresh, unused_in_order}
-use Rattle.trace_run.proofs.Splits.{cut_ends}
+use Rattle.trace_run.proofs.Splits.{cut}
 use Rattle.trace_run.proofs.Taken.{lanes_below, taken_rise}
 use Rattle.trace_run.proofs.split.cut_file.Goals as goal
 
@@ -32,12 +32,12 @@ split-requires-clause-cpus g c =
     subst (λ (n : ℕ). All (λ (lane : Lane). lane.cpu < n) c.set_lanes.new.lanes) (sym (ap (λ (h : Header). h.cpus) c.drop_instances.ensures.dropped))
     (lanes_below c.args.words.now.cpu c.args.header.cpus c.args.header.body c.set_lanes.new.lanes c.requires.allowed.body are)
 
-pub returns-clause-ends : goal.returns-clause-ends
-returns-clause-ends g c = λ out.
+pub returns-clause-makes : goal.returns-clause-makes
+returns-clause-makes g c =
     let are = c.set_lanes.ensures.parts ∙ c.deref.ensures.value ∙ c.in-Ok.ensures.taken in
     rw c.status_of.ensures
-    (cut_ends (Rose (g.F.In.File.faults c.args.file.now) (g.F.In.File.faults c.split.new.file)) (split_view c.args.words.now) c.args.header c.drop_instances.new.self _ _ _ _ _ _ out c.split.result
-    (c.drop_instances.ensures.allowed c.requires.allowed) c.drop_instances.ensures.dropped are c.requires.read c.split.ensures.told c.split.ensures.created c.split.ensures.read c.split.ensures.write)
+    (cut _ (split_view c.args.words.now) c.args.header c.drop_instances.new.self _ _ _ _ c.split.result
+    c.drop_instances.ensures.dropped are c.split.ensures.told c.split.ensures.created c.split.ensures.read c.split.ensures.write)
 
 pub returns-clause-reads : goal.returns-clause-reads
 returns-clause-reads g c =

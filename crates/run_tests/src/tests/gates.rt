@@ -1,11 +1,11 @@
 // Gates that see which lanes are formatted, and when.
 
 use super::{Carried, Input, Page, Record, folder_of, outcome_of, words_of};
-use crate::Status;
 use std::sync::atomic::AtomicU64;
 use std::sync::atomic::Ordering::SeqCst;
 use std::test::Fail;
 use trace_outside::{Gate, MemFolder};
+use trace_run::Status;
 
 /// A gate that counts the lanes that pass.
 #[derive(Drop)]

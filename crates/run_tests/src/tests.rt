@@ -8,7 +8,6 @@ mod rounds;
 mod selftests;
 mod splits;
 
-use crate::{Status, run};
 use dat_header::OpenFault;
 use disk::Disk;
 use known::{FUNCTION, SWITCH, Task, put_carried, put_function, put_switch, put_wide};
@@ -18,6 +17,7 @@ use std::test::Fail;
 use std::thread::Threads;
 use trace_base::Words;
 use trace_outside::{Folder, Gate, MemFolder, MemSink, NoGate};
+use trace_run::{Status, run};
 
 /// A header without processors. The count of processors stands at its byte 83.
 const HEADER: &[u8; 97] =

@@ -95,6 +95,7 @@ impl Folder for Disk {
 
     fn finish_file(&mut self, _file: Nowhere) -> Result<(), Failed> {
         self.counts.writing = self.counts.writing.saturating_add(1);
+        self.counts.unfinished = self.counts.unfinished.saturating_add(1);
         Err(Failed)
     }
 

@@ -1,8 +1,8 @@
 // Runs of self-tests. Each line is that of `scripts/selftest_line.py`, which makes no file.
 
 use super::{Input, Row, runs_as};
-use crate::Status;
 use std::test::Fail;
+use trace_run::Status;
 
 const ROWS: &[Row] = &[
     Row {

@@ -2,8 +2,8 @@
 
 use super::known::Task;
 use super::{Carried, Input, ONE, Page, Record, Row, SWITCHES, runs_as};
-use crate::Status;
 use std::test::Fail;
+use trace_run::Status;
 
 /// Two switches, of the pids 1 and 2.
 const TWO_SWITCHES: Input = Input::Processors(
@@ -33,7 +33,7 @@ const ROWS: &[Row] = &[
         err: "",
     },
     Row {
-        words: &["report", "-F", "sched : bogus == 1 || common_pid == 2"],
+        words: &["report", "-F", "sched\r\n:\tbogus == 1\n|| common_pid == 2"],
         file: TWO_SWITCHES,
         status: Status::Done,
         out: "cpus=1\n           <...>-2     [000]     1.000000: sched_switch:         prev_comm=b prev_pid=2 prev_prio=120 prev_state=S ==> next_comm=a next_pid=1 next_prio=120\n",

@@ -1,12 +1,12 @@
 // Reports of many events and of long lines, on any number of threads.
 
 use super::{Carried, PAGE, outcome_of, put_common, put_head, put_table, words_of};
-use crate::Status;
 use std::alloc::Global;
 use std::process::Abort;
 use std::test::Fail;
 use std::thread::Threads;
 use trace_outside::{MemFolder, NoGate};
+use trace_run::Status;
 
 /// A sub-buffer of events, each a step behind the one before.
 #[derive(Clone, Copy)]

@@ -5,13 +5,13 @@ use super::{
     Carried, Input, MALFORMED_FIRST, MALFORMED_LATER, ONE, Page, Record, bytes_of, ends_as,
     folder_of, outcome_of, words_of,
 };
-use crate::Status;
 use dat_header::OpenFault;
 use std::alloc::Global;
 use std::process::Abort;
 use std::test::Fail;
 use std::thread::Threads;
 use trace_outside::{MemFolder, NoGate};
+use trace_run::Status;
 
 struct Row {
     words: &'static [&'static str],

@@ -1,0 +1,136 @@
+-- What a command prints, as one of the four endings.
+use Rattle.std.proofs.Common.{◌≡◌, ℕ, length, take, List, [], ◌∷◌, Option, None, Some, IfSome, refl, sym, ap, ◌∙◌, subst, arith}
+use Rattle.std.proofs.lemmas.List.{append-nil}
+use Rattle.std.specs.Option.{option_map}
+use Rattle.trace_outside.specs.Causes.{Rose}
+use Rattle.trace_outside.specs.Writing.{Gained, GainedPrefix}
+use Rattle.split_tool.specs.Stored.{NewFile, FilesStored}
+use Rattle.time_merge.specs.declared.ending.End.{End}
+use Rattle.time_merge.specs.declared.ending.End.TheVariants as end
+use Rattle.trace_run.specs.declared.status.Status.{Status}
+use Rattle.trace_run.specs.declared.status.Status.TheVariants.{Done, Usage, Refused, Malformed, ReadFault, WriteFault, NoMemory}
+use Rattle.trace_run.specs.Ending.{Ends, IsCaused, LeavesAll, Prints}
+use Rattle.trace_run.specs.Meaning.{Meaning, on_out, prints}
+use Rattle.trace_run.specs.Outside.{FolderSeen, Outside, SinkSeen, beside}
+use Rattle.trace_run.specs.Split.{status_of}
+use Rattle.trace_run.specs.Text.{text}
+use Rattle.trace_run.proofs.Endings.{stored_none, stored_first_none}
+
+-- what stands on the output where memory was there
+abbrev pub Writes : Meaning → Status → Option (List ℕ) → Option (List ℕ) → Type 0
+Writes m ReadFault old now = (count : ℕ) × Gained old now (text (take count m.pieces))
+Writes m WriteFault old now = GainedPrefix old now (text m.pieces)
+Writes m status old now = (status ≡ m.status) × Gained old now (text m.pieces)
+
+abbrev pub WritesFor : (List ℕ → Meaning) → Option (List ℕ) → Status → Option (List ℕ) → Option (List ℕ) → Type 0
+WritesFor means told status old now = IfSome told (λ bytes. Writes (means bytes) status old now)
+
+-- why the answer is a fault, and that it is none that leaves all as it was
+abbrev pub Shows : Type 0 → Status → SinkSeen → SinkSeen → Type 0
+Shows unread Done before now = Unit {0}
+Shows unread (Malformed cpu page) before now = Unit {0}
+Shows unread ReadFault before now = unread
+Shows unread WriteFault before now = Rose before.faults now.faults
+Shows unread Usage before now = ⊥
+Shows unread (Refused fault) before now = ⊥
+Shows unread NoMemory before now = ⊥
+
+module _ (unread : Type 0) (folder : FolderSeen) (before now : SinkSeen) where
+  abbrev was : Outside
+  was = beside folder before
+
+  abbrev is : Outside
+  is = beside folder now
+
+  ends : (m : Meaning) (status : Status) → m.files ≡ [] → Writes m status before.written now.written → Shows unread status before now → Ends m status was is
+  ends m ReadFault none writes shows = record {
+    output = writes;
+    files = (0, stored_none folder.files folder.files refl);
+    created = omega arith;
+  }
+  ends m WriteFault none writes shows = record {
+    output = writes;
+    files = stored_first_none m.files folder.counts folder.files folder.files refl;
+    created = omega arith;
+  }
+  ends m Done none writes shows = record {
+    answer = writes.0;
+    output = writes.1;
+    files = subst (λ (news : List NewFile). FilesStored news folder.files folder.files) (sym none) (stored_none folder.files folder.files refl);
+    created = let few : length m.files ≡ 0 = ap length none in omega arith;
+  }
+  ends m (Malformed cpu page) none writes shows = record {
+    answer = writes.0;
+    output = writes.1;
+    files = subst (λ (news : List NewFile). FilesStored news folder.files folder.files) (sym none) (stored_none folder.files folder.files refl);
+    created = let few : length m.files ≡ 0 = ap length none in omega arith;
+  }
+  ends m Usage none writes shows = absurd shows
+  ends m (Refused fault) none writes shows = absurd shows
+  ends m NoMemory none writes shows = absurd shows
+
+  leaves : (status : Status) → Shows unread status before now → LeavesAll status was is
+  leaves Done shows = tt
+  leaves (Malformed cpu page) shows = tt
+  leaves ReadFault shows = tt
+  leaves WriteFault shows = tt
+  leaves Usage shows = absurd shows
+  leaves (Refused fault) shows = absurd shows
+  leaves NoMemory shows = absurd shows
+
+  caused : (status : Status) → Shows unread status before now → IsCaused on_out unread status was is
+  caused Done shows = tt
+  caused (Malformed cpu page) shows = tt
+  caused ReadFault shows = shows
+  caused WriteFault shows = shows
+  caused Usage shows = absurd shows
+  caused (Refused fault) shows = absurd shows
+  caused NoMemory shows = absurd shows
+
+  told_ends : (means : List ℕ → Meaning) (told : Option (List ℕ)) (status : Status) → ((bytes : List ℕ) → (means bytes).files ≡ [])
+      → WritesFor means told status before.written now.written → Shows unread status before now
+      → IfSome (option_map means told) (λ m. Ends m status was is)
+  told_ends means None status none writes shows = tt
+  told_ends means (Some bytes) status none writes shows = ends (means bytes) status (none bytes) writes shows
+
+-- by what is meant of the file's bytes
+pub printed_of : (unread : Type 0) (means : List ℕ → Meaning) (told : Option (List ℕ)) (status : Status) (before now : SinkSeen) → ((bytes : List ℕ) → (means bytes).files ≡ [])
+    → WritesFor means told status before.written now.written → Shows unread status before now → Prints unread (option_map means told) status before now
+printed_of unread means told status before now none writes shows = λ folder. record {
+  ends = told_ends unread folder before now means told status none writes shows;
+  untouched = leaves unread folder before now status shows;
+  causes = caused unread folder before now status shows;
+}
+
+-- by what is meant in any case
+pub printed : (unread : Type 0) (m : Meaning) (status : Status) (before now : SinkSeen) → m.files ≡ []
+    → Writes m status before.written now.written → Shows unread status before now → Prints unread (Some m) status before now
+printed unread m status before now none writes shows = λ folder. record {
+  ends = ends unread folder before now m status none writes shows;
+  untouched = leaves unread folder before now status shows;
+  causes = caused unread folder before now status shows;
+}
+
+one_piece : (piece : List ℕ) → text (piece ∷ []) ≡ piece
+one_piece piece = append-nil piece
+
+-- one piece was printed, or a prefix of it
+pub piece_printed : (unread : Type 0) (piece put : List ℕ) (before now : SinkSeen) → Gained before.written now.written put → put ≡ piece
+    → Prints unread (Some (prints (piece ∷ []) Done)) Done before now
+piece_printed unread piece put before now gained is =
+    printed unread (prints (piece ∷ []) Done) Done before now refl
+    (refl, subst (λ (t : List ℕ). Gained before.written now.written t) (is ∙ sym (one_piece piece)) gained) tt
+
+pub piece_unprinted : (unread : Type 0) (piece put : List ℕ) (before now : SinkSeen) → GainedPrefix before.written now.written put
+    → Rose before.faults now.faults → put ≡ piece → Prints unread (Some (prints (piece ∷ []) Done)) WriteFault before now
+piece_unprinted unread piece put before now prefix rose is =
+    printed unread (prints (piece ∷ []) Done) WriteFault before now refl
+    (subst (λ (t : List ℕ). GainedPrefix before.written now.written t) (is ∙ sym (one_piece piece)) prefix) rose
+
+-- the end of a report of events shows its faults
+pub end_shows : (unread : Type 0) (answer : End) (before now : SinkSeen) → (answer ≡ end.Read → unread) → (answer ≡ end.Write → Rose before.faults now.faults)
+    → Shows unread (status_of answer) before now
+end_shows unread end.Done before now read write = tt
+end_shows unread (end.Malformed cpu page) before now read write = tt
+end_shows unread end.Read before now read write = read refl
+end_shows unread end.Write before now read write = write refl

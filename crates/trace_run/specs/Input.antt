@@ -1,0 +1,127 @@
+-- What a run works on, and how much of it is read.
+use Rattle.std.specs.Prelude.{Option, None, Some, Result, Ok, Err, ◌+◌, ◌-◌, ◌*◌, ◌≤◌, ℕ, Bool, List, [], drop, length, sum_by, nat_eq, if◌then◌else◌, IfSome}
+use Rattle.std.specs.FinMap.{get}
+use Rattle.std.specs.List.{starts_with}
+use Rattle.std.specs.Option.{option_and_then}
+use Rattle.trace_outside.specs.Names.{NamedFiles}
+use Rattle.trace_outside.specs.Causes.{raised}
+use Rattle.trace_outside.specs.Writing.{Gained}
+use Rattle.dat_options.specs.declared.fault.OpenFault.{OpenFault}
+use Rattle.dat_header.specs.declared.header.Header.{Header}
+use Rattle.dat_header.specs.declared.header.Body.{Body}
+use Rattle.dat_header.specs.declared.header.Body.TheVariants.{Latency, Fly}
+use Rattle.dat_header.specs.Header.{header_of}
+use Rattle.report_print.specs.Line.{line}
+use Rattle.report_rounds.specs.Due.{due_bytes}
+use Rattle.trace_run.specs.declared.list.Listed.{Listed}
+use Rattle.trace_run.specs.declared.status.Status.{Status}
+use Rattle.trace_run.specs.declared.status.Status.TheVariants.{Done, Malformed, WriteFault}
+use Rattle.trace_run.specs.declared.usage.UsageFault.{UsageFault}
+use Rattle.trace_run.specs.Job.{FileCommand, Report, Dump, Split, Job, OnFile, SelfTest}
+use Rattle.trace_run.specs.Lists.{listed_in}
+use Rattle.trace_run.specs.Meaning.{input_of}
+use Rattle.trace_run.specs.Outside.{Outside}
+use Rattle.trace_run.specs.Report.{Events, cpus_line, listed_events}
+use Rattle.trace_run.specs.Selection.{chosen, set_or_all}
+use Rattle.trace_run.specs.Split.{taken_of}
+
+-- WHAT A RUN WORKS ON
+
+-- a command, and the header and the bytes of the file that it is on
+pub record Input : Type 0 where
+  pub command : FileCommand
+  pub header : Header
+  pub bytes : List ℕ
+
+abbrev pub with_header : FileCommand → List ℕ → Result Header OpenFault → Option Input
+with_header command bytes (Ok header) = Some (record { command = command; header = header; bytes = bytes })
+with_header command bytes (Err fault) = None
+
+-- of a file that begins with a header
+abbrev pub input_in : FileCommand → List ℕ → Option Input
+input_in command bytes = with_header command bytes (header_of bytes)
+
+-- of a file that tells its bytes
+abbrev pub input_told : FileCommand → Option (List ℕ) → Option Input
+input_told command told = option_and_then (input_in command) told
+
+-- what a run works on, if anything: the words ask for a command on a file, and the folder has that file
+abbrev pub input_of_run : Result Job UsageFault → Option NamedFiles → Option Input
+input_of_run (Ok (OnFile command)) told = option_and_then (λ files. input_told command (get files (input_of command))) told
+input_of_run (Ok (SelfTest words)) told = None
+input_of_run (Err fault) told = None
+
+-- HOW MUCH A COMMAND NEEDS
+
+-- how many bytes behind the header a report of events needs: the parts of the chosen processors, or the rest of a latency
+-- file
+abbrev pub body_share : Option (List Bool) → ℕ → ℕ → Body → ℕ
+body_share cpus end size Latency = size - end
+body_share cpus end size (Fly parts) = sum_by (λ part. part.1.size) (chosen (set_or_all cpus) parts)
+
+-- a list needs none
+abbrev pub report_share : Option Listed → Option (List Bool) → ℕ → ℕ → Body → ℕ
+report_share None cpus end size body = body_share cpus end size body
+report_share (Some list) cpus end size body = 0
+
+-- a split reads the parts of the processors that it takes at most three times: to measure its pieces, and to pack of each
+-- sub-buffer the piece that ends in it and the one that begins there
+abbrev pub split_share : Option ℕ → Body → ℕ
+split_share one body = 3 * sum_by (λ part. part.1.size) (taken_of one body)
+
+-- how many bytes behind the header a command needs, of a file of this size
+abbrev pub share : FileCommand → Header → ℕ → ℕ
+share (Report words) header size = report_share (listed_in words.list) words.cpus header.end size header.body
+share (Dump words) header size = 0
+share (Split words) header size = split_share words.cpu header.body
+
+-- HOW MUCH IS READ
+
+-- what stands on the output, and how many bytes of files were read by then
+pub record Progress : Type 0 where
+  pub written : Option (List ℕ)
+  pub reads : ℕ
+
+abbrev pub progress : Outside → Progress
+progress seen = record { written = seen.out.written; reads = seen.folder.counts.bytes }
+
+abbrev pub progress_at : Option (List ℕ) → ℕ → Progress
+progress_at written reads = record { written = written; reads = reads }
+
+-- what a report wrote behind its first line: nothing where that line is not whole
+abbrev pub behind_first : ℕ → List ℕ → List ℕ
+behind_first cpus written =
+    if starts_with nat_eq written (cpus_line cpus) then drop (length (cpus_line cpus)) written else []
+
+-- the bytes of the sub-buffers that are due once a report of events wrote this
+abbrev pub due_of : Events → List ℕ → ℕ
+due_of events written =
+    due_bytes (line events.given) events.header.layout events.bytes events.parts (behind_first events.header.cpus written)
+
+-- a text was written, and no more than so many bytes and those that are due by it were read
+abbrev pub ReadsDue : Events → ℕ → Progress → Progress → Type 0
+ReadsDue events first before now =
+    (written : List ℕ) × (Gained before.written now.written written × (now.reads ≤ raised before.reads (first + due_of events written)))
+
+-- the events that a command on a file reports, if any
+abbrev pub events_of : FileCommand → Header → List ℕ → Option Events
+events_of (Report words) header bytes = listed_events (listed_in words.list) words header bytes
+events_of (Dump words) header bytes = None
+events_of (Split words) header bytes = None
+
+-- No more bytes were read than so many and the command's share, nor by a report of events more than are due by what it
+-- wrote.
+pub record ReadsNoMore (first : ℕ) (input : Input) (before now : Progress) : Type 0 where
+  pub needed : now.reads ≤ raised before.reads (first + share input.command input.header (length input.bytes))
+  pub due : IfSome (events_of input.command input.header input.bytes) (λ events. ReadsDue events first before now)
+
+-- a claim for the answers behind a header: the work is done, the file is malformed, or the output could not be written
+abbrev pub BehindHeader : Status → Type 0 → Type 0
+BehindHeader Done claim = claim
+BehindHeader (Malformed cpu page) claim = claim
+BehindHeader WriteFault claim = claim
+BehindHeader status claim = Unit {0}
+
+-- then no more is read than the header and what the command needs
+abbrev pub ReadsInput : Option Input → Status → Progress → Progress → Type 0
+ReadsInput known status before now = BehindHeader status (IfSome known (λ input. ReadsNoMore input.header.end input before now))
