@@ -1,11 +1,12 @@
 use std::alloc::{Alloc, Global};
-use std::io;
 use std::io::{ErrorKind, Write};
 use std::process::Abort;
 use std::test::Fail;
+use std::{fs, io};
+use trace_base::ByteText;
 use trace_outside::{
-    Failed, File, Folder, MemFolder, MemSink, Pending, RealFolder, RealSink, Sink, read_all,
-    read_bytes, write_all, write_parts,
+    Failed, File, Folder, MemFault, MemFile, MemFolder, MemSink, Pending, RealFolder, RealSink,
+    Sink, read_all, read_bytes, write_all, write_parts,
 };
 
 // Writes a file of a folder and reads it back, by the traits alone.
@@ -59,6 +60,43 @@ fn over_the_system(rt: HostRuntime) -> Result<(), Fail> {
     let mut folder = RealFolder::new(rt.clone()?, alloc);
     comes_back(&rt, &mut folder)?;
     assert!(rt; !opens(&mut folder, "never.part"));
+    Ok(())
+}
+
+// Whether the first byte of a file is read.
+fn is_read<F: Folder>(folder: &mut F, name: &str) -> bool {
+    let Ok(mut file) = folder.open_file(name) else {
+        return false;
+    };
+    let mut into = [0; 1];
+    let is_read = file.len() > 0 && file.read_at(0, &mut into).is_ok();
+    folder.close_file(file);
+    is_read
+}
+
+// A folder is no file, and no file gets its name: the part that was written goes.
+#[test]
+fn what_the_system_refuses(rt: HostRuntime) -> Result<(), Fail> {
+    let mut folder = RealFolder::new(rt.clone()?, rt.alloc());
+    fs::create_dir(&rt, "taken")?;
+    for name in ["missing", "", ".", "taken", "a\0b", "missing/a"] {
+        assert!(rt; !is_read(&mut folder, name), "{name}");
+    }
+    for name in ["taken", "a\0b", "missing/a"] {
+        assert!(rt; makes(&mut folder, name, b"x").is_err(), "{name}");
+    }
+    assert!(rt; !opens(&mut folder, "taken.part") && !opens(&mut folder, "a"));
+    assert!(rt; makes(&mut folder, "taken/a", b"x").is_ok() && is_read(&mut folder, "taken/a"));
+    Ok(())
+}
+
+#[test]
+fn a_pipe_without_a_reader(rt: HostRuntime) -> Result<(), Fail> {
+    let (reader, writer) = io::pipe(&rt)?;
+    drop(reader);
+    let mut out = RealSink::new(writer);
+    assert_eq!(rt; out.write(b""), Ok(0));
+    assert_eq!(rt; write_all(&mut out, b"x"), Err(Failed));
     Ok(())
 }
 
@@ -156,5 +194,139 @@ fn large_files_in_memory(rt: HostRuntime) -> Result<(), Fail> {
     folder.finish_file(out)?;
     assert_eq!(rt; folder.get("copy"), Some(large.as_slice()));
     assert_eq!(rt; folder.wants(), 0);
+    Ok(())
+}
+
+// What a read of so many bytes from a place on gives, of `abcde`.
+fn read_of(file: &mut MemFile, at: u64, count: usize) -> Option<usize> {
+    let mut into = [0; 8];
+    let (asked, _) = into.split_at_mut(count.min(8).max(1));
+    if at >= file.len() {
+        return None;
+    }
+    file.read_at(at, asked).ok()
+}
+
+// The byte that fails, the place, how many bytes are asked for, and how many are given, or none.
+static READS: [(u64, u64, usize, Option<usize>); 8] = [
+    (3, 0, 3, Some(3)),
+    (3, 0, 4, None),
+    (3, 3, 1, None),
+    (3, 4, 1, Some(1)),
+    (3, 2, 8, None),
+    (5, 0, 8, Some(5)),
+    (5, 4, 8, Some(1)),
+    (0, 1, 8, Some(4)),
+];
+
+#[test]
+fn reads_fail_at_a_byte(rt: HostRuntime) -> Result<(), Fail> {
+    for (byte, at, count, given) in &READS {
+        let mut file = MemFile::new(ByteText::copy(rt.alloc(), b"abcde")?);
+        file.fail_at(*byte);
+        assert!(rt; read_of(&mut file, *at, *count) == *given, "{byte}: {at}");
+        let read = given.unwrap_or(0) as u64;
+        assert!(rt; file.reads() == read && file.faults() == u64::from(given.is_none()));
+    }
+    Ok(())
+}
+
+// The write from which on they fail, how many bytes one takes at most, and what is there of `ab`, nothing, `cde` then.
+static WRITES: [(u64, u32, &str, u64, u64); 7] = [
+    (9, 9, "abcde", 3, 0),
+    (1, 9, "", 3, 2),
+    (2, 9, "ab", 3, 1),
+    (3, 9, "ab", 3, 1),
+    (0, 9, "", 3, 2),
+    (9, 1, "ac", 3, 0),
+    (9, 0, "ac", 3, 0),
+];
+
+#[test]
+fn writes_fail_from_a_call_on(rt: HostRuntime) -> Result<(), Fail> {
+    for (from, most, told, writes, faults) in &WRITES {
+        let mut out = MemSink::new(rt.alloc());
+        out.fail_from(*from);
+        out.short(*most);
+        let _ = out.write(b"ab");
+        assert_eq!(rt; out.write(b""), Ok(0));
+        let _ = out.write(b"cde");
+        assert!(rt; out.bytes() == told.as_bytes(), "{from} {most}");
+        assert!(rt; out.writes() == *writes && out.faults() == *faults);
+        assert_eq!(rt; out.wants(), 0);
+    }
+    Ok(())
+}
+
+// Makes a file of these bytes, or gives it up where a write fails.
+fn makes<F: Folder>(folder: &mut F, name: &str, bytes: &[u8]) -> Result<(), Failed> {
+    let mut out = folder.create_file(name)?;
+    match write_all(&mut out, bytes) {
+        Ok(()) => folder.finish_file(out),
+        Err(Failed) => {
+            folder.drop_file(out);
+            Err(Failed)
+        }
+    }
+}
+
+fn reads_whole(folder: &mut MemFolder, name: &str) -> Result<(), Failed> {
+    let mut file = folder.open_file(name)?;
+    let mut into = [0; 4];
+    let read = if file.len() == 4 {
+        read_all(&mut file, 0, &mut into)
+    } else {
+        Err(Failed)
+    };
+    folder.close_file(file);
+    read
+}
+
+// A mark for each of two files that are made, and for each of two reads of them: `.`, or `!` where it failed.
+fn put_marks(marks: &mut String, folder: &mut MemFolder) -> Result<(), Fail> {
+    for made in [
+        makes(folder, "a", b"1234"),
+        makes(folder, "b", b"5678"),
+        reads_whole(folder, "a"),
+        reads_whole(folder, "b"),
+    ] {
+        marks.push_str(if made.is_ok() { "." } else { "!" })?;
+    }
+    Ok(())
+}
+
+static FAULTS: [(MemFault, &str, u64, u64, u64); 12] = [
+    (MemFault::Open(1), "..!.", 1, 0, 0),
+    (MemFault::Open(2), "...!", 1, 0, 0),
+    (MemFault::Open(3), "....", 0, 0, 0),
+    (MemFault::ReadAt(0), "..!!", 2, 0, 0),
+    (MemFault::ReadAt(3), "..!!", 2, 0, 0),
+    (MemFault::ReadAt(4), "....", 0, 0, 0),
+    (MemFault::Create(2), ".!.!", 1, 1, 0),
+    (MemFault::Finish(1), "!.!.", 1, 1, 1),
+    (MemFault::Write(1), "!.!.", 1, 1, 0),
+    (MemFault::Write(4), "!.!.", 1, 1, 0),
+    (MemFault::Write(5), ".!.!", 1, 1, 0),
+    (MemFault::Write(9), "....", 0, 0, 0),
+];
+
+// Each write takes a byte, so that a file is four of them.
+#[test]
+fn a_call_of_a_folder_fails(rt: HostRuntime) -> Result<(), Fail> {
+    for (fault, told, reading, writing, unfinished) in &FAULTS {
+        let mut folder = MemFolder::new(rt.alloc());
+        folder.fail(MemFault::Open(1));
+        folder.fail(*fault);
+        folder.short(1);
+        let mut marks = String::new(rt.alloc());
+        put_marks(&mut marks, &mut folder)?;
+        assert!(rt; marks.as_str() == *told, "{fault:?}: {marks}");
+        let counts = folder.counts();
+        assert!(rt;
+            counts.reading == *reading && counts.writing == *writing,
+            "{fault:?}"
+        );
+        assert!(rt; counts.unfinished == *unfinished && folder.wants() == 0);
+    }
     Ok(())
 }

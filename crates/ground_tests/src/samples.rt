@@ -1,8 +1,7 @@
 use std::alloc::{AllocError, Global};
 use std::test::Fail;
 use subpage::{Item, check_page};
-use trace_outside::{Failed, File, Sink};
-use trace_samples::{BoundedSink, DamagedFile, Page, layout, put_pages};
+use trace_samples::{Page, layout, put_pages};
 
 fn bytes_of(alloc: Global, page: Page<'_>) -> Result<Vec<u8>, AllocError> {
     let mut bytes = Vec::new(alloc);
@@ -48,28 +47,5 @@ fn sub_buffers_tell_what_they_are_of(rt: HostRuntime) -> Result<(), Fail> {
         bytes.len() == 4096 && check_page(&layout(), bytes.as_slice()).is_none(),
         "a malformed one"
     );
-    Ok(())
-}
-
-#[test]
-fn reads_and_writes_fail_from_a_place_on(rt: HostRuntime) -> Result<(), Fail> {
-    let mut file = DamagedFile::new(b"abcde".as_slice().to_vec(rt.alloc())?, 3);
-    let mut into = [0; 4];
-    assert_eq!(rt; file.read_at(1, &mut into), Ok(2));
-    assert_eq!(rt; into, *b"bc\0\0");
-    assert_eq!(rt; file.read_at(3, &mut into), Err(Failed));
-    assert!(rt; file.len() == 5 && file.reads == 2 && file.faults == 1);
-    let mut sink = BoundedSink::new(rt.alloc(), 3);
-    for (piece, taken) in [
-        (&b"ab"[..], Ok(2)),
-        (&b""[..], Ok(0)),
-        (&b"cd"[..], Ok(1)),
-        (&b""[..], Ok(0)),
-        (&b"d"[..], Err(Failed)),
-    ] {
-        assert!(rt; sink.write(piece) == taken);
-    }
-    assert_eq!(rt; sink.bytes(), b"abc".as_slice());
-    assert!(rt; sink.writes == 4 && sink.faults == 1);
     Ok(())
 }

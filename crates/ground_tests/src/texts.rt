@@ -1,6 +1,7 @@
 use std::test::Fail;
 use trace_base::{
-    ByteText, ListOf, Order, Words, put_u16, put_u32, put_u64, read_u16, read_u32, read_u64,
+    ByteText, Field, FieldKind, FieldPlace, ListOf, Order, Words, field_named, micros, put_u16,
+    put_u32, put_u64, read_u16, read_u32, read_u64, two_digits, until_nul,
 };
 
 static BYTES: [u8; 8] = [1, 2, 3, 4, 5, 6, 7, 8];
@@ -57,5 +58,51 @@ fn many_words(rt: HostRuntime) -> Result<(), Fail> {
     assert!(rt; words.len() == 3_002);
     assert_eq!(rt; words.word(3_000), "report");
     assert_eq!(rt; words.word(3_001), long.as_str());
+    Ok(())
+}
+
+#[test]
+fn texts_end_at_their_first_nul(rt: HostRuntime) {
+    let rows: [(&[u8], &[u8]); 6] = [
+        (b"", b""),
+        (b"bash", b"bash"),
+        (b"ab\x00c", b"ab"),
+        (b"bash\x00bash\x00bash\x00b", b"bash"),
+        (b"a name of 16 by.\x00", b"a name of 16 by."),
+        (
+            b"a name of more than sixteen\x00x",
+            b"a name of more than sixteen",
+        ),
+    ];
+    for (text, front) in rows {
+        assert_eq!(rt; until_nul(text), front);
+    }
+}
+
+#[test]
+fn bytes_and_times_as_they_are_printed(rt: HostRuntime) {
+    assert_eq!(rt; two_digits(0x0f), *b"0f");
+    assert_eq!(rt; two_digits(0xa0), *b"a0");
+    assert_eq!(rt; micros(1_499), 1);
+    assert_eq!(rt; micros(1_500), 2);
+}
+
+#[test]
+fn fields_are_copied_and_found(rt: HostRuntime) -> Result<(), Fail> {
+    let alloc = rt.alloc();
+    let field = Field {
+        name: ByteText::copy(alloc, b"comm")?,
+        offset: 8,
+        size: 16,
+        signed: true,
+        kind: FieldKind::Text,
+        place: FieldPlace::RelLoc,
+        element: 1,
+    };
+    let fields = vec![in alloc; field.copy(alloc)?]?;
+    let found = field_named(b"comm", &fields).ok_or("a field is found")?;
+    assert_eq!(rt; found.name.as_bytes(), b"comm".as_slice());
+    assert_eq!(rt; found.place, FieldPlace::RelLoc);
+    assert!(rt; field_named(b"com", &fields).is_none());
     Ok(())
 }

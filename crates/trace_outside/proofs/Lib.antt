@@ -1,3 +1,4 @@
 pub mod Gains
 pub mod Fills
 pub mod PendingLemmas
+pub mod Keeping

@@ -5,4 +5,6 @@ pub mod Writing
 pub mod Names
 pub mod Pending
 pub mod Folders
+pub mod Faults
 pub mod Memory
+pub mod Keeping

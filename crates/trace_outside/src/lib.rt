@@ -11,7 +11,7 @@ mod real;
 mod whole;
 
 pub use counts::Counts;
-pub use memory::{MemFile, MemFolder, MemSink, NoGate};
+pub use memory::{MemFault, MemFile, MemFolder, MemSink, NoGate};
 pub use outside::{Failed, File, Folder, Gate, Sink};
 pub use pending::Pending;
 pub use piece::{PieceFault, read_bytes, read_piece};

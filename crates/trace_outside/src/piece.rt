@@ -2,7 +2,9 @@
 
 ghost use Rattle.std.specs.Prelude.{◌≡◌, ◌-◌, ◌^◌, ◌<◌, ◌≤◌, length, OnOk, IsErrOf};
 ghost use Rattle.trace_outside.specs.Causes.{Rose, raised};
+ghost use Rattle.trace_outside.specs.Keeping.{KeepsFile};
 ghost use Rattle.trace_outside.specs.Piece.{FillsFrom, GivesPiece};
+ghost use Rattle.trace_outside.specs.declared.piece.PieceFault.TheVariants.{Read};
 
 use crate::outside::{Failed, File};
 use crate::whole::read_all;
@@ -20,6 +22,14 @@ pub enum PieceFault {
     Memory,
 }
 
+impl From<Failed> for PieceFault {
+    ghost from_gives = { λ failed fault. fault ≡ Read };
+
+    fn from(_failed: Failed) -> PieceFault {
+        PieceFault::Read
+    }
+}
+
 /// Fills the buffer with the file's bytes from `at` on, each of which is read once.
 ///
 /// # Errors
@@ -31,19 +41,16 @@ pub fn read_piece<F: File>(file: &mut F, at: u64, into: &mut [u8]) -> Result<(),
     ensures unread { IsErrOf result (PieceFault.EndsEarly (F.size file.old)) → F.reads file.new ≡ F.reads file.old }
     ensures most { F.reads file.new ≤ raised (F.reads file.old) (F.size file.old - at) }
     ensures cause { IsErrOf result PieceFault.Read → Rose (F.faults file.old) (F.faults file.new) }
-    ensures later { F.faults file.old ≤ F.faults file.new }
-    ensures bytes { F.bytes file.new ≡ F.bytes file.old }
-    ensures size { F.size file.new ≡ F.size file.old }
+    ensures keeps { KeepsFile F.File file.old file.new }
     ensures fits { F.size file.old < 2 ^ 64 }
 {
     let size = file.len();
     match at.checked_add(into.len() as u64) {
-        Some(end) if end <= size => match read_all(file, at, into) {
-            Ok(()) => Ok(()),
-            Err(Failed) => Err(PieceFault::Read),
-        },
-        _ => Err(PieceFault::EndsEarly(size)),
+        Some(end) if end <= size => {}
+        _ => return Err(PieceFault::EndsEarly(size)),
     }
+    read_all(file, at, into)?;
+    Ok(())
 }
 
 /// The `size` bytes of the file from `at` on, each of which is read once.
@@ -62,9 +69,7 @@ pub fn read_bytes<F: File>(
     ensures unread { IsErrOf result (PieceFault.EndsEarly (F.size file.old)) → F.reads file.new ≡ F.reads file.old }
     ensures most { F.reads file.new ≤ raised (F.reads file.old) (F.size file.old - at) }
     ensures cause { IsErrOf result PieceFault.Read → Rose (F.faults file.old) (F.faults file.new) }
-    ensures later { F.faults file.old ≤ F.faults file.new }
-    ensures bytes { F.bytes file.new ≡ F.bytes file.old }
-    ensures size { F.size file.new ≡ F.size file.old }
+    ensures keeps { KeepsFile F.File file.old file.new }
     ensures fits { F.size file.old < 2 ^ 64 }
 {
     let len = file.len();

@@ -3,6 +3,7 @@
 ghost use Rattle.std.specs.Prelude.{◌≡◌, ◌+◌, ◌≤◌, length, OnOk, OnErr};
 ghost use Rattle.std.specs.List.{flat_map};
 ghost use Rattle.trace_outside.specs.Causes.{HasCause, raised};
+ghost use Rattle.trace_outside.specs.Keeping.{KeepsFile};
 ghost use Rattle.trace_outside.specs.Reading.{GivesBytesAt};
 ghost use Rattle.trace_outside.specs.Writing.{Gained, GainedPrefix};
 
@@ -14,8 +15,7 @@ pub fn read_all<I: File>(file: &mut I, at: u64, into: &mut [u8]) -> Result<(), F
     ensures given { OnOk result (GivesBytesAt (I.bytes file.old) at (length into.new) into.new) }
     ensures reads { OnOk result (I.reads file.new ≡ raised (I.reads file.old) (length into.new)) }
     ensures most { I.reads file.new ≤ raised (I.reads file.old) (length into.new) }
-    ensures bytes { I.bytes file.new ≡ I.bytes file.old }
-    ensures size { I.size file.new ≡ I.size file.old }
+    ensures keeps { KeepsFile I.File file.old file.new }
     ensures cause { HasCause (I.faults file.old) (I.faults file.new) result }
 {
     // The file ends at a number of 64 bits, so no place in it overflows.

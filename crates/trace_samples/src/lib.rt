@@ -1,15 +1,11 @@
-//! Files, sinks and sub-buffers made in memory, for tests.
-//!
-//! A [`DamagedFile`] cannot be read from a place on, a [`BoundedSink`] takes so many bytes and no more, and a [`Page`] is
-//! a sub-buffer told in a line, whose bytes stand in [`layout`].
+//! Sub-buffers and whole traces made in memory, for tests: a [`Page`] is a sub-buffer told in a line, whose bytes stand in
+//! [`layout`], and a [`Trace`] a file told by what it carries.
 #![tactic(auto)]
 
-mod bounded_sink;
-mod damaged_file;
 mod layouts;
 mod sub_buffers;
+mod traces;
 
-pub use bounded_sink::BoundedSink;
-pub use damaged_file::DamagedFile;
 pub use layouts::layout;
 pub use sub_buffers::{PAGE, Page, put_pages};
+pub use traces::{EMPTY, SWITCH, Trace, trace_file};

@@ -1,28 +1,75 @@
-ghost use Rattle.std.specs.Prelude.{◌≡◌, ◌<◌, length, refl, Some, IfOk, IsOk, OnErr};
-ghost use Rattle.trace_outside.specs.Causes.{HasCause, raised};
+ghost use Rattle.std.specs.Prelude.{◌≡◌, ◌<◌, ◌-◌, min, length, refl, None, Some, IfOk, IsOk, IsErr, OnErr, MatchBool};
+ghost use Rattle.trace_outside.specs.Causes.{HasCause, FailsJustThere, raised};
 ghost use Rattle.trace_outside.specs.Reading.{ReadsAt};
+ghost use Rattle.trace_outside.specs.Faults.{asks_for, at_limit};
+ghost use Rattle.trace_outside.specs.Memory.{file_fault, file_limit};
 
+use crate::memory::faults::{asks_for, at_limit};
 use crate::outside::{Failed, File};
 use trace_base::ByteText;
 
-/// A file in memory, which tells its bytes.
+/// A file in memory, which tells its bytes. Its reads fail just where they ask for a byte that was set to fail.
 #[derive(Drop)]
 pub struct MemFile {
     text: ByteText,
     pub(super) reads: u64,
+    pub(super) faults: u64,
+    fault: Option<u64>,
+    limit: Option<u32>,
 }
 
 impl MemFile {
-    /// A file of these bytes, just opened.
+    /// A file of these bytes, just opened. None of its reads fails.
     pub fn new(bytes: ByteText) -> MemFile
         ensures bytes { ⟦<MemFile as File>⟧.bytes result ≡ Some bytes }
         ensures no_faults { ⟦<MemFile as File>⟧.faults result ≡ 0 }
         ensures no_reads { ⟦<MemFile as File>⟧.reads result ≡ 0 }
+        ensures no_fault_set { file_fault result ≡ None }
+        ensures unlimited { file_limit result ≡ None }
+    {
+        MemFile::opened(bytes, None, None)
+    }
+
+    pub(super) fn opened(bytes: ByteText, fault: Option<u64>, limit: Option<u32>) -> MemFile
+        ensures bytes { ⟦<MemFile as File>⟧.bytes result ≡ Some bytes }
+        ensures no_faults { ⟦<MemFile as File>⟧.faults result ≡ 0 }
+        ensures no_reads { ⟦<MemFile as File>⟧.reads result ≡ 0 }
+        ensures fault { file_fault result ≡ fault }
+        ensures limit { file_limit result ≡ limit }
     {
         MemFile {
             text: bytes,
             reads: 0,
+            faults: 0,
+            fault,
+            limit,
         }
+    }
+
+    /// From now on each read that asks for the byte at this place fails, and no other. A byte past the end is asked for by
+    /// none.
+    pub fn fail_at(&mut self, byte: u64)
+        ensures set { file_fault self.new ≡ Some byte }
+        ensures limit { file_limit self.new ≡ file_limit self.old }
+        ensures bytes { ⟦<MemFile as File>⟧.bytes self.new ≡ ⟦<MemFile as File>⟧.bytes self.old }
+        ensures faults { ⟦<MemFile as File>⟧.faults self.new ≡ ⟦<MemFile as File>⟧.faults self.old }
+        ensures reads { ⟦<MemFile as File>⟧.reads self.new ≡ ⟦<MemFile as File>⟧.reads self.old }
+    {
+        self.fault = Some(byte);
+    }
+
+    /// How many of its bytes were read.
+    pub fn reads(&self) -> u64
+        ensures { result ≡ ⟦<MemFile as File>⟧.reads self.now }
+    {
+        self.reads
+    }
+
+    /// How many of its reads failed.
+    pub fn faults(&self) -> u64
+        ensures { result ≡ ⟦<MemFile as File>⟧.faults self.now }
+    {
+        self.faults
     }
 }
 
@@ -31,7 +78,7 @@ impl File for MemFile {
 
     ghost size = { λ f. length f.text };
 
-    ghost faults = { λ f. 0 };
+    ghost faults = { λ f. f.faults };
 
     ghost reads = { λ f. f.reads };
 
@@ -50,10 +97,19 @@ impl File for MemFile {
         ensures bytes { ⟦<MemFile as File>⟧.bytes self.new ≡ ⟦<MemFile as File>⟧.bytes self.old }
         ensures size { ⟦<MemFile as File>⟧.size self.new ≡ ⟦<MemFile as File>⟧.size self.old }
         ensures cause { HasCause (⟦<MemFile as File>⟧.faults self.old) (⟦<MemFile as File>⟧.faults self.new) result }
-        ensures never_fails { IsOk result }
+        ensures just_there { FailsJustThere (⟦<MemFile as File>⟧.faults self.old) (⟦<MemFile as File>⟧.faults self.new) result }
+        ensures fails { MatchBool (asks_for (file_fault self.old) (⟦<MemFile as File>⟧.size self.old) at (length into.old)) (IsErr result) (IsOk result) }
+        ensures count { IfOk result (λ count. count ≡ at_limit (file_limit self.old) (min (⟦<MemFile as File>⟧.size self.old - at) (length into.old))) }
+        ensures fault { file_fault self.new ≡ file_fault self.old }
+        ensures limit { file_limit self.new ≡ file_limit self.old }
     {
+        let size = self.text.as_bytes().len() as u64;
+        if asks_for(self.fault, size, at, into.len() as u64) {
+            self.faults = self.faults.saturating_add(1);
+            return Err(Failed);
+        }
         let rest = &self.text.as_bytes()[at as usize..];
-        let count = rest.len().min(into.len());
+        let count = at_limit(self.limit, rest.len().min(into.len()));
         into[..count].copy_from_slice(&rest[..count]);
         self.reads = self.reads.saturating_add(count as u64);
         Ok(count)

@@ -3,11 +3,13 @@ ghost use Rattle.std.specs.FinMap as map;
 ghost use Rattle.std.specs.Ordering.{nat_cmp};
 ghost use Rattle.std.specs.Cmp.Lexicographic.{slice_cmp};
 ghost use Rattle.trace_outside.specs.Names.{stored, asked};
-ghost use Rattle.trace_outside.specs.Causes.{FailsJustThere, raised};
+ghost use Rattle.trace_outside.specs.Causes.{raised};
 ghost use Rattle.trace_outside.specs.Folders.{IsEmptySink, IsFileOf, Opens, Closes, Creates, Finishes, Drops, Stores, KeepsOthers, no_counts};
-ghost use Rattle.trace_outside.specs.Memory.{folder_wants, sink_wants, KeepsFaults, FailsReading, FailsWriting, with_faults, OpensUnlessWanting, FinishesUnlessWanting};
+ghost use Rattle.trace_outside.specs.Faults.{is_due, no_calls, no_settings, with_fault};
+ghost use Rattle.trace_outside.specs.Memory.{folder_wants, folder_set, folder_calls, sink_wants, sink_writes, KeepsFaults, FailsReading, FailsWriting, with_faults, with_read_faults, FailsAsSet, OpensAsSet, CountsCalls, IsSetFile, IsSetSink};
 
 use crate::counts::Counts;
+use crate::memory::faults::{Calls, MemFault, Settings, due_after, is_due, next_number};
 use crate::memory::file::MemFile;
 use crate::memory::sink::MemSink;
 use crate::outside::{Failed, File, Folder, Sink};
@@ -15,7 +17,8 @@ use std::alloc::{AllocError, Global};
 use std::collections::VecDeque;
 use trace_base::ByteText;
 
-/// A folder in memory, which tells its names and bytes.
+/// A folder in memory, which tells its names and bytes. Its calls fail just where a fault was set for them, a name is missing,
+/// or they find no memory.
 #[derive(Drop)]
 pub struct MemFolder {
     alloc: Global,
@@ -23,20 +26,26 @@ pub struct MemFolder {
     log: VecDeque<(ByteText, ByteText)>,
     counts: Counts,
     wants: u64,
+    set: Settings,
+    calls: Calls,
 }
 
 impl MemFolder {
-    /// A folder without files.
+    /// A folder without files. No fault is set for it.
     pub fn new(alloc: Global) -> MemFolder
         ensures empty { ⟦<MemFolder as Folder>⟧.files result ≡ Some map.empty }
         ensures no_counts { ⟦<MemFolder as Folder>⟧.counts result ≡ no_counts }
         ensures no_wants { folder_wants result ≡ 0 }
+        ensures no_settings { folder_set result ≡ no_settings }
+        ensures no_calls { folder_calls result ≡ no_calls }
     {
         MemFolder {
             alloc,
             log: VecDeque::new(alloc),
             counts: Counts::NONE,
             wants: 0,
+            set: Settings::NONE,
+            calls: Calls::NONE,
         }
     }
 
@@ -46,6 +55,8 @@ impl MemFolder {
         ensures err { OnErr result (⟦<MemFolder as Folder>⟧.files self.new ≡ ⟦<MemFolder as Folder>⟧.files self.old) }
         ensures counts { ⟦<MemFolder as Folder>⟧.counts self.new ≡ ⟦<MemFolder as Folder>⟧.counts self.old }
         ensures wants { folder_wants self.new ≡ folder_wants self.old }
+        ensures set { folder_set self.new ≡ folder_set self.old }
+        ensures calls { folder_calls self.new ≡ folder_calls self.old }
     {
         let name = ByteText::copy(self.alloc, name.as_bytes())?;
         let bytes = ByteText::copy(self.alloc, bytes)?;
@@ -58,6 +69,36 @@ impl MemFolder {
         ensures { asked (⟦<MemFolder as Folder>⟧.files self.now) name.now ≡ Some (option_copied result) }
     {
         newest(&self.log, name.as_bytes())
+    }
+
+    /// From now on the calls of this fault fail, and no others. It holds for what is opened and created from now on.
+    pub fn fail(&mut self, fault: MemFault)
+        ensures set { folder_set self.new ≡ with_fault fault (folder_set self.old) }
+        ensures files { ⟦<MemFolder as Folder>⟧.files self.new ≡ ⟦<MemFolder as Folder>⟧.files self.old }
+        ensures counts { ⟦<MemFolder as Folder>⟧.counts self.new ≡ ⟦<MemFolder as Folder>⟧.counts self.old }
+        ensures wants { folder_wants self.new ≡ folder_wants self.old }
+        ensures calls { folder_calls self.new ≡ folder_calls self.old }
+    {
+        self.set = self.set.with_fault(fault);
+    }
+
+    /// A read of a file that is opened from now on gives at most so many bytes, and a write to a sink that is created takes at
+    /// most as many, each at least one.
+    pub fn short(&mut self, most: u32)
+        ensures set { folder_set self.new ≡ record (folder_set self.old) { limit = Some most } }
+        ensures files { ⟦<MemFolder as Folder>⟧.files self.new ≡ ⟦<MemFolder as Folder>⟧.files self.old }
+        ensures counts { ⟦<MemFolder as Folder>⟧.counts self.new ≡ ⟦<MemFolder as Folder>⟧.counts self.old }
+        ensures wants { folder_wants self.new ≡ folder_wants self.old }
+        ensures calls { folder_calls self.new ≡ folder_calls self.old }
+    {
+        self.set.limit = Some(most);
+    }
+
+    /// What it has counted.
+    pub fn counts(&self) -> Counts
+        ensures { result ≡ ⟦<MemFolder as Folder>⟧.counts self.now }
+    {
+        self.counts
     }
 
     /// How many calls of the folder found no memory, with those of its sinks that were finished or dropped.
@@ -96,17 +137,27 @@ impl Folder for MemFolder {
         ensures files { ⟦<MemFolder as Folder>⟧.files self.new ≡ ⟦<MemFolder as Folder>⟧.files self.old }
         ensures counts { Opens (⟦<MemFolder as Folder>⟧.files self.old) name.now (⟦<MemFolder as Folder>⟧.counts self.old) (⟦<MemFolder as Folder>⟧.counts self.new) result }
         ensures just_there { FailsReading (⟦<MemFolder as Folder>⟧.counts self.old) (⟦<MemFolder as Folder>⟧.counts self.new) result }
-        ensures wanted { OpensUnlessWanting (⟦<MemFolder as Folder>⟧.files self.old) name.now (folder_wants self.old) (folder_wants self.new) result }
+        ensures fails { OpensAsSet (⟦<MemFolder as Folder>⟧.files self.old) name.now
+            (is_due (folder_set self.old).opening (raised (folder_calls self.old).opens 1)) (folder_wants self.old) (folder_wants self.new) result }
+        ensures set_file { IfOk result (IsSetFile (folder_set self.old)) }
+        ensures calls { CountsCalls 1 0 0 0 (folder_calls self.old) (folder_calls self.new) }
+        ensures set { folder_set self.new ≡ folder_set self.old }
     {
+        let number = next_number(self.calls.opens);
+        self.calls.opens = number;
         let Some(bytes) = self.get(name) else {
             self.counts.misses = self.counts.misses.saturating_add(1);
             self.counts.reading = self.counts.reading.saturating_add(1);
             return Err(Failed);
         };
+        if is_due(self.set.opening, number) {
+            self.counts.reading = self.counts.reading.saturating_add(1);
+            return Err(Failed);
+        }
         match ByteText::copy(self.alloc, bytes) {
             Ok(text) => {
                 self.counts.opened = self.counts.opened.saturating_add(1);
-                Ok(MemFile::new(text))
+                Ok(MemFile::opened(text, self.set.byte, self.set.limit))
             }
             Err(_) => {
                 self.wants = self.wants.saturating_add(1);
@@ -119,9 +170,14 @@ impl Folder for MemFolder {
     fn close_file(&mut self, file: MemFile)
         ensures files { ⟦<MemFolder as Folder>⟧.files self.new ≡ ⟦<MemFolder as Folder>⟧.files self.old }
         ensures counts { Closes (⟦<MemFile as File>⟧.faults file) (⟦<MemFile as File>⟧.reads file) (⟦<MemFolder as Folder>⟧.counts self.old) (⟦<MemFolder as Folder>⟧.counts self.new) }
-        ensures just_there { KeepsFaults (⟦<MemFolder as Folder>⟧.counts self.old) (⟦<MemFolder as Folder>⟧.counts self.new) }
+        ensures just_there { KeepsFaults (with_read_faults (⟦<MemFile as File>⟧.faults file) (⟦<MemFolder as Folder>⟧.counts self.old)) (⟦<MemFolder as Folder>⟧.counts self.new) }
         ensures wants { folder_wants self.new ≡ folder_wants self.old }
+        ensures calls { folder_calls self.new ≡ folder_calls self.old }
+        ensures set { folder_set self.new ≡ folder_set self.old }
     {
+        if file.faults > 0 {
+            self.counts.reading = self.counts.reading.saturating_add(1);
+        }
         self.counts.closed = self.counts.closed.saturating_add(1);
         self.counts.bytes = self.counts.bytes.saturating_add(file.reads);
     }
@@ -133,13 +189,25 @@ impl Folder for MemFolder {
         ensures files { ⟦<MemFolder as Folder>⟧.files self.new ≡ ⟦<MemFolder as Folder>⟧.files self.old }
         ensures counts { Creates (⟦<MemFolder as Folder>⟧.counts self.old) (⟦<MemFolder as Folder>⟧.counts self.new) result }
         ensures just_there { FailsWriting (⟦<MemFolder as Folder>⟧.counts self.old) (⟦<MemFolder as Folder>⟧.counts self.new) result }
-        ensures wanted { FailsJustThere (folder_wants self.old) (folder_wants self.new) result }
+        ensures fails { FailsAsSet (is_due (folder_set self.old).creation (raised (folder_calls self.old).creates 1)) (folder_wants self.old) (folder_wants self.new) result }
         ensures no_wants { IfOk result (λ file. sink_wants file ≡ 0) }
+        ensures set_sink { IfOk result (IsSetSink (folder_set self.old) (folder_calls self.old).writes) }
+        ensures calls { CountsCalls 0 1 0 0 (folder_calls self.old) (folder_calls self.new) }
+        ensures set { folder_set self.new ≡ folder_set self.old }
     {
+        let number = next_number(self.calls.creates);
+        self.calls.creates = number;
+        if is_due(self.set.creation, number) {
+            self.counts.writing = self.counts.writing.saturating_add(1);
+            return Err(Failed);
+        }
         match ByteText::copy(self.alloc, name.as_bytes()) {
             Ok(label) => {
                 self.counts.created = self.counts.created.saturating_add(1);
-                Ok(MemSink::named(self.alloc, label))
+                let mut sink = MemSink::named(self.alloc, label);
+                sink.due = due_after(self.set.write, self.calls.writes);
+                sink.limit = self.set.limit;
+                Ok(sink)
             }
             Err(_) => {
                 self.wants = self.wants.saturating_add(1);
@@ -152,19 +220,33 @@ impl Folder for MemFolder {
     fn finish_file(&mut self, file: MemSink) -> Result<(), Failed>
         ensures stored { OnOk result (Stores (⟦<MemFolder as Folder>⟧.files self.old) (⟦<MemFolder as Folder>⟧.files self.new) (⟦<MemSink as Sink>⟧.name file) (⟦<MemSink as Sink>⟧.written file)) }
         ensures others { OnErr result (KeepsOthers (⟦<MemFolder as Folder>⟧.files self.old) (⟦<MemFolder as Folder>⟧.files self.new) (⟦<MemSink as Sink>⟧.name file)) }
+        ensures kept { OnErr result (⟦<MemFolder as Folder>⟧.files self.new ≡ ⟦<MemFolder as Folder>⟧.files self.old) }
         ensures counts { Finishes (⟦<MemSink as Sink>⟧.faults file) (⟦<MemFolder as Folder>⟧.counts self.old) (⟦<MemFolder as Folder>⟧.counts self.new) result }
         ensures just_there { FailsWriting (with_faults (⟦<MemSink as Sink>⟧.faults file) (⟦<MemFolder as Folder>⟧.counts self.old)) (⟦<MemFolder as Folder>⟧.counts self.new) result }
-        ensures wanted { FinishesUnlessWanting (sink_wants file) (folder_wants self.old) (folder_wants self.new) result }
+        ensures fails { FailsAsSet (is_due (folder_set self.old).finish (raised (folder_calls self.old).finishes 1)) (raised (folder_wants self.old) (sink_wants file)) (folder_wants self.new) result }
+        ensures calls { CountsCalls 0 0 (sink_writes file) 1 (folder_calls self.old) (folder_calls self.new) }
+        ensures set { folder_set self.new ≡ folder_set self.old }
     {
         let MemSink {
             label,
             kept,
             faults,
             wants,
+            writes,
+            ..
         } = file;
+        let number = next_number(self.calls.finishes);
+        let is_to_fail = is_due(self.set.finish, number);
+        self.calls.finishes = number;
+        self.calls.writes = self.calls.writes.saturating_add(writes);
         self.wants = self.wants.saturating_add(wants);
         if faults > 0 {
             self.counts.writing = self.counts.writing.saturating_add(1);
+        }
+        if is_to_fail {
+            self.counts.writing = self.counts.writing.saturating_add(1);
+            self.counts.unfinished = self.counts.unfinished.saturating_add(1);
+            return Err(Failed);
         }
         match self.log.push_front((label, ByteText::from_vec(kept))) {
             Ok(()) => Ok(()),
@@ -182,7 +264,10 @@ impl Folder for MemFolder {
         ensures counts { Drops (⟦<MemSink as Sink>⟧.faults file) (⟦<MemFolder as Folder>⟧.counts self.old) (⟦<MemFolder as Folder>⟧.counts self.new) }
         ensures just_there { KeepsFaults (with_faults (⟦<MemSink as Sink>⟧.faults file) (⟦<MemFolder as Folder>⟧.counts self.old)) (⟦<MemFolder as Folder>⟧.counts self.new) }
         ensures wanted { folder_wants self.new ≡ raised (folder_wants self.old) (sink_wants file) }
+        ensures calls { CountsCalls 0 0 (sink_writes file) 0 (folder_calls self.old) (folder_calls self.new) }
+        ensures set { folder_set self.new ≡ folder_set self.old }
     {
+        self.calls.writes = self.calls.writes.saturating_add(file.writes);
         self.wants = self.wants.saturating_add(file.wants);
         if file.faults > 0 {
             self.counts.writing = self.counts.writing.saturating_add(1);

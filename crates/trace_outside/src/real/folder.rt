@@ -117,6 +117,8 @@ impl<R: Files + Clone + Drop> Folder for RealFolder<R> {
         match self.rename(file.label.as_str()) {
             Ok(()) => Ok(()),
             Err(_) => {
+                // What cannot get its name goes, as a file that is given up.
+                let _ = self.remove(file.label.as_str());
                 self.counts.writing = self.counts.writing.saturating_add(1);
                 self.counts.unfinished = self.counts.unfinished.saturating_add(1);
                 Err(Failed)

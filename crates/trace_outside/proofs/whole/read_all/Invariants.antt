@@ -1,6 +1,7 @@
 use Rattle.std.proofs.Common.{length, ◌-◌, ◌≡◌, ◌≤◌}
 use Rattle.trace_outside.specs.Causes.{raised}
 use Rattle.trace_outside.specs.Reading.{GivesBytesAt}
+use Rattle.trace_outside.specs.Keeping.{KeepsFile}
 use Rattle.trace_outside.proofs.whole.read_all.Given as goal
 
 abbrev pub invariant-loop-done : goal.invariant-loop-done
@@ -8,9 +9,7 @@ invariant-loop-done g l = record {
   within : l.done ≤ length l.initial.into;
   given : GivesBytesAt (g.I.File.bytes l.initial.file) l.at l.done l.into;
   reads : g.I.File.reads l.file ≡ raised (g.I.File.reads l.initial.file) l.done;
-  bytes : g.I.File.bytes l.file ≡ g.I.File.bytes l.initial.file;
-  size : g.I.File.size l.file ≡ g.I.File.size l.initial.file;
-  later : g.I.File.faults l.initial.file ≤ g.I.File.faults l.file;
+  keeps : KeepsFile g.I.File l.initial.file l.file;
 }
 
 abbrev pub decreases-loop-done : goal.decreases-loop-done
