@@ -1,14 +1,14 @@
 -- The sections of a dump that show a list. Source: trace-cmd-dump(1), for what each shows; trace-cmd.dat.v6(5), for what a
 -- header has.
 use Rattle.std.specs.Prelude.{Option, None, Some, ℕ, List, [], ◌∷◌, ◌++◌, length, sum_by, codes}
-use Rattle.std.specs.List.{flat_map, enumerate_from}
+use Rattle.std.specs.List.{concat, flat_map, enumerate_from}
 use Rattle.std.specs.Fmt.{decimal}
 use Rattle.trace_base.specs.declared.part.Part.{Part}
 use Rattle.dat_options.specs.declared.option.Opt.{Opt}
 use Rattle.dat_header.specs.declared.header.System.{System}
 use Rattle.dat_header.specs.declared.header.Body.{Body}
 use Rattle.dat_header.specs.declared.header.Body.TheVariants.{Latency, Fly}
-use Rattle.dump_tool.specs.Texts.{text, count_line, heading, stored_text}
+use Rattle.dump_tool.specs.Texts.{count_line, heading, stored_text}
 
 -- the formats of ftrace's own events
 abbrev pub ftrace_text : List (List ℕ) → List ℕ
@@ -37,14 +37,14 @@ options_of None = []
 options_of (Some options) = options
 
 abbrev pub option_line : Opt → List ℕ
-option_line option = text (codes "option " ∷ decimal option.id ∷ codes " " ∷ decimal (length option.bytes) ∷ codes " bytes\n" ∷ [])
+option_line option = concat (codes "option " ∷ decimal option.id ∷ codes " " ∷ decimal (length option.bytes) ∷ codes " bytes\n" ∷ [])
 
 abbrev pub options_text : List Opt → List ℕ
 options_text options = heading (codes "options") (length options) ++ flat_map option_line options
 
 -- where each processor's data stand, the processors numbered from 0
 abbrev pub part_line : ℕ × Part → List ℕ
-part_line (cpu, part) = text (
+part_line (cpu, part) = concat (
     codes "cpu " ∷ decimal cpu ∷ codes " offset " ∷ decimal part.offset ∷ codes " size " ∷ decimal part.size ∷ codes "\n" ∷ [])
 
 abbrev pub parts_text : List Part → List ℕ

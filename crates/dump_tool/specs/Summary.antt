@@ -1,11 +1,12 @@
 -- The summary of a header: its form and the size of each of its parts.
 use Rattle.std.specs.Prelude.{ℕ, List, [], ◌∷◌, length, codes}
+use Rattle.std.specs.List.{concat}
 use Rattle.trace_base.specs.declared.order.Order.{Order}
 use Rattle.trace_base.specs.declared.order.Order.TheVariants.{Little, Big}
 use Rattle.dat_header.specs.declared.header.Header.{Header}
 use Rattle.dat_header.specs.declared.header.Body.{Body}
 use Rattle.dat_header.specs.declared.header.Body.TheVariants.{Latency, Fly}
-use Rattle.dump_tool.specs.Texts.{text, value_line, count_line}
+use Rattle.dump_tool.specs.Texts.{value_line, count_line}
 use Rattle.dump_tool.specs.Lists.{event_count, options_of}
 
 abbrev pub order_name : Order → List ℕ
@@ -18,7 +19,7 @@ body_name (Fly parts) = codes "flyrecord"
 
 -- the summary of the header of a file with this name
 abbrev pub summary_text : List ℕ → Header → List ℕ
-summary_text name header = text (
+summary_text name header = concat (
     value_line (codes "file") name
     ∷ count_line (codes "version") 6
     ∷ value_line (codes "order") (order_name header.order)

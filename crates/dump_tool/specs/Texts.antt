@@ -1,34 +1,23 @@
--- Texts as rows of pieces, and the lines that a dump is made of. The layout is this project's own; trace-cmd-dump(1) says what
+-- The lines that a dump is made of. The layout is this project's own; trace-cmd-dump(1) says what
 -- each section shows.
-use Rattle.std.specs.Prelude.{Option, None, Some, ℕ, ◌-◌, List, [], ◌∷◌, length, slice_get, ◌==◌, if◌then◌else◌, codes}
-use Rattle.std.specs.List.{flat_map}
+use Rattle.std.specs.Prelude.{ℕ, List, [], ◌∷◌, length, codes}
+use Rattle.std.specs.List.{concat}
 use Rattle.std.specs.Fmt.{decimal}
-
--- the pieces, one behind another
-abbrev pub text : List (List ℕ) → List ℕ
-text pieces = flat_map (λ piece. piece) pieces
+use Rattle.text_lines.specs.Lines.{line_end}
 
 -- a name and what it stands for, on a line of their own
 abbrev pub value_line : List ℕ → List ℕ → List ℕ
-value_line name value = text (name ∷ codes " " ∷ value ∷ codes "\n" ∷ [])
+value_line name value = concat (name ∷ codes " " ∷ value ∷ codes "\n" ∷ [])
 
 abbrev pub count_line : List ℕ → ℕ → List ℕ
 count_line name count = value_line name (decimal count)
 
 -- the line above a list of so many entries
 abbrev pub heading : List ℕ → ℕ → List ℕ
-heading name count = text (codes "[" ∷ name ∷ codes " " ∷ decimal count ∷ codes "]\n" ∷ [])
-
-abbrev pub behind_last : Option ℕ → List ℕ
-behind_last None = []
-behind_last (Some byte) = if byte == 10 then [] else codes "\n"
-
--- what is printed behind a stored text: a newline, where the text is not empty and does not end in one
-abbrev pub line_end : List ℕ → List ℕ
-line_end bytes = behind_last (slice_get bytes (length bytes - 1))
+heading name count = concat (codes "[" ∷ name ∷ codes " " ∷ decimal count ∷ codes "]\n" ∷ [])
 
 abbrev pub sized_text : List ℕ → List ℕ → List ℕ → List ℕ
-sized_text name size bytes = text (codes "[" ∷ name ∷ codes " " ∷ size ∷ codes " bytes]\n" ∷ bytes ∷ line_end bytes ∷ [])
+sized_text name size bytes = concat (codes "[" ∷ name ∷ codes " " ∷ size ∷ codes " bytes]\n" ∷ bytes ∷ line_end bytes ∷ [])
 
 -- a stored text as it is, below a line with its name and its size in bytes
 abbrev pub stored_text : List ℕ → List ℕ → List ℕ

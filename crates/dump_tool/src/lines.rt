@@ -5,6 +5,7 @@ ghost use Rattle.trace_outside.specs.Pending.{PutsText, on_way};
 ghost use Rattle.dump_tool.specs.Texts as spec;
 
 use itoa::Buffer;
+use text_lines::line_end;
 use trace_outside::{Failed, Pending, Sink};
 
 /// Puts a name and what it stands for on a line of their own.
@@ -72,14 +73,4 @@ fn put_sized<'a, O: Sink>(
     let end: &'a [u8] = line_end(text);
     let parts: [&'a [u8]; 7] = [b"[", name, b" ", size, b" bytes]\n", text, end];
     pending.put_parts(out, &parts)
-}
-
-// What is printed behind a stored text.
-fn line_end(text: &[u8]) -> &'static [u8]
-    ensures { result.now ≡ spec.line_end text.now }
-{
-    match text.last() {
-        None | Some(b'\n') => b"",
-        Some(_) => b"\n",
-    }
 }

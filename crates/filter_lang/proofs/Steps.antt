@@ -2,10 +2,12 @@
 use Rattle.std.proofs.Common.{◌≡◌, ℕ, zero, suc, ◌-◌, ◌<◌, List, [], ◌∷◌, Option, Some, None, refl, ap, ◌∙◌, sym, arith}
 use Rattle.filter_lang.specs.PlainToken.{PlainToken, name, comma, slash, colon, digits, quoted, identifier, mark, opening, closing}
 use Rattle.filter_lang.specs.Tree.{Tree, number, text, field}
-use Rattle.filter_lang.specs.Ops.{as_prefix, prefix_in}
+use Rattle.filter_lang.specs.Ops.{prefix_in}
+use Rattle.filter_lang.specs.TokenView.{plain_token}
 use Rattle.filter_lang.specs.ConditionReading.{Outcome, found, refused, Read, level_by, row_behind, unary_by, unary_from, unary_at, level_at, bracket_in, under}
-use Rattle.c_operators.specs.declared.binary.BinaryOp.{BinaryOp}
 use Rattle.filter_lang.specs.declared.expr.FilterPrefix.{FilterPrefix}
+use Rattle.filter_lang.specs.declared.token.Word.{Word}
+use Rattle.filter_lang.specs.declared.token.Word.TheVariants.{Name, Comma, Slash, Colon, Number, Text, Field, Op, Not, Invert, Open, Close}
 use Rattle.filter_lang.proofs.Levels.{no_room, no_prefix, prefix_there}
 
 pub level_zero : (n l : ℕ) (ts : List PlainToken) → l ≡ 0 → level_at n l ts ≡ unary_at n ts
@@ -71,20 +73,18 @@ unary_no_bracket n ts us e z = unary_closed n ts us opening e z ∙ ap refused (
 pub unary_no_room : (n : ℕ) (ts us : List PlainToken) (t : PlainToken) (op : FilterPrefix) → ts ≡ t ∷ us → n ≡ 0 → prefix_in t ≡ Some op → unary_at n ts ≡ refused ts
 unary_no_room n ts us t op e z is = unary_closed n ts us t e z ∙ no_room t op is us ∙ ap refused (sym e)
 
-pub unary_no_prefix : (n : ℕ) (ts us : List PlainToken) (op : BinaryOp) → ts ≡ mark op ∷ us → as_prefix op ≡ None → unary_at n ts ≡ refused ts
-unary_no_prefix n ts us op e never = unlike n ts us (mark op) (λ inner. no_prefix inner op never us) e
-
-pub unary_name : (n : ℕ) (ts us : List PlainToken) (bytes : List ℕ) → ts ≡ name bytes ∷ us → unary_at n ts ≡ refused ts
-unary_name n ts us bytes e = unlike n ts us (name bytes) (λ inner. refl) e
-
-pub unary_comma : (n : ℕ) (ts us : List PlainToken) → ts ≡ comma ∷ us → unary_at n ts ≡ refused ts
-unary_comma n ts us e = unlike n ts us comma (λ inner. refl) e
-
-pub unary_slash : (n : ℕ) (ts us : List PlainToken) → ts ≡ slash ∷ us → unary_at n ts ≡ refused ts
-unary_slash n ts us e = unlike n ts us slash (λ inner. refl) e
-
-pub unary_colon : (n : ℕ) (ts us : List PlainToken) → ts ≡ colon ∷ us → unary_at n ts ≡ refused ts
-unary_colon n ts us e = unlike n ts us colon (λ inner. refl) e
-
-pub unary_closing : (n : ℕ) (ts us : List PlainToken) → ts ≡ closing ∷ us → unary_at n ts ≡ refused ts
-unary_closing n ts us e = unlike n ts us closing (λ inner. refl) e
+-- a word with which no operand begins
+pub unary_other : (n : ℕ) (ts us : List PlainToken) (w : Word) → ts ≡ plain_token w ∷ us → prefix_in (plain_token w) ≡ None
+    → ((value : ℕ) → w ≡ Number value → ⊥) → ((bytes : _) → w ≡ Text bytes → ⊥) → ((bytes : _) → w ≡ Field bytes → ⊥) → (w ≡ Open → ⊥) → unary_at n ts ≡ refused ts
+unary_other n ts us (Name bytes) e none v t f o = unlike n ts us (name bytes.now) (λ inner. refl) e
+unary_other n ts us Comma e none v t f o = unlike n ts us comma (λ inner. refl) e
+unary_other n ts us Slash e none v t f o = unlike n ts us slash (λ inner. refl) e
+unary_other n ts us Colon e none v t f o = unlike n ts us colon (λ inner. refl) e
+unary_other n ts us (Number value) e none v t f o = absurd (v value refl)
+unary_other n ts us (Text bytes) e none v t f o = absurd (t bytes refl)
+unary_other n ts us (Field bytes) e none v t f o = absurd (f bytes refl)
+unary_other n ts us (Op op) e none v t f o = unlike n ts us (mark op) (λ inner. no_prefix inner op none us) e
+unary_other n ts us Not e none v t f o = absurd cc
+unary_other n ts us Invert e none v t f o = absurd cc
+unary_other n ts us Open e none v t f o = absurd (o refl)
+unary_other n ts us Close e none v t f o = unlike n ts us closing (λ inner. refl) e

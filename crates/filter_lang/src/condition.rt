@@ -64,7 +64,7 @@ impl<'a> Reader<'a> {
 
     /// A value, a bracket, or a prefix operator and what it applies to.
     #[cycle(parser)]
-    #[tactic(auto, using(crate::proofs::Steps::unary_end, crate::proofs::Steps::unary_digits, crate::proofs::Steps::unary_quoted, crate::proofs::Steps::unary_identifier, crate::proofs::Steps::unary_bracket, crate::proofs::Steps::unary_under, crate::proofs::Steps::unary_no_bracket, crate::proofs::Steps::unary_no_room, crate::proofs::Steps::unary_no_prefix, crate::proofs::Steps::unary_name, crate::proofs::Steps::unary_comma, crate::proofs::Steps::unary_slash, crate::proofs::Steps::unary_colon, crate::proofs::Steps::unary_closing))]
+    #[tactic(auto, using(crate::proofs::Steps::unary_end, crate::proofs::Steps::unary_digits, crate::proofs::Steps::unary_quoted, crate::proofs::Steps::unary_identifier, crate::proofs::Steps::unary_bracket, crate::proofs::Steps::unary_under, crate::proofs::Steps::unary_no_bracket, crate::proofs::Steps::unary_no_room))]
     fn unary(&self, room: u32, at: usize) -> Result<Taken, Stop>
         requires inside { at ≤ length self.now.tokens.now }
         ensures value { Gives self.now taken result (unary_at room (from self.now at)) }
@@ -87,14 +87,7 @@ impl<'a> Reader<'a> {
                 }
                 return self.bracket(room - 1, at + 1);
             }
-            Word::Op(_) => return Err(Stop::Before(at)),
-            Word::Not => return Err(Stop::Before(at)),
-            Word::Invert => return Err(Stop::Before(at)),
-            Word::Name(_) => return Err(Stop::Before(at)),
-            Word::Comma => return Err(Stop::Before(at)),
-            Word::Slash => return Err(Stop::Before(at)),
-            Word::Colon => return Err(Stop::Before(at)),
-            Word::Close => return Err(Stop::Before(at)),
+            _ => return Err(Stop::Before(at)),
         };
         Ok(Taken { expr, next: at + 1 })
     }

@@ -11,6 +11,7 @@ use crate::number::number;
 use crate::token::Word;
 use byte_classes::{is_blank, is_word};
 use c_operators::BinaryOp;
+use fmt_lexer::word_len;
 
 fn is_name_byte(byte: u8) -> bool
     ensures { result ≡ is_name_byte byte }
@@ -24,14 +25,6 @@ fn name_len(bytes: &[u8]) -> usize
     ensures within { result ≤ length bytes.now }
 {
     bytes.iter().take_while(|byte| is_name_byte(**byte)).count()
-}
-
-/// How many letters, digits and `_` stand at the front.
-fn word_len(bytes: &[u8]) -> usize
-    ensures value { result ≡ prefix_len is_word bytes.now }
-    ensures within { result ≤ length bytes.now }
-{
-    bytes.iter().take_while(|byte| is_word(**byte)).count()
 }
 
 /// How many bytes stand before the first that is this one.

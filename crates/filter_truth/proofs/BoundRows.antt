@@ -1,13 +1,14 @@
 -- Rows of operands that are bound, and that binding changes no value.
-use Rattle.std.proofs.Common.{◌≡◌, ℕ, zero, suc, ◌+◌, ◌<◌, ◌≤◌, Bool, true, false, if◌then◌else◌, List, [], ◌∷◌, drop, length, get_or, refl, ap, sym, ◌∙◌, ◌++◌, arith, codes, bytes_eq}
+use Rattle.std.proofs.Common.{◌≡◌, ℕ, zero, suc, ◌+◌, ◌<◌, ◌≤◌, Bool, true, false, if◌then◌else◌, List, [], ◌∷◌, Option, Some, None, drop, length, get_or, refl, ap, sym, ◌∙◌, ◌++◌, arith, codes, bytes_eq}
 use Rattle.trace_base.specs.declared.field.Field.{Field}
+use Rattle.trace_base.specs.Fields.{field_named}
 use Rattle.filter_lang.specs.Tree.{Tree, number, text, field, prefix, chain, Operands, no_operands, operand}
 use Rattle.filter_lang.specs.TreeView.{tree_of, operands_of}
 use Rattle.c_operators.specs.declared.binary.BinaryOp.{BinaryOp}
 use Rattle.filter_lang.specs.declared.expr.FilterOperand.{FilterOperand}
 use Rattle.filter_truth.specs.Values.{ValueData, binary, prefixed, value_of, along}
-use Rattle.filter_truth.specs.Naming.{EventData, first_named, named_value}
-use Rattle.filter_truth.specs.Bound.{BoundTree, BoundRow, b_task, b_cpu, b_field, b_end, b_more, bound_value, bound_along, bind_field, bind_name, bind_tree, bind_row}
+use Rattle.filter_truth.specs.Naming.{EventData, named_value, value_if}
+use Rattle.filter_truth.specs.Bound.{BoundTree, BoundRow, b_task, b_cpu, b_end, b_more, bound_value, bound_along, bind_field, bind_name, bind_tree, bind_row}
 use Rattle.filter_truth.specs.BoundView.{bound_of, bound_in, bound_row}
 use Rattle.filter_truth.specs.declared.bound_expr.BoundOperand.{BoundOperand}
 use Rattle.filter_truth.specs.declared.bound_expr.BoundExpr.{Row_of-BoundOperand, end_of-BoundOperand, more_of-BoundOperand, items-the_row-BoundOperand}
@@ -21,14 +22,15 @@ chosen : (b : Bool) (e : EventData) (x y : BoundTree) (v w : ValueData) → boun
 chosen true e x y v w p q = p
 chosen false e x y v w p q = q
 
-same_field : (fields : List Field) (e : EventData) (name : List ℕ) → bound_value e (bind_field fields name) ≡ first_named e name fields
-same_field [] e name = refl
-same_field (f ∷ fs) e name = chosen (bytes_eq f.name name) e (b_field f) (bind_field fs name) _ _ refl (same_field fs e name)
+same_field : (e : EventData) (o : Option Field) → bound_value e (bind_field o) ≡ value_if e o
+same_field e None = refl
+same_field e (Some f) = refl
 
 same_name : (fields : List Field) (e : EventData) (name : List ℕ) → bound_value e (bind_name fields name) ≡ named_value fields e name
 same_name fields e name =
-    let other : BoundTree = if bytes_eq name (codes "CPU") then b_cpu else bind_field fields name in
-    chosen (bytes_eq name (codes "COMM")) e b_task other _ _ refl (chosen (bytes_eq name (codes "CPU")) e b_cpu (bind_field fields name) _ _ refl (same_field fields e name))
+    let named : BoundTree = bind_field (field_named name fields) in
+    let other : BoundTree = if bytes_eq name (codes "CPU") then b_cpu else named in
+    chosen (bytes_eq name (codes "COMM")) e b_task other _ _ refl (chosen (bytes_eq name (codes "CPU")) e b_cpu named _ _ refl (same_field e (field_named name fields)))
 
 mutual
   pub same_value : (fields : List Field) (e : EventData) (t : Tree) → bound_value e (bind_tree fields t) ≡ value_of (named_value fields e) t

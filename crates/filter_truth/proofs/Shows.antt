@@ -8,7 +8,7 @@ use Rattle.filter_truth.specs.Naming.{EventData, holds_at}
 use Rattle.filter_truth.specs.BoundFilter.{BoundCondition, unnamed, always, where_true, option_true, bound_holds, bind_filter}
 use Rattle.filter_truth.specs.BoundView.{conditions_of}
 use Rattle.filter_truth.specs.Selection.{UseData, AreShowing, are_showing, filters_show}
-use Rattle.filter_truth.specs.SelectionView.{use_of, format_at, option_holds, bound_show, option_open, is_open_at, some_open}
+use Rattle.filter_truth.specs.SelectionView.{use_of, format_at_place, option_holds, bound_show, option_open, is_open_at, some_open}
 use Rattle.filter_truth.specs.declared.select.FilterUse.{FilterUse}
 use Rattle.filter_truth.specs.declared.select.BoundUse.{BoundUse}
 use Rattle.filter_truth.proofs.Bindings.{same_truth}
@@ -46,17 +46,17 @@ plain_of b = (b.hide, conditions_of b.bound)
 abbrev pub bound_plain : List EventFormat → FilterUse → Plain
 bound_plain formats u = (u.hide, bind_filter (filter_of u.filter) formats)
 
-holds_same : (formats : List EventFormat) (i : Option ℕ) (e : EventData) (u : FilterUse) → option_holds (bind_filter (filter_of u.filter) formats) i e ≡ holds_at (filter_of u.filter) (format_at formats i) e
+holds_same : (formats : List EventFormat) (i : Option ℕ) (e : EventData) (u : FilterUse) → option_holds (bind_filter (filter_of u.filter) formats) i e ≡ holds_at (filter_of u.filter) (format_at_place formats i) e
 holds_same formats None e u = refl
 holds_same formats (Some i) e u = same_truth (filter_of u.filter) formats i e
 
-pub bound_shows : (formats : List EventFormat) (us : List FilterUse) (bs : List BoundUse) → map plain_of bs ≡ map (bound_plain formats) us → (i : Option ℕ) (e : EventData) → bound_show bs i e ≡ filters_show (map use_of us) (format_at formats i) e
+pub bound_shows : (formats : List EventFormat) (us : List FilterUse) (bs : List BoundUse) → map plain_of bs ≡ map (bound_plain formats) us → (i : Option ℕ) (e : EventData) → bound_show bs i e ≡ filters_show (map use_of us) (format_at_place formats i) e
 bound_shows formats us bs same i e =
     let hide : Plain → Bool = λ x. x.0 in
     let holds : Plain → Bool = λ x. option_holds x.1 i e in
     sym (shows_map hide holds plain_of bs) ∙ ap (are_showing hide holds) same ∙ shows_map hide holds (bound_plain formats) us
-    ∙ shows_same (λ (u : FilterUse). u.hide) (λ u. option_holds (bind_filter (filter_of u.filter) formats) i e) (λ u. holds_at (filter_of u.filter) (format_at formats i) e) (holds_same formats i e) us
-    ∙ sym (shows_map (λ (u : UseData). u.hide) (λ u. holds_at u.filter (format_at formats i) e) use_of us)
+    ∙ shows_same (λ (u : FilterUse). u.hide) (λ u. option_holds (bind_filter (filter_of u.filter) formats) i e) (λ u. holds_at (filter_of u.filter) (format_at_place formats i) e) (holds_same formats i e) us
+    ∙ sym (shows_map (λ (u : UseData). u.hide) (λ u. holds_at u.filter (format_at_place formats i) e) use_of us)
 
 -- what is computed is what is said
 some : {A : Type 0} (P Q : A → Type 0) → ((x : A) → P x → Q x) → (xs : List A) → Any P xs → Any Q xs

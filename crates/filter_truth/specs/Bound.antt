@@ -1,6 +1,7 @@
 -- A condition for the events of one format, with the fields in the places of their names.
-use Rattle.std.specs.Prelude.{ℕ, List, [], ◌∷◌, pos, bytes_eq, codes, if◌then◌else◌}
+use Rattle.std.specs.Prelude.{ℕ, List, Option, Some, None, pos, bytes_eq, codes, if◌then◌else◌}
 use Rattle.trace_base.specs.declared.field.Field.{Field}
+use Rattle.trace_base.specs.Fields.{field_named}
 use Rattle.c_operators.specs.declared.binary.BinaryOp.{BinaryOp}
 use Rattle.filter_lang.specs.declared.expr.FilterPrefix.{FilterPrefix}
 use Rattle.filter_lang.specs.Tree.{Tree, number, text, field, prefix, chain, Operands, no_operands, operand}
@@ -38,15 +39,14 @@ abbrev mutual
   bound_along e v b_end = v
   bound_along e v (b_more op value rest) = bound_along e (binary op v (bound_value e value)) rest
 
--- the first field of a name
-abbrev pub bind_field : List Field → List ℕ → BoundTree
-bind_field [] name = b_absent
-bind_field (f ∷ fs) name = if bytes_eq f.name name then b_field f else bind_field fs name
+abbrev pub bind_field : Option Field → BoundTree
+bind_field None = b_absent
+bind_field (Some f) = b_field f
 
 abbrev pub bind_name : List Field → List ℕ → BoundTree
 bind_name fields name =
     if bytes_eq name (codes "COMM") then b_task
-    else (if bytes_eq name (codes "CPU") then b_cpu else bind_field fields name)
+    else (if bytes_eq name (codes "CPU") then b_cpu else bind_field (field_named name fields))
 
 abbrev mutual
   pub bind_tree : List Field → Tree → BoundTree

@@ -1,12 +1,12 @@
 -- What the names in a filter mean: those of events, and those of fields.
-use Rattle.std.specs.Prelude.{ℕ, Bool, true, false, ◌&&◌, ◌||◌, List, [], ◌∷◌, take, Option, Some, None, pos, bytes_eq, codes, if◌then◌else◌}
-use Rattle.std.specs.List.{list_any, prefix_len}
+use Rattle.std.specs.Prelude.{ℕ, Bool, true, false, ◌&&◌, ◌||◌, List, Option, Some, None, pos, bytes_eq, codes, if◌then◌else◌}
+use Rattle.std.specs.List.{list_any}
 use Rattle.trace_base.specs.declared.field.Field.{Field}
 use Rattle.trace_base.specs.declared.field.FieldKind.{FieldKind}
 use Rattle.trace_base.specs.declared.field.FieldKind.TheVariants.{Number, Pointer, Text, Bytes}
 use Rattle.trace_base.specs.declared.order.Order.{Order}
-use Rattle.trace_base.specs.Fields.{number_in, bytes_in}
-use Rattle.trace_base.specs.Kept.{is_letter}
+use Rattle.trace_base.specs.Fields.{field_named, number_in, bytes_in}
+use Rattle.trace_base.specs.Kept.{until_nul}
 use Rattle.format_parse.specs.declared.format.EventFormat.{EventFormat}
 use Rattle.filter_lang.specs.Filter.{EventNameData, FilterData}
 use Rattle.filter_lang.specs.Tree.{Tree}
@@ -30,10 +30,6 @@ pub record EventData : Type 0 where
   pub task : List ℕ
   pub cpu : ℕ
 
--- a text up to its first NUL
-abbrev pub until_nul : List ℕ → List ℕ
-until_nul bytes = take (prefix_len is_letter bytes) bytes
-
 abbrev pub kind_value : FieldKind → EventData → Field → ValueData
 kind_value Number e field = a_number (number_in e.order e.payload field)
 kind_value Pointer e field = a_number (number_in e.order e.payload field)
@@ -43,16 +39,16 @@ kind_value Bytes e field = absent
 abbrev pub field_value : EventData → Field → ValueData
 field_value e field = kind_value field.kind e field
 
--- the first field of the name
-abbrev pub first_named : EventData → List ℕ → List Field → ValueData
-first_named e name [] = absent
-first_named e name (f ∷ fs) = if bytes_eq f.name name then field_value e f else first_named e name fs
+-- the value of a field that an event may lack
+abbrev pub value_if : EventData → Option Field → ValueData
+value_if e None = absent
+value_if e (Some field) = field_value e field
 
 -- `COMM` is the task's name and `CPU` the processor, whatever the fields' names
 abbrev pub named_value : List Field → EventData → List ℕ → ValueData
 named_value fields e name =
     if bytes_eq name (codes "COMM") then a_text e.task
-    else (if bytes_eq name (codes "CPU") then a_number (pos e.cpu) else first_named e name fields)
+    else (if bytes_eq name (codes "CPU") then a_number (pos e.cpu) else value_if e (field_named name fields))
 
 -- without a condition all is true
 abbrev pub condition_holds : Option Tree → List Field → EventData → Bool

@@ -14,9 +14,9 @@ abbrev pub use_of : FilterUse → UseData
 use_of u = record { hide = u.hide; filter = filter_of u.filter }
 
 -- the format at a place of a table, if there is a place
-abbrev pub format_at : List EventFormat → Option ℕ → Option EventFormat
-format_at formats None = None
-format_at formats (Some i) = slice_get formats i
+abbrev pub format_at_place : List EventFormat → Option ℕ → Option EventFormat
+format_at_place formats None = None
+format_at_place formats (Some i) = slice_get formats i
 
 abbrev pub option_holds : List BoundCondition → Option ℕ → EventData → Bool
 option_holds conditions None e = false

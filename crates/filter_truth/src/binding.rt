@@ -1,6 +1,7 @@
 //! Conditions are bound to formats.
 
 ghost use Rattle.std.specs.Prelude.{◌≡◌, IfOk};
+ghost use Rattle.std.specs.Option.{option_copied};
 ghost use Rattle.filter_lang.specs.TreeView.{tree_of, operands_of};
 ghost use Rattle.filter_truth.specs.Bound.{bind_field, bind_name, bind_tree, bind_row, b_number, b_text, b_prefix, b_chain};
 ghost use Rattle.filter_truth.specs.BoundView.{bound_of, bound_row};
@@ -8,21 +9,7 @@ ghost use Rattle.filter_truth.specs.BoundView.{bound_of, bound_row};
 use crate::bound_expr::{BoundExpr, BoundOperand};
 use filter_lang::{FilterExpr, FilterOperand, FilterPrefix};
 use std::alloc::{AllocError, Global};
-use trace_base::{ByteText, Field};
-
-fn copied(alloc: Global, field: &Field) -> Result<Field, AllocError>
-    ensures { IfOk result (λ f. f ≡ field.now) }
-{
-    Ok(Field {
-        name: ByteText::copy(alloc, field.name.as_bytes())?,
-        offset: field.offset,
-        size: field.size,
-        signed: field.signed,
-        kind: field.kind,
-        place: field.place,
-        element: field.element,
-    })
-}
+use trace_base::{ByteText, Field, field_named};
 
 fn bound_number(alloc: Global, n: u64) -> Result<Box<BoundExpr>, AllocError>
     ensures { IfOk result (λ e. bound_of e.value ≡ b_number n) }
@@ -56,16 +43,14 @@ fn bound_chain(
     Ok(Box::new(alloc, BoundExpr::Chain { first, rest })?)
 }
 
-/// The first field of a name.
-fn bind_field(alloc: Global, fields: &[Field], name: &[u8]) -> Result<BoundExpr, AllocError>
-    ensures { IfOk result (λ e. bound_of e ≡ bind_field fields.now name.now) }
+/// What a field stands for, or what none does.
+fn bind_field(alloc: Global, field: Option<&Field>) -> Result<BoundExpr, AllocError>
+    ensures { IfOk result (λ e. bound_of e ≡ bind_field (option_copied field.entry)) }
 {
-    for field in fields {
-        if field.name.as_bytes() == name {
-            return Ok(BoundExpr::Field(copied(alloc, field)?));
-        }
+    match field {
+        Some(field) => Ok(BoundExpr::Field(field.copy(alloc)?)),
+        None => Ok(BoundExpr::Absent),
     }
-    Ok(BoundExpr::Absent)
 }
 
 /// What a name stands for in the events with these fields.
@@ -77,7 +62,7 @@ fn bind_name(alloc: Global, fields: &[Field], name: &[u8]) -> Result<Box<BoundEx
     } else if name == b"CPU".as_slice() {
         BoundExpr::Cpu
     } else {
-        bind_field(alloc, fields, name)?
+        bind_field(alloc, field_named(name, fields))?
     };
     Ok(Box::new(alloc, expr)?)
 }

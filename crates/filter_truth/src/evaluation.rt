@@ -1,7 +1,7 @@
 //! What is known of an event, and the values that it gives.
 
 ghost use Rattle.std.specs.Prelude.{◌≡◌};
-ghost use Rattle.filter_truth.specs.Naming.{until_nul, field_value};
+ghost use Rattle.filter_truth.specs.Naming.{field_value};
 ghost use Rattle.filter_truth.specs.Bound.{bound_value, bound_along};
 ghost use Rattle.filter_truth.specs.BoundView.{bound_of, bound_row};
 ghost use Rattle.filter_truth.specs.EventView.{event_of};
@@ -9,7 +9,7 @@ ghost use Rattle.filter_truth.specs.ValueView.{data_of};
 
 use crate::bound_expr::{BoundExpr, BoundOperand};
 use crate::value::{Value, binary, prefixed};
-use trace_base::{Field, FieldKind, Rec, bytes_of, number_of, text_len};
+use trace_base::{Field, FieldKind, Rec, bytes_of, number_of, until_nul};
 
 /// An event: its record, its task's name and its processor.
 #[derive(Clone, Copy, Drop)]
@@ -17,13 +17,6 @@ pub struct Event<'a> {
     pub rec: Rec<'a>,
     pub comm: &'a [u8],
     pub cpu: u32,
-}
-
-/// A text up to its first NUL.
-fn until_nul(bytes: &[u8]) -> &[u8]
-    ensures { result.now ≡ until_nul bytes.now }
-{
-    &bytes[..text_len(bytes)]
 }
 
 /// The value of a field of an event.

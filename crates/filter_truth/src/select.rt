@@ -4,7 +4,7 @@ ghost use Rattle.std.specs.Prelude.{◌≡◌, ℕ, Option, map, is_none, IfOk, 
 ghost use Rattle.std.specs.List.{list_any};
 ghost use Rattle.filter_truth.specs.Naming.{EventData};
 ghost use Rattle.filter_truth.specs.Selection.{filters_show};
-ghost use Rattle.filter_truth.specs.SelectionView.{use_of, bound_show, format_at, option_holds, is_open_at, some_open};
+ghost use Rattle.filter_truth.specs.SelectionView.{use_of, bound_show, format_at_place, option_holds, is_open_at, some_open};
 ghost use Rattle.filter_truth.specs.BoundView.{conditions_of};
 ghost use Rattle.filter_truth.specs.EventView.{event_of};
 
@@ -60,7 +60,7 @@ impl Filters {
         uses: &[FilterUse],
         formats: &FormatTable,
     ) -> Result<Filters, AllocError>
-        ensures { IfOk result (λ f. (i : Option ℕ) (e : EventData) → bound_show f i e ≡ filters_show (map use_of uses.now) (format_at formats.now i) e) }
+        ensures { IfOk result (λ f. (i : Option ℕ) (e : EventData) → bound_show f i e ≡ filters_show (map use_of uses.now) (format_at_place formats.now i) e) }
     {
         let mut bound = Vec::new(alloc);
         for filter_use in uses {

@@ -5,13 +5,13 @@ use Rattle.std.specs.Int.{w64, bit_not}
 use Rattle.std.proofs.lemmas.List.{drop_more}
 use Rattle.trace_base.specs.Kept.{Kept, put}
 use Rattle.fmt_expr.specs.declared.expr.Entry.{Entry}
-use Rattle.fmt_eval.specs.Values.{Given}
+use Rattle.fmt_eval.specs.Values.{RecData}
 use Rattle.fmt_eval.specs.Entered.{row_of, rows_in}
 use Rattle.fmt_eval.specs.Flags.{is_flag, flags_from}
 use Rattle.fmt_eval.proofs.FlagLemmas.{flag_put, flag_passed}
 
 -- what is still to come begins with the row of the next entry
-next_row : (k r : Kept) (g : Given) (entries : List Entry) (i : ℕ) (e : Entry) (between text : List ℕ) (value left : ℕ) (some : Bool) (mask : ℕ) → i < length entries → e ≡ get_or entries i e → mask ≡ (row_of g e).0 → text ≡ e.text
+next_row : (k r : Kept) (g : RecData) (entries : List Entry) (i : ℕ) (e : Entry) (between text : List ℕ) (value left : ℕ) (some : Bool) (mask : ℕ) → i < length entries → e ≡ get_or entries i e → mask ≡ (row_of g e).0 → text ≡ e.text
     → put k (flags_from between value left some (rows_in g (drop i entries))) ≡ r → put k (flags_from between value left some ((mask, text) ∷ rows_in g (drop (i + 1) entries))) ≡ r
 next_row k r g entries i e between text value left some mask lt is is_mask is_text before =
     let rest = rows_in g (drop (i + 1) entries) in
@@ -21,12 +21,12 @@ next_row k r g entries i e between text value left some mask lt is is_mask is_te
     ∙ ap (λ (es : List Entry). put k (flags_from between value left some (rows_in g es))) (sym (drop_more entries i e lt))
     ∙ before
 
-pub entry_put : (k now r : Kept) (g : Given) (entries : List Entry) (i : ℕ) (e : Entry) (between text : List ℕ) (value left : ℕ) (some : Bool) (mask : ℕ) → i < length entries → e ≡ get_or entries i e → mask ≡ (row_of g e).0 → text ≡ e.text → true ≡ is_flag value left some mask
+pub entry_put : (k now r : Kept) (g : RecData) (entries : List Entry) (i : ℕ) (e : Entry) (between text : List ℕ) (value left : ℕ) (some : Bool) (mask : ℕ) → i < length entries → e ≡ get_or entries i e → mask ≡ (row_of g e).0 → text ≡ e.text → true ≡ is_flag value left some mask
     → now ≡ put k (if some then between ++ text else text) → put k (flags_from between value left some (rows_in g (drop i entries))) ≡ r → put now (flags_from between value (bit_and left (bit_not w64 mask)) true (rows_in g (drop (i + 1) entries))) ≡ r
 entry_put k now r g entries i e between text value left some mask lt is is_mask is_text printed is_now before =
     flag_put k now between text value left some mask (rows_in g (drop (i + 1) entries)) (sym printed) is_now ∙ next_row k r g entries i e between text value left some mask lt is is_mask is_text before
 
-pub entry_passed : (k r : Kept) (g : Given) (entries : List Entry) (i : ℕ) (e : Entry) (between text : List ℕ) (value left : ℕ) (some : Bool) (mask : ℕ) → i < length entries → e ≡ get_or entries i e → mask ≡ (row_of g e).0 → text ≡ e.text → false ≡ is_flag value left some mask
+pub entry_passed : (k r : Kept) (g : RecData) (entries : List Entry) (i : ℕ) (e : Entry) (between text : List ℕ) (value left : ℕ) (some : Bool) (mask : ℕ) → i < length entries → e ≡ get_or entries i e → mask ≡ (row_of g e).0 → text ≡ e.text → false ≡ is_flag value left some mask
     → put k (flags_from between value left some (rows_in g (drop i entries))) ≡ r → put k (flags_from between value left some (rows_in g (drop (i + 1) entries))) ≡ r
 entry_passed k r g entries i e between text value left some mask lt is is_mask is_text passed before =
     flag_passed k between text value left some mask (rows_in g (drop (i + 1) entries)) (sym passed) ∙ next_row k r g entries i e between text value left some mask lt is is_mask is_text before

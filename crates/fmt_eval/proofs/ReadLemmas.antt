@@ -18,7 +18,7 @@ use Rattle.fmt_expr.specs.TreeView.{tree_of, operands_of}
 use Rattle.fmt_expr.specs.declared.expr.Operand.{Operand}
 use Rattle.fmt_eval.specs.Numbers as numbers
 use Rattle.fmt_eval.specs.Numbers.{number, reduced, is_true}
-use Rattle.fmt_eval.specs.Values.{Given, sized_kind, number_of}
+use Rattle.fmt_eval.specs.Values.{RecData, sized_kind, number_of}
 use Rattle.fmt_eval.specs.NumView.{num_view}
 use Rattle.fmt_eval.specs.Operators.{applied}
 use Rattle.fmt_eval.specs.Reads.{placed, number_by, ReadsAs, tested, TestsAs, read_at, field_read_by, field_read, unsigned_read, cast_read, read_of, test_under, mask_test, operand_test, chain_test, test_of}
@@ -30,7 +30,7 @@ use Rattle.fmt_eval.specs.declared.read.Test.TheVariants as test
 
 -- ---- reads
 
-reads_at : (at size : ℕ) (signed : Bool) (t : Tree) (g : Given) → number_of g t ≡ placed g at size signed → number_by (read_at at size signed) g t ≡ number_of g t
+reads_at : (at size : ℕ) (signed : Bool) (t : Tree) (g : RecData) → number_of g t ≡ placed g at size signed → number_by (read_at at size signed) g t ≡ number_of g t
 reads_at at size signed t g h = elim (eqb_tells size 4) as (λ _. number_by (read_at at size signed) g t ≡ number_of g t) [
   | inl four ↦ rw four.0 (ap (λ (n : ℕ). placed g at n signed) (sym four.1) ∙ sym h)
   | inr other ↦ elim (eqb_tells size 8) as (λ _. number_by (read_at at size signed) g t ≡ number_of g t) [
@@ -40,16 +40,16 @@ reads_at at size signed t g h = elim (eqb_tells size 4) as (λ _. number_by (rea
 ]
 
 -- the number of a field by its kind
-abbrev by_kind : Given → Field → FieldKind → numbers.Number
+abbrev by_kind : RecData → Field → FieldKind → numbers.Number
 by_kind g f k =
     let kind = sized_kind (if has_sign k then f.signed else false) f.size in
     number kind (reduced kind (if has_number k then sized (has_sign k && f.signed) f.size (unsigned_in g.order g.payload f.offset f.size) else pos 0))
 
-field_by_kind : (g : Given) (f : Field) → number_of g (tree.field_number f) ≡ by_kind g f f.kind
+field_by_kind : (g : RecData) (f : Field) → number_of g (tree.field_number f) ≡ by_kind g f f.kind
 unfolding number_in
 field_by_kind g f = refl
 
-reads_field : (f : Field) (g : Given) (k : FieldKind) → f.kind ≡ k → number_by (field_read_by (has_number k) (has_sign k) f) g (tree.field_number f) ≡ number_of g (tree.field_number f)
+reads_field : (f : Field) (g : RecData) (k : FieldKind) → f.kind ≡ k → number_by (field_read_by (has_number k) (has_sign k) f) g (tree.field_number f) ≡ number_of g (tree.field_number f)
 reads_field f g fields.Number is = reads_at f.offset f.size f.signed (tree.field_number f) g (field_by_kind g f ∙ ap (by_kind g f) is)
 reads_field f g fields.Pointer is = reads_at f.offset f.size false (tree.field_number f) g (field_by_kind g f ∙ ap (by_kind g f) is)
 reads_field f g fields.Text is = refl
@@ -59,7 +59,7 @@ twice_reduced : (n : ℕ) → reduced U64 (pos n) ≡ reduced U64 (reduced U64 (
 unfolding reduced
 twice_reduced n = ap pos (omega arith)
 
-reads_unsigned : (read : Read) (t : Tree) (g : Given) → number_by read g t ≡ number_of g t → number_by (unsigned_read read) g (tree.cast (Bits 64 false) t) ≡ number_of g (tree.cast (Bits 64 false) t)
+reads_unsigned : (read : Read) (t : Tree) (g : RecData) → number_by read g t ≡ number_of g t → number_by (unsigned_read read) g (tree.cast (Bits 64 false) t) ≡ number_of g (tree.cast (Bits 64 false) t)
 reads_unsigned (Whole at true) t g h = refl
 reads_unsigned (Whole at false) t g h = ap (number U64) (twice_reduced (unsigned_in g.order g.payload at 8)) ∙ ap (λ (n : numbers.Number). number U64 (reduced U64 n.exact)) h
 reads_unsigned (Half at signed) t g h = refl
@@ -68,16 +68,16 @@ reads_unsigned Walk t g h = refl
 abbrev wide_read : Bool → Read → Read
 wide_read signed read = if signed then Walk else unsigned_read read
 
-reads_wide : (signed : Bool) (read : Read) (t : Tree) (g : Given) → number_by read g t ≡ number_of g t → number_by (wide_read signed read) g (tree.cast (Bits 64 signed) t) ≡ number_of g (tree.cast (Bits 64 signed) t)
+reads_wide : (signed : Bool) (read : Read) (t : Tree) (g : RecData) → number_by read g t ≡ number_of g t → number_by (wide_read signed read) g (tree.cast (Bits 64 signed) t) ≡ number_of g (tree.cast (Bits 64 signed) t)
 reads_wide true read t g h = refl
 reads_wide false read t g h = reads_unsigned read t g h
 
-reads_same : (read : Read) (t : Tree) (g : Given) → number_by read g t ≡ number_of g t → number_by read g (tree.cast Same t) ≡ number_of g t
+reads_same : (read : Read) (t : Tree) (g : RecData) → number_by read g t ≡ number_of g t → number_by read g (tree.cast Same t) ≡ number_of g t
 reads_same (Half at signed) t g h = h
 reads_same (Whole at signed) t g h = h
 reads_same Walk t g h = h
 
-reads_cast : (to : CastTo) (read : Read) (t : Tree) (g : Given) → number_by read g t ≡ number_of g t → number_by (cast_read to read) g (tree.cast to t) ≡ number_of g (tree.cast to t)
+reads_cast : (to : CastTo) (read : Read) (t : Tree) (g : RecData) → number_by read g t ≡ number_of g t → number_by (cast_read to read) g (tree.cast to t) ≡ number_of g (tree.cast to t)
 reads_cast Same read t g h = reads_same read t g h
 reads_cast (Bits width signed) read t g h = elim (eqb_tells width 64) as (λ _. number_by (cast_read (Bits width signed) read) g (tree.cast (Bits width signed) t) ≡ number_of g (tree.cast (Bits width signed) t)) [
   | inl is ↦ rw is.0 (
@@ -88,7 +88,7 @@ reads_cast (Bits width signed) read t g h = elim (eqb_tells width 64) as (λ _. 
 ]
 reads_cast Truth read t g h = refl
 
-reads_tree : (t : Tree) (g : Given) → number_by (read_of t) g t ≡ number_of g t
+reads_tree : (t : Tree) (g : RecData) → number_by (read_of t) g t ≡ number_of g t
 reads_tree (tree.field_number f) g = reads_field f g f.kind refl
 reads_tree (tree.cast to t) g = reads_cast to (read_of t) t g (reads_tree t g)
 reads_tree t g = refl
@@ -104,27 +104,27 @@ under t bits kind = tree.chain t (operand BitAnd (tree.number bits kind) no_oper
 abbrev num : ℕ → CKind → Num
 num bits kind = record { bits = bits; kind = kind }
 
-tests_under : (read : Read) (t : Tree) (bits : ℕ) (kind : CKind) (g : Given) → number_by read g t ≡ number_of g t → tested (test_under read (num bits kind)) g (under t bits kind) ≡ is_true (number_of g (under t bits kind))
+tests_under : (read : Read) (t : Tree) (bits : ℕ) (kind : CKind) (g : RecData) → number_by read g t ≡ number_of g t → tested (test_under read (num bits kind)) g (under t bits kind) ≡ is_true (number_of g (under t bits kind))
 tests_under (Half at signed) t bits kind g h = ap (λ (n : numbers.Number). is_true (applied BitAnd n (num_view (num bits kind)))) h
 tests_under (Whole at signed) t bits kind g h = ap (λ (n : numbers.Number). is_true (applied BitAnd n (num_view (num bits kind)))) h
 tests_under Walk t bits kind g h = refl
 
-tests_mask : (read : Read) (t mask : Tree) (g : Given) → number_by read g t ≡ number_of g t
+tests_mask : (read : Read) (t mask : Tree) (g : RecData) → number_by read g t ≡ number_of g t
     → tested (mask_test read mask) g (tree.chain t (operand BitAnd mask no_operands)) ≡ is_true (number_of g (tree.chain t (operand BitAnd mask no_operands)))
 tests_mask read t (tree.number bits kind) g h = tests_under read t bits kind g h
 tests_mask read t mask g h = refl
 
-tests_operand : (read : Read) (t mask : Tree) (op : BinaryOp) (g : Given) → number_by read g t ≡ number_of g t
+tests_operand : (read : Read) (t mask : Tree) (op : BinaryOp) (g : RecData) → number_by read g t ≡ number_of g t
     → tested (operand_test read op mask) g (tree.chain t (operand op mask no_operands)) ≡ is_true (number_of g (tree.chain t (operand op mask no_operands)))
 tests_operand read t mask BitAnd g h = tests_mask read t mask g h
 tests_operand read t mask op g h = refl
 
-tests_chain : (read : Read) (t : Tree) (rest : Operands) (g : Given) → number_by read g t ≡ number_of g t → tested (chain_test read rest) g (tree.chain t rest) ≡ is_true (number_of g (tree.chain t rest))
+tests_chain : (read : Read) (t : Tree) (rest : Operands) (g : RecData) → number_by read g t ≡ number_of g t → tested (chain_test read rest) g (tree.chain t rest) ≡ is_true (number_of g (tree.chain t rest))
 tests_chain read t no_operands g h = refl
 tests_chain read t (operand op mask no_operands) g h = tests_operand read t mask op g h
 tests_chain read t (operand op mask (operand next u rest)) g h = refl
 
-tests_tree : (t : Tree) (g : Given) → tested (test_of t) g t ≡ is_true (number_of g t)
+tests_tree : (t : Tree) (g : RecData) → tested (test_of t) g t ≡ is_true (number_of g t)
 tests_tree (tree.chain first rest) g = tests_chain (read_of first) first rest g (reads_tree first g)
 tests_tree t g = refl
 

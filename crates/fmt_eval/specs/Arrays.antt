@@ -3,7 +3,8 @@ use Rattle.std.specs.Prelude.{ℕ, zero, suc, ℤ, pos, negsuc, Bool, nat_le, if
 use Rattle.trace_base.specs.declared.order.Order.{Order}
 use Rattle.trace_base.specs.Number.{num}
 use Rattle.trace_base.specs.Fields.{is_size}
-use Rattle.fmt_eval.specs.Pieces.{join, join_behind, hexadecimal, two_digits}
+use Rattle.trace_base.specs.Digits.{two_digits}
+use Rattle.fmt_eval.specs.Pieces.{join, join_behind, hexadecimal}
 
 -- how many a number asks for
 abbrev pub count_of : ℤ → ℕ

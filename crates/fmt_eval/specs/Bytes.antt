@@ -4,10 +4,10 @@ use Rattle.trace_base.specs.Fields.{bytes_in}
 use Rattle.fmt_expr.specs.Tree as tree
 use Rattle.fmt_expr.specs.Tree.{Tree}
 use Rattle.fmt_eval.specs.Numbers.{is_true}
-use Rattle.fmt_eval.specs.Values.{Given, number_of}
+use Rattle.fmt_eval.specs.Values.{RecData, number_of}
 
 -- The bytes that a tree is: those of a whole field, NUL bytes too. A number or any other text counts as none.
-abbrev pub bytes_of : Given → Tree → List ℕ
+abbrev pub bytes_of : RecData → Tree → List ℕ
 bytes_of g (tree.number bits kind) = []
 bytes_of g (tree.literal text) = []
 bytes_of g (tree.field_number f) = []

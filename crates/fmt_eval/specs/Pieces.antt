@@ -1,7 +1,7 @@
 -- Pieces of text with a text between them, and the digits of hexadecimal pieces.
-use Rattle.std.specs.Prelude.{ℕ, ◌/◌, ◌%◌, Bool, false, if◌then◌else◌, List, [], ◌∷◌, ◌++◌, codes}
+use Rattle.std.specs.Prelude.{ℕ, Bool, false, if◌then◌else◌, List, [], ◌∷◌, ◌++◌, codes}
 use Rattle.std.specs.List.{flat_map}
-use Rattle.std.specs.Fmt.{digits, digit_glyph}
+use Rattle.std.specs.Fmt.{digits}
 
 abbrev pub join : List ℕ → List (List ℕ) → List ℕ
 join between [] = []
@@ -14,7 +14,3 @@ join_behind some between pieces = if some then flat_map (λ p. between ++ p) pie
 -- `0x` and the lower digits of a number
 abbrev pub hexadecimal : ℕ → List ℕ
 hexadecimal n = codes "0x" ++ digits 16 false n
-
--- the two lower digits of a byte
-abbrev pub two_digits : ℕ → List ℕ
-two_digits byte = digit_glyph false (byte / 16) ∷ digit_glyph false (byte % 16) ∷ []

@@ -11,7 +11,7 @@ use Rattle.fmt_expr.specs.Tree as tree
 use Rattle.fmt_eval.specs.Numbers.{Number, number, reduced, is_true}
 use Rattle.fmt_eval.specs.NumView.{num_view}
 use Rattle.fmt_eval.specs.Operators.{applied}
-use Rattle.fmt_eval.specs.Values.{Given, sized_kind, number_of}
+use Rattle.fmt_eval.specs.Values.{RecData, sized_kind, number_of}
 use Rattle.fmt_eval.specs.declared.num.Num.{Num}
 use Rattle.fmt_eval.specs.declared.read.Read.{Read}
 use Rattle.fmt_eval.specs.declared.read.Read.TheVariants.{Half, Whole, Walk}
@@ -21,26 +21,26 @@ use Rattle.fmt_eval.specs.declared.read.Test.TheVariants as test
 -- ---- what a read and a test mean
 
 -- the number of so many bytes at a place in the payload
-abbrev pub placed : Given → ℕ → ℕ → Bool → Number
+abbrev pub placed : RecData → ℕ → ℕ → Bool → Number
 placed g at size signed = let kind = sized_kind signed size in number kind (reduced kind (sized signed size (unsigned_in g.order g.payload at size)))
 
-abbrev pub number_by : Read → Given → Tree → Number
+abbrev pub number_by : Read → RecData → Tree → Number
 number_by (Half at signed) g t = placed g at 4 signed
 number_by (Whole at signed) g t = placed g at 8 signed
 number_by Walk g t = number_of g t
 
 -- over every record, what is read is the number of the tree
 pub record ReadsAs (read : Read) (t : Tree) : Type 0 where
-  pub each : (g : Given) → number_by read g t ≡ number_of g t
+  pub each : (g : RecData) → number_by read g t ≡ number_of g t
 
-abbrev pub tested : Test → Given → Tree → Bool
+abbrev pub tested : Test → RecData → Tree → Bool
 tested (test.Half at signed mask) g t = is_true (applied BitAnd (placed g at 4 signed) (num_view mask))
 tested (test.Whole at signed mask) g t = is_true (applied BitAnd (placed g at 8 signed) (num_view mask))
 tested test.Walk g t = is_true (number_of g t)
 
 -- over every record, what is tested is whether the number of the tree is not 0
 pub record TestsAs (made : Test) (t : Tree) : Type 0 where
-  pub each : (g : Given) → tested made g t ≡ is_true (number_of g t)
+  pub each : (g : RecData) → tested made g t ≡ is_true (number_of g t)
 
 -- ---- what is found of a tree
 
@@ -67,21 +67,9 @@ cast_read Truth read = Walk
 
 -- A number is read at once where it is that of a field of four or eight bytes, also behind casts that change none.
 abbrev pub read_of : Tree → Read
-read_of (tree.number bits kind) = Walk
-read_of (tree.literal text) = Walk
 read_of (tree.field_number f) = field_read f
-read_of (tree.field_text f) = Walk
-read_of (tree.field_bytes f) = Walk
-read_of (tree.element f index) = Walk
-read_of (tree.len_of f) = Walk
-read_of (tree.prefix op t) = Walk
 read_of (tree.cast to t) = cast_read to (read_of t)
-read_of (tree.chain first rest) = Walk
-read_of (tree.choice test one other) = Walk
-read_of (tree.flags value between rows) = Walk
-read_of (tree.symbolic value rows) = Walk
-read_of (tree.hex bytes count) = Walk
-read_of (tree.array bytes count size) = Walk
+read_of t = Walk
 
 abbrev pub test_under : Read → Num → Test
 test_under (Half at signed) mask = test.Half at signed mask
@@ -104,18 +92,5 @@ chain_test read (operand op t (operand next u rest)) = test.Walk
 
 -- A test is made at once where a number that is read at once stands under one mask.
 abbrev pub test_of : Tree → Test
-test_of (tree.number bits kind) = test.Walk
-test_of (tree.literal text) = test.Walk
-test_of (tree.field_number f) = test.Walk
-test_of (tree.field_text f) = test.Walk
-test_of (tree.field_bytes f) = test.Walk
-test_of (tree.element f index) = test.Walk
-test_of (tree.len_of f) = test.Walk
-test_of (tree.prefix op t) = test.Walk
-test_of (tree.cast to t) = test.Walk
 test_of (tree.chain first rest) = chain_test (read_of first) rest
-test_of (tree.choice t one other) = test.Walk
-test_of (tree.flags value between rows) = test.Walk
-test_of (tree.symbolic value rows) = test.Walk
-test_of (tree.hex bytes count) = test.Walk
-test_of (tree.array bytes count size) = test.Walk
+test_of t = test.Walk

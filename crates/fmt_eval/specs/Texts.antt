@@ -1,31 +1,26 @@
 -- The texts of trees over a record, one equation a production.
-use Rattle.std.specs.Prelude.{ℕ, if◌then◌else◌, List, [], ◌∷◌, take}
-use Rattle.std.specs.List.{prefix_len}
+use Rattle.std.specs.Prelude.{ℕ, if◌then◌else◌, List, [], ◌∷◌}
 use Rattle.trace_base.specs.Fields.{bytes_in}
-use Rattle.trace_base.specs.Kept.{is_letter}
+use Rattle.trace_base.specs.Kept.{until_nul}
 use Rattle.fmt_expr.specs.Tree as tree
 use Rattle.fmt_expr.specs.Tree.{Tree, Entries, no_entries, entry}
 use Rattle.fmt_eval.specs.Numbers.{pattern, is_true}
-use Rattle.fmt_eval.specs.Values.{Given, number_of}
+use Rattle.fmt_eval.specs.Values.{RecData, number_of}
 use Rattle.fmt_eval.specs.Bytes.{bytes_of}
 use Rattle.fmt_eval.specs.Flags.{Row, flags_text, symbol_text}
 use Rattle.fmt_eval.specs.Arrays.{hex_text, array_text}
 
--- the bytes up to the first NUL
-abbrev pub up_to_nul : List ℕ → List ℕ
-up_to_nul bytes = take (prefix_len is_letter bytes) bytes
-
 -- entries as numbers of 64 bits, sign-extended from signed kinds, with their texts
-abbrev pub rows_of : Given → Entries → List Row
+abbrev pub rows_of : RecData → Entries → List Row
 rows_of g no_entries = []
 rows_of g (entry value text rest) = (pattern (number_of g value).exact, text) ∷ rows_of g rest
 
 -- the text that a tree is; a number or bytes count as the empty text
-abbrev pub text_of : Given → Tree → List ℕ
+abbrev pub text_of : RecData → Tree → List ℕ
 text_of g (tree.number bits kind) = []
 text_of g (tree.literal text) = text
 text_of g (tree.field_number f) = []
-text_of g (tree.field_text f) = up_to_nul (bytes_in g.order g.payload f)
+text_of g (tree.field_text f) = until_nul (bytes_in g.order g.payload f)
 text_of g (tree.field_bytes f) = []
 text_of g (tree.element f index) = []
 text_of g (tree.len_of f) = []

@@ -12,12 +12,12 @@ use Rattle.fmt_eval.specs.Numbers.{Number, number, reduced, is_true}
 use Rattle.fmt_eval.specs.Operators.{common, applied, prefixed, cast}
 use Rattle.fmt_eval.specs.NumView.{exact_bits}
 
--- the payload of a record, and the order of its numbers
-pub record Given : Type 0 where
+-- what is known of a record: its payload, and the order of its numbers
+pub record RecData : Type 0 where
   pub order : Order
   pub payload : List ℕ
 
-abbrev pub given : Rec → Given
+abbrev pub given : Rec → RecData
 given rec = record { order = rec.order; payload = rec.payload.now }
 
 -- the kind of a number of so many bytes, after promotion (C11 6.3.1.1)
@@ -27,19 +27,19 @@ sized_kind signed size = if nat_lt size 4 then I32 else (if size == 4 then (if s
 abbrev pub nothing : Number
 nothing = number I32 (pos 0)
 
-abbrev pub field_number : Given → Field → Number
+abbrev pub field_number : RecData → Field → Number
 field_number g f = let kind = sized_kind (if has_sign f.kind then f.signed else false) f.size in number kind (reduced kind (number_in g.order g.payload f))
 
 -- an element of a field's bytes; 0 where the index is not inside
-abbrev pub element_at : Given → Field → ℤ → ℤ
+abbrev pub element_at : RecData → Field → ℤ → ℤ
 element_at g f (pos i) = sized f.signed f.element (unsigned_in g.order (bytes_in g.order g.payload f) (i * f.element) f.element)
 element_at g f (negsuc i) = pos 0
 
-abbrev pub element : Given → Field → ℤ → Number
+abbrev pub element : RecData → Field → ℤ → Number
 element g f i = let kind = sized_kind f.signed f.element in number kind (reduced kind (element_at g f i))
 
 -- how many bytes a dynamic field has: the number in the high 16 bits of its word
-abbrev pub length_of : Given → Field → Number
+abbrev pub length_of : RecData → Field → Number
 length_of g f = number U32 (reduced U32 (pos (unsigned_in g.order g.payload f.offset 4 / 2 ^ 16)))
 
 -- both arms of `?:` are converted to a common kind (C11 6.5.15)
@@ -48,7 +48,7 @@ chosen holds a b = let kind = common a.kind b.kind in number kind (reduced kind 
 
 abbrev mutual
   -- the number that a tree is; a text or bytes count as the number 0
-  pub number_of : Given → Tree → Number
+  pub number_of : RecData → Tree → Number
   number_of g (tree.number bits kind) = number kind (exact_bits kind bits)
   number_of g (tree.literal text) = nothing
   number_of g (tree.field_number f) = field_number g f
@@ -66,6 +66,6 @@ abbrev mutual
   number_of g (tree.array bytes count size) = nothing
 
   -- the operators of one level, from the left
-  pub folded : Given → Number → Operands → Number
+  pub folded : RecData → Number → Operands → Number
   folded g n no_operands = n
   folded g n (operand op e rest) = folded g (applied op n (number_of g e)) rest

@@ -6,7 +6,7 @@ ghost use Rattle.fmt_expr.specs.Tree.{Tree};
 ghost use Rattle.fmt_expr.specs.Kinds.{kind_of};
 ghost use Rattle.fmt_expr.specs.declared.kinds.Kind.TheVariants as kinds;
 ghost use Rattle.fmt_eval.specs.Numbers.{IsReduced, reduced};
-ghost use Rattle.fmt_eval.specs.Values.{Given, number_of};
+ghost use Rattle.fmt_eval.specs.Values.{RecData, number_of};
 ghost use Rattle.fmt_eval.specs.Bytes.{bytes_of};
 ghost use Rattle.fmt_eval.specs.Texts.{text_of};
 ghost use Rattle.fmt_eval.specs.Value.{a_number, a_text, some_bytes, value_of};
@@ -23,7 +23,7 @@ pub fn one_reduced()
 
 /// The value of a tree is its number, its text or its bytes, by its kind.
 pub fn values_by_kind()
-    ensures numbers { (g : Given) (t : Tree) → kind_of t ≡ kinds.Number → value_of g t ≡ a_number (number_of g t) }
-    ensures texts { (g : Given) (t : Tree) → kind_of t ≡ kinds.Text → value_of g t ≡ a_text (text_of g t) }
-    ensures bytes { (g : Given) (t : Tree) → kind_of t ≡ kinds.Bytes → value_of g t ≡ some_bytes (bytes_of g t) }
+    ensures numbers { (g : RecData) (t : Tree) → kind_of t ≡ kinds.Number → value_of g t ≡ a_number (number_of g t) }
+    ensures texts { (g : RecData) (t : Tree) → kind_of t ≡ kinds.Text → value_of g t ≡ a_text (text_of g t) }
+    ensures bytes { (g : RecData) (t : Tree) → kind_of t ≡ kinds.Bytes → value_of g t ≡ some_bytes (bytes_of g t) }
 {}

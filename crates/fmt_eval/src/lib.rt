@@ -27,4 +27,4 @@ pub use num::Num;
 pub use pieces::{put_hexadecimal, put_octets, put_piece};
 pub use read::{Read, Test, number_read, read_of, test_holds, test_of};
 pub use short::holds;
-pub use text::{put_text, up_to_nul};
+pub use text::put_text;

@@ -1,12 +1,12 @@
 //! Pieces of text with a text between them.
 
-ghost use Rattle.std.specs.Prelude.{◌≡◌, ◌++◌, [], false, ◌<◌, map, if◌then◌else◌};
-ghost use Rattle.std.specs.Fmt.{digit_glyph};
+ghost use Rattle.std.specs.Prelude.{◌≡◌, ◌++◌, [], map, if◌then◌else◌};
 ghost use Rattle.trace_base.specs.Kept.{put};
 ghost use Rattle.trace_base.specs.TailView.{kept, lent};
-ghost use Rattle.fmt_eval.specs.Pieces.{join, hexadecimal, two_digits};
+ghost use Rattle.trace_base.specs.Digits.{two_digits};
+ghost use Rattle.fmt_eval.specs.Pieces.{join, hexadecimal};
 
-use trace_base::{Tail, write_digits};
+use trace_base::{Tail, two_digits, write_digits};
 
 /// Puts a number as `0x` and its lower hexadecimal digits.
 #[tactic(auto, using(trace_base::proofs::TailJoins::put_put))]
@@ -49,20 +49,6 @@ pub fn put_piece(some: bool, between: &[u8], piece: &[u8], into: &mut Tail<'_>)
         into.put(between);
     }
     into.put(piece);
-}
-
-fn digit(digit: u8) -> u8
-    requires { digit < 16 }
-    ensures { result ≡ digit_glyph false digit }
-{
-    if digit < 10 { b'0' + digit } else { 87 + digit }
-}
-
-/// The two lower hexadecimal digits of a byte.
-fn two_digits(byte: u8) -> [u8; 2]
-    ensures { result ≡ two_digits byte }
-{
-    [digit(byte / 16), digit(byte % 16)]
 }
 
 /// Puts bytes as two lower hexadecimal digits each, with a text between them.

@@ -5,7 +5,7 @@ ghost use Rattle.trace_base.specs.Kept.{put};
 ghost use Rattle.trace_base.specs.TailView.{kept, lent};
 ghost use Rattle.fmt_expr.specs.TreeView.{tree_of};
 ghost use Rattle.fmt_eval.specs.Values.{given};
-ghost use Rattle.fmt_eval.specs.Texts.{up_to_nul, text_of};
+ghost use Rattle.fmt_eval.specs.Texts.{text_of};
 
 use crate::array::{put_array, put_hex};
 use crate::eval::number;
@@ -13,15 +13,7 @@ use crate::field_bytes::bytes;
 use crate::flags::{put_flags, put_symbol};
 use crate::short::{holds, number_now};
 use fmt_expr::Expr;
-use trace_base::{Rec, Tail, bytes_of, text_len};
-
-/// The bytes up to the first NUL.
-pub fn up_to_nul(bytes: &[u8]) -> &[u8]
-    ensures { result.now ≡ up_to_nul bytes.now }
-{
-    let len = text_len(bytes);
-    &bytes[..len]
-}
+use trace_base::{Rec, Tail, bytes_of, until_nul};
 
 /// Puts the text that a tree is over a record; none where it is a number or bytes.
 #[tactic(auto, using(trace_base::proofs::TailJoins::put_nothing))]
@@ -31,7 +23,7 @@ pub fn put_text(expr: &Expr, rec: &Rec<'_>, into: &mut Tail<'_>)
 {
     match expr {
         Expr::Literal { text } => into.put(text.as_bytes()),
-        Expr::FieldText { field } => into.put(up_to_nul(bytes_of(rec, field))),
+        Expr::FieldText { field } => into.put(until_nul(bytes_of(rec, field))),
         Expr::Cast { of, .. } => put_text(of, rec, into),
         Expr::Choice { test, yes, no } => {
             if holds(test, rec) {

@@ -10,7 +10,7 @@ use Rattle.fmt_expr.specs.Ops.{op_at}
 use Rattle.fmt_expr.specs.Texts.{Joined, joined_text, text_at}
 use Rattle.fmt_expr.specs.Types.{TypeName, closed_type}
 use Rattle.fmt_expr.specs.Fields.{field_tree, got_tree, is_indexed, named_at, dynamic_at}
-use Rattle.fmt_expr.specs.Parsing.{Found, found, Row, row, Read, Inner, row_at, row_step, row_behind, level_at, choice_at, cond_at, unary_at, inner_of, inner_unary, inner_cond, Valued, valued, Listed, listed, with_entry, entry_at, tail_at, entries_behind, entries_at, argument_at, flags_at, symbolic_at, hex_at, array_at, sized_at, got_at, leaf_at, open_at, open_by, element_at, field_at, cast_at, bracket_at, prefixed_at}
+use Rattle.fmt_expr.specs.Parsing.{Found, found, Row, row, Read, Inner, row_at, row_step, row_behind, level_at, choice_at, cond_at, unary_at, inner_of, inner_unary, inner_cond, Valued, valued, Listed, listed, with_entry, entry_at, tail_at, entries_behind, entries_at, argument_at, flags_at, symbolic_at, hex_at, array_at, sized_at, got_at, leaf_at, open_at, open_by, number_before, element_at, field_at, cast_at, bracket_at, prefixed_at}
 use Rattle.fmt_expr.specs.Derivation.{IsCond, plain, conditional, IsLevel, unary, single, several, IsRow, no_more, goes_on, IsUnary, prefixed, bracketed, casted, field, indexed, constant, texts, sized, got, flagged, symbolized, in_hex, in_array, IsEntry, braced, AreEntries, last, further}
 use Rattle.c_operators.specs.declared.binary.BinaryOp.{BinaryOp}
 use Rattle.fmt_expr.specs.declared.expr.PrefixOp.{PrefixOp}
@@ -122,10 +122,14 @@ field_element : (s : Source) (inner : Read) (i : ℕ) (f : Field) → named_at s
 unfolding field_at
 field_element s inner i f is open' = rw (is, open') refl
 
+number_there : (s : Source) (inner : Read) (mark : List ℕ) (i : ℕ) (x : Found) → inner i ≡ Some x → is_number x.tree ≡ true → is_mark s x.next mark ≡ true → number_before s inner mark i ≡ Some x
+unfolding number_before
+number_there s inner mark i x there number behind = rw (there, number, behind) refl
+
 element_there : (s : Source) (inner : Read) (i : ℕ) (f : Field) (x : Found) → is_indexed f.kind f.element ≡ true → inner (i + 4) ≡ Some x → is_number x.tree ≡ true → is_mark s x.next (codes "]") ≡ true
     → element_at s inner i f ≡ Some (found (element f x.tree) (1 + x.nest) (x.next + 1))
 unfolding element_at
-element_there s inner i f x size there number close = rw (size, there, number, close) refl
+element_there s inner i f x size there number close = rw (size, number_there s inner (codes "]") (i + 4) x there number close) refl
 
 constant_there : (s : Source) (i n : ℕ) (kind : CKind) → constant_at s i ≡ Some (n, kind) → leaf_at s i ≡ Some (found (numeral n kind) 0 (i + 1))
 unfolding leaf_at
@@ -147,7 +151,7 @@ got_there s n i get f lt is = let deep : nat_lt 0 n ≡ true = search rules in r
 entry_there : (s : Source) (inner : Read) (i : ℕ) (x : Found) (text : Joined) → is_mark s i (codes "{") ≡ true → inner (i + 1) ≡ Some x → is_number x.tree ≡ true → is_mark s x.next (codes ",") ≡ true
     → text_at s (x.next + 1) ≡ Some text → is_mark s text.next (codes "}") ≡ true → entry_at s inner i ≡ Some (valued x.tree text.text x.nest (text.next + 1))
 unfolding entry_at
-entry_there s inner i x text open' there number comma is close = rw (open', there, number, comma, is, close) refl
+entry_there s inner i x text open' there number comma is close = rw (open', number_there s inner (codes ",") (i + 1) x there number comma, is, close) refl
 
 tail_last : (s : Source) (inner : Read) (m i : ℕ) → 0 < m → is_mark s i (codes ",") ≡ false → tail_at s inner m i ≡ Some (listed no_entries 0 i)
 unfolding tail_at
@@ -180,12 +184,13 @@ symbolic_there s inner i x r there number all = rw (there, number, all) refl
 hex_there : (s : Source) (inner : Read) (i : ℕ) (x y : Found) → argument_at s inner i ≡ Some x → has_bytes x.tree ≡ true → inner x.next ≡ Some y → is_number y.tree ≡ true → is_mark s y.next (codes ")") ≡ true
     → hex_at s inner i ≡ Some (found (hex x.tree y.tree) (1 + max x.nest y.nest) (y.next + 1))
 unfolding hex_at
-hex_there s inner i x y there bytes count number close = rw (there, bytes, count, number, close) refl
+hex_there s inner i x y there bytes count number close = rw (there, bytes, number_there s inner (codes ")") x.next y count number close) refl
 
 array_there : (s : Source) (inner : Read) (i : ℕ) (x y z : Found) → argument_at s inner i ≡ Some x → has_bytes x.tree ≡ true → inner x.next ≡ Some y → is_number y.tree ≡ true → is_mark s y.next (codes ",") ≡ true
     → inner (y.next + 1) ≡ Some z → is_number z.tree ≡ true → is_mark s z.next (codes ")") ≡ true → array_at s inner i ≡ Some (found (array x.tree y.tree z.tree) (1 + max x.nest (max y.nest z.nest)) (z.next + 1))
 unfolding array_at
-array_there s inner i x y z there bytes count number comma size sizes close = rw (there, bytes, count, number, comma, size, sizes, close) refl
+array_there s inner i x y z there bytes count number comma size sizes close =
+    rw (there, bytes, number_there s inner (codes ",") x.next y count number comma, number_there s inner (codes ")") (y.next + 1) z size sizes close) refl
 
 row_ended : (s : Source) (read : Read) (l m i : ℕ) → 0 < m → op_at s l i ≡ None → row_at s read l m i ≡ Some (row no_operands 0 i)
 row_ended s read l m i some none = turn s read l m i some ∙ ap (row_step read (row_at s read l (m - 1)) i) none

@@ -12,7 +12,7 @@ use Rattle.fmt_expr.specs.Texts.{AreTexts, text_at}
 use Rattle.fmt_expr.specs.Types.{TypeName, closed_type}
 use Rattle.fmt_expr.specs.Fields.{is_indexed, named_at, dynamic_at}
 use Rattle.trace_base.specs.OptionSteps.{◌>>=◌}
-use Rattle.fmt_expr.specs.Parsing.{Found, found, Row, row, Read, Inner, nothing, layer, within, top, row_at, row_step, row_behind, joined, joined_with, with_operand, level_at, choice_at, cond_with, cond_at, unary_by, unary_with, call_by, Valued, Listed, listed, with_entry, entry_at, tail_at, entries_behind, entries_at, argument_at, flags_at, symbolic_at, hex_at, array_at, sized_at, got_at, constant_or, leaf_at, element_at, field_at, cast_at, open_by, open_at, bracket_at, prefixed_at}
+use Rattle.fmt_expr.specs.Parsing.{Found, found, Row, row, Read, Inner, nothing, layer, within, top, row_at, row_step, row_behind, joined, joined_with, with_operand, level_at, choice_at, cond_with, cond_at, unary_by, unary_with, call_by, Valued, Listed, listed, with_entry, entry_at, tail_at, entries_behind, entries_at, argument_at, flags_at, symbolic_at, hex_at, array_at, sized_at, got_at, constant_or, leaf_at, number_before, element_at, field_at, cast_at, open_by, open_at, bracket_at, prefixed_at}
 use Rattle.fmt_expr.specs.Derivation.{IsCond, plain, conditional, IsLevel, unary, single, several, IsRow, no_more, goes_on, IsUnary, prefixed, bracketed, casted, field, indexed, constant, texts, sized, got, flagged, symbolized, in_hex, in_array, IsEntry, braced, AreEntries, last, further}
 use Rattle.fmt_expr.specs.declared.expr.PrefixOp.{PrefixOp}
 use Rattle.fmt_expr.specs.declared.head.Got.{Got}
@@ -120,15 +120,26 @@ module _ (s : Source) (n : ℕ) (inner : Inner) (deeper : Deeper s n inner) wher
   open_sound i (Some type) y is there e = cast_sound i type y is there e
   open_sound i None y is there e = bracket_sound i y is e
 
+  -- a number with a mark behind it
+  abbrev Numbered : List ℕ → ℕ → Found → Type 0
+  Numbered mark i x = IsCond s i x.tree x.nest x.next × (kind_of x.tree ≡ Number) × (mark_at s x.next ≡ Some mark) × (x.nest < n)
+
+  number_sound : (mark : List ℕ) (i : ℕ) (y : Found) → number_before s inner.cond mark i ≡ Some y → Numbered mark i y
+  unfolding number_before
+  number_sound mark i y e =
+      let x = bind_some (inner.cond i) _ y e in
+      let number = guarded (is_number x.0.tree) _ y x.2 in
+      let behind = guarded (is_mark s x.0.next mark) _ y number.1 in
+      let d = deeper.cond_there i x.0 x.1 in
+      subst (Numbered mark i) (some_is _ y behind.1) (d.0, number_is x.0.tree number.0, mark_is s x.0.next mark behind.0, d.1)
+
   element_sound : (i : ℕ) (f : Field) (y : Found) → head_at s i ≡ Record → named_at s i ≡ Some f → mark_at s (i + 3) ≡ Some (codes "[") → element_at s inner.cond i f ≡ Some y → Unary s n i y
   unfolding element_at
   element_sound i f y is there open' e =
       let size = guarded (is_indexed f.kind f.element) _ y e in
-      let x = bind_some (inner.cond (i + 4)) _ y size.1 in
-      let number = guarded (is_number x.0.tree) _ y x.2 in
-      let close = guarded (is_mark s x.0.next (codes "]")) _ y number.1 in
-      let d = deeper.cond_there (i + 4) x.0 x.1 in
-      subst (Unary s n i) (some_is _ y close.1) (indexed is there open' size.0 d.0 (number_is x.0.tree number.0) (mark_is s x.0.next (codes "]") close.0), omega (arith, d.1))
+      let x = bind_some (number_before s inner.cond (codes "]") (i + 4)) _ y size.1 in
+      let d = number_sound (codes "]") (i + 4) x.0 x.1 in
+      subst (Unary s n i) (some_is _ y x.2) (indexed is there open' size.0 d.0 d.1 d.2, omega (arith, d.3))
 
   field_sound : (i : ℕ) (y : Found) → head_at s i ≡ Record → field_at s inner.cond i ≡ Some y → Unary s n i y
   unfolding field_at
@@ -166,15 +177,13 @@ module _ (s : Source) (n : ℕ) (inner : Inner) (deeper : Deeper s n inner) wher
   unfolding entry_at
   entry_sound i y e =
       let open' = guarded (is_mark s i (codes "{")) _ y e in
-      let x = bind_some (inner.cond (i + 1)) _ y open'.1 in
-      let number = guarded (is_number x.0.tree) _ y x.2 in
-      let comma = guarded (is_mark s x.0.next (codes ",")) _ y number.1 in
-      let text = bind_some (text_at s (x.0.next + 1)) _ y comma.1 in
+      let x = bind_some (number_before s inner.cond (codes ",") (i + 1)) _ y open'.1 in
+      let text = bind_some (text_at s (x.0.next + 1)) _ y x.2 in
       let close = guarded (is_mark s text.0.next (codes "}")) _ y text.2 in
-      let d = deeper.cond_there (i + 1) x.0 x.1 in
+      let d = number_sound (codes ",") (i + 1) x.0 x.1 in
       subst (λ (z : Valued). IsEntry s i z.value z.text z.nest z.next × (z.nest < n)) (some_is _ y close.1) (
-        braced (mark_is s i (codes "{") open'.0) d.0 (number_is x.0.tree number.0) (mark_is s x.0.next (codes ",") comma.0) (texts_stand s (x.0.next + 1) text.0 text.1) (mark_is s text.0.next (codes "}") close.0),
-        d.1,
+        braced (mark_is s i (codes "{") open'.0) d.0 d.1 d.2 (texts_stand s (x.0.next + 1) text.0 text.1) (mark_is s text.0.next (codes "}") close.0),
+        d.3,
       )
 
   tail_sound : (m i : ℕ) (r : Listed) → 0 < n → tail_at s inner.cond m i ≡ Some r → AreEntries s i r.entries r.nest r.next × (r.nest < n)
@@ -256,33 +265,24 @@ module _ (s : Source) (n : ℕ) (inner : Inner) (deeper : Deeper s n inner) wher
   hex_sound i y is e =
       let x = bind_some (argument_at s inner.cond i) _ y e in
       let bytes = guarded (has_bytes x.0.tree) _ y x.2 in
-      let c = bind_some (inner.cond x.0.next) _ y bytes.1 in
-      let number = guarded (is_number c.0.tree) _ y c.2 in
-      let close = guarded (is_mark s c.0.next (codes ")")) _ y number.1 in
+      let c = bind_some (number_before s inner.cond (codes ")") x.0.next) _ y bytes.1 in
       let a = argument_sound i x.0 x.1 in
-      let d = deeper.cond_there x.0.next c.0 c.1 in
+      let d = number_sound (codes ")") x.0.next c.0 c.1 in
       let count = subst (λ k. IsCond s k c.0.tree c.0.nest c.0.next) (sym a.4) d.0 in
-      subst (Unary s n i) (some_is _ y close.1) (in_hex is a.1 a.2 bytes.0 a.3 count (number_is c.0.tree number.0) (mark_is s c.0.next (codes ")") close.0), omega (arith, a.5, d.1))
+      subst (Unary s n i) (some_is _ y c.2) (in_hex is a.1 a.2 bytes.0 a.3 count d.1 d.2, omega (arith, a.5, d.3))
 
   array_sound : (i : ℕ) (y : Found) → head_at s i ≡ Called Array → array_at s inner.cond i ≡ Some y → Unary s n i y
   unfolding array_at
   array_sound i y is e =
       let x = bind_some (argument_at s inner.cond i) _ y e in
       let bytes = guarded (has_bytes x.0.tree) _ y x.2 in
-      let c = bind_some (inner.cond x.0.next) _ y bytes.1 in
-      let number = guarded (is_number c.0.tree) _ y c.2 in
-      let comma = guarded (is_mark s c.0.next (codes ",")) _ y number.1 in
-      let z = bind_some (inner.cond (c.0.next + 1)) _ y comma.1 in
-      let size = guarded (is_number z.0.tree) _ y z.2 in
-      let close = guarded (is_mark s z.0.next (codes ")")) _ y size.1 in
+      let c = bind_some (number_before s inner.cond (codes ",") x.0.next) _ y bytes.1 in
+      let z = bind_some (number_before s inner.cond (codes ")") (c.0.next + 1)) _ y c.2 in
       let a = argument_sound i x.0 x.1 in
-      let d = deeper.cond_there x.0.next c.0 c.1 in
-      let f = deeper.cond_there (c.0.next + 1) z.0 z.1 in
+      let d = number_sound (codes ",") x.0.next c.0 c.1 in
+      let f = number_sound (codes ")") (c.0.next + 1) z.0 z.1 in
       let count = subst (λ k. IsCond s k c.0.tree c.0.nest c.0.next) (sym a.4) d.0 in
-      subst (Unary s n i) (some_is _ y close.1) (
-        in_array is a.1 a.2 bytes.0 a.3 count (number_is c.0.tree number.0) (mark_is s c.0.next (codes ",") comma.0) f.0 (number_is z.0.tree size.0) (mark_is s z.0.next (codes ")") close.0),
-        omega (arith, a.5, d.1, f.1),
-      )
+      subst (Unary s n i) (some_is _ y z.2) (in_array is a.1 a.2 bytes.0 a.3 count d.1 d.2 f.0 f.1 f.2, omega (arith, a.5, d.3, f.3))
 
   call_sound : (i : ℕ) (y : Found) (call : Call) → head_at s i ≡ Called call → call_by s n inner i call ≡ Some y → Unary s n i y
   call_sound i y (Get get) is e = got_sound i get y is e

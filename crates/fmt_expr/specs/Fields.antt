@@ -1,7 +1,8 @@
 -- What stands for a field of a record.
-use Rattle.std.specs.Prelude.{ℕ, ◌+◌, Bool, false, ◌||◌, ◌==◌, Option, Some, codes}
+use Rattle.std.specs.Prelude.{ℕ, ◌+◌, Bool, false, Option, Some, codes}
 use Rattle.fmt_expr.specs.Tree.{Tree, field_number, field_text, field_bytes, len_of}
-use Rattle.fmt_expr.specs.Source.{Source, name_at, is_mark, field_named, is_dynamic}
+use Rattle.fmt_expr.specs.Source.{Source, name_at, is_mark, is_dynamic}
+use Rattle.trace_base.specs.Fields.{field_named, is_size}
 use Rattle.trace_base.specs.OptionSteps.{◌>>=◌}
 use Rattle.fmt_expr.specs.Steps.{◌>>◌}
 use Rattle.fmt_expr.specs.declared.head.Got.{Got}
@@ -26,22 +27,22 @@ got_tree f got.Length = len_of f
 abbrev pub is_indexed : FieldKind → ℕ → Bool
 is_indexed Number size = false
 is_indexed Pointer size = false
-is_indexed Text size = ((size == 1 || size == 2) || size == 4) || size == 8
-is_indexed Bytes size = ((size == 1 || size == 2) || size == 4) || size == 8
+is_indexed Text size = is_size size
+is_indexed Bytes size = is_size size
 
 -- the field that is named behind `REC` and `->`, which stand at a place
 unfoldable pub named_at : Source → ℕ → Option Field
 named_at s i = do
   is_mark s (i + 1) (codes "->")
   name ← name_at s (i + 2)
-  field_named s name
+  field_named name s.fields
 
 -- the dynamic field that is named in the brackets of a call, whose name stands at a place
 unfoldable pub dynamic_at : Source → ℕ → Option Field
 dynamic_at s i = do
   is_mark s (i + 1) (codes "(")
   name ← name_at s (i + 2)
-  f ← field_named s name
+  f ← field_named name s.fields
   is_dynamic f.place
   is_mark s (i + 3) (codes ")")
   Some f

@@ -23,21 +23,9 @@ kind_of (array bytes count size) = Text
 
 -- the text of a field, which casts leave as it is
 abbrev pub is_field_text : Tree → Bool
-is_field_text (number bits kind) = false
-is_field_text (literal text) = false
-is_field_text (field_number f) = false
 is_field_text (field_text f) = true
-is_field_text (field_bytes f) = false
-is_field_text (element f index) = false
-is_field_text (len_of f) = false
-is_field_text (prefix op t) = false
 is_field_text (cast to t) = is_field_text t
-is_field_text (chain t rest) = false
-is_field_text (choice test one other) = false
-is_field_text (flags t between es) = false
-is_field_text (symbolic t es) = false
-is_field_text (hex bytes count) = false
-is_field_text (array bytes count size) = false
+is_field_text t = false
 
 abbrev pub same_kind : Kind → Kind → Bool
 same_kind Number Number = true

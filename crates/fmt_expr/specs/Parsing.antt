@@ -91,13 +91,19 @@ cond_with s left or inner i = do
   test ← or i
   if is_mark s test.next (codes "?") then choice_at s left inner test else Some test
 
+-- a number with this mark behind it
+unfoldable pub number_before : Source → Read → List ℕ → Read
+number_before s inner mark i = do
+  x ← inner i
+  is_number x.tree
+  is_mark s x.next mark
+  Some x
+
 -- an element, from its square bracket on
 unfoldable pub element_at : Source → Read → ℕ → Field → Option Found
 element_at s inner i f = do
   is_indexed f.kind f.element
-  x ← inner (i + 4)
-  is_number x.tree
-  is_mark s x.next (codes "]")
+  x ← number_before s inner (codes "]") (i + 4)
   Some (found (element f x.tree) (1 + x.nest) (x.next + 1))
 
 unfoldable pub field_at : Source → Read → Read
@@ -144,9 +150,7 @@ listed entries nest next = record { entries = entries; nest = nest; next = next 
 unfoldable pub entry_at : Source → Read → ℕ → Option Valued
 entry_at s inner i = do
   is_mark s i (codes "{")
-  x ← inner (i + 1)
-  is_number x.tree
-  is_mark s x.next (codes ",")
+  x ← number_before s inner (codes ",") (i + 1)
   text ← text_at s (x.next + 1)
   is_mark s text.next (codes "}")
   Some (valued x.tree text.text x.nest (text.next + 1))
@@ -203,21 +207,15 @@ unfoldable pub hex_at : Source → Read → Read
 hex_at s inner i = do
   x ← argument_at s inner i
   has_bytes x.tree
-  y ← inner x.next
-  is_number y.tree
-  is_mark s y.next (codes ")")
+  y ← number_before s inner (codes ")") x.next
   Some (found (hex x.tree y.tree) (1 + max x.nest y.nest) (y.next + 1))
 
 unfoldable pub array_at : Source → Read → Read
 array_at s inner i = do
   x ← argument_at s inner i
   has_bytes x.tree
-  y ← inner x.next
-  is_number y.tree
-  is_mark s y.next (codes ",")
-  z ← inner (y.next + 1)
-  is_number z.tree
-  is_mark s z.next (codes ")")
+  y ← number_before s inner (codes ",") x.next
+  z ← number_before s inner (codes ")") (y.next + 1)
   Some (found (array x.tree y.tree z.tree) (1 + max x.nest (max y.nest z.nest)) (z.next + 1))
 
 unfoldable pub sized_at : Source → Read

@@ -1,5 +1,5 @@
 -- What trees are read from, and what stands at a place in it.
-use Rattle.std.specs.Prelude.{ℕ, Bool, true, false, List, Option, Some, None, option_map, option_and_then, slice_get, bytes_eq, find}
+use Rattle.std.specs.Prelude.{ℕ, Bool, true, false, List, Option, Some, None, option_map, option_and_then, slice_get, bytes_eq}
 use Rattle.fmt_lexer.specs.declared.token.Token.{Token}
 use Rattle.fmt_lexer.specs.declared.token.TokenKind.{TokenKind}
 use Rattle.fmt_lexer.specs.declared.token.TokenKind.TheVariants.{Name, Number, Letter, Text, Mark}
@@ -75,10 +75,6 @@ is_mark s i mark = is_text (mark_at s i) mark
 
 unfoldable pub is_name : Source → ℕ → List ℕ → Bool
 is_name s i name = is_text (name_at s i) name
-
--- the first field of the name
-unfoldable pub field_named : Source → List ℕ → Option Field
-field_named s name = find (λ f. bytes_eq f.name name) s.fields
 
 abbrev pub is_dynamic : FieldPlace → Bool
 is_dynamic Fixed = false

@@ -92,10 +92,7 @@ impl<'a> Reader<'a> {
         if !has_bytes(&bytes.expr) {
             return Err(Stop::NoTree);
         }
-        let count = self.inner_cond(left, bytes.next)?;
-        if !is_number(&count.expr) || !self.is_mark(count.next, b")") {
-            return Err(Stop::NoTree);
-        }
+        let count = self.number_before(left, bytes.next, b")")?;
         Ok(Taken {
             expr: in_hex(self.alloc, bytes.expr, count.expr)?,
             nest: 1 + bytes.nest.max(count.nest),
@@ -115,14 +112,8 @@ impl<'a> Reader<'a> {
         if !has_bytes(&bytes.expr) {
             return Err(Stop::NoTree);
         }
-        let count = self.inner_cond(left, bytes.next)?;
-        if !is_number(&count.expr) || !self.is_mark(count.next, b",") {
-            return Err(Stop::NoTree);
-        }
-        let size = self.inner_cond(left, count.next + 1)?;
-        if !is_number(&size.expr) || !self.is_mark(size.next, b")") {
-            return Err(Stop::NoTree);
-        }
+        let count = self.number_before(left, bytes.next, b",")?;
+        let size = self.number_before(left, count.next + 1, b")")?;
         Ok(Taken {
             expr: in_array(self.alloc, bytes.expr, count.expr, size.expr)?,
             nest: 1 + bytes.nest.max(count.nest.max(size.nest)),
@@ -141,10 +132,7 @@ impl<'a> Reader<'a> {
         if !self.is_mark(at, b"{") {
             return Err(Stop::NoTree);
         }
-        let value = self.inner_cond(left, at + 1)?;
-        if !is_number(&value.expr) || !self.is_mark(value.next, b",") {
-            return Err(Stop::NoTree);
-        }
+        let value = self.number_before(left, at + 1, b",")?;
         let text = self.text(value.next + 1)?;
         if !self.is_mark(text.next, b"}") {
             return Err(Stop::NoTree);

@@ -10,7 +10,7 @@ use crate::expr::Expr;
 use crate::head::Got;
 use crate::reader::Reader;
 use std::alloc::{AllocError, Global};
-use trace_base::{ByteText, Field, FieldKind, FieldPlace};
+use trace_base::{Field, FieldKind, FieldPlace, field_named};
 
 /// Whether a field of this kind has elements, by the size of one.
 pub fn is_indexed(kind: FieldKind, element: u32) -> bool
@@ -26,26 +26,11 @@ fn is_dynamic(place: FieldPlace) -> bool
     matches!(place, FieldPlace::DataLoc | FieldPlace::RelLoc)
 }
 
-/// A copy of a field.
-pub fn copy_field(alloc: Global, field: &Field) -> Result<Field, AllocError>
-    ensures { IfOk result (λ f. f ≡ field.now) }
-{
-    Ok(Field {
-        name: ByteText::copy(alloc, field.name.as_bytes())?,
-        offset: field.offset,
-        size: field.size,
-        signed: field.signed,
-        kind: field.kind,
-        place: field.place,
-        element: field.element,
-    })
-}
-
 /// The tree of a field.
 pub fn field_expr(alloc: Global, field: &Field) -> Result<Expr, AllocError>
     ensures { IfOk result (λ e. tree_of e ≡ field_tree field.now field.now.kind) }
 {
-    let field = copy_field(alloc, field)?;
+    let field = field.copy(alloc)?;
     Ok(match field.kind {
         FieldKind::Number | FieldKind::Pointer => Expr::FieldNumber { field },
         FieldKind::Text => Expr::FieldText { field },
@@ -57,7 +42,7 @@ pub fn field_expr(alloc: Global, field: &Field) -> Result<Expr, AllocError>
 pub fn got_expr(alloc: Global, field: &Field, got: Got) -> Result<Expr, AllocError>
     ensures { IfOk result (λ e. tree_of e ≡ got_tree field.now got) }
 {
-    let field = copy_field(alloc, field)?;
+    let field = field.copy(alloc)?;
     Ok(match got {
         Got::Text => Expr::FieldText { field },
         Got::Bytes => Expr::FieldBytes { field },
@@ -77,7 +62,7 @@ impl<'a> Reader<'a> {
             return None;
         }
         let name = self.name(at + 2)?;
-        self.field_named(name)
+        field_named(name, self.fields)
     }
 
     /// The dynamic field that is named in the brackets of a call, whose name stands at a place.
@@ -91,7 +76,7 @@ impl<'a> Reader<'a> {
             return None;
         }
         let name = self.name(at + 2)?;
-        let field = self.field_named(name)?;
+        let field = field_named(name, self.fields)?;
         if !is_dynamic(field.place) || !self.is_mark(at + 3, b")") {
             return None;
         }

@@ -1,13 +1,13 @@
 //! The productions, each from a place to the tree that stands there.
 
 ghost use Rattle.std.specs.Prelude.{◌≡◌, ◌+◌, ◌<◌, ◌≤◌, ◌-◌, length, IfOk};
-ghost use Rattle.fmt_expr.specs.Parsing.{row_behind, level_at, choice_at, bracket_at, prefixed_at, field_at, element_at, cast_at, open_at, call_by, unary_at, cond_at, inner_of, inner_unary, inner_cond};
+ghost use Rattle.fmt_expr.specs.Parsing.{row_behind, level_at, choice_at, bracket_at, prefixed_at, field_at, number_before, element_at, cast_at, open_at, call_by, unary_at, cond_at, inner_of, inner_unary, inner_cond};
 ghost use Rattle.fmt_expr.specs.Steps.{Gives};
 ghost use Rattle.fmt_expr.specs.SourceView.{source};
 ghost use Rattle.fmt_expr.specs.TakenView.{taken, type_seen};
 
 use crate::expr::{Operand, PrefixOp};
-use crate::fields::{copy_field, field_expr, is_indexed};
+use crate::fields::{field_expr, is_indexed};
 use crate::head::{Call, Head};
 use crate::judge::{is_alike, is_number};
 use crate::make::{casted, chained, chosen, indexed, prefixed};
@@ -48,6 +48,21 @@ impl<'a> Reader<'a> {
             return Err(Stop::NoTree);
         }
         self.cond(left - 1, at)
+    }
+
+    /// A number one level deeper, with this mark behind it: the place that is told is that of the mark.
+    #[cycle(parser)]
+    #[tactic(auto, unfolding(crate::specs::Parsing::number_before))]
+    pub fn number_before(&self, left: u32, at: usize, mark: &[u8]) -> Result<Taken, Stop>
+        requires { at ≤ length self.now.tokens.now }
+        ensures value { Gives taken result (number_before (source self.now) (inner_cond (source self.now) left) mark.now at) }
+        ensures bound { IfOk result (λ t. (at < t.next) × (t.next < length self.now.tokens.now) × (t.nest < left)) }
+    {
+        let number = self.inner_cond(left, at)?;
+        if !is_number(&number.expr) || !self.is_mark(number.next, mark) {
+            return Err(Stop::NoTree);
+        }
+        Ok(number)
     }
 
     /// What stands without a binary operator, one level deeper.
@@ -258,11 +273,8 @@ impl<'a> Reader<'a> {
         if !is_indexed(field.kind, field.element) {
             return Err(Stop::NoTree);
         }
-        let index = self.inner_cond(left, at + 4)?;
-        if !is_number(&index.expr) || !self.is_mark(index.next, b"]") {
-            return Err(Stop::NoTree);
-        }
-        let field = copy_field(self.alloc, field)?;
+        let index = self.number_before(left, at + 4, b"]")?;
+        let field = field.copy(self.alloc)?;
         Ok(Taken {
             expr: indexed(self.alloc, field, index.expr)?,
             nest: 1 + index.nest,

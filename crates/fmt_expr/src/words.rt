@@ -3,13 +3,12 @@
 ghost use Rattle.std.specs.Prelude.{◌≡◌, ◌<◌, ◌≤◌, length, option_map, IfSome, IsTrue};
 ghost use Rattle.fmt_literal.specs.Quoted.{text_of};
 ghost use Rattle.fmt_literal.specs.Views.{numeral_view};
-ghost use Rattle.fmt_expr.specs.Source.{mark_at, name_at, literal_at, constant_at, is_mark, field_named};
+ghost use Rattle.fmt_expr.specs.Source.{mark_at, name_at, literal_at, constant_at, is_mark};
 ghost use Rattle.fmt_expr.specs.SourceView.{source};
 
 use crate::reader::Reader;
 use fmt_lexer::TokenKind;
 use fmt_literal::{CKind, Numeral, letter, number};
-use trace_base::Field;
 
 impl<'a> Reader<'a> {
     /// The mark at a place.
@@ -79,15 +78,5 @@ impl<'a> Reader<'a> {
             Some(bytes) => bytes == mark,
             None => false,
         }
-    }
-
-    /// The first field of a name.
-    #[tactic(auto, unfolding(crate::specs::Source::field_named))]
-    pub fn field_named(&self, name: &[u8]) -> Option<&'a Field>
-        ensures { option_map (λ f. f.now) result ≡ field_named (source self.now) name.now }
-    {
-        self.fields
-            .iter()
-            .find(|field| field.name.as_bytes() == name)
     }
 }

@@ -7,21 +7,21 @@ use Rattle.fmt_expr.specs.Tree.{Tree, Operands, no_operands, operand}
 use Rattle.fmt_eval.specs.Numbers.{Number, number, is_true}
 use Rattle.fmt_eval.specs.NumView.{exact_bits}
 use Rattle.fmt_eval.specs.Operators.{applied, prefixed, cast}
-use Rattle.fmt_eval.specs.Values.{Given, number_of, folded, chosen}
+use Rattle.fmt_eval.specs.Values.{RecData, number_of, folded, chosen}
 use Rattle.fmt_fold.specs.Same.{Meaning, meaning_of, IsSame}
 use Rattle.fmt_fold.specs.Constants.{is_written, all_written, is_fixed}
 use Rattle.fmt_fold.proofs.Parts.{numeric, cast_of, choice_of}
 use Rattle.fmt_fold.proofs.Written.{first, second}
 
-written_same : (t : Tree) → is_written t ≡ true → (g h : Given) → meaning_of g t ≡ meaning_of h t
+written_same : (t : Tree) → is_written t ≡ true → (g h : RecData) → meaning_of g t ≡ meaning_of h t
 written_same (tree.number bits kind) e g h = refl
 written_same t e g h = absurd (false≢true e)
 
-written_numeric : (t : Tree) → is_written t ≡ true → (g : Given) → numeric (number_of g t) ≡ meaning_of g t
+written_numeric : (t : Tree) → is_written t ≡ true → (g : RecData) → numeric (number_of g t) ≡ meaning_of g t
 written_numeric (tree.number bits kind) e g = refl
 written_numeric t e g = absurd (false≢true e)
 
-folded_fixed : (rest : Operands) → all_written rest ≡ true → (n : Number) (g h : Given) → folded g n rest ≡ folded h n rest
+folded_fixed : (rest : Operands) → all_written rest ≡ true → (n : Number) (g h : RecData) → folded g n rest ≡ folded h n rest
 folded_fixed no_operands e n g h = refl
 folded_fixed (operand op t rest) e n g h =
     ap (λ (m : Meaning). folded g (applied op n m.number) rest) (written_same t (first (is_written t) (all_written rest) e) g h)
@@ -32,7 +32,7 @@ both_numeric : (holds : Bool) (n : Number) → numeric n ≡ record { kind = (nu
 both_numeric true n = refl
 both_numeric false n = refl
 
-fixed_numeric : (t : Tree) → is_fixed t ≡ true → (g h : Given) → numeric (number_of g t) ≡ meaning_of h t
+fixed_numeric : (t : Tree) → is_fixed t ≡ true → (g h : RecData) → numeric (number_of g t) ≡ meaning_of h t
 fixed_numeric (tree.number bits kind) e g h = refl
 fixed_numeric (tree.prefix op t) e g h = ap (λ (m : Meaning). numeric (prefixed op m.number)) (written_same t e g h)
 fixed_numeric (tree.cast to t) e g h =
@@ -53,5 +53,5 @@ fixed_numeric (tree.choice test one other) e g h =
     ∙ ap (choice_of (meaning_of h test) (meaning_of h one)) (written_numeric other is_other h)
 fixed_numeric t e g h = absurd (false≢true e)
 
-pub fixed_same : (t : Tree) (bits : ℕ) (kind : CKind) (g : Given) → is_fixed t ≡ true → number kind (exact_bits kind bits) ≡ number_of g t → IsSame (tree.number bits kind) t
+pub fixed_same : (t : Tree) (bits : ℕ) (kind : CKind) (g : RecData) → is_fixed t ≡ true → number kind (exact_bits kind bits) ≡ number_of g t → IsSame (tree.number bits kind) t
 fixed_same t bits kind g fixed e = record { each = λ h. ap numeric e ∙ fixed_numeric t fixed g h }

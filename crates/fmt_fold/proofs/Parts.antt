@@ -13,7 +13,7 @@ use Rattle.fmt_expr.specs.declared.kinds.Kind.TheVariants as kinds
 use Rattle.fmt_literal.specs.declared.cast_to.CastTo.{CastTo}
 use Rattle.fmt_eval.specs.Numbers.{Number, pattern, is_true}
 use Rattle.fmt_eval.specs.Operators.{applied, prefixed, cast}
-use Rattle.fmt_eval.specs.Values.{Given, nothing, number_of, folded, chosen, element}
+use Rattle.fmt_eval.specs.Values.{RecData, nothing, number_of, folded, chosen, element}
 use Rattle.fmt_eval.specs.Flags.{Row, flags_text, symbol_text}
 use Rattle.fmt_eval.specs.Arrays.{hex_text, array_text}
 use Rattle.fmt_eval.specs.Entered.{rows_in, row_of}
@@ -65,7 +65,7 @@ abbrev steps : Number → List (BinaryOp × Number) → Number
 steps n [] = n
 steps n (s ∷ ss) = steps (applied s.0 n s.1) ss
 
-folded_steps : (g : Given) (n : Number) (os : List Operand) → folded g n (operands_of os) ≡ steps n (map (step_of g) os)
+folded_steps : (g : RecData) (n : Number) (os : List Operand) → folded g n (operands_of os) ≡ steps n (map (step_of g) os)
 folded_steps g n [] = refl
 folded_steps g n (o ∷ os) = folded_steps g (applied o.op n (number_of g (tree_of o.value))) os
 
@@ -92,11 +92,11 @@ same_choice t u a b c d h i j = record {
       ∙ ap (choice_of (meaning_of g u) (meaning_of g b)) (j.each g);
 }
 
-rows_are : (g : Given) (es : List Entry) → rows_of g (entries_of es) ≡ rows_in g es
+rows_are : (g : RecData) (es : List Entry) → rows_of g (entries_of es) ≡ rows_in g es
 rows_are g [] = refl
 rows_are g (e ∷ es) = ap (λ (rows : List Row). row_of g e ∷ rows) (rows_are g es)
 
-same_rows : (g : Given) (es fs : List Entry) → rows_in g es ≡ rows_in g fs → rows_of g (entries_of es) ≡ rows_of g (entries_of fs)
+same_rows : (g : RecData) (es fs : List Entry) → rows_in g es ≡ rows_in g fs → rows_of g (entries_of es) ≡ rows_of g (entries_of fs)
 same_rows g es fs k = rows_are g es ∙ k ∙ sym (rows_are g fs)
 
 pub same_flags : (t u : Tree) (between : List ℕ) (es fs : List Entry) → IsSame t u → SameEntries es fs → IsSame (tree.flags t between (entries_of es)) (tree.flags u between (entries_of fs))

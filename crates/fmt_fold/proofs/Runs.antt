@@ -6,7 +6,7 @@ use Rattle.c_operators.specs.declared.binary.BinaryOp.{BinaryOp}
 use Rattle.fmt_expr.specs.declared.expr.Operand.{Operand}
 use Rattle.fmt_expr.specs.declared.expr.Entry.{Entry}
 use Rattle.fmt_eval.specs.Numbers.{Number, pattern}
-use Rattle.fmt_eval.specs.Values.{Given, number_of}
+use Rattle.fmt_eval.specs.Values.{RecData, number_of}
 use Rattle.fmt_eval.specs.Flags.{Row}
 use Rattle.fmt_eval.specs.Entered.{row_of}
 use Rattle.fmt_fold.specs.Same.{Meaning, IsSame, step_of}
@@ -38,7 +38,7 @@ row mask text = (mask, text)
 
 -- operands
 pub record OperandsTo (os ps : List Operand) (i : ℕ) : Type 0 where
-  pub each : (g : Given) → map (step_of g) os ++ map (step_of g) (drop i ps) ≡ map (step_of g) ps
+  pub each : (g : RecData) → map (step_of g) os ++ map (step_of g) (drop i ps) ≡ map (step_of g) ps
   pub constant : all_constant (operands_of ps) ≡ true → all_constant (operands_of (drop i ps)) ≡ true
   pub written : all_constant (operands_of ps) ≡ true → all_written (operands_of os) ≡ true
   pub parts : EachOperand IsNoneLeft (operands_of os)
@@ -51,7 +51,7 @@ operands_none os ps e = record {
   parts = subst (λ (l : List Operand). EachOperand IsNoneLeft (operands_of l)) (sym e) tt;
 }
 
-same_step : (g : Given) (o p : Operand) → o.op ≡ p.op → IsSame (tree_of o.value) (tree_of p.value) → step_of g o ≡ step_of g p
+same_step : (g : RecData) (o p : Operand) → o.op ≡ p.op → IsSame (tree_of o.value) (tree_of p.value) → step_of g o ≡ step_of g p
 same_step g o p e h =
     ap (λ (op : BinaryOp). pair op (number_of g (tree_of o.value))) e ∙ ap (λ (m : Meaning). pair p.op m.number) (h.each g)
 
@@ -73,7 +73,7 @@ operands_all os ps i le k = record { same = record { each = λ g. all (step_of g
 
 -- entries
 pub record EntriesTo (es fs : List Entry) (i : ℕ) : Type 0 where
-  pub each : (g : Given) → map (row_of g) es ++ map (row_of g) (drop i fs) ≡ map (row_of g) fs
+  pub each : (g : RecData) → map (row_of g) es ++ map (row_of g) (drop i fs) ≡ map (row_of g) fs
   pub parts : EachEntry IsNoneLeft (entries_of es)
 
 pub entries_none : (es fs : List Entry) → es ≡ [] → EntriesTo es fs 0
@@ -82,7 +82,7 @@ entries_none es fs e = record {
   parts = subst (λ (l : List Entry). EachEntry IsNoneLeft (entries_of l)) (sym e) tt;
 }
 
-same_row : (g : Given) (e f : Entry) → e.text ≡ f.text → IsSame (tree_of e.value) (tree_of f.value) → row_of g e ≡ row_of g f
+same_row : (g : RecData) (e f : Entry) → e.text ≡ f.text → IsSame (tree_of e.value) (tree_of f.value) → row_of g e ≡ row_of g f
 same_row g e f s h =
     ap (λ (text : List ℕ). row (pattern (number_of g (tree_of e.value)).exact) text) s ∙ ap (λ (m : Meaning). row (pattern m.number.exact) f.text) (h.each g)
 

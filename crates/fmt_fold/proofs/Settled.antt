@@ -6,7 +6,7 @@ use Rattle.fmt_expr.specs.Tree as tree
 use Rattle.fmt_expr.specs.Tree.{Tree}
 use Rattle.fmt_eval.specs.Numbers.{number}
 use Rattle.fmt_eval.specs.NumView.{exact_bits}
-use Rattle.fmt_eval.specs.Values.{Given, number_of}
+use Rattle.fmt_eval.specs.Values.{RecData, number_of}
 use Rattle.fmt_fold.specs.Constants.{is_fixed}
 use Rattle.fmt_fold.specs.Folded.{IsSettled}
 use Rattle.fmt_fold.proofs.Parts.{same_refl}
@@ -19,7 +19,7 @@ settled_as_is t not = record {
   kept = λ _. refl;
 }
 
-pub settled_number : (t : Tree) (bits : ℕ) (kind : CKind) (g : Given) → is_fixed t ≡ true → number kind (exact_bits kind bits) ≡ number_of g t → IsSettled (tree.number bits kind) t
+pub settled_number : (t : Tree) (bits : ℕ) (kind : CKind) (g : RecData) → is_fixed t ≡ true → number kind (exact_bits kind bits) ≡ number_of g t → IsSettled (tree.number bits kind) t
 settled_number t bits kind g fixed e = record {
   same = fixed_same t bits kind g fixed e;
   written = λ _. refl;

@@ -64,7 +64,6 @@ fn folded_element(alloc: Global, field: &Field, index: &Expr) -> Result<Expr, Al
 }
 
 #[cycle(fold)]
-#[tactic(auto, using(crate::proofs::Folds::folded_prefix))]
 fn folded_prefix(alloc: Global, op: PrefixOp, of: &Expr) -> Result<Expr, AllocError>
     ensures { IfOk result (λ e. IsFolded (tree_of e) (prefix op (tree_of of.now))) }
 {
@@ -73,7 +72,6 @@ fn folded_prefix(alloc: Global, op: PrefixOp, of: &Expr) -> Result<Expr, AllocEr
 }
 
 #[cycle(fold)]
-#[tactic(auto, using(crate::proofs::Folds::folded_cast))]
 fn folded_cast(alloc: Global, to: CastTo, of: &Expr) -> Result<Expr, AllocError>
     ensures { IfOk result (λ e. IsFolded (tree_of e) (cast to (tree_of of.now))) }
 {

@@ -1,10 +1,9 @@
 //! Integers with flags, width and precision.
 
-ghost use Rattle.std.specs.Prelude.{◌≡◌, ◌++◌, ◌==◌, slice_index, if◌then◌else◌};
-ghost use Rattle.std.specs.Fmt.{digits, decimal};
+ghost use Rattle.std.specs.Prelude.{◌≡◌, ◌==◌, slice_index, if◌then◌else◌};
+ghost use Rattle.std.specs.Fmt.{digits};
 ghost use Rattle.trace_base.specs.Kept.{put};
 ghost use Rattle.trace_base.specs.TailView.{kept, lent};
-ghost use Rattle.fmt_forms.specs.Plain.{minus};
 ghost use Rattle.fmt_forms.specs.Integers.{shown, zeros, octal_zero, mark, sign, integer_text};
 
 use crate::form::Form;
@@ -95,21 +94,8 @@ fn sign(form: &Form, negative: bool) -> &'static [u8]
     }
 }
 
-/// Puts a decimal integer as it is.
-#[tactic(auto, using(trace_base::proofs::TailJoins::put_put))]
-fn put_decimal(negative: bool, magnitude: u64, into: &mut Tail<'_>)
-    ensures same_slice { lent into.new ≡ lent into.old }
-    ensures value { kept into.new ≡ put (kept into.old) (minus negative ++ decimal magnitude) }
-{
-    if negative {
-        into.put(b"-");
-    }
-    let mut digits = Buffer::new();
-    into.put(digits.format(magnitude).as_bytes());
-}
-
-/// Puts an integer in its width, with the marks and zeros that it asks for.
-fn put_formed(base: Base, form: &Form, negative: bool, magnitude: u64, into: &mut Tail<'_>)
+/// Puts an integer of this sign and magnitude in its width, with the marks and zeros that it asks for.
+pub fn put_integer(base: Base, form: &Form, negative: bool, magnitude: u64, into: &mut Tail<'_>)
     ensures same_slice { lent into.new ≡ lent into.old }
     ensures value { kept into.new ≡ put (kept into.old) (integer_text base form.now negative magnitude) }
 {
@@ -118,18 +104,4 @@ fn put_formed(base: Base, form: &Form, negative: bool, magnitude: u64, into: &mu
     let digits = digits_of(base, form.precision, magnitude, &mut decimal, &mut other);
     let mark = mark_of(base, form, negative, magnitude);
     put_laid(form, mark, zeros(base, form, digits), digits, into);
-}
-
-/// Puts an integer of this sign and magnitude. Most are decimal and shown as they are.
-#[tactic(auto, using(crate::proofs::PlainLemmas::plain_signed, crate::proofs::PlainLemmas::plain_unsigned))]
-pub fn put_integer(base: Base, form: &Form, negative: bool, magnitude: u64, into: &mut Tail<'_>)
-    ensures same_slice { lent into.new ≡ lent into.old }
-    ensures value { kept into.new ≡ put (kept into.old) (integer_text base form.now negative magnitude) }
-{
-    let bare = form.width == 0 && form.precision.is_none();
-    match base {
-        Base::Signed if bare && !form.plus && !form.space => put_decimal(negative, magnitude, into),
-        Base::Unsigned if bare => put_decimal(false, magnitude, into),
-        _ => put_formed(base, form, negative, magnitude, into),
-    }
 }

@@ -115,12 +115,3 @@ pub fn put_padded(left: bool, width: u32, one: &[u8], two: &[u8], three: &[u8], 
         put_spaced(pad, one, two, three, 0, into);
     }
 }
-
-/// Puts a text in its width, with spaces.
-#[tactic(auto, using(crate::proofs::LaidLemmas::padded_alone))]
-pub fn put_alone(left: bool, width: u32, text: &[u8], into: &mut Tail<'_>)
-    ensures same_slice { lent into.new ≡ lent into.old }
-    ensures value { kept into.new ≡ put (kept into.old) (padded left width text.now) }
-{
-    put_padded(left, width, text, b"", b"", into);
-}

@@ -8,5 +8,5 @@ mod repeat;
 
 pub use form::{Form, form_of};
 pub use integer::{put_integer, written};
-pub use layout::{put_alone, put_padded};
+pub use layout::put_padded;
 pub use repeat::{Fill, put_repeated};

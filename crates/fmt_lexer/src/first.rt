@@ -3,7 +3,7 @@
 ghost use Rattle.std.specs.Prelude.{◌≡◌};
 ghost use Rattle.fmt_lexer.specs.Reading.{kind_from, number_len, first_token};
 
-use crate::bytes::run_len;
+use crate::bytes::word_len;
 use crate::mark::mark_len;
 use crate::number::number_parts;
 use crate::quoted::{letter_len, text_len};
@@ -29,7 +29,7 @@ fn kind_from(byte: u8) -> TokenKind
 fn number_len(text: &[u8]) -> Option<usize>
     ensures { result ≡ number_len text.now }
 {
-    let len = run_len(text);
+    let len = word_len(text);
     number_parts(&text[..len])?;
     Some(len)
 }
@@ -41,7 +41,7 @@ pub fn first_token(text: &[u8]) -> Option<(TokenKind, usize)>
 {
     let kind = kind_from(*text.first()?);
     let len = match kind {
-        TokenKind::Name => run_len(text),
+        TokenKind::Name => word_len(text),
         TokenKind::Number => number_len(text)?,
         TokenKind::Letter => 1 + letter_len(&text[1..])?,
         TokenKind::Text => 1 + text_len(&text[1..])?,

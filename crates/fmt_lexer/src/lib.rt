@@ -14,6 +14,7 @@ mod number;
 mod quoted;
 mod token;
 
+pub use bytes::word_len;
 pub use lexer::tokens;
 pub use number::{Base, NumberParts, number_parts};
 pub use token::{Token, TokenKind};

@@ -1,14 +1,16 @@
 //! Numbers, as C11 6.4.4.1 spells them, without digits apart from their kind.
 
-ghost use Rattle.std.specs.Prelude.{◌≡◌, ◌+◌, ◌*◌, ◌^◌, ◌<◌, ◌≤◌, List, ℕ, take, drop, IsTrue, IfSome, IfNone};
+ghost use Rattle.std.specs.Prelude.{◌≡◌, ◌^◌, ◌<◌, ◌≤◌, List, ℕ, take, drop, IfSome, IfNone};
 ghost use Rattle.std.specs.List.{AllPass};
-ghost use Rattle.std.specs.Char.{is_digit, digit_value};
+ghost use Rattle.std.specs.Char.{is_digit};
 ghost use Rattle.std.specs.Str.Parse.{digits_value};
 ghost use Rattle.std.specs.Option.{option_map, SomeIff};
 ghost use Rattle.fmt_lexer.specs.declared.number.Base.{Base};
 ghost use Rattle.fmt_lexer.specs.Number.{radix_of, IsNumber};
 ghost use Rattle.fmt_lexer.specs.Reading.{split_prefix, digits_len, longs_of, is_suffix, parts_behind, number_parts};
 ghost use Rattle.fmt_lexer.specs.PartsView.{parts_view};
+
+use byte_classes::number_written;
 
 /// How a number's digits are read, which its prefix tells.
 #[derive(Clone, Copy, Debug, PartialEq, Eq)]
@@ -98,35 +100,12 @@ fn is_suffix(suffix: &[u8]) -> bool
     longs.len() <= 2 && longs.iter().all(|byte| matches!(byte, b'l' | b'L'))
 }
 
-/// What a digit counts, 0 to 15.
-fn digit_value(digit: u8, radix: u32) -> u32
-    requires is_one { IsTrue (is_digit digit radix) }
-    requires range { (2 ≤ radix) × (radix ≤ 16) }
-    ensures { result ≡ digit_value digit }
-{
-    char::from(digit).to_digit(radix).unwrap_or(0)
-}
-
-/// The number with one more digit behind it, where it fits 64 bits.
-fn with_digit(number: u64, radix: u32, digit: u32) -> Option<u64>
-    ensures { SomeIff result (number * radix + digit < 2 ^ 64) (number * radix + digit) }
-{
-    number
-        .checked_mul(u64::from(radix))?
-        .checked_add(u64::from(digit))
-}
-
 /// The number of 64 bits that digits write, if they write one.
 fn digits_value(base: Base, digits: &[u8]) -> Option<u64>
     requires { AllPass (λ b. is_digit b (radix_of base)) digits.now }
     ensures { SomeIff result (digits_value (radix_of base) digits.now < 2 ^ 64) (digits_value (radix_of base) digits.now) }
 {
-    let radix = base.radix();
-    let mut number = 0;
-    for byte in digits {
-        number = with_digit(number, radix, digit_value(*byte, radix))?;
-    }
-    Some(number)
+    number_written(base.radix(), digits)
 }
 
 /// The parts behind a prefix, where they are a number of 64 bits.

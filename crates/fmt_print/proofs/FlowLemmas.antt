@@ -2,25 +2,13 @@
 use Rattle.std.proofs.Common.{◌≡◌, ℕ, ◌+◌, ◌-◌, ◌^◌, ◌<◌, ◌≤◌, min, Bool, true, false, List, ◌++◌, length, take, replicate, Option, Some, None, sym, ap, ◌∙◌, arith, inl, inr}
 use Rattle.std.specs.List.{prefix_len}
 use Rattle.std.proofs.lemmas.Bool.{cases_lt}
-use Rattle.std.proofs.lemmas.List.{length-take, take-take, take_all, append-nil}
+use Rattle.std.proofs.lemmas.List.{length-take, take-take, take_all}
 use Rattle.std.proofs.Math.Seq.{take-append-add}
 use Rattle.trace_base.specs.Kept.{Kept, Held, most, is_letter, put, held_of, put_held}
-use Rattle.trace_base.proofs.TailJoins.{put_put, put_held_twice, held_put}
-use Rattle.fmt_eval.specs.Texts.{up_to_nul}
+use Rattle.trace_base.proofs.TailJoins.{put_held_twice, held_put}
+use Rattle.trace_base.specs.Kept.{until_nul}
 use Rattle.fmt_forms.specs.Texts.{cut_to, padded}
 use Rattle.fmt_print.specs.Strings.{limit_of}
-
-pub measured_left : (k mid later : Kept) (text : List ℕ) (width pad : ℕ) (left : Bool) → left ≡ true → width < 2 ^ 32 → pad ≡ width - min (length text) most → mid ≡ put k text → later ≡ put mid (replicate pad 32)
-    → later ≡ put k (padded left width text)
-unfolding padded
-measured_left k mid later text width pad left is small is_pad one two =
-    rw is (two ∙ ap (λ (m : Kept). put m (replicate pad 32)) one ∙ put_put k text (replicate pad 32) ∙ ap (λ (n : ℕ). put k (text ++ replicate n 32)) (omega (arith, is_pad)))
-
-pub measured_right : (k mid later : Kept) (text : List ℕ) (width pad : ℕ) (left : Bool) → left ≡ false → width < 2 ^ 32 → pad ≡ width - min (length text) most → mid ≡ put k (replicate pad 32) → later ≡ put mid text
-    → later ≡ put k (padded left width text)
-unfolding padded
-measured_right k mid later text width pad left is small is_pad one two =
-    rw is (two ∙ ap (λ (m : Kept). put m text) one ∙ put_put k (replicate pad 32) text ∙ ap (λ (n : ℕ). put k (replicate n 32 ++ text)) (omega (arith, is_pad)))
 
 pub flow_left : (h : Held) (mid later : Kept) (text : List ℕ) (width pad : ℕ) (left : Bool) → left ≡ true → width < 2 ^ 32 → pad ≡ width - min (length text) most → held_of mid ≡ put_held h text → later ≡ put mid (replicate pad 32)
     → held_of later ≡ put_held h (padded left width text)
@@ -35,14 +23,6 @@ unfolding padded
 flow_right k mid now text width pad left is small is_pad one two =
     rw is (two ∙ ap (λ (m : Kept). put_held (held_of m) text) one ∙ ap (λ (g : Held). put_held g text) (held_put k (replicate pad 32)) ∙ put_held_twice (held_of k) (replicate pad 32) text
     ∙ ap (λ (n : ℕ). put_held (held_of k) (replicate n 32 ++ text)) (omega (arith, is_pad)))
-
-no_width : (left : Bool) (text : List ℕ) → padded left 0 text ≡ text
-unfolding padded
-no_width true text = let e : 0 - length text ≡ 0 = omega arith in ap (λ (n : ℕ). text ++ replicate n 32) e ∙ append-nil text
-no_width false text = let e : 0 - length text ≡ 0 = omega arith in ap (λ (n : ℕ). replicate n 32 ++ text) e
-
-pub flow_alone : (h now : Held) (text : List ℕ) (left : Bool) (width : ℕ) → width ≡ 0 → now ≡ put_held h text → now ≡ put_held h (padded left width text)
-flow_alone h now text left width none is = is ∙ ap (put_held h) (sym (ap (λ n. padded left n text) none ∙ no_width left text))
 
 -- more than the greatest length is kept and told alike
 same_start : (room k : ℕ) (bytes text : List ℕ) → room ≤ length bytes + k → take room (bytes ++ take k text) ≡ take room (bytes ++ text)
@@ -68,6 +48,6 @@ shorter m n text = elim (cases_lt m n) as (λ _. take (min m n) text ≡ take m 
   | inr more ↦ ap (λ (k : ℕ). take k text) (omega arith) ∙ sym (take_all m (take n text) (omega (arith, length-take n text)))
 ]
 
-pub shown_held : (h : Held) (precision : Option ℕ) (text : List ℕ) → h.room ≤ most → put_held h (take (min (prefix_len is_letter text) (limit_of precision)) text) ≡ put_held h (cut_to precision (up_to_nul text))
+pub shown_held : (h : Held) (precision : Option ℕ) (text : List ℕ) → h.room ≤ most → put_held h (take (min (prefix_len is_letter text) (limit_of precision)) text) ≡ put_held h (cut_to precision (until_nul text))
 shown_held h None text small = alike h text (prefix_len is_letter text) small
 shown_held h (Some p) text small = ap (put_held h) (ap (λ (n : ℕ). take n text) (omega arith) ∙ shorter p (prefix_len is_letter text) text)

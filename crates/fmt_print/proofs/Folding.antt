@@ -4,17 +4,17 @@ use Rattle.std.proofs.lemmas.List.{append-nil, map-append, drop_more, drop_all}
 use Rattle.fmt_expr.specs.Tree.{Tree}
 use Rattle.fmt_expr.specs.TreeView.{tree_of}
 use Rattle.fmt_expr.specs.declared.expr.Expr.{Expr}
-use Rattle.fmt_eval.specs.Values.{Given}
+use Rattle.fmt_eval.specs.Values.{RecData}
 use Rattle.fmt_fold.specs.Same.{Meaning, meaning_of, IsSame, SameTrees}
 use Rattle.fmt_print.specs.ArgumentView.{argument_tree}
 use Rattle.fmt_print.specs.declared.argument.Argument.{Argument}
 
 -- what the trees are, of those that were made and of those that are left
-abbrev meanings : Given → List Argument → List Expr → List Meaning
+abbrev meanings : RecData → List Argument → List Expr → List Meaning
 meanings g made left = map (meaning_of g) (map argument_tree made) ++ map (meaning_of g) (map tree_of left)
 
 pub record ArgumentsTo (made : List Argument) (args : List Expr) (i : ℕ) : Type 0 where
-  pub each : (g : Given) → meanings g made (drop i args) ≡ map (meaning_of g) (map tree_of args)
+  pub each : (g : RecData) → meanings g made (drop i args) ≡ map (meaning_of g) (map tree_of args)
 
 pub arguments_none : (made : List Argument) (args : List Expr) → made ≡ [] → ArgumentsTo made args 0
 arguments_none made args e = record { each = λ g. ap (λ (l : List Argument). meanings g l args) e }

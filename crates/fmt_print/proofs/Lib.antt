@@ -2,10 +2,9 @@ pub mod FlowLemmas
 pub mod CutLemmas
 pub mod TextLemmas
 pub mod ArgumentLemmas
-pub mod PrintLemmas
 pub mod SameLemmas
-pub mod WaitLemmas
 pub mod StepLemmas
+pub mod Showing
+pub mod Contents
 pub mod Folding
-pub mod NulLemmas
 pub mod KnownLemmas

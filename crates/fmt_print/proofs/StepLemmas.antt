@@ -1,73 +1,25 @@
--- Plain conversions, and the steps of directives.
-use Rattle.std.proofs.Common.{◌≡◌, ℕ, ◌+◌, ◌-◌, ◌<◌, ◌≤◌, ◌^◌, Bool, true, false, List, [], ◌∷◌, ◌++◌, length, length-append, take, drop, replicate, get_or, Option, Some, None, refl, sym, ap, ◌∙◌, append_assoc, arith}
-use Rattle.std.specs.Prelude.{◌&&◌, IfSome, slice_range}
+-- The steps of directives.
+use Rattle.std.proofs.Common.{◌≡◌, ℕ, ◌+◌, ◌-◌, ◌<◌, ◌≤◌, List, [], ◌∷◌, ◌++◌, length, length-append, take, drop, replicate, get_or, Option, Some, None, refl, sym, ap, ◌∙◌, append_assoc, arith}
+use Rattle.std.specs.Prelude.{IfSome, slice_range}
 use Rattle.std.specs.List.{All, flat_map}
-use Rattle.std.specs.Fmt.{decimal}
-use Rattle.std.specs.Option.{option_map, option_to_list}
+use Rattle.std.specs.Option.{option_to_list}
 use Rattle.std.proofs.lemmas.List.{append-nil, drop_more, drop_all, flat_map_more, length-take, length-drop, take_all, drop-append-le, take-append-le}
 use Rattle.std.proofs.lemmas.List.Elements.{All-nil, All-cons, All-head, All-tail, All-same}
-use Rattle.trace_base.specs.Kept.{Held, put_held}
 use Rattle.trace_base.specs.declared.tail.Tail.{Tail}
-use Rattle.trace_base.proofs.TailJoins.{put_held_twice}
-use Rattle.symbols.specs.Maps.{Maps}
+use Rattle.waiting_text.specs.Gathered.{Gathered, gathered, joined}
+use Rattle.waiting_text.proofs.Gathering.{joined_twice, nothing_joined}
 use Rattle.fmt_directives.specs.Directives.{IsWithin}
 use Rattle.fmt_directives.specs.declared.directive.Directive.{Directive}
-use Rattle.fmt_directives.specs.declared.directive.Length.{Length}
-use Rattle.fmt_directives.specs.declared.directive.PointerForm.{PointerForm}
 use Rattle.fmt_expr.specs.Tree.{Tree}
-use Rattle.fmt_expr.specs.Kinds.{kind_of}
-use Rattle.fmt_expr.specs.declared.kinds.Kind.{Kind}
-use Rattle.fmt_expr.specs.declared.kinds.Kind.TheVariants.{Number, Text}
-use Rattle.fmt_eval.specs.Values.{Given}
-use Rattle.fmt_eval.specs.Texts.{up_to_nul, text_of}
-use Rattle.fmt_forms.specs.declared.form.Form.{Form}
+use Rattle.fmt_print.specs.declared.printer.Printer.{Printer}
 use Rattle.fmt_print.specs.declared.step.Literal.{Literal}
 use Rattle.fmt_print.specs.declared.step.Shown.{Shown}
 use Rattle.fmt_print.specs.declared.step.Step.{Step}
-use Rattle.fmt_forms.specs.Forms.{form_of}
-use Rattle.fmt_print.specs.Arguments.{Taken, first_of, taken, by}
-use Rattle.fmt_print.specs.Addresses.{number_address, address_by, address_text, pointer_text}
-use Rattle.fmt_forms.specs.Integers.{integer_text}
-use Rattle.fmt_forms.specs.Plain.{minus}
-use Rattle.fmt_print.specs.Printed.{is_signed, printed}
-use Rattle.fmt_print.specs.Strings.{address_of, string_by, string_text}
-use Rattle.fmt_print.specs.Steps.{plain_spec, plain_form, decimal_base, literal_directive, shown_directive, directives_of, IsPlaced, printed_some, printed_step, held_with}
-use Rattle.fmt_forms.proofs.PlainLemmas.{plain_signed, plain_unsigned, padded_bare}
-use Rattle.fmt_print.proofs.WaitLemmas.{held_with_nothing}
-
-pub signed_base : (signed : Bool) → is_signed (decimal_base signed) ≡ signed
-signed_base true = refl
-signed_base false = refl
-
-pub plain_decimal : (signed negative : Bool) (n : ℕ) → n < 2 ^ 64 → minus (signed && negative) ++ decimal n ≡ integer_text (decimal_base signed) plain_form negative n
-plain_decimal true negative n small = plain_signed plain_form negative n small refl refl refl refl
-plain_decimal false negative n small = plain_unsigned plain_form n small refl refl
-
-pub plain_text : (g : Given) (maps : Maps) (t : Tree) → kind_of t ≡ Text → up_to_nul (text_of g t) ≡ string_text g maps plain_form t
-plain_text g maps t is =
-    sym (ap (λ (k : Kind). string_by k g maps t) is) ∙ padded_bare false 0 (string_by (kind_of t) g maps t) refl
-
-pub plain_number_address : (pointer : PointerForm) (g : Given) (maps : Maps) (t : Tree) → kind_of t ≡ Number → number_address pointer (address_of g t) maps ≡ pointer_text pointer g maps plain_form t
-plain_number_address pointer g maps t is =
-    sym (ap (λ (k : Kind). address_by k pointer g maps t) is) ∙ padded_bare false 0 (address_text pointer g maps t) refl
-
--- what a plain conversion shows of the arguments
-abbrev pair : Tree → List Tree → Tree × List Tree
-pair t ts = (t, ts)
-
-abbrev shown : List ℕ → List Tree → List ℕ × List Tree
-shown text rest = (text, rest)
-
-abbrev plain_taken : Length → Tree × List Tree → Taken
-plain_taken len a = (form_of (plain_spec len) None None, a.0, a.1)
-
-pub shown_some : (f : Form → Tree → List ℕ) (g : Given) (len : Length) (ts us : List Tree) (t : Tree) → Some (pair t us) ≡ first_of ts → shown (f plain_form t) us ≡ by f (taken g (plain_spec len) ts)
-unfolding taken
-shown_some f g len ts us t is = ap (λ (o : Option (Tree × List Tree)). by f (option_map (plain_taken len) o)) is
-
-pub shown_none : (f : Form → Tree → List ℕ) (g : Given) (len : Length) (ts : List Tree) → None ≡ first_of ts → shown [] [] ≡ by f (taken g (plain_spec len) ts)
-unfolding taken
-shown_none f g len ts is = ap (λ (o : Option (Tree × List Tree)). by f (option_map (plain_taken len) o)) is
+use Rattle.fmt_print.specs.ArgumentView.{trees}
+use Rattle.fmt_print.specs.Printed.{Source, printed}
+use Rattle.fmt_print.specs.Shows.{source, Prints}
+use Rattle.fmt_print.specs.Steps.{literal_directive, literal_text, shown_directive, directives_of, IsPlaced, printed_some, printed_step}
+use Rattle.fmt_print.proofs.Showing.{from_is, left_is, so_far_is}
 
 -- steps that were made of the first of some directives
 abbrev made : Option Literal → Shown → Step
@@ -87,39 +39,40 @@ steps_all steps [] ds none before = sym (append-nil (flat_map directives_of step
 steps_all steps (d ∷ left) ds none before = absurd (omega arith)
 
 -- the texts of steps, one after another
-module _ (g : Given) (maps : Maps) (long : ℕ) (text : List ℕ) where
-  printed_behind : (o : Option Directive) (ds : List Directive) (args : List Tree)
-      → printed g maps long text (option_to_list o ++ ds) args ≡ (printed_some g maps long text o args).0 ++ printed g maps long text ds (printed_some g maps long text o args).1
-  printed_behind None ds args = refl
-  printed_behind (Some d) ds args = refl
+module _ (s : Source) where
+  literal_first : (l : Option Literal) (ds : List Directive) (args : List Tree) → printed s (option_to_list (literal_directive l) ++ ds) args ≡ literal_text s.text l ++ printed s ds args
+  literal_first None ds args = refl
+  literal_first (Some l) ds args = refl
 
-  printed_first : (s : Step) (ds : List Directive) (args : List Tree)
-      → printed g maps long text (directives_of s ++ ds) args ≡ (printed_step g maps long text s args).0 ++ printed g maps long text ds (printed_step g maps long text s args).1
-  printed_first s ds args =
-      let first = printed_some g maps long text (literal_directive s.literal) args in
-      let second = printed_some g maps long text (shown_directive s.shown) first.1 in
-      ap (λ (es : List Directive). printed g maps long text es args) (append_assoc (option_to_list (literal_directive s.literal)) (option_to_list (shown_directive s.shown)) ds)
-      ∙ printed_behind (literal_directive s.literal) (option_to_list (shown_directive s.shown) ++ ds) args
-      ∙ ap (λ (l : List ℕ). first.0 ++ l) (printed_behind (shown_directive s.shown) ds first.1)
-      ∙ sym (append_assoc first.0 second.0 (printed g maps long text ds second.1))
+  shown_first : (o : Option Directive) (ds : List Directive) (args : List Tree) → printed s (option_to_list o ++ ds) args ≡ (printed_some s o args).0 ++ printed s ds (printed_some s o args).1
+  shown_first None ds args = refl
+  shown_first (Some d) ds args = refl
 
-  pub added_more : (k now r : Held) (steps : List Step) (i : ℕ) (d : Step) (args rest : List Tree) → i < length steps
-      → now ≡ put_held k (printed_step g maps long text (get_or steps i d) args).0 → rest ≡ (printed_step g maps long text (get_or steps i d) args).1
-      → put_held k (printed g maps long text (flat_map directives_of (drop i steps)) args) ≡ r → put_held now (printed g maps long text (flat_map directives_of (drop (i + 1) steps)) rest) ≡ r
-  added_more k now r steps i d args rest lt is_now is_rest before =
-      let first = printed_step g maps long text (get_or steps i d) args in
+  step_first : (step : Step) (ds : List Directive) (args : List Tree) → printed s (directives_of step ++ ds) args ≡ (printed_step s step args).0 ++ printed s ds (printed_step s step args).1
+  step_first step ds args =
+      let behind = printed_some s (shown_directive step.shown) args in
+      ap (λ (es : List Directive). printed s es args) (append_assoc (option_to_list (literal_directive step.literal)) (option_to_list (shown_directive step.shown)) ds)
+      ∙ literal_first step.literal (option_to_list (shown_directive step.shown) ++ ds) args
+      ∙ ap (λ (l : List ℕ). literal_text s.text step.literal ++ l) (shown_first (shown_directive step.shown) ds args)
+      ∙ sym (append_assoc (literal_text s.text step.literal) behind.0 (printed s ds behind.1))
+
+  pub printed_more : (r : Gathered) (p q : Printer) (t u : Tail) (steps : List Step) (i : ℕ) (d : Step) → i < length steps → source p ≡ s → Prints p t q u (printed_step (source p) (get_or steps i d) (trees p.args.now))
+      → joined (gathered p.waiting t) (printed s (flat_map directives_of (drop i steps)) (trees p.args.now)) ≡ r → joined (gathered q.waiting u) (printed s (flat_map directives_of (drop (i + 1) steps)) (trees q.args.now)) ≡ r
+  printed_more r p q t u steps i d lt from prints before =
+      let one : Source → List ℕ × List Tree = λ x. printed_step x (get_or steps i d) (trees p.args.now) in
+      let so_far = gathered p.waiting t in
       let behind = flat_map directives_of (drop (i + 1) steps) in
-      ap (λ (h : Held). put_held h (printed g maps long text behind rest)) is_now
-      ∙ ap (λ (es : List Tree). put_held (put_held k first.0) (printed g maps long text behind es)) is_rest
-      ∙ put_held_twice k first.0 (printed g maps long text behind first.1)
-      ∙ ap (put_held k) (sym (printed_first (get_or steps i d) behind args))
-      ∙ ap (λ (es : List Step). put_held k (printed g maps long text (flat_map directives_of es) args)) (sym (drop_more steps i d lt))
+      ap (λ (g : Gathered). joined g (printed s behind (trees q.args.now))) (so_far_is p q t u (one (source p)).0 (one (source p)).1 prints)
+      ∙ ap (λ (l : List Tree). joined (joined so_far (one (source p)).0) (printed s behind l)) (left_is p q t u (one (source p)).0 (one (source p)).1 prints)
+      ∙ joined_twice so_far (one (source p)).0 (printed s behind (one (source p)).1)
+      ∙ ap (λ (x : Source). joined so_far ((one x).0 ++ printed s behind (one x).1)) from
+      ∙ ap (joined so_far) (sym (step_first (get_or steps i d) behind (trees p.args.now)))
+      ∙ ap (λ (es : List Step). joined so_far (printed s (flat_map directives_of es) (trees p.args.now))) (sym (drop_more steps i d lt))
       ∙ before
 
-  pub added_all : (t : Tail) (waiting : List ℕ) (r : Held) (steps : List Step) (i : ℕ) (args : List Tree) → length steps ≤ i
-      → put_held (held_with t waiting) (printed g maps long text (flat_map directives_of (drop i steps)) args) ≡ r → held_with t waiting ≡ r
-  added_all t waiting r steps i args le before =
-      held_with_nothing t waiting ∙ ap (λ (es : List Step). put_held (held_with t waiting) (printed g maps long text (flat_map directives_of es) args)) (sym (drop_all i steps le)) ∙ before
+  pub printed_all : (r : Gathered) (p : Printer) (t : Tail) (steps : List Step) (i : ℕ) → length steps ≤ i → joined (gathered p.waiting t) (printed s (flat_map directives_of (drop i steps)) (trees p.args.now)) ≡ r → gathered p.waiting t ≡ r
+  printed_all r p t steps i le before =
+      nothing_joined p.waiting t ∙ ap (λ (es : List Step). joined (gathered p.waiting t) (printed s (flat_map directives_of es) (trees p.args.now))) (sym (drop_all i steps le)) ∙ before
 
 -- what holds of each directive holds of those of each step
 both_of : (P : Directive → Type 0) (a b : Option Directive) (ds : List Directive) → All P ((option_to_list a ++ option_to_list b) ++ ds) → (IfSome a P × IfSome b P) × All P ds

@@ -6,7 +6,7 @@ use Rattle.std.specs.Option.{option_map}
 use Rattle.std.proofs.lemmas.Bool.{cases_Bool}
 use Rattle.std.proofs.lemmas.List.{take-take, take_all, append-nil}
 use Rattle.trace_base.specs.Kept.{is_letter}
-use Rattle.fmt_eval.specs.Texts.{up_to_nul}
+use Rattle.trace_base.specs.Kept.{until_nul}
 use Rattle.fmt_forms.specs.Texts.{cut_to}
 use Rattle.fmt_directives.specs.declared.directive.PointerForm.{PointerForm}
 use Rattle.fmt_directives.specs.declared.directive.PointerForm.TheVariants.{Plain, Name, NameOffset, Ip4, Mac}
@@ -29,8 +29,8 @@ letters (x ∷ xs) = elim (cases_Bool (is_letter x)) as (λ _. prefix_len is_let
 ]
 
 -- a text that was cut at its first NUL has none
-pub nul_once : (xs : List ℕ) → up_to_nul xs ≡ up_to_nul (up_to_nul xs)
-nul_once xs = sym (ap (λ n. take n (up_to_nul xs)) (letters xs) ∙ take-take (prefix_len is_letter xs) (prefix_len is_letter xs) xs (omega arith))
+pub nul_once : (xs : List ℕ) → until_nul xs ≡ until_nul (until_nul xs)
+nul_once xs = sym (ap (λ n. take n (until_nul xs)) (letters xs) ∙ take-take (prefix_len is_letter xs) (prefix_len is_letter xs) xs (omega arith))
 
 cut_one : (p : ℕ) (ds : List ℕ) → take p (48 ∷ 120 ∷ ds) ≡ take p (48 ∷ 120 ∷ []) ++ take (p - 2) ds
 cut_one zero ds = refl

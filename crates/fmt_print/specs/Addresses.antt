@@ -9,10 +9,11 @@ use Rattle.fmt_expr.specs.Tree.{Tree}
 use Rattle.fmt_expr.specs.Kinds.{kind_of}
 use Rattle.fmt_expr.specs.declared.kinds.Kind.{Kind}
 use Rattle.fmt_expr.specs.declared.kinds.Kind.TheVariants as kinds
-use Rattle.fmt_eval.specs.Values.{Given}
+use Rattle.fmt_eval.specs.Values.{RecData}
 use Rattle.fmt_eval.specs.Bytes.{bytes_of}
 use Rattle.fmt_eval.specs.Texts.{text_of}
-use Rattle.fmt_eval.specs.Pieces.{join, hexadecimal, two_digits}
+use Rattle.trace_base.specs.Digits.{two_digits}
+use Rattle.fmt_eval.specs.Pieces.{join, hexadecimal}
 use Rattle.fmt_forms.specs.declared.form.Form.{Form}
 use Rattle.fmt_forms.specs.Texts.{padded}
 use Rattle.fmt_print.specs.Strings.{address_of}
@@ -55,13 +56,13 @@ bytes_address Ip4 bytes = network_text true bytes
 bytes_address Mac bytes = network_text false bytes
 
 -- what is shown of an argument of a kind
-abbrev pub address_by : Kind → PointerForm → Given → Maps → Tree → List ℕ
+abbrev pub address_by : Kind → PointerForm → RecData → Maps → Tree → List ℕ
 address_by kinds.Number pointer g maps t = number_address pointer (address_of g t) maps
 address_by kinds.Text pointer g maps t = bytes_address pointer (text_of g t)
 address_by kinds.Bytes pointer g maps t = bytes_address pointer (bytes_of g t)
 
-abbrev pub address_text : PointerForm → Given → Maps → Tree → List ℕ
+abbrev pub address_text : PointerForm → RecData → Maps → Tree → List ℕ
 address_text pointer g maps t = address_by (kind_of t) pointer g maps t
 
-abbrev pub pointer_text : PointerForm → Given → Maps → Form → Tree → List ℕ
+abbrev pub pointer_text : PointerForm → RecData → Maps → Form → Tree → List ℕ
 pointer_text pointer g maps form t = padded form.left form.width (address_text pointer g maps t)

@@ -4,8 +4,9 @@ use Rattle.fmt_expr.specs.Kinds.{kind_of}
 use Rattle.fmt_expr.specs.Tree as tree
 use Rattle.fmt_expr.specs.Tree.{Tree}
 use Rattle.fmt_expr.specs.declared.kinds.Kind.TheVariants.{Text}
-use Rattle.fmt_eval.specs.Texts.{up_to_nul, text_of}
-use Rattle.fmt_eval.specs.Values.{Given}
+use Rattle.trace_base.specs.Kept.{until_nul}
+use Rattle.fmt_eval.specs.Texts.{text_of}
+use Rattle.fmt_eval.specs.Values.{RecData}
 use Rattle.fmt_print.specs.declared.argument.TextPlace.{TextPlace}
 
 -- the test of a choice; of any other tree the tree itself
@@ -16,4 +17,4 @@ test_in t = t
 -- over every record, the text of the tree is what stands at a place, up to its first NUL
 pub record StandsAt (t : Tree) (place : TextPlace) : Type 0 where
   pub kind : kind_of t ≡ Text
-  pub each : (g : Given) → text_of g t ≡ up_to_nul (take place.len (drop place.at g.payload))
+  pub each : (g : RecData) → text_of g t ≡ until_nul (take place.len (drop place.at g.payload))

@@ -8,3 +8,6 @@ pub mod PlanView
 pub mod ArgumentView
 pub mod Views
 pub mod Steps
+pub mod Flows
+pub mod Contents
+pub mod Shows

@@ -4,13 +4,12 @@ use Rattle.fmt_directives.specs.declared.directive.Base.{Base}
 use Rattle.fmt_directives.specs.declared.directive.Base.TheVariants.{Signed, Unsigned, Hex, UpperHex, Octal}
 use Rattle.fmt_directives.specs.declared.directive.Length.{Length}
 use Rattle.fmt_directives.specs.declared.directive.Length.TheVariants as len
-use Rattle.fmt_directives.specs.declared.directive.Spec.{Spec}
 use Rattle.fmt_directives.specs.declared.directive.Directive.{Directive}
 use Rattle.fmt_directives.specs.declared.directive.Directive.TheVariants as directive
 use Rattle.symbols.specs.Maps.{Maps}
 use Rattle.fmt_expr.specs.Tree.{Tree}
 use Rattle.fmt_eval.specs.Operators.{cast_bits}
-use Rattle.fmt_eval.specs.Values.{Given, number_of}
+use Rattle.fmt_eval.specs.Values.{RecData, number_of}
 use Rattle.fmt_forms.specs.declared.form.Form.{Form}
 use Rattle.fmt_forms.specs.Integers.{integer_text}
 use Rattle.fmt_print.specs.Strings.{letter_text, string_text}
@@ -42,23 +41,33 @@ is_signed UpperHex = false
 is_signed Octal = false
 
 -- a number modulo the width of its length
-abbrev pub number_text : Given → ℕ → Spec → Base → Form → Tree → List ℕ
-number_text g long spec base form t =
-    let z = (cast_bits (bits_of spec.length long) (is_signed base) (number_of g t).exact).exact in
+abbrev pub number_text : RecData → ℕ → Length → Base → Form → Tree → List ℕ
+number_text g long size base form t =
+    let z = (cast_bits (bits_of size long) (is_signed base) (number_of g t).exact).exact in
     integer_text base form (int_lt z (pos 0)) (unsigned_abs z)
 
+-- what is printed from: a record, the maps of symbols, the kernel's long size in bytes and the format text
+pub record Source : Type 0 where
+  pub given : RecData
+  pub maps : Maps
+  pub long : ℕ
+  pub text : List ℕ
+
 -- the text of one directive, and the arguments behind it
-abbrev pub printed_one : Given → Maps → ℕ → List ℕ → Directive → List Tree → List ℕ × List Tree
-printed_one g maps long text (directive.Literal start end) args = (slice_range text start end, args)
-printed_one g maps long text (directive.Number spec base) args = by (number_text g long spec base) (taken g spec args)
-printed_one g maps long text (directive.Letter spec) args = by (letter_text g) (taken g spec args)
-printed_one g maps long text (directive.Text spec) args = by (string_text g maps) (taken g spec args)
-printed_one g maps long text (directive.Pointer spec pointer) args = by (pointer_text pointer g maps) (taken g spec args)
+abbrev pub printed_one : Source → Directive → List Tree → List ℕ × List Tree
+printed_one s (directive.Literal start end) args = (slice_range s.text start end, args)
+printed_one s (directive.Number spec base) args = by (number_text s.given s.long spec.length base) (taken s.given spec args)
+printed_one s (directive.Letter spec) args = by (letter_text s.given) (taken s.given spec args)
+printed_one s (directive.Text spec) args = by (string_text s.given s.maps) (taken s.given spec args)
+printed_one s (directive.Pointer spec pointer) args = by (pointer_text pointer s.given s.maps) (taken s.given spec args)
 
 -- the texts of directives, one after another
-abbrev pub printed : Given → Maps → ℕ → List ℕ → List Directive → List Tree → List ℕ
-printed g maps long text [] args = []
-printed g maps long text (d ∷ ds) args = let one = printed_one g maps long text d args in one.0 ++ printed g maps long text ds one.1
+abbrev pub printed : Source → List Directive → List Tree → List ℕ
+printed s [] args = []
+printed s (d ∷ ds) args = let one = printed_one s d args in one.0 ++ printed s ds one.1
 
-unfoldable pub print_text : Plan → Given → Maps → List ℕ
-print_text plan g maps = printed g maps plan.long plan.text plan.directives plan.args
+abbrev pub source_of : Plan → RecData → Maps → Source
+source_of plan g maps = record { given = g; maps = maps; long = plan.long; text = plan.text }
+
+unfoldable pub print_text : Plan → RecData → Maps → List ℕ
+print_text plan g maps = printed (source_of plan g maps) plan.directives plan.args

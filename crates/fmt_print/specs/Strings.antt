@@ -10,27 +10,28 @@ use Rattle.fmt_expr.specs.Kinds.{kind_of}
 use Rattle.fmt_expr.specs.declared.kinds.Kind.{Kind}
 use Rattle.fmt_expr.specs.declared.kinds.Kind.TheVariants.{Number, Text, Bytes}
 use Rattle.fmt_eval.specs.Numbers.{pattern}
-use Rattle.fmt_eval.specs.Values.{Given, number_of}
+use Rattle.fmt_eval.specs.Values.{RecData, number_of}
 use Rattle.fmt_eval.specs.Bytes.{bytes_of}
 use Rattle.fmt_eval.specs.Pieces.{hexadecimal}
-use Rattle.fmt_eval.specs.Texts.{up_to_nul, text_of}
+use Rattle.trace_base.specs.Kept.{until_nul}
+use Rattle.fmt_eval.specs.Texts.{text_of}
 use Rattle.fmt_forms.specs.declared.form.Form.{Form}
 use Rattle.fmt_forms.specs.Texts.{padded, cut_to}
 
 -- the 64 bits of a number; 0 of a text or bytes
-abbrev pub address_of : Given → Tree → ℕ
+abbrev pub address_of : RecData → Tree → ℕ
 address_of g t = pattern (number_of g t).exact
 
-abbrev pub letter_text : Given → Form → Tree → List ℕ
+abbrev pub letter_text : RecData → Form → Tree → List ℕ
 letter_text g form t = padded form.left form.width (address_of g t % 2 ^ 8 ∷ [])
 
 -- what `s` shows of an argument of a kind
-abbrev pub string_by : Kind → Given → Maps → Tree → List ℕ
+abbrev pub string_by : Kind → RecData → Maps → Tree → List ℕ
 string_by Number g maps t = unwrap_or (first_at (address_of g t) maps.printk) (hexadecimal (address_of g t))
-string_by Text g maps t = up_to_nul (text_of g t)
-string_by Bytes g maps t = up_to_nul (bytes_of g t)
+string_by Text g maps t = until_nul (text_of g t)
+string_by Bytes g maps t = until_nul (bytes_of g t)
 
-abbrev pub string_text : Given → Maps → Form → Tree → List ℕ
+abbrev pub string_text : RecData → Maps → Form → Tree → List ℕ
 string_text g maps form t = padded form.left form.width (cut_to form.precision (string_by (kind_of t) g maps t))
 
 -- no precision is above every length that is told

@@ -6,12 +6,12 @@ ghost use Rattle.fmt_expr.specs.Kinds.{kind_of};
 ghost use Rattle.fmt_expr.specs.Tree as tree;
 ghost use Rattle.fmt_expr.specs.TreeView.{tree_of};
 ghost use Rattle.fmt_eval.specs.Reads.{ReadsAs, TestsAs};
-ghost use Rattle.fmt_eval.specs.Texts.{up_to_nul, text_of};
+ghost use Rattle.trace_base.specs.Kept.{until_nul};
+ghost use Rattle.fmt_eval.specs.Texts.{text_of};
 ghost use Rattle.fmt_eval.specs.Values.{given, number_of};
 ghost use Rattle.fmt_print.specs.Known.{test_in, StandsAt};
 
-use crate::string::source_of;
-use fmt_eval::{Num, Read, Test, number_read, read_of, test_holds, test_of};
+use fmt_eval::{Num, Read, Test, holds, number_read, read_of, test_holds, test_of};
 use fmt_expr::{Expr, Kind, kind};
 use trace_base::{Field, FieldPlace, Rec};
 
@@ -69,6 +69,23 @@ fn text_place(tree: &Expr) -> Option<TextPlace>
     match tree {
         Expr::FieldText { field } => field_place(field),
         _ => None,
+    }
+}
+
+/// The tree that gives the text of a tree: that behind a cast, and of a choice the arm that is taken.
+fn source_of<'a>(expr: &'a Expr, rec: &Rec<'_>) -> &'a Expr
+    ensures { text_of (given rec.now) (tree_of result.now) ≡ text_of (given rec.now) (tree_of expr.now) }
+{
+    match expr {
+        Expr::Cast { of, .. } => source_of(of, rec),
+        Expr::Choice { test, yes, no } => {
+            if holds(test, rec) {
+                source_of(yes, rec)
+            } else {
+                source_of(no, rec)
+            }
+        }
+        _ => expr,
     }
 }
 
@@ -137,7 +154,7 @@ impl Argument {
     #[inline(always)]
     #[tactic(auto, using(crate::proofs::KnownLemmas::stands_text))]
     pub fn placed_text<'a>(&self, rec: &Rec<'a>) -> Option<&'a [u8]>
-        ensures value { IfSome result (λ text. up_to_nul text.now ≡ up_to_nul (text_of (given rec.now) (argument_tree self.now))) }
+        ensures value { IfSome result (λ text. until_nul text.now ≡ until_nul (text_of (given rec.now) (argument_tree self.now))) }
         ensures kind { IfSome result (λ _. kind_of (argument_tree self.now) ≡ kinds.Text) }
     {
         let place = self.place?;

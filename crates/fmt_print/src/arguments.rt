@@ -13,7 +13,7 @@ use fmt_forms::{Form, form_of};
 use trace_base::Rec;
 
 /// The form of a conversion, its argument, and the arguments behind it.
-#[derive(Drop)]
+#[derive(Clone, Copy)]
 pub struct Conversion<'a> {
     pub form: Form,
     pub argument: &'a Argument,

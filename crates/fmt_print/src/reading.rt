@@ -2,6 +2,7 @@
 
 ghost use Rattle.std.specs.Prelude.{◌≡◌, ◌++◌, IfOk, IfSome, IfNone, map, replicate};
 ghost use Rattle.std.specs.Option.{option_map};
+ghost use Rattle.fmt_expr.specs.FmtView.{fmt_of};
 ghost use Rattle.fmt_expr.specs.TreeView.{tree_of};
 ghost use Rattle.fmt_fold.specs.Same.{SameTrees};
 ghost use Rattle.fmt_print.specs.ArgumentView.{argument_tree};
@@ -45,9 +46,9 @@ fn folded_arguments(alloc: Global, args: &[Expr]) -> Result<Vec<Argument>, Alloc
 /// Want of memory alone.
 #[tactic(auto, unfolding(crate::specs::Plan::plan_of))]
 pub fn compile(alloc: Global, fmt: PrintFmt) -> Result<Option<PrintPlan>, AllocError>
-    ensures found { IfOk result (λ plan. IfSome plan (λ p. IsPlanOf fmt (plan_view p))) }
+    ensures found { IfOk result (λ plan. IfSome plan (λ p. IsPlanOf (fmt_of fmt) (plan_view p))) }
     ensures none { IfOk result (λ plan. IfNone plan (IsUnread fmt.text)) }
-    ensures exact { IfOk result (λ plan. option_map plan_view plan ≡ plan_of fmt) }
+    ensures exact { IfOk result (λ plan. option_map plan_view plan ≡ plan_of (fmt_of fmt)) }
 {
     let PrintFmt { text, args, long } = fmt;
     if text.as_bytes().len() > u32::MAX as usize {

@@ -21,8 +21,10 @@ pub struct Literal {
 pub enum Shown {
     /// Nothing.
     Nothing,
-    /// A plain decimal number.
-    Decimal { length: Length, signed: bool },
+    /// A plain decimal number with a sign.
+    Signed { length: Length },
+    /// A plain decimal number without a sign.
+    Unsigned { length: Length },
     /// A plain text.
     Text,
     /// A plain address.
@@ -36,6 +38,23 @@ pub enum Shown {
 pub struct Step {
     pub literal: Option<Literal>,
     pub shown: Shown,
+}
+
+/// A conversion without a flag, a width and a precision.
+#[inline(always)]
+pub fn plain_spec(length: Length) -> Spec
+    ensures { result ≡ plain_spec length }
+{
+    Spec {
+        left: false,
+        zero: false,
+        plus: false,
+        space: false,
+        alternate: false,
+        width: Amount::Absent,
+        precision: Amount::Absent,
+        length,
+    }
 }
 
 fn is_plain(spec: Spec) -> bool
@@ -59,16 +78,14 @@ fn shown_of(directive: Directive) -> Shown
         Directive::Number {
             spec,
             base: Base::Signed,
-        } if is_plain(spec) => Shown::Decimal {
+        } if is_plain(spec) => Shown::Signed {
             length: spec.length,
-            signed: true,
         },
         Directive::Number {
             spec,
             base: Base::Unsigned,
-        } if is_plain(spec) => Shown::Decimal {
+        } if is_plain(spec) => Shown::Unsigned {
             length: spec.length,
-            signed: false,
         },
         Directive::Text { spec } if is_usual(spec) => Shown::Text,
         Directive::Pointer { spec, form } if is_usual(spec) => Shown::Pointer { form },

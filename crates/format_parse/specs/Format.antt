@@ -1,5 +1,5 @@
 -- What a format text says of an event.
-use Rattle.std.specs.Prelude.{ℕ, ◌==◌, Bool, if◌then◌else◌, List, [], ◌∷◌, ◌++◌, map, codes, Option, Some, None}
+use Rattle.std.specs.Prelude.{ℕ, if◌then◌else◌, List, [], ◌∷◌, map, codes, Option, Some, None}
 use Rattle.std.specs.List.{cons_option, join_with_byte}
 use Rattle.trace_base.specs.OptionSteps.{◌>>=◌}
 use Rattle.trace_base.specs.FieldLine.{FieldData, is_identifier, decimal}

@@ -1,9 +1,9 @@
 // What a format text says of an event.
 
-ghost use Rattle.std.specs.Prelude.{drop, is_some, ◌≡◌, ◌++◌, map, IfOk, OnOk, [], codes};
+ghost use Rattle.std.specs.Prelude.{◌≡◌, ◌++◌, map, IfOk, OnOk, []};
 ghost use Rattle.std.specs.List.{cons_option};
 ghost use Rattle.std.specs.Option.{option_map};
-ghost use Rattle.trace_base.specs.FieldReading.{after_word, field_line};
+ghost use Rattle.trace_base.specs.FieldReading.{field_line};
 ghost use Rattle.text_lines.specs.Lines.{lines_of};
 ghost use Rattle.format_parse.specs.FieldKinds.{field_of};
 ghost use Rattle.format_parse.specs.Format.{field_data, print_text, format_of, name_in, id_in};
@@ -74,26 +74,8 @@ fn put_field(alloc: Global, line: &[u8], fields: &mut Vec<Field>) -> Result<(), 
     Ok(())
 }
 
-fn begins_print(line: &[u8]) -> bool
-    ensures { result ≡ is_some (after_word (codes "print fmt:") line.now) }
-{
-    after_word(b"print fmt:", line).is_some()
-}
-
-/// What stands behind so many bytes.
-#[tactic(auto, using(std::proofs::lemmas::List::drop_all))]
-fn behind_first(count: usize, text: &[u8]) -> &[u8]
-    ensures { result.now ≡ drop count text.now }
-{
-    if count <= text.len() {
-        &text[count..]
-    } else {
-        &[]
-    }
-}
-
 /// The fields before the print fmt, and the print fmt.
-#[tactic(auto, using(crate::proofs::Formats::print_here, crate::proofs::Formats::fields_end, crate::proofs::Formats::all_fields))]
+#[tactic(auto, using(crate::proofs::Formats::all_fields))]
 fn read_fields(alloc: Global, text: &[u8]) -> Result<(Vec<Field>, &[u8]), AllocError>
     ensures fields { IfOk result (λ r. r.0.items ≡ map field_of (field_data (lines_of text.now))) }
     ensures print { IfOk result (λ r. r.1.now ≡ print_text (lines_of text.now)) }
@@ -101,10 +83,10 @@ fn read_fields(alloc: Global, text: &[u8]) -> Result<(Vec<Field>, &[u8]), AllocE
     let mut fields = Vec::new(alloc);
     let mut left = Some(text);
     while let Some(lines) = left {
-        let (line, behind) = first_line(lines);
-        if begins_print(line) {
-            return Ok((fields, behind_first(10, lines)));
+        if let Some(print) = after_word(b"print fmt:", lines) {
+            return Ok((fields, print));
         }
+        let (line, behind) = first_line(lines);
         put_field(alloc, line, &mut fields)?;
         left = behind;
     }

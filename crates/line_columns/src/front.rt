@@ -3,16 +3,17 @@
 ghost use Rattle.std.specs.Prelude.{◌≡◌, ◌∷◌, ◌++◌, [], ◌+◌, ◌-◌, ◌^◌, ◌<◌, ◌≤◌, length, max, replicate, codes, FitsSigned};
 ghost use Rattle.std.specs.Int.{w32};
 ghost use Rattle.std.specs.Fmt.{decimal, signed_decimal};
-ghost use Rattle.line_columns.specs.Columns.{left, right, zeros, micros, time_text};
+ghost use Rattle.line_columns.specs.Columns.{left, right, zeros, time_text, bare_time_text, duration_text};
 ghost use Rattle.line_columns.specs.Marks as spec;
 
 use crate::marks::latency_marks;
 use crate::widths::{
-    BEFORE_PID, BEFORE_PLACE, BEFORE_TASK, BEFORE_TIME, DIGITS, LONGEST_PID, LONGEST_PLACE,
-    LONGEST_TASK, LONGEST_TIME, PID, ROOM, USUAL_LABEL,
+    BEFORE_PID, BEFORE_PLACE, BEFORE_TASK, BEFORE_TIME, DIGITS, LONGEST_DURATION, LONGEST_PID,
+    LONGEST_PLACE, LONGEST_TASK, LONGEST_TIME, PID, ROOM, USUAL_LABEL,
 };
 use itoa::{Buffer, write_digits};
 use std::marker::Model;
+use trace_base::micros;
 
 /// A text that grows at its front, in a room of spaces. Contracts see the text.
 #[derive(Drop)]
@@ -167,6 +168,35 @@ impl Front {
         }
     }
 
+    /// Puts seconds and their part in front, without leading spaces.
+    #[tactic(auto, unfolding(crate::specs::Columns::bare_time_text))]
+    pub fn bare_time(&mut self, full: bool, time: u64)
+        requires { length self.old ≤ BEFORE_TIME }
+        ensures longer { length self.new ≤ length self.old + LONGEST_TIME }
+        ensures value { self.new ≡ bare_time_text full time ++ self.old }
+    {
+        if full {
+            self.zeros(b'.', 9, 1_000_000_000, time % 1_000_000_000);
+            self.digits(time / 1_000_000_000);
+        } else {
+            let micros = micros(time);
+            self.zeros(b'.', 6, 1_000_000, micros % 1_000_000);
+            self.digits(micros / 1_000_000);
+        }
+    }
+
+    /// Puts so many nanoseconds in front, as microseconds with three digits behind the point.
+    #[tactic(auto, unfolding(crate::specs::Columns::duration_text))]
+    pub fn duration(&mut self, nanos: u64)
+        requires { length self.old ≤ BEFORE_TIME }
+        ensures longer { length self.new ≤ length self.old + LONGEST_DURATION }
+        ensures value { self.new ≡ duration_text nanos ++ self.old }
+    {
+        self.text(b" us");
+        self.zeros(b'.', 3, 1000, nanos % 1000);
+        self.digits(nanos / 1000);
+    }
+
     /// Puts one digit in front.
     fn digit(&mut self, digit: u32)
         requires room { length self.old < ROOM }
@@ -268,10 +298,4 @@ impl Front {
         self.fill(self.len() + 5usize.saturating_sub(digits.len()));
         self.text(digits);
     }
-}
-
-fn micros(time: u64) -> u64
-    ensures { result ≡ micros time }
-{
-    time / 1000 + (time % 1000 + 500) / 1000
 }

@@ -12,6 +12,9 @@ const COLON: usize = 2;
 /// The longest time: seconds, a point, and their part.
 pub(crate) const LONGEST_TIME: usize = DIGITS + 1 + DIGITS;
 
+/// The longest duration: microseconds, a point, their part, and the unit.
+pub(crate) const LONGEST_DURATION: usize = LONGEST_TIME + 3;
+
 /// The four latency characters, or as many bytes round the processor without them.
 const MARKS: usize = 4;
 

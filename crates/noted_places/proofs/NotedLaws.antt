@@ -32,17 +32,27 @@ last (n ∷ ns) places place (suc i) count less later =
     last ns (set places (n % 1024) place) (place + 1) i (length-set places (n % 1024) place ∙ count) (omega (arith, less)) (λ j behind within. later (suc j) (omega (arith, behind)) (omega (arith, within)))
     ∙ omega arith
 
-first_place : (remainder : ℕ) → slice_index (replicate 1024 0) remainder ≡ 0
-first_place remainder = elim (cases_lt remainder 1024) as (λ _. slice_index (replicate 1024 0) remainder ≡ 0) [
-  | inl inside ↦ get_or-replicate 1024 remainder 0 0 inside
-  | inr past ↦ get_or_past (replicate 1024 0) remainder 0 (omega (arith, past, length-replicate {A = ℕ} 1024 0))
+first_place : (size remainder : ℕ) → slice_index (replicate size 0) remainder ≡ 0
+first_place size remainder = elim (cases_lt remainder size) as (λ _. slice_index (replicate size 0) remainder ≡ 0) [
+  | inl inside ↦ get_or-replicate size remainder 0 0 inside
+  | inr past ↦ get_or_past (replicate size 0) remainder 0 (omega (arith, past, length-replicate {A = ℕ} size 0))
 ]
 
+-- over any places, which are not computed here
+count_in : (ns places : List ℕ) → length places ≡ 1024 → length (noted_from 0 places ns) ≡ 1024
+count_in ns places count = long ns places 0 ∙ count
+
+last_in : (ns places : List ℕ) (i : ℕ) → length places ≡ 1024 → i < length ns → IsLast ns i → slice_index (noted_from 0 places ns) (slice_index ns i % 1024) ≡ i
+last_in ns places i count less later = last ns places 0 i count less later ∙ omega arith
+
+none_in : (ns places : List ℕ) (remainder : ℕ) → HasNone ns remainder → slice_index places remainder ≡ 0 → slice_index (noted_from 0 places ns) remainder ≡ 0
+none_in ns places remainder none zero_there = kept ns places 0 remainder none ∙ zero_there
+
 pub noted_count : (ns : List ℕ) → length (noted ns) ≡ 1024
-noted_count ns = long ns (replicate 1024 0) 0 ∙ length-replicate {A = ℕ} 1024 0
+noted_count ns = count_in ns (replicate 1024 0) (length-replicate {A = ℕ} 1024 0)
 
 pub noted_last : (ns : List ℕ) (i : ℕ) → i < length ns → IsLast ns i → slice_index (noted ns) (slice_index ns i % 1024) ≡ i
-noted_last ns i less later = last ns (replicate 1024 0) 0 i (length-replicate {A = ℕ} 1024 0) less later ∙ omega arith
+noted_last ns i less later = last_in ns (replicate 1024 0) i (length-replicate {A = ℕ} 1024 0) less later
 
 pub noted_none : (ns : List ℕ) (remainder : ℕ) → HasNone ns remainder → slice_index (noted ns) remainder ≡ 0
-noted_none ns remainder none = kept ns (replicate 1024 0) 0 remainder none ∙ first_place remainder
+noted_none ns remainder none = none_in ns (replicate 1024 0) remainder none (first_place 1024 remainder)

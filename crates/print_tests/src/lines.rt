@@ -51,6 +51,7 @@ fn plain(alloc: Global) -> Result<Show, AllocError> {
         order: Order::Little,
         long: 8,
         full: false,
+        diff: false,
         latency: false,
         raw: false,
         no_hard: false,
@@ -93,7 +94,7 @@ fn built(
 fn shows(rt: &impl Abort, context: &Context, item: &Item<'_>, expected: &[u8]) {
     let mut room = [0; 256];
     let mut into = Tail::new(&mut room);
-    let len = line(context, 1, item, &mut into);
+    let (len, _) = line(context, 1, item, &mut into);
     assert_eq!(rt; into.kept(), expected);
     assert_eq!(rt; len as usize, expected.len());
     assert_eq!(rt; selected(context, 1, item), !expected.is_empty());
@@ -230,7 +231,7 @@ fn lettered(alloc: Global, letters: usize, last: &str) -> Result<Vec<u8>, AllocE
 fn has_length(rt: &impl Abort, context: &Context, payload: &[u8], len: u32) {
     let item = Item::Event { time: 0, payload };
     let mut room = [0; 64];
-    assert_eq!(rt; line(context, 1, &item, &mut Tail::new(&mut room)), len);
+    assert_eq!(rt; line(context, 1, &item, &mut Tail::new(&mut room)).0, len);
 }
 
 /// The line has this length and end in a room that holds all of it.
@@ -238,7 +239,7 @@ fn has_end(rt: &impl Abort, context: &Context, payload: &[u8], len: u32, end: &s
     let item = Item::Event { time: 0, payload };
     let mut room = [0; 65_600];
     let mut into = Tail::new(&mut room);
-    assert_eq!(rt; line(context, 1, &item, &mut into), len);
+    assert_eq!(rt; line(context, 1, &item, &mut into).0, len);
     let kept = into.kept();
     assert!(rt; kept.ends_with(b"\n"));
     assert!(rt; kept[..kept.len().saturating_sub(1)].ends_with(end.as_bytes()));
@@ -329,7 +330,7 @@ fn is_chosen(rt: &impl Abort, context: &Context, payload: &[u8], expected: bool)
     let event = Item::Event { time: 0, payload };
     let mut room = [0; 256];
     assert_eq!(rt; selected(context, 1, &event), expected);
-    let len = line(context, 1, &event, &mut Tail::new(&mut room));
+    let (len, _) = line(context, 1, &event, &mut Tail::new(&mut room));
     assert_eq!(rt; len > 0, expected);
 }
 
@@ -397,6 +398,66 @@ fn many_formats_are_known(rt: HostRuntime) -> Result<(), Fail> {
     let context = context_of(alloc, many_formats(alloc)?)?;
     for row in FIRST_AND_LAST.lines() {
         show_event(&rt, alloc, &context, 0, row)?;
+    }
+    Ok(())
+}
+
+/// A context in which the task 42 has a name of so many letters, and differences are asked for.
+fn named(alloc: Global, letters: u32) -> Result<Context, AllocError> {
+    let mut names = Vec::from_slice(alloc, b"42 ")?;
+    for _ in 0..letters {
+        names.push(b'n')?;
+    }
+    names.push(b'\n')?;
+    let symbols = Symbols::read(alloc, b"", b"", &names)?;
+    let show = Show {
+        diff: true,
+        ..plain(alloc)?
+    };
+    built(
+        alloc,
+        FormatTable::new(alloc),
+        symbols,
+        Vec::new(alloc),
+        show,
+    )
+}
+
+fn has_hole(
+    rt: &impl Abort,
+    alloc: Global,
+    letters: u32,
+    expected: Option<u32>,
+) -> Result<(), AllocError> {
+    let context = named(alloc, letters)?;
+    let item = Item::Event {
+        time: 7,
+        payload: b"\x09\0\0\0\x2a\0\0\0",
+    };
+    let mut room = [0; 64];
+    let (_, hole) = line(&context, 1, &item, &mut Tail::new(&mut room));
+    assert_eq!(rt; hole, expected.map(|place| (place, 7)));
+    Ok(())
+}
+
+/// How many letters the task's name has, and where the hole stands: 25 bytes behind the name, unless it would stand in what was
+/// cut off. The text of a name of 65,492 letters has 65,536 bytes, so that it is not cut.
+const HOLES: &[(u32, Option<u32>)] = &[
+    (1, Some(41)),
+    (16, Some(41)),
+    (17, Some(42)),
+    (41, Some(66)),
+    (65_400, Some(65_425)),
+    (65_492, Some(65_517)),
+    (65_508, Some(65_533)),
+    (65_509, None),
+    (65_600, None),
+];
+
+#[test]
+fn a_hole_stands_behind_the_time(rt: HostRuntime) -> Result<(), Fail> {
+    for (letters, expected) in HOLES {
+        has_hole(&rt, rt.alloc(), *letters, *expected)?;
     }
     Ok(())
 }

@@ -1,12 +1,14 @@
 // The lists of events.
 
 ghost use Rattle.std.specs.Prelude.{◌≡◌, ◌∷◌, []};
+ghost use Rattle.std.specs.List.{concat};
 ghost use Rattle.std.specs.Option.{option_copied};
 ghost use Rattle.trace_outside.specs.Causes.{HasCause};
 ghost use Rattle.trace_outside.specs.Pending.{Puts};
 ghost use Rattle.report_lists.specs.Lists as spec;
 
 use format_parse::{EventFormat, FormatTable};
+use text_lines::line_end;
 use trace_outside::{Failed, Pending, Sink};
 
 /// Puts the events of a file, one `SYSTEM/NAME` a line, in the order of their formats (trace-cmd-report(1), `-E`).
@@ -90,19 +92,9 @@ fn put_pair<'a, O: Sink>(
     text: &'a [u8],
     end: &'a [u8],
 ) -> Result<(), Failed>
-    ensures puts { Puts (spec.text (text.now ∷ end.now ∷ [])) (O.written out.old) pending.old (O.written out.new) pending.new result }
+    ensures puts { Puts (concat (text.now ∷ end.now ∷ [])) (O.written out.old) pending.old (O.written out.new) pending.new result }
     ensures name { O.name out.new ≡ O.name out.old }
     ensures cause { HasCause (O.faults out.old) (O.faults out.new) result }
 {
     pending.put_parts(out, &[text, end])
-}
-
-/// What ends a stored text: a newline, where it is not empty and does not end in one.
-fn line_end(text: &[u8]) -> &'static [u8]
-    ensures { result.now ≡ spec.line_end text.now }
-{
-    match text.last() {
-        None | Some(b'\n') => b"",
-        Some(_) => b"\n",
-    }
 }

@@ -8,6 +8,7 @@ ghost use Rattle.subpage.specs.ItemView.{item_view};
 ghost use Rattle.std.specs.Option.{option_map};
 ghost use Rattle.fmt_print.specs.PlanView.{plan_view};
 ghost use Rattle.report_print.specs.Line as spec;
+ghost use Rattle.report_print.specs.Line.{IsTimeEnd};
 
 use crate::context::Context;
 use crate::fields::{put_fields, put_pair, put_unread};
@@ -25,26 +26,31 @@ use trace_base::{Rec, Tail};
 /// How long most fronts are.
 const USUAL_FRONT: usize = USUAL_COLUMNS + USUAL_LABEL;
 
-/// Puts the text of an item.
-pub(crate) fn put_item(context: &Context, cpu: u32, item: &Item<'_>, into: &mut Tail<'_>)
+/// Puts the text of an item. Gives where an event's time ends.
+pub(crate) fn put_item(context: &Context, cpu: u32, item: &Item<'_>, into: &mut Tail<'_>) -> usize
     ensures same_slice { lent into.new ≡ lent into.old }
     ensures value { held into.new ≡ put_held (held into.old) (spec.item_text context.now cpu (item_view item.now)) }
+    ensures until { IsTimeEnd context.now cpu (item_view item.now) result }
 {
     match item {
         Item::Event { time, payload } => put_event(context, cpu, *time, payload, into),
-        Item::Loss { time: _, count } => put_loss(cpu, *count, into),
+        Item::Loss { time: _, count } => {
+            put_loss(cpu, *count, into);
+            0
+        }
     }
 }
 
 #[tactic(auto, unfolding(crate::specs::Line::event_text), using(trace_base::proofs::TailJoins::put_held_twice, crate::proofs::FrontLemmas::known_text, crate::proofs::FrontLemmas::unknown_is))]
-fn put_event(context: &Context, cpu: u32, time: u64, payload: &[u8], into: &mut Tail<'_>)
+fn put_event(context: &Context, cpu: u32, time: u64, payload: &[u8], into: &mut Tail<'_>) -> usize
     ensures same_slice { lent into.new ≡ lent into.old }
     ensures value { held into.new ≡ put_held (held into.old) (spec.event_text context.now cpu time payload.now) }
+    ensures until { result ≡ spec.time_end context.now cpu time payload.now }
 {
     let id = context.id(payload);
     match context.known(id) {
         Some(known) => {
-            put_start(
+            let until = put_start(
                 context,
                 cpu,
                 time,
@@ -53,15 +59,17 @@ fn put_event(context: &Context, cpu: u32, time: u64, payload: &[u8], into: &mut 
                 into,
             );
             put_body(context, &known, payload, into);
+            until
         }
         None => {
-            put_front(context, cpu, time, payload, b"", into);
+            let until = put_front(context, cpu, time, payload, b"", into);
             put_unknown(id, into);
+            until
         }
     }
 }
 
-/// Puts the columns before the event's name, and the name in its column.
+/// Puts the columns before the event's name, and the name in its column. Gives where the time ends.
 #[tactic(auto, using(trace_base::proofs::TailJoins::put_held_twice))]
 fn put_start(
     context: &Context,
@@ -70,19 +78,21 @@ fn put_start(
     payload: &[u8],
     label: &[u8],
     into: &mut Tail<'_>,
-)
+) -> usize
     ensures same_slice { lent into.new ≡ lent into.old }
     ensures value { held into.new ≡ put_held (put_held (held into.old) (spec.front_text context.now cpu time payload.now)) label.now }
+    ensures until { result ≡ spec.time_end context.now cpu time payload.now }
 {
     if label.len() <= LONGEST_BEHIND {
-        put_front(context, cpu, time, payload, label, into);
+        put_front(context, cpu, time, payload, label, into)
     } else {
-        put_front(context, cpu, time, payload, b"", into);
+        let until = put_front(context, cpu, time, payload, b"", into);
         into.put(label);
+        until
     }
 }
 
-/// Puts the columns before the event's name, and a short text behind them.
+/// Puts the columns before the event's name, and a short text behind them. Gives where the time ends.
 #[tactic(auto, unfolding(crate::specs::Line::front_text), using(crate::proofs::FrontLemmas::wide_task, crate::proofs::FrontLemmas::behind_front, trace_base::proofs::TailJoins::put_held_twice))]
 fn put_front(
     context: &Context,
@@ -91,10 +101,11 @@ fn put_front(
     payload: &[u8],
     behind: &[u8],
     into: &mut Tail<'_>,
-)
+) -> usize
     requires short { length behind.now ≤ LONGEST_BEHIND }
     ensures same_slice { lent into.new ≡ lent into.old }
     ensures value { held into.new ≡ put_held (put_held (held into.old) (spec.front_text context.now cpu time payload.now)) behind.now }
+    ensures until { result ≡ spec.time_end context.now cpu time payload.now }
 {
     let pid = context.pid(payload);
     let name = context.symbols().comm_of(pid);
@@ -102,11 +113,15 @@ fn put_front(
     front.start(behind);
     put_columns(context, cpu, time, pid, payload, &mut front);
     let width = task_width(context.show());
+    // Behind the time stand a colon and a space, and the short text.
+    let more = behind.len() + 2;
     if name.len() <= LONGEST_TASK {
         front.task(width, name);
         put_known_length(front.as_bytes(), into);
+        front.len() - more
     } else {
         put_pair(name, front.as_bytes(), into);
+        name.len() + (front.len() - more)
     }
 }
 
@@ -130,7 +145,7 @@ fn put_piece(piece: &[u8], into: &mut Tail<'_>)
     into.put(piece);
 }
 
-fn task_width(show: &Show) -> usize
+pub(crate) fn task_width(show: &Show) -> usize
     ensures value { result ≡ spec.task_width show.now }
     ensures narrow { result ≤ 16 }
 {
@@ -206,8 +221,9 @@ fn put_unknown(id: u32, into: &mut Tail<'_>)
     put_three(b"[UNKNOWN EVENT ", digits.format(id).as_bytes(), b"]", into);
 }
 
+/// Puts the text of a loss of this processor, with the number of events that were lost where it is known.
 #[tactic(auto, unfolding(crate::specs::Line::loss_text))]
-fn put_loss(cpu: u32, count: Option<u64>, into: &mut Tail<'_>)
+pub fn put_loss(cpu: u32, count: Option<u64>, into: &mut Tail<'_>)
     ensures same_slice { lent into.new ≡ lent into.old }
     ensures value { held into.new ≡ put_held (held into.old) (spec.loss_text cpu count) }
 {

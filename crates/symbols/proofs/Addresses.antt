@@ -1,7 +1,7 @@
 -- Hexadecimal digits at the front of a text.
-use Rattle.std.proofs.Common.{◌≡◌, ℕ, ◌+◌, ◌-◌, ◌*◌, ◌%◌, ◌^◌, ◌<◌, ◌≤◌, Bool, true, false, ltb, leb, ◌&&◌, List, [], ◌∷◌, Some, length, take, drop, get_or, refl, sym, ap, subst, ◌∙◌, arith}
+use Rattle.std.proofs.Common.{◌≡◌, ℕ, ◌+◌, ◌-◌, ◌*◌, ◌%◌, ◌^◌, ◌<◌, ◌≤◌, true, ltb, leb, List, [], ◌∷◌, Some, length, take, drop, get_or, refl, sym, ap, subst, ◌∙◌, arith}
 use Rattle.std.proofs.lemmas.Bool.{ltb-true, le-ltb, lt-ltb, le-leb}
-use Rattle.std.proofs.lemmas.List.{length-take, take-append-drop, take_all, at_drop_more, at_drop_all}
+use Rattle.std.proofs.lemmas.List.{length-take, take-append-drop, at_drop_more, at_drop_all}
 use Rattle.std.proofs.lemmas.List.Folds.{list_all_more}
 use Rattle.std.proofs.lemmas.Int.Digits.{digits_value-lt, digits_value_more}
 use Rattle.std.proofs.Math.Nat.{pow-le-pow_right}
@@ -9,7 +9,7 @@ use Rattle.std.specs.List.{list_all, prefix_len}
 use Rattle.std.specs.Char.{digit_value, is_digit}
 use Rattle.std.specs.Str.Parse.{AllDigits, digits_value}
 use Rattle.trace_base.proofs.FieldSteps.{both}
-use Rattle.trace_base.proofs.FieldRuns.{BeginsOutside, run_again, run_all, run_outside}
+use Rattle.trace_base.proofs.FieldRuns.{BeginsOutside, run_again, run_all}
 use Rattle.symbols.specs.LineForms.{is_hexadecimal}
 use Rattle.symbols.specs.Forms.{address_at}
 

@@ -1,12 +1,12 @@
 -- What is found among pairs whose numbers rise.
-use Rattle.std.proofs.Common.{ltb, leb, ◌≡◌, ℕ, zero, suc, ◌+◌, ◌-◌, ◌<◌, ◌≤◌, Bool, true, false, nat_eq, eqb, List, [], ◌∷◌, ◌++◌, map, length, slice_get, slice_index, get_or, Option, Some, None, refl, sym, ap, subst, ◌∙◌, arith, inl, inr}
-use Rattle.std.specs.Map.{keys_of, lookup}
+use Rattle.std.proofs.Common.{ltb, ◌≡◌, ℕ, zero, suc, ◌+◌, ◌-◌, ◌<◌, ◌≤◌, nat_eq, eqb, List, [], ◌∷◌, map, length, slice_get, slice_index, Option, Some, None, refl, sym, ap, subst, ◌∙◌, arith, inl, inr}
+use Rattle.std.specs.Map.{keys_of}
 use Rattle.std.proofs.lemmas.Bool.{cases_Bool, cases_lt, eqb-true, eqb-false, eq-eqb, ne_eqb, ltb-true, ltb-false, le-leb, lt-leb}
 use Rattle.std.specs.Option.{option_or}
 use Rattle.symbols.specs.NameMap.{Pair, first_at, RisesFrom, SamePairs, IsMapOf, IsNearest, NoneUpTo, put, map_of, last_up_to}
 use Rattle.symbols.specs.Found.{IsFrom}
 use Rattle.symbols.specs.Search.{RisesKeys, IsLastUpTo, NoneWithin}
-use Rattle.symbols.specs.RowsView.{is_key, firsts}
+use Rattle.symbols.specs.RowsView.{firsts}
 
 above : (low : ℕ) (ps : List Pair) (i : ℕ) → RisesFrom low ps → i < length (keys_of ps) → low ≤ slice_index (keys_of ps) i
 above low [] i r less = absurd (omega (arith, less))

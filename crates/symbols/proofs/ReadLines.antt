@@ -1,7 +1,6 @@
 -- A loop over lines that names are read from.
 use Rattle.std.proofs.Common.{◌≡◌, ℕ, ◌≤◌, Bool, List, [], ◌∷◌, ◌++◌, map, reverse, subst, length, Option, Some, None, refl, sym, ap, ◌∙◌, append_assoc}
-use Rattle.std.specs.List.{filter_map, cons_option, prefix_len}
-use Rattle.std.specs.Option.{option_map}
+use Rattle.std.specs.List.{cons_option, prefix_len}
 use Rattle.std.proofs.lemmas.List.{append-nil, map-append, reverse-append}
 use Rattle.std.proofs.lemmas.List.Sums.{prefix_len-le-length}
 use Rattle.text_lines.specs.Lines.{lines_of}

@@ -1,8 +1,8 @@
 -- Names in a block that grows.
-use Rattle.std.proofs.Common.{◌≡◌, ℕ, zero, suc, ◌+◌, ◌-◌, ◌<◌, ◌≤◌, Bool, true, false, List, [], ◌∷◌, ◌++◌, map, length, take, drop, append_assoc, slice_get, slice_index, get_or, All, Option, Some, None, refl, sym, ap, subst, ◌∙◌, arith, inl, inr}
+use Rattle.std.proofs.Common.{◌≡◌, ℕ, zero, suc, ◌+◌, ◌-◌, ◌<◌, ◌≤◌, true, false, List, [], ◌∷◌, ◌++◌, map, length, take, drop, append_assoc, slice_get, slice_index, get_or, All, Option, Some, None, refl, sym, ap, subst, ◌∙◌, arith}
 use Rattle.std.specs.List.{zip}
 use Rattle.std.specs.Map.{keys_of}
-use Rattle.std.proofs.lemmas.List.{map-append, length-map, length-append, get_or_default, append-nil, at_drop_more, at_drop_all, take_all, take_at, drop_at, length-drop, drop-append-le, take-append-le}
+use Rattle.std.proofs.lemmas.List.{map-append, length-map, length-append, get_or_default, append-nil, at_drop_more, at_drop_all, take_all, drop_at, length-drop, drop-append-le, take-append-le}
 use Rattle.symbols.specs.declared.rows.Rows.{Rows}
 use Rattle.symbols.specs.declared.rows.Span.{Span}
 use Rattle.symbols.specs.declared.found.Found.{Found}

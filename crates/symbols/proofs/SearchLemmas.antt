@@ -1,7 +1,7 @@
 -- Where a binary search ends among numbers that rise.
-use Rattle.std.proofs.Common.{◌≡◌, ℕ, ◌+◌, ◌-◌, ◌<◌, ◌≤◌, List, length, slice_index, get_or, refl, arith, inl, inr, ap}
+use Rattle.std.proofs.Common.{◌≡◌, ℕ, ◌-◌, ◌<◌, ◌≤◌, List, length, get_or, arith, inl, inr, ap}
 use Rattle.std.proofs.lemmas.Bool.{cases_lt}
-use Rattle.symbols.specs.Search.{RisesKeys, IsLastUpTo, NoneWithin}
+use Rattle.symbols.specs.Search.{RisesKeys, IsLastUpTo}
 
 pub not_falls : (keys : List ℕ) → RisesKeys keys → (i j : ℕ) → i ≤ j → j < length keys → get_or keys i 0 ≤ get_or keys j 0
 not_falls keys rises i j le inside = elim (cases_lt i j) as (λ _. get_or keys i 0 ≤ get_or keys j 0) [

@@ -1,13 +1,12 @@
 -- The name that a line gives, computed from the left, and the names that the lines of a text give.
-use Rattle.std.specs.Prelude.{ℕ, ◌-◌, ◌^◌, Bool, ◌&&◌, ◌==◌, nat_lt, nat_le, if◌then◌else◌, List, [], ◌∷◌, length, take, drop, slice_index, codes, Option, Some, None}
-use Rattle.std.specs.List.{list_all, prefix_len, filter_map}
+use Rattle.std.specs.Prelude.{ℕ, ◌-◌, ◌^◌, Bool, ◌&&◌, ◌==◌, nat_lt, nat_le, if◌then◌else◌, List, length, take, drop, slice_index, codes, Option, Some, None}
+use Rattle.std.specs.List.{prefix_len, filter_map}
 use Rattle.std.specs.Option.{option_map, unwrap_or}
 use Rattle.std.specs.Char.{is_digit, is_ascii_alphabetic}
 use Rattle.std.specs.Str.Parse.{digits_value}
 use Rattle.trace_base.specs.FieldLine.{decimal}
 use Rattle.trace_base.specs.FieldReading.{after_word}
 use Rattle.trace_base.specs.OptionSteps.{◌>>=◌}
-use Rattle.text_lines.specs.Lines.{lines_of}
 use Rattle.symbols.specs.NameMap.{Pair}
 use Rattle.symbols.specs.LineForms.{is_hexadecimal, in_name}
 use Rattle.symbols.specs.declared.lines.Form.{Form}

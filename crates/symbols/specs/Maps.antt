@@ -1,6 +1,6 @@
 -- The names that the texts of a trace file give: symbols and printk formats by address, of equal addresses the first, and tasks
 -- by pid, of equal pids the last.
-use Rattle.std.specs.Prelude.{◌≡◌, ℕ, zero, ℤ, pos, negsuc, List, reverse, codes}
+use Rattle.std.specs.Prelude.{ℕ, zero, ℤ, pos, negsuc, List, reverse, codes}
 use Rattle.std.specs.Option.{unwrap_or}
 use Rattle.text_lines.specs.Lines.{lines_of}
 use Rattle.symbols.specs.NameMap.{Pair, first_at, IsMapOf, map_of}

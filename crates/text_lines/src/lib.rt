@@ -8,4 +8,4 @@ mod lines;
 #[cfg(test)]
 mod tests;
 
-pub use lines::{first_after, first_line, joined_lines};
+pub use lines::{first_after, first_line, joined_lines, line_end};

@@ -3,7 +3,7 @@
 ghost use Rattle.std.specs.Prelude.{◌≡◌, ◌==◌, ◌<◌, ◌∷◌, List, ℕ, length, IfSome};
 ghost use Rattle.std.specs.Option.{option_map};
 ghost use Rattle.std.specs.List.{join_with_byte, position};
-ghost use Rattle.text_lines.specs.Lines.{lines_of, lines_left, first_after};
+ghost use Rattle.text_lines.specs.Lines.{lines_of, lines_left, first_after, line_end};
 
 use bstr::ByteSlice;
 use trace_base::after_word;
@@ -38,6 +38,16 @@ pub fn first_after<'a>(word: &[u8], text: &'a [u8]) -> Option<&'a [u8]>
         left = behind;
     }
     None
+}
+
+/// What ends a stored text where further lines follow: a newline, where it is not empty and does not end in one.
+pub fn line_end(text: &[u8]) -> &'static [u8]
+    ensures { result.now ≡ line_end text.now }
+{
+    match text.last() {
+        None | Some(b'\n') => b"",
+        Some(_) => b"\n",
+    }
 }
 
 /// A text is its lines, joined by newlines.

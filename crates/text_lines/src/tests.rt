@@ -1,4 +1,4 @@
-use crate::{first_after, first_line};
+use crate::{first_after, first_line, line_end};
 
 #[test]
 fn a_line_ends_at_a_newline_alone(rt: HostRuntime) {
@@ -30,5 +30,13 @@ fn the_first_line_that_begins_with_a_word_counts(rt: HostRuntime) {
     ];
     for (word, rest) in rows {
         assert_eq!(rt; first_after(word, text), rest);
+    }
+}
+
+#[test]
+fn a_stored_text_ends_in_one_newline(rt: HostRuntime) {
+    let rows: [(&[u8], &[u8]); 4] = [(b"", b""), (b"a", b"\n"), (b"a\n", b""), (b"a\n\n", b"")];
+    for (text, end) in rows {
+        assert_eq!(rt; line_end(text), end);
     }
 }

@@ -6,7 +6,6 @@ use Rattle.std.specs.Option.{option_and_then, option_map_or, option_or}
 use Rattle.word_values.specs.declared.section.Section.{Section}
 use Rattle.word_values.specs.declared.section.Section.TheVariants as section
 use Rattle.word_values.specs.declared.listing.Listing.{Listing}
-use Rattle.word_values.specs.declared.listing.Listing.TheVariants.{Nothing}
 use Rattle.word_values.specs.declared.moment.Moment.{Moment}
 use Rattle.word_values.specs.declared.piece.PieceUnit.{PieceUnit}
 use Rattle.word_values.specs.declared.piece.PieceUnit.TheVariants.{All}
@@ -38,10 +37,9 @@ filters_from hide [] = []
 filters_from hide (setting ∷ later) =
     cons_option (option_map (filter_data hide) (value_for valued.Filter setting)) (filters_from (hide || sets flag.Hide setting) later)
 
--- the list that is printed in place of the events
-abbrev pub listing_of : List Setting → Listing
-listing_of settings =
-    unwrap_or (find (λ listing. is_set (flag.Listing listing) settings) listings) Nothing
+-- the list that is printed in place of the events, where one is
+abbrev pub listing_of : List Setting → Option Listing
+listing_of settings = find (λ listing. is_set (flag.Listing listing) settings) listings
 
 -- the processors that are selected, where not all are
 abbrev pub cpus_of : List Setting → Option (List Bool)
@@ -57,6 +55,7 @@ report_of settings =
       input = input_of settings;
       filters = filters_from false settings;
       full = is_set flag.FullTime settings;
+      diff = is_set flag.Differences settings;
       latency = is_set flag.Latency settings;
       raw = is_set flag.Raw settings;
       raw_events = texts_of valued.RawEvent settings;

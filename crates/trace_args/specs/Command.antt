@@ -21,12 +21,13 @@ pub record ReportData : Type 0 where
   pub input : List ℕ
   pub filters : List FilterData
   pub full : Bool
+  pub diff : Bool
   pub latency : Bool
   pub raw : Bool
   pub raw_events : List (List ℕ)
   pub no_hard : Bool
   pub no_soft : Bool
-  pub list : Listing
+  pub list : Option Listing
   pub cpus : Option (List Bool)
   pub workers : ℕ
 
@@ -64,6 +65,7 @@ report_view w =
       input = w.input.now;
       filters = map filter_view w.filters.items;
       full = w.full;
+      diff = w.diff;
       latency = w.latency;
       raw = w.raw;
       raw_events = map (λ name. name.now) w.raw_events.items;

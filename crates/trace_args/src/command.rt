@@ -1,10 +1,8 @@
 ghost use Rattle.std.specs.Prelude.{◌≡◌, IfOk, MatchResult};
-ghost use Rattle.std.specs.List.{find, list_any};
-ghost use Rattle.word_values.specs.Listings.{listings};
+ghost use Rattle.std.specs.List.{list_any};
 ghost use Rattle.word_values.specs.Sections.{sections};
 ghost use Rattle.trace_args.specs.Asked.{base_of, bound_of, command_of, cpu_of, cpus_of, dump_of, events_of, input_of, is_printed, listing_of, names_any, names_section, piece_by, report_of, seed_of, self_of, split_of, unit_of, workers_of};
 ghost use Rattle.trace_args.specs.Command.{command_view, dump_view, report_view, self_view, split_view};
-ghost use Rattle.trace_args.specs.Given.{is_set};
 ghost use Rattle.trace_args.specs.Views.{given_view};
 
 use crate::fault::{WordFault, WordKind};
@@ -39,6 +37,8 @@ pub struct ReportWords<'a> {
     pub filters: Vec<FilterWord<'a>>,
     /// `-t`: times are printed to the nanosecond.
     pub full: bool,
+    /// `--ts-diff`: the difference to the last shown event is printed behind each time.
+    pub diff: bool,
     /// `-l`: the latency columns are printed.
     pub latency: bool,
     /// `-R`: all fields of all events are printed as they are.
@@ -49,8 +49,8 @@ pub struct ReportWords<'a> {
     pub no_hard: bool,
     /// `-S`: events in a soft interrupt are hidden.
     pub no_soft: bool,
-    /// The list that is printed in place of the events.
-    pub list: Listing,
+    /// The list that is printed in place of the events, where one is.
+    pub list: Option<Listing>,
     /// `--cpu`: the processors that are printed, where not all are.
     pub cpus: Option<CpuSet>,
     /// `--workers`: how many threads work, from 1 to 64.
@@ -142,6 +142,7 @@ impl<'a> ReportWords<'a> {
             input: input(given),
             filters,
             full: given.is_set(FlagOption::FullTime),
+            diff: given.is_set(FlagOption::Differences),
             latency: given.is_set(FlagOption::Latency),
             raw: given.is_set(FlagOption::Raw),
             raw_events,
@@ -283,16 +284,9 @@ fn input<'a>(given: &Given<'a>) -> &'a str
     }
 }
 
-// The list that is printed in place of the events.
-fn listing(given: &Given<'_>) -> Listing
+// The list that is printed in place of the events, where one is.
+fn listing(given: &Given<'_>) -> Option<Listing>
     ensures { result ≡ listing_of (given_view given.now) }
-{
-    asked_listing(given).unwrap_or(Listing::Nothing)
-}
-
-// The first list that was asked for.
-fn asked_listing(given: &Given<'_>) -> Option<Listing>
-    ensures { result ≡ find (λ listing. is_set (FlagOption.Listing listing) (given_view given.now)) listings }
 {
     Listing::ALL
         .iter()

@@ -10,3 +10,4 @@ pub mod DigitLemmas
 pub mod TailFills
 pub mod TailJoins
 pub mod TailNuls
+pub mod NulLemmas

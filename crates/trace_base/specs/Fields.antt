@@ -1,5 +1,7 @@
 -- The fields of a record, read from its payload.
-use Rattle.std.specs.Prelude.{ℕ, ◌+◌, ◌*◌, ◌/◌, ◌%◌, ◌^◌, ℤ, pos, ◌-ℤ◌, Bool, true, false, nat_lt, nat_le, ◌==◌, ◌||◌, ◌&&◌, if◌then◌else◌, List, length, take, drop}
+use Rattle.std.specs.Prelude.{ℕ, ◌+◌, ◌*◌, ◌/◌, ◌%◌, ◌^◌, ℤ, pos, ◌-ℤ◌, Bool, true, false, nat_lt, nat_le, ◌==◌, ◌||◌, ◌&&◌, if◌then◌else◌, List, length, take, drop, Option}
+use Rattle.std.specs.List.{find}
+use Rattle.std.specs.Str.{bytes_eq}
 use Rattle.trace_base.specs.declared.order.Order.{Order}
 use Rattle.trace_base.specs.Number.{num}
 use Rattle.trace_base.specs.declared.field.Field.{Field}
@@ -7,6 +9,10 @@ use Rattle.trace_base.specs.declared.field.FieldKind.{FieldKind}
 use Rattle.trace_base.specs.declared.field.FieldKind.TheVariants as kinds
 use Rattle.trace_base.specs.declared.field.FieldPlace.{FieldPlace}
 use Rattle.trace_base.specs.declared.field.FieldPlace.TheVariants.{Fixed, DataLoc, RelLoc}
+
+-- the first field of the name
+abbrev pub field_named : List ℕ → List Field → Option Field
+field_named name fields = find (λ field. bytes_eq field.name name) fields
 
 -- the sizes of numbers
 abbrev pub is_size : ℕ → Bool

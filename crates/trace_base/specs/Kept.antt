@@ -24,6 +24,10 @@ nothing room = record { room = room; bytes = []; total = 0; last = None; watches
 abbrev pub is_letter : ℕ → Bool
 is_letter byte = not (byte == 0)
 
+-- a text up to its first NUL
+abbrev pub until_nul : List ℕ → List ℕ
+until_nul text = take (prefix_len is_letter text) text
+
 -- the place of the first NUL of a piece that is put behind so many bytes
 abbrev pub nul_in : ℕ → List ℕ → Option ℕ
 nul_in total piece = if nat_lt (prefix_len is_letter piece) (length piece) then Some (min (total + prefix_len is_letter piece) most) else None

@@ -12,7 +12,7 @@ pub record IsLayout (layout : Layout) : Type 0 where
   pub data_in_front : layout.data_at ≤ 256
   pub data_aligned : layout.data_at % 4 ≡ 0
   pub page_least : 4096 ≤ layout.page
-  pub page_most : layout.page ≤ 65536
+  pub page_most : layout.page ≤ 262144
 
 -- the timestamp, a commit word of a long, and the data behind it
 abbrev pub plain_layout : Order → ℕ → ℕ → Layout

@@ -1,7 +1,8 @@
-// The digits of a number in base 8 or 16.
+// The digits of a number in base 8 or 16, and those of a byte.
 
 ghost use Rattle.std.specs.Prelude.{◌≡◌, ◌⊎◌, ◌≤◌, ◌<◌, ◌/◌, ◌%◌, drop, length, if◌then◌else◌};
 ghost use Rattle.std.specs.Fmt.{digits, digit_glyph};
+ghost use Rattle.trace_base.specs.Digits.{two_digits};
 
 fn glyph(upper: bool, digit: u8) -> u8
     requires { digit < 16 }
@@ -14,6 +15,13 @@ fn glyph(upper: bool, digit: u8) -> u8
     } else {
         87 + digit
     }
+}
+
+/// The two lower hexadecimal digits of a byte.
+pub fn two_digits(byte: u8) -> [u8; 2]
+    ensures { result ≡ two_digits byte }
+{
+    [glyph(false, byte / 16), glyph(false, byte % 16)]
 }
 
 /// A number without its last digit, and that digit.

@@ -1,4 +1,9 @@
+ghost use Rattle.std.specs.Prelude.{◌≡◌, IfOk};
+ghost use Rattle.std.specs.Option.{option_copied};
+ghost use Rattle.trace_base.specs.Fields.{field_named};
+
 use crate::byte_text::ByteText;
+use std::alloc::{AllocError, Global};
 
 /// What a field of a record is.
 #[derive(Clone, Copy, Debug, PartialEq, Eq)]
@@ -41,4 +46,29 @@ pub struct Field {
     pub place: FieldPlace,
     /// How long one of its elements is.
     pub element: u32,
+}
+
+impl Field {
+    /// A copy of the field.
+    pub fn copy(&self, alloc: Global) -> Result<Field, AllocError>
+        ensures { IfOk result (λ field. field ≡ self.now) }
+    {
+        let name = ByteText::copy(alloc, self.name.as_bytes())?;
+        Ok(Field {
+            name,
+            offset: self.offset,
+            size: self.size,
+            signed: self.signed,
+            kind: self.kind,
+            place: self.place,
+            element: self.element,
+        })
+    }
+}
+
+/// The first field of this name.
+pub fn field_named<'a>(name: &[u8], fields: &'a [Field]) -> Option<&'a Field>
+    ensures { option_copied result ≡ field_named name.now fields.now }
+{
+    fields.iter().find(|field| field.name.as_bytes() == name)
 }

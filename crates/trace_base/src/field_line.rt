@@ -1,13 +1,13 @@
 // The line that declares a field, in an event's format or in a header_page text (the kernel's events.rst, 'Event formats').
 
-ghost use Rattle.std.specs.Prelude.{◌≡◌, ◌==◌, ◌<◌, ◌≤◌, length, IfSome, IfNone};
+ghost use Rattle.std.specs.Prelude.{◌≡◌, ◌==◌, ◌^◌, ◌<◌, ◌≤◌, length, nat_lt, if◌then◌else◌, IfSome, IfNone, Some, None};
 ghost use Rattle.std.specs.List.{list_all, position, prefix_len, suffix_len};
 ghost use Rattle.std.specs.Option.{option_map};
 ghost use Rattle.byte_classes.specs.Bytes.{is_blank, is_word};
 ghost use Rattle.trace_base.specs.FieldLine.{FieldData, IsFieldLine, OneField, is_identifier, skip_blanks, trimmed, decimal};
 ghost use Rattle.trace_base.specs.FieldReading.{after_word, cut_at, named_at, opens, greatest_below, plain_at, array_at, declaration_at, entry_at, sign_at, field_line, field_view, declared_view};
 
-use byte_classes::{is_blank, is_word};
+use byte_classes::{is_blank, is_word, number_written};
 
 /// What a field line says of its field.
 #[derive(Clone, Copy, Debug, PartialEq, Eq)]
@@ -193,12 +193,19 @@ pub fn decimal(text: &[u8]) -> Option<u32>
     if text.is_empty() {
         return None;
     }
-    let mut number: u32 = 0;
-    for byte in text {
-        let digit = char::from(*byte).to_digit(10)?;
-        number = number.checked_mul(10)?.checked_add(digit)?;
+    let number = number_written(10, text)?;
+    narrow(number)
+}
+
+// The number, where it is one of 32 bits.
+fn narrow(number: u64) -> Option<u32>
+    ensures { result ≡ (if nat_lt number (2 ^ 32) then Some number else None) }
+{
+    if number < 0x1_0000_0000 {
+        Some(number as u32)
+    } else {
+        None
     }
-    Some(number)
 }
 
 /// What follows the word that the text begins with.

@@ -18,18 +18,18 @@ pub struct Layout {
     pub commit_size: u32,
     /// Where its data begin. They end with the sub-buffer.
     pub data_at: u32,
-    /// How long the whole sub-buffer is.
+    /// How long the whole sub-buffer is: a page of the machine or several (`buffer_subbuf_size_kb` of Linux 6.8 and later).
     pub page: u32,
 }
 
 impl Layout {
     /// The layout that a kernel with a long of 4 or 8 bytes uses: the timestamp, the commit word, and the data behind it.
     ///
-    /// The sub-buffer has 4,096 to 65,536 bytes.
+    /// The sub-buffer has 4,096 to 262,144 bytes.
     pub fn plain(order: Order, long: u32, page: u32) -> Layout
         requires long { (long ≡ 4) ⊎ (long ≡ 8) }
         requires page_least { 4096 ≤ page }
-        requires page_most { page ≤ 65536 }
+        requires page_most { page ≤ 262144 }
         ensures value { result ≡ plain_layout order long page }
         ensures allowed { IsLayout result }
     {

@@ -1,7 +1,9 @@
 ghost use Rattle.std.specs.Prelude.{◌≡◌, ℕ, List, ◌<◌, ◌^◌, ◌≤◌, ◌++◌, length, take, drop};
-ghost use Rattle.std.specs.List.{last_or, prefix_len};
-ghost use Rattle.trace_base.specs.Kept.{Kept, nothing, is_letter, nul_after, text_end, put, put_held, cut, watched, of_text};
+ghost use Rattle.std.specs.List.{last_or};
+ghost use Rattle.trace_base.specs.Kept.{Kept, nothing, nul_after, text_end, put, put_held, cut, watched, of_text};
 ghost use Rattle.trace_base.specs.TailView.{kept, held, lent};
+
+use crate::nul::text_len;
 
 /// Text that goes into a slice: the first bytes of it are kept, as many as the slice holds, and its true length is told.
 ///
@@ -121,21 +123,6 @@ fn note_last(last: &mut Option<u8>, piece: &[u8])
     if let Some(byte) = piece.last() {
         *last = Some(*byte);
     }
-}
-
-fn is_letter(byte: u8) -> bool
-    ensures { result ≡ is_letter byte }
-{
-    byte != 0
-}
-
-/// How many bytes stand before the first NUL.
-#[tactic(auto, using(crate::proofs::TailNuls::prefix_within))]
-pub fn text_len(bytes: &[u8]) -> usize
-    ensures value { result ≡ prefix_len is_letter bytes.now }
-    ensures within { result ≤ length bytes.now }
-{
-    bytes.iter().take_while(|byte| is_letter(**byte)).count()
 }
 
 // The place of the first NUL, with a piece that is put behind so many bytes. A text that is not watched pays for one branch.

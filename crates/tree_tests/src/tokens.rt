@@ -1,6 +1,6 @@
 //! Texts and their tokens.
 
-use fmt_lexer::{Base, Token, TokenKind, number_parts, tokens};
+use fmt_lexer::{Base, Token, TokenKind, number_parts, tokens, word_len};
 use std::alloc::{AllocError, Global};
 use std::test::Fail;
 
@@ -95,6 +95,7 @@ fn tokens_and_numbers_come_apart(rt: HostRuntime) -> Result<(), Fail> {
     assert_eq!(rt; parts.digits, b"1f".as_slice());
     assert_eq!(rt; parts.suffix, b"UL".as_slice());
     assert_eq!(rt; parts.value, 31);
+    assert_eq!(rt; word_len(b"a1_B2 _9"), 5);
     Ok(())
 }
 

@@ -5,6 +5,7 @@ ghost use Rattle.std.specs.Fmt.{decimal};
 ghost use Rattle.trace_base.specs.Kept.{put_held};
 ghost use Rattle.trace_base.specs.TailView.{held, lent};
 ghost use Rattle.fmt_forms.specs.Plain.{minus};
+ghost use Rattle.waiting_text.specs.Gathered.{gathered, joined};
 
 use itoa::write_digits;
 use std::marker::Model;
@@ -41,15 +42,86 @@ impl Waiting {
         }
     }
 
-    /// How many more bytes there is room for.
-    pub fn spare(&self) -> usize
+    /// Adds a piece.
+    #[inline(always)]
+    #[tactic(auto, using(crate::proofs::Gathering::waits_behind))]
+    pub fn piece(&mut self, piece: &[u8], into: &mut Tail<'_>)
+        ensures { gathered self.new into.new ≡ joined (gathered self.old into.old) piece.now }
+    {
+        if piece.len() <= self.spare() {
+            self.text(piece);
+        } else {
+            self.put_apart(piece, into);
+        }
+    }
+
+    /// Adds the first bytes of a longer text.
+    #[inline(always)]
+    #[tactic(auto, using(crate::proofs::Gathering::waits_behind))]
+    pub fn front(&mut self, text: &[u8], len: usize, into: &mut Tail<'_>)
+        requires within { len ≤ length text.now }
+        requires longer { 16 ≤ length text.now }
+        ensures { gathered self.new into.new ≡ joined (gathered self.old into.old) (take len text.now) }
+    {
+        if len <= 16 && self.spare() >= 16 {
+            self.short_front(text, len);
+        } else {
+            self.piece(&text[..len], into);
+        }
+    }
+
+    /// Adds a decimal integer.
+    #[inline(always)]
+    pub fn decimal(&mut self, negative: bool, magnitude: u64, into: &mut Tail<'_>)
+        ensures { gathered self.new into.new ≡ joined (gathered self.old into.old) (minus negative ++ decimal magnitude) }
+    {
+        self.make_room(into);
+        self.minus(negative);
+        self.number(magnitude);
+    }
+
+    /// Puts the text, after which nothing waits.
+    #[inline(never)]
+    #[tactic(auto, using(crate::proofs::Gathering::put_whole))]
+    pub fn put_into(&mut self, into: &mut Tail<'_>)
+        ensures same_slice { lent into.new ≡ lent into.old }
+        ensures value { held into.new ≡ put_held (held into.old) self.old }
+        ensures empty { self.new ≡ [] }
+        ensures same { gathered self.new into.new ≡ gathered self.old into.old }
+    {
+        into.put(&self.room[..self.len]);
+        self.len = 0;
+    }
+
+    // Puts what waits, and a piece for which there is no room behind it.
+    #[inline(never)]
+    fn put_apart(&mut self, piece: &[u8], into: &mut Tail<'_>)
+        ensures { gathered self.new into.new ≡ joined (gathered self.old into.old) piece.now }
+    {
+        self.put_into(into);
+        into.put(piece);
+    }
+
+    // Puts what waits where there is no room for a number behind it.
+    fn make_room(&mut self, into: &mut Tail<'_>)
+        ensures same { gathered self.new into.new ≡ gathered self.old into.old }
+        ensures room { length self.new + 21 ≤ 192 }
+    {
+        if self.spare() < 21 {
+            self.put_into(into);
+        }
+    }
+
+    // How many more bytes there is room for.
+    fn spare(&self) -> usize
         ensures { result + length self.now ≡ 192 }
     {
         192 - self.len
     }
 
-    /// Adds a text.
-    pub fn text(&mut self, text: &[u8])
+    // Adds a text.
+    #[inline(always)]
+    fn text(&mut self, text: &[u8])
         requires { length self.old + length text.now ≤ 192 }
         ensures { self.new ≡ self.old ++ text.now }
     {
@@ -66,8 +138,8 @@ impl Waiting {
         self.len = end;
     }
 
-    /// Adds the first bytes of a longer text.
-    pub fn front(&mut self, text: &[u8], len: usize)
+    // Adds the first bytes of a longer text.
+    fn short_front(&mut self, text: &[u8], len: usize)
         requires room { length self.old + 16 ≤ 192 }
         requires longer { 16 ≤ length text.now }
         requires short { len ≤ 16 }
@@ -81,8 +153,8 @@ impl Waiting {
         self.len += len;
     }
 
-    /// Adds the sign of a number.
-    pub fn minus(&mut self, negative: bool)
+    // Adds the sign of a number.
+    fn minus(&mut self, negative: bool)
         requires { length self.old < 192 }
         ensures longer { length self.new ≤ length self.old + 1 }
         ensures value { self.new ≡ self.old ++ minus negative }
@@ -92,9 +164,9 @@ impl Waiting {
         }
     }
 
-    /// Adds a decimal number.
+    // Adds a decimal number.
     #[inline(always)]
-    pub fn decimal(&mut self, n: u64)
+    fn number(&mut self, n: u64)
         requires { length self.old + 20 ≤ 192 }
         ensures { self.new ≡ self.old ++ decimal n }
     {
@@ -104,16 +176,5 @@ impl Waiting {
         piece.copy_from_slice(&self.digits[start..start + 20]);
         self.room[self.len..self.len + 20].copy_from_slice(&piece);
         self.len += 20 - start;
-    }
-
-    /// Puts the text, after which nothing waits.
-    #[inline(never)]
-    pub fn put_into(&mut self, into: &mut Tail<'_>)
-        ensures same_slice { lent into.new ≡ lent into.old }
-        ensures value { held into.new ≡ put_held (held into.old) self.old }
-        ensures empty { self.new ≡ [] }
-    {
-        into.put(&self.room[..self.len]);
-        self.len = 0;
     }
 }

@@ -1,32 +1,16 @@
--- A number's digits, read from the left.
-use Rattle.std.proofs.Common.{◌≡◌, ℕ, ◌+◌, ◌*◌, ◌^◌, ◌<◌, ◌≤◌, Bool, true, false, ◌&&◌, nat_le, List, [], ◌∷◌, Option, Some, None, if◌then◌else◌, lit<, refl, ap, ◌∙◌, arith}
+-- Numbers within a range, and what they come to with zeros behind them.
+use Rattle.std.proofs.Common.{◌≡◌, ℕ, ◌*◌, ◌^◌, ◌<◌, ◌≤◌, Bool, true, false, ltb, ◌&&◌, nat_le, List, length, Option, Some, None, if◌then◌else◌, lit<, refl, arith, inl, inr}
 use Rattle.std.specs.List.{list_all}
-use Rattle.std.specs.Char.{is_digit, digit_value}
+use Rattle.std.specs.Char.{is_digit}
 use Rattle.std.specs.Option.{option_and_then}
-use Rattle.std.specs.Str.Parse.{digits_value_after}
+use Rattle.std.specs.Str.Parse.{digits_value}
 use Rattle.std.proofs.Math.Nat.{mul-le-mul, pow-le-pow_right}
+use Rattle.std.proofs.lemmas.Bool.{cases_Bool, lt-ltb}
 use Rattle.std.proofs.lemmas.Bool.Decides.{nat_tests}
-use Rattle.word_values.specs.Number.{number_of, number_within, with_digit}
-
--- the number of some digits that are read, and those that are left
-abbrev pub number_on : ℕ → List ℕ → Option ℕ
-number_on value digits =
-    if list_all (λ byte. is_digit byte 10) digits then Some (digits_value_after 10 value digits) else None
-
-abbrev pub within : ℕ → ℕ → Option ℕ → Option ℕ
-within least most number =
-    option_and_then (λ n. if nat_le least n && nat_le n most then Some n else None) number
-
-number_on-digit : (value digit : ℕ) (digits : List ℕ) → is_digit digit 10 ≡ true → number_on value (digit ∷ digits) ≡ number_on (value * 10 + digit_value digit) digits
-number_on-digit value digit digits h = rw (h) refl
-
-number_on-other : (value digit : ℕ) (digits : List ℕ) → is_digit digit 10 ≡ false → number_on value (digit ∷ digits) ≡ None
-number_on-other value digit digits h = rw (h) refl
-
--- more digits make no smaller number
-no_less : (value : ℕ) (digits : List ℕ) → value ≤ digits_value_after 10 value digits
-no_less value [] = omega arith
-no_less value (digit ∷ digits) = omega (arith, no_less (value * 10 + digit_value digit) digits)
+use Rattle.byte_classes.specs.Digits.{number_written}
+use Rattle.byte_classes.proofs.Written.{written_some, written_none}
+use Rattle.trace_base.specs.FieldLine.{is_decimal}
+use Rattle.word_values.specs.Number.{number_of, within, number_within}
 
 and-false : (b : Bool) → (b && false) ≡ false
 and-false true = refl
@@ -35,50 +19,36 @@ and-false false = refl
 le-false : (n most : ℕ) → most < n → nat_le n most ≡ false
 le-false n most h = grind (arith, nat_tests)
 
-above_most : (least most n : ℕ) → most < n → within least most (Some n) ≡ None
-above_most least most n h = rw (le-false n most h, and-false (nat_le least n))
+above_most : (least most n : ℕ) → most < n → within least most n ≡ None
+above_most least most n h = rw (le-false n most h, and-false (nat_le least n)) refl
 
-much : (least most n : ℕ) (all : Bool) → most < n → within least most (if all then Some n else None) ≡ None
+much : (least most n : ℕ) (all : Bool) → most < n → option_and_then (within least most) (if all then Some n else None) ≡ None
 much least most n true h = above_most least most n h
 much least most n false h = refl
 
-pub number_on-much : (least most value : ℕ) (digits : List ℕ) → most < value → within least most (number_on value digits) ≡ None
-number_on-much least most value digits h =
-    much least most _ (list_all (λ byte. is_digit byte 10) digits) (omega (arith, no_less value digits))
+-- the text spells no number of 64 bits
+pub no_number : (least most : ℕ) (text : List ℕ) → most < 2 ^ 64 → None ≡ number_written 10 text → number_within least most text ≡ None
+no_number least most text small none = elim (cases_Bool (list_all (λ byte. is_digit byte 10) text)) as (λ _. number_within least most text ≡ None) [
+  | inr other ↦ rw (other, and-false (ltb 0 (length text))) refl
+  | inl all ↦
+      let wide : 2 ^ 64 ≤ digits_value 10 text = written_none 10 text none all in
+      much least most (digits_value 10 text) (is_decimal text) (omega (arith, small, wide))
+]
 
-step_by : (value digit most next : ℕ) (digits : List ℕ) (passes small : Bool) → is_digit digit 10 ≡ passes → nat_le (value * 10 + digit_value digit) most ≡ small → with_digit value digit most ≡ Some next → number_on value (digit ∷ digits) ≡ number_on next digits
-step_by value digit most next digits true true d s h =
-    let n : Some (value * 10 + digit_value digit) ≡ Some next = rw (d, s) at h in
-    let n' : value * 10 + digit_value digit ≡ next = cc in
-    number_on-digit value digit digits d ∙ ap (λ v. number_on v digits) n'
-step_by value digit most next digits true false d s h =
-    let n : None ≡ Some next = rw (d, s) at h in cc
-step_by value digit most next digits false small d s h = let n : None ≡ Some next = rw d at h in cc
-
--- a digit is read
-pub number_on-step : (value digit most next : ℕ) (digits : List ℕ) → with_digit value digit most ≡ Some next → number_on value (digit ∷ digits) ≡ number_on next digits
-number_on-step value digit most next digits h =
-    step_by value digit most next digits (is_digit digit 10) (nat_le (value * 10 + digit_value digit) most) refl refl h
-
-stop_by : (least value digit most : ℕ) (digits : List ℕ) (passes small : Bool) → is_digit digit 10 ≡ passes → nat_le (value * 10 + digit_value digit) most ≡ small → with_digit value digit most ≡ None → within least most (number_on value (digit ∷ digits)) ≡ None
-stop_by least value digit most digits true true d s h =
-    let n : Some (value * 10 + digit_value digit) ≡ None = rw (d, s) at h in cc
-stop_by least value digit most digits true false d s h =
-    rw (number_on-digit value digit digits d) (number_on-much least most _ digits (grind (arith, nat_tests, s)))
-stop_by least value digit most digits false small d s h =
-    rw (number_on-other value digit digits d) refl
-
--- no digit is read
-pub number_on-stop : (least value digit most : ℕ) (digits : List ℕ) → with_digit value digit most ≡ None → within least most (number_on value (digit ∷ digits)) ≡ None
-number_on-stop least value digit most digits h =
-    stop_by least value digit most digits (is_digit digit 10) (nat_le (value * 10 + digit_value digit) most) refl refl h
+-- it spells this one
+pub spelled : (least most number : ℕ) (text : List ℕ) → (length text ≡ 0 → ⊥) → Some number ≡ number_written 10 text → within least most number ≡ number_within least most text
+spelled least most number text some is =
+    let both = written_some 10 text number is in
+    let long : ltb 0 (length text) ≡ true = lt-ltb _ _ (omega (arith, some)) in
+    let all : list_all (λ byte. is_digit byte 10) text ≡ true = both.0 in
+    rw (both.1, long, all) refl
 
 most_by : (least most n m : ℕ) (low high : Bool) → nat_le m most ≡ high → (if low && high then Some m else None) ≡ Some n → n ≤ most
 most_by least most n m true true e h = let same : m ≡ n = cc in rw (← same) (grind (arith, nat_tests, e))
 most_by least most n m true false e h = cc
 most_by least most n m false high e h = cc
 
-most_of : (least most n : ℕ) (number : Option ℕ) → within least most number ≡ Some n → n ≤ most
+most_of : (least most n : ℕ) (number : Option ℕ) → option_and_then (within least most) number ≡ Some n → n ≤ most
 most_of least most n None h = cc
 most_of least most n (Some m) h = most_by least most n m (nat_le least m) (nat_le m most) refl h
 

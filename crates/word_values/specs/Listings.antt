@@ -4,6 +4,6 @@ use Rattle.std.specs.Prelude.{List, [], ◌∷◌}
 use Rattle.word_values.specs.declared.listing.Listing.{Listing}
 use Rattle.word_values.specs.declared.listing.Listing.TheVariants.{Names, Formats, Symbols, Printk}
 
--- those that have an option
+-- all of them
 abbrev pub listings : List Listing
 listings = Names ∷ Formats ∷ Symbols ∷ Printk ∷ []

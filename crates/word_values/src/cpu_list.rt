@@ -3,11 +3,10 @@
 ghost use Rattle.std.specs.Prelude.{◌≡◌, ◌∷◌, ◌<◌, ◌≤◌, [], IfSome, length, option_map};
 ghost use Rattle.std.specs.List.{position, slice_split};
 ghost use Rattle.std.specs.Option.{option_map_or};
-ghost use Rattle.word_values.specs.CpuList.{cpu_number, cpu_set, is_dash, is_separator, range_of};
-ghost use Rattle.word_values.specs.Cut.{cut};
-ghost use Rattle.word_values.specs.Views.{parts_view, range_view};
+ghost use Rattle.word_values.specs.CpuList.{cpu_number, cpu_set, is_separator, range_of};
+ghost use Rattle.word_values.specs.Views.{range_view};
 
-use crate::cut::around;
+use crate::cut::{around, around_first};
 use crate::number::small_within;
 use crate::processor_set::CpuSet;
 
@@ -47,7 +46,7 @@ fn range(piece: &[u8]) -> Option<(u32, u32)>
     ensures value { option_map range_view result ≡ range_of piece.now }
     ensures bounds { IfSome result (λ range. (range.0 ≤ range.1) × (range.1 < 1024)) }
 {
-    let Some((first, last)) = around_dash(piece) else {
+    let Some((first, last)) = around_first(piece, b'-') else {
         let cpu = cpu_number(piece)?;
         return Some((cpu, cpu));
     };
@@ -60,27 +59,11 @@ fn range(piece: &[u8]) -> Option<(u32, u32)>
     }
 }
 
-// What stands before and behind the first dash.
-#[tactic(auto, using(crate::proofs::CutLaws::cut_by_position, crate::proofs::CutLaws::position_inside))]
-fn around_dash(piece: &[u8]) -> Option<(&[u8], &[u8])>
-    ensures { option_map parts_view result ≡ cut is_dash piece.now }
-{
-    let at = dash_place(piece)?;
-    Some(around(piece, at))
-}
-
 // The place of the first separator.
 fn separator_place(text: &[u8]) -> Option<usize>
     ensures { result ≡ position is_separator text.now }
 {
     text.iter().position(|byte| *byte == b',' || *byte == b':')
-}
-
-// The place of the first dash.
-fn dash_place(text: &[u8]) -> Option<usize>
-    ensures { result ≡ position is_dash text.now }
-{
-    text.iter().position(|byte| *byte == b'-')
 }
 
 /// The number of a processor.

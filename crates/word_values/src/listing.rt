@@ -1,8 +1,6 @@
 /// A list that a report prints in place of its events (trace-cmd-report(1)).
 #[derive(Clone, Copy, Debug, PartialEq, Eq)]
 pub enum Listing {
-    /// No list: the events are printed.
-    Nothing,
     /// `-E`: the names of the events.
     Names,
     /// `--events`: the formats of the events.
@@ -14,7 +12,7 @@ pub enum Listing {
 }
 
 impl Listing {
-    /// The lists that have an option.
+    /// All of them.
     pub const ALL: [Listing; 4] = [
         Listing::Names,
         Listing::Formats,

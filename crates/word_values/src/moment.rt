@@ -1,12 +1,9 @@
 // A time on a command line.
 
 ghost use Rattle.std.specs.Prelude.{◌≡◌, ◌*◌, ◌^◌, ◌≤◌, IfSome, OnSome, length, option_map};
-ghost use Rattle.std.specs.List.{position};
-ghost use Rattle.word_values.specs.Cut.{cut};
-ghost use Rattle.word_values.specs.Moments.{decimal_moment, decimal_part, is_point, moment_of, moment_with, whole_seconds};
-ghost use Rattle.word_values.specs.Views.{parts_view};
+ghost use Rattle.word_values.specs.Moments.{decimal_moment, decimal_part, moment_of, moment_with, whole_seconds};
 
-use crate::cut::around;
+use crate::cut::around_first;
 use crate::number::number_within;
 
 /// A time as it was written: seconds, with up to nine decimals.
@@ -23,7 +20,7 @@ impl Moment {
     pub fn parse(text: &[u8]) -> Option<Moment>
         ensures { result ≡ moment_of text.now }
     {
-        match around_point(text) {
+        match around_first(text, b'.') {
             Some((whole, decimals)) => decimal_moment(whole, decimals),
             None => whole_moment(text),
         }
@@ -103,20 +100,4 @@ fn scaled(part: u64, zeros: usize) -> u128
     ensures bound { result ≤ 10 ^ 18 }
 {
     u128::from(part) * 10u128.pow(zeros as u32)
-}
-
-// What stands before and behind the first point.
-#[tactic(auto, using(crate::proofs::CutLaws::cut_by_position, crate::proofs::CutLaws::position_inside))]
-fn around_point(text: &[u8]) -> Option<(&[u8], &[u8])>
-    ensures { option_map parts_view result ≡ cut is_point text.now }
-{
-    let at = point_place(text)?;
-    Some(around(text, at))
-}
-
-// The place of the first point.
-fn point_place(text: &[u8]) -> Option<usize>
-    ensures { result ≡ position is_point text.now }
-{
-    text.iter().position(|byte| *byte == b'.')
 }

@@ -1,7 +1,9 @@
 // Decimal numbers in a text.
 
 ghost use Rattle.std.specs.Prelude.{◌≡◌};
-ghost use Rattle.word_values.specs.Number.{event_count, number_within, piece_count, seed_number, with_digit, worker_count};
+ghost use Rattle.word_values.specs.Number.{event_count, number_within, piece_count, seed_number, within, worker_count};
+
+use byte_classes::number_written;
 
 /// The number that the text spells, where it spells one from `least` to `most`.
 pub fn number_within(text: &[u8], least: u64, most: u64) -> Option<u64>
@@ -10,12 +12,16 @@ pub fn number_within(text: &[u8], least: u64, most: u64) -> Option<u64>
     if text.is_empty() {
         return None;
     }
-    let mut value = 0;
-    for byte in text {
-        value = with_digit(value, *byte, most)?;
-    }
-    if least <= value && value <= most {
-        Some(value)
+    let number = number_written(10, text)?;
+    between(number, least, most)
+}
+
+// The number, where it lies in a range.
+fn between(number: u64, least: u64, most: u64) -> Option<u64>
+    ensures { result ≡ within least most number }
+{
+    if least <= number && number <= most {
+        Some(number)
     } else {
         None
     }
@@ -56,17 +62,4 @@ pub fn piece_count(text: &[u8]) -> Option<u32>
     ensures { result ≡ piece_count text.now }
 {
     small_within(text, 1, 1_000_000_000)
-}
-
-// The number with one more digit, while it is at most `most`.
-fn with_digit(value: u64, byte: u8, most: u64) -> Option<u64>
-    ensures { result ≡ with_digit value byte most }
-{
-    let digit = char::from(byte).to_digit(10)?;
-    let longer = u128::from(value) * 10 + u128::from(digit);
-    if longer <= u128::from(most) {
-        Some(longer as u64)
-    } else {
-        None
-    }
 }

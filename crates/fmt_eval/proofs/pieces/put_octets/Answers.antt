@@ -1,7 +1,7 @@
 use Rattle.std.proofs.Common.{◌∙◌, ap, arith}
 use Rattle.trace_base.specs.Kept.{put}
 use Rattle.trace_base.specs.TailView.{kept}
-use Rattle.fmt_eval.specs.Pieces.{two_digits}
+use Rattle.trace_base.specs.Digits.{two_digits}
 use Rattle.fmt_eval.proofs.PieceLemmas.{behind, join_more, join_end}
 use Rattle.fmt_eval.proofs.pieces.put_octets.Goals as goal
 

@@ -1,7 +1,8 @@
 use Rattle.std.proofs.Common.{◌≡◌, drop, map}
 use Rattle.trace_base.specs.Kept.{put}
 use Rattle.trace_base.specs.TailView.{kept, lent}
-use Rattle.fmt_eval.specs.Pieces.{join, join_behind, two_digits}
+use Rattle.trace_base.specs.Digits.{two_digits}
+use Rattle.fmt_eval.specs.Pieces.{join, join_behind}
 use Rattle.fmt_eval.proofs.pieces.put_octets.Given as goal
 
 abbrev pub invariant-loop-byte : goal.invariant-loop-byte

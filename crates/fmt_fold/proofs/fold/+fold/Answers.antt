@@ -13,6 +13,12 @@ pub folded_entries-loop-entry-preserved : goal.folded_entries-loop-entry-preserv
 folded_entries-loop-entry-preserved t c =
     rw c.in_ok-push.ensures.items (entries_more c.loop-entry.made.items c.args.entries.now c.loop-entry.entry-index _ c.entry-item.result c.loop-entry-test.true c.entry-item.is (c.in_ok-text.ensures ∙ c.as_bytes.ensures) c.in_ok-value.ensures c.loop-entry.invariant)
 
+pub folded_prefix-returns : goal.folded_prefix-returns
+folded_prefix-returns t c = folds.folded_prefix _ _ _ _ c.settled.ensures c.in_ok-of.ensures
+
+pub folded_cast-returns : goal.folded_cast-returns
+folded_cast-returns t c = folds.folded_cast _ _ _ _ c.settled.ensures c.in_ok-of.ensures
+
 pub folded_chain-returns : goal.folded_chain-returns
 folded_chain-returns t c =
     folds.folded_chain _ _ _ _ c.in_ok-rest.rest.items c.args.rest.now c.settled.ensures c.chained.ensures c.in_ok-first.ensures c.in_ok-rest.ensures

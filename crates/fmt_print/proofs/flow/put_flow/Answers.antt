@@ -1,20 +1,19 @@
-use Rattle.std.proofs.Common.{◌<◌, ◌^◌, ◌-◌, ap, ◌∙◌, rules}
-use Rattle.trace_base.specs.TailView.{kept, held}
-use Rattle.fmt_print.proofs.FlowLemmas.{flow_left, flow_right, flow_alone}
+use Rattle.std.proofs.Common.{ℕ, List, map, ap, sym, ◌∙◌}
+use Rattle.std.specs.Prelude.{codes}
+use Rattle.trace_base.specs.Digits.{two_digits}
+use Rattle.trace_base.specs.Kept.{held_of, put_held}
+use Rattle.trace_base.specs.TailView.{held, kept}
+use Rattle.trace_base.proofs.TailJoins.{held_put}
+use Rattle.fmt_eval.specs.Pieces.{join}
+use Rattle.fmt_eval.specs.Values.{given}
+use Rattle.fmt_print.specs.Flows.{flow_text}
+use Rattle.fmt_print.specs.declared.flow.Flow.{Flow}
 use Rattle.fmt_print.proofs.flow.put_flow.Goals as goal
 
-pub returns-then-form-eq0-clause-value : goal.returns-then-form-eq0-clause-value
-returns-then-form-eq0-clause-value c =
-    flow_alone (held c.args.into.now) (held c.put_shown.new.into) _ c.args.form.now.left c.args.form.now.width c.if-form-eq0.true c.put_shown.ensures.value
-
-pub returns-then-form-clause-value : goal.returns-then-form-clause-value
-returns-then-form-clause-value c =
-    let small : c.args.form.now.width < 2 ^ 32 = search rules in
-    flow_left (held c.args.into.now) (kept c.put_shown-then-form.new.into) (kept c.put_repeated.new.into) _ c.args.form.now.width c.saturating_sub-pad.result _ c.if-form.true small
-    (c.saturating_sub-pad.ensures ∙ ap (λ n. c.args.form.now.width - n) c.shown_len-len.ensures) c.put_shown-then-form.ensures.value c.put_repeated.ensures.value
-
-pub returns-else-form-clause-value : goal.returns-else-form-clause-value
-returns-else-form-clause-value c =
-    let small : c.args.form.now.width < 2 ^ 32 = search rules in
-    flow_right (kept c.args.into.now) (kept c.put_repeated-else-form.new.into) (held c.put_shown-else-form.new.into) _ c.args.form.now.width c.saturating_sub-pad.result _ c.if-form.false small
-    (c.saturating_sub-pad.ensures ∙ ap (λ n. c.args.form.now.width - n) c.shown_len-len.ensures) c.put_repeated-else-form.ensures.value c.put_shown-else-form.ensures.value
+pub returns-in-Mac-clause-value : goal.returns-in-Mac-clause-value
+returns-in-Mac-clause-value c =
+    let into = c.args.into.now in
+    ap held_of c.put_octets.ensures.value
+    ∙ held_put (kept into) (join (codes ":") (map two_digits c.six_bytes.result))
+    ∙ ap (λ (bytes : List ℕ). put_held (held into) (join (codes ":") (map two_digits bytes))) c.six_bytes.ensures
+    ∙ ap (λ (flow : Flow). put_held (held into) (flow_text (given c.args.rec.now) flow)) (sym c.in-Mac.is)

@@ -1,5 +1,4 @@
 use Rattle.std.proofs.Common.{rules, ◌<◌, length, arith, ap}
-use Rattle.std.specs.Option.{option_copied}
 use Rattle.report_lists.specs.Lists.{entry, format_lines}
 use Rattle.report_lists.proofs.Putting.{entry_put, entry_stopped}
 use Rattle.report_lists.proofs.events.put_event_formats.Goals as goal

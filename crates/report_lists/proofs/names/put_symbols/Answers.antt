@@ -1,5 +1,4 @@
 use Rattle.std.proofs.Common.{rules, ◌<◌, length, arith, ap}
-use Rattle.std.specs.Option.{option_copied}
 use Rattle.report_lists.specs.Lists.{entry, symbol_line}
 use Rattle.report_lists.proofs.Putting.{entry_put, entry_stopped}
 use Rattle.report_lists.proofs.names.put_symbols.Goals as goal

@@ -1,5 +1,4 @@
-use Rattle.std.proofs.Common.{◌≡◌, ℕ, ◌+◌, ◌*◌, ◌%◌, ◌^◌, take, get_or, ap, sym, ◌∙◌, arith}
-use Rattle.std.specs.Char.{digit_value}
+use Rattle.std.proofs.Common.{ℕ, ◌+◌, ◌*◌, ◌%◌, ◌^◌, take, ap, sym, ◌∙◌, arith}
 use Rattle.std.specs.Str.Parse.{digits_value}
 use Rattle.symbols.proofs.Addresses.{run_stops, run_whole, digits_more, value_more, step}
 use Rattle.symbols.proofs.digits.first_digits.Goals as goal

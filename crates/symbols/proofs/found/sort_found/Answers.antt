@@ -1,4 +1,4 @@
-use Rattle.std.proofs.Common.{rules, ◌≡◌}
+use Rattle.std.proofs.Common.{rules}
 use Rattle.std.proofs.lemmas.List.Sorted.{answers_always}
 use Rattle.symbols.proofs.Sorting.{found_key, same_sorted, rises_sorted}
 use Rattle.symbols.proofs.found.sort_found.Goals as goal

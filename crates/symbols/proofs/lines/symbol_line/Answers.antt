@@ -1,6 +1,6 @@
 use Rattle.symbols.proofs.Forms.{when_found, when_none, symbol_is, symbol_again}
-use Rattle.symbols.specs.LineForms.{IsSymbolLine, IsPrintkLine, IsTaskLine}
-use Rattle.symbols.specs.Forms.{symbol_line, printk_line, task_line}
+use Rattle.symbols.specs.LineForms.{IsSymbolLine}
+use Rattle.symbols.specs.Forms.{symbol_line}
 use Rattle.symbols.proofs.lines.symbol_line.Goals as goal
 
 pub returns-clause-found : goal.returns-clause-found

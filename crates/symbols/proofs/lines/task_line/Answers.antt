@@ -1,6 +1,6 @@
 use Rattle.symbols.proofs.Forms.{when_found, when_none, task_is, task_again}
-use Rattle.symbols.specs.LineForms.{IsSymbolLine, IsPrintkLine, IsTaskLine}
-use Rattle.symbols.specs.Forms.{symbol_line, printk_line, task_line}
+use Rattle.symbols.specs.LineForms.{IsTaskLine}
+use Rattle.symbols.specs.Forms.{task_line}
 use Rattle.symbols.proofs.lines.task_line.Goals as goal
 
 pub returns-clause-found : goal.returns-clause-found

@@ -1,5 +1,5 @@
-use Rattle.std.proofs.Common.{rules, ◌≡◌, ◌∙◌, ◌++◌, sym, ap}
-use Rattle.text_lines.specs.Lines.{lines_of, lines_left}
+use Rattle.std.proofs.Common.{rules, ◌∙◌, ◌++◌, sym, ap}
+use Rattle.text_lines.specs.Lines.{lines_left}
 use Rattle.symbols.specs.Found.{pairs_of}
 use Rattle.symbols.specs.Forms.{pairs_in}
 use Rattle.symbols.proofs.ReadLines.{line_more}

@@ -4,7 +4,7 @@ use Rattle.filter_lang.specs.Tree.{no_operands, operand}
 use Rattle.filter_lang.specs.TreeView.{tree_of, operands_of}
 use Rattle.filter_lang.specs.ReaderView.{from}
 use Rattle.filter_lang.specs.ConditionReading.{found, row, row_behind, level_at}
-use Rattle.filter_lang.proofs.Steps.{unary_no_bracket, unary_comma, unary_slash, unary_colon, unary_closing}
+use Rattle.filter_lang.proofs.Steps.{unary_no_bracket, unary_other}
 use Rattle.filter_lang.proofs.RowTurns.{append, ends, begins, row_over, row_stops, row_goes_on, pushed, alone, several, passed, left_long}
 use Rattle.filter_lang.proofs.reader.Reader.+parser.Goals as goal
 
@@ -76,14 +76,8 @@ pub unary-returns-then-room-eq0-2-clause-value : goal.unary-returns-then-room-eq
 unary-returns-then-room-eq0-2-clause-value t c =
     unary_no_bracket c.args.room (from c.args.self.now c.args.at) (from c.args.self.now (c.args.at + 1)) (search rules) (search rules)
 
-pub unary-returns-in-Comma-clause-value : goal.unary-returns-in-Comma-clause-value
-unary-returns-in-Comma-clause-value t c = unary_comma c.args.room (from c.args.self.now c.args.at) (from c.args.self.now (c.args.at + 1)) (search rules)
-
-pub unary-returns-in-Slash-clause-value : goal.unary-returns-in-Slash-clause-value
-unary-returns-in-Slash-clause-value t c = unary_slash c.args.room (from c.args.self.now c.args.at) (from c.args.self.now (c.args.at + 1)) (search rules)
-
-pub unary-returns-in-Colon-clause-value : goal.unary-returns-in-Colon-clause-value
-unary-returns-in-Colon-clause-value t c = unary_colon c.args.room (from c.args.self.now c.args.at) (from c.args.self.now (c.args.at + 1)) (search rules)
-
-pub unary-returns-in-Close-clause-value : goal.unary-returns-in-Close-clause-value
-unary-returns-in-Close-clause-value t c = unary_closing c.args.room (from c.args.self.now c.args.at) (from c.args.self.now (c.args.at + 1)) (search rules)
+pub unary-returns-in_default-word-clause-value : goal.unary-returns-in_default-word-clause-value
+unary-returns-in_default-word-clause-value t c =
+    let ts = from c.args.self.now c.args.at in
+    let us = from c.args.self.now (c.args.at + 1) in
+    unary_other c.args.room ts us c.in_ok-word.word (search rules) (search rules) c.in_default-word.not-Number c.in_default-word.not-Text c.in_default-word.not-Field c.in_default-word.not-Open

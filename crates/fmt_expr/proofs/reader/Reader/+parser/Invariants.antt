@@ -9,7 +9,7 @@ use Rattle.fmt_expr.proofs.reader.Reader.+parser.Given as goal
 
 -- First the levels of nesting that are left, then those of operators.
 abbrev pub decreases-cond : goal.decreases-cond
-decreases-cond l = 32 * l.left + 28
+decreases-cond l = 32 * l.left + 29
 
 abbrev pub decreases-choice : goal.decreases-choice
 decreases-choice l = 32 * l.left + 1
@@ -20,14 +20,17 @@ decreases-inner_cond l = 32 * l.left
 abbrev pub decreases-inner_unary : goal.decreases-inner_unary
 decreases-inner_unary l = 32 * l.left
 
+abbrev pub decreases-number_before : goal.decreases-number_before
+decreases-number_before l = 32 * l.left + 1
+
 abbrev pub decreases-level : goal.decreases-level
-decreases-level l = 32 * l.left + 2 * l.level + 7
+decreases-level l = 32 * l.left + 2 * l.level + 8
 
 abbrev pub decreases-row : goal.decreases-row
-decreases-row l = 32 * l.left + 2 * l.level + 6
+decreases-row l = 32 * l.left + 2 * l.level + 7
 
 abbrev pub decreases-unary : goal.decreases-unary
-decreases-unary l = 32 * l.left + 6
+decreases-unary l = 32 * l.left + 7
 
 abbrev pub decreases-prefixed : goal.decreases-prefixed
 decreases-prefixed l = 32 * l.left + 1
@@ -42,37 +45,37 @@ abbrev pub decreases-bracket : goal.decreases-bracket
 decreases-bracket l = 32 * l.left + 1
 
 abbrev pub decreases-field : goal.decreases-field
-decreases-field l = 32 * l.left + 2
+decreases-field l = 32 * l.left + 3
 
 abbrev pub decreases-element : goal.decreases-element
-decreases-element l = 32 * l.left + 1
+decreases-element l = 32 * l.left + 2
 
 abbrev pub decreases-call : goal.decreases-call
-decreases-call l = 32 * l.left + 5
+decreases-call l = 32 * l.left + 6
 
 abbrev pub decreases-argument : goal.decreases-argument
 decreases-argument l = 32 * l.left + 1
 
 abbrev pub decreases-flags : goal.decreases-flags
-decreases-flags l = 32 * l.left + 4
+decreases-flags l = 32 * l.left + 5
 
 abbrev pub decreases-symbolic : goal.decreases-symbolic
-decreases-symbolic l = 32 * l.left + 4
+decreases-symbolic l = 32 * l.left + 5
 
 abbrev pub decreases-hex : goal.decreases-hex
-decreases-hex l = 32 * l.left + 4
+decreases-hex l = 32 * l.left + 5
 
 abbrev pub decreases-array : goal.decreases-array
-decreases-array l = 32 * l.left + 4
+decreases-array l = 32 * l.left + 5
 
 abbrev pub decreases-entry : goal.decreases-entry
-decreases-entry l = 32 * l.left + 1
+decreases-entry l = 32 * l.left + 2
 
 abbrev pub decreases-more_entries : goal.decreases-more_entries
-decreases-more_entries l = 32 * l.left + 2
+decreases-more_entries l = 32 * l.left + 3
 
 abbrev pub decreases-entries : goal.decreases-entries
-decreases-entries l = 32 * l.left + 3
+decreases-entries l = 32 * l.left + 4
 
 -- What was read, with the row behind it, is the whole row.
 abbrev pub invariant-row-loop-op : goal.invariant-row-loop-op

@@ -1,4 +1,4 @@
-use Rattle.std.proofs.Common.{◌≡◌, ◌∙◌, not, sym, ap, rules}
+use Rattle.std.proofs.Common.{rules}
 use Rattle.format_parse.proofs.table.FormatTable.add.Goals as goal
 use Rattle.format_parse.proofs.Ids.{any_of_id, values_put, keys_put, differ_put}
 

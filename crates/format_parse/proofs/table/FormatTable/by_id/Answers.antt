@@ -1,5 +1,4 @@
-use Rattle.std.proofs.Common.{◌≡◌, ◌∙◌, sym, ap, position, rules}
-use Rattle.format_parse.specs.Table.{has_id, has_name}
+use Rattle.std.proofs.Common.{rules}
 use Rattle.format_parse.proofs.table.FormatTable.by_id.Goals as goal
 use Rattle.format_parse.proofs.Ids.{place_of_id}
 

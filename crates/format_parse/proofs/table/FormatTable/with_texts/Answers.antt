@@ -1,4 +1,4 @@
-use Rattle.std.proofs.Common.{rules, ◌≡◌}
+use Rattle.std.proofs.Common.{rules}
 use Rattle.format_parse.proofs.Tables.{text_more, all_read}
 use Rattle.format_parse.proofs.table.FormatTable.with_texts.Goals as goal
 

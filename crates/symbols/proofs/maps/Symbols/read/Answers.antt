@@ -1,5 +1,4 @@
 use Rattle.symbols.specs.declared.lines.Form.TheVariants.{Kallsyms, Printk}
-use Rattle.symbols.specs.Maps.{Maps, AreMapsOf}
 use Rattle.symbols.proofs.ReadLines.{map_behind}
 use Rattle.symbols.proofs.MapLemmas.{map_here, maps_are}
 use Rattle.symbols.proofs.maps.Symbols.read.Goals as goal

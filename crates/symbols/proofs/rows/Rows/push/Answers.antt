@@ -1,4 +1,4 @@
-use Rattle.std.proofs.Common.{rules, ◌≡◌}
+use Rattle.std.proofs.Common.{rules}
 use Rattle.symbols.proofs.RowLemmas.{pushed}
 use Rattle.symbols.proofs.rows.Rows.push.Goals as goal
 

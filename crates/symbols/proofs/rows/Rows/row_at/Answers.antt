@@ -1,4 +1,4 @@
-use Rattle.std.proofs.Common.{rules, ◌≡◌}
+use Rattle.std.proofs.Common.{rules}
 use Rattle.symbols.proofs.RowLemmas.{row_at}
 use Rattle.symbols.proofs.rows.Rows.row_at.Goals as goal
 

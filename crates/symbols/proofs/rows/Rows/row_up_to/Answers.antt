@@ -1,4 +1,3 @@
-use Rattle.std.proofs.Common.{rules, ◌≡◌}
 use Rattle.symbols.proofs.RowLemmas.{rises_rows, found_near, found_within, found_none, found_last, found_no_last}
 use Rattle.symbols.proofs.rows.Rows.row_up_to.Goals as goal
 

@@ -1,19 +1,15 @@
-use Rattle.std.proofs.Common.{List, ℕ, ◌++◌, ◌-◌, ap, ◌∙◌, arith}
+use Rattle.std.proofs.Common.{List, ℕ, ◌++◌, ap, ◌∙◌, append_assoc}
 use Rattle.std.specs.Fmt.{decimal}
-use Rattle.std.proofs.lemmas.Fmt.{length-decimal-le}
-use Rattle.waiting_text.proofs.Copied.{added, first_digits, enough}
+use Rattle.fmt_forms.specs.Plain.{minus}
+use Rattle.waiting_text.specs.Gathered.{Gathered, joined}
+use Rattle.waiting_text.proofs.Gathering.{waits_behind}
 use Rattle.waiting_text.proofs.waiting.Waiting.decimal.Goals as goal
-
-pub write_digits-start-requires : goal.write_digits-start-requires
-write_digits-start-requires c = (length-decimal-le 20 c.args.n (omega arith) (omega (arith, c.ranges.n.fits)) c.ranges.n.fits, omega arith)
 
 pub returns : goal.returns
 returns c =
-    let start = c.write_digits-start.result in
-    let copied = c.copy_from_slice-2.new.self in
-    let is_copied = c.copy_from_slice-2.ensures.after ∙ c.copy_from_slice.ensures.after in
-    let digits = decimal c.args.n in
-    added c.self.inside.len _ (20 - start) c.self.inside.room copied digits (omega (arith, c.self.invariant, c.self.told))
-    (enough (20 - start) _ copied _ digits _ is_copied c.write_digits-start.ensures.written (omega (arith, c.write_digits-start.ensures.start)) (omega arith))
-    (first_digits (20 - start) _ copied _ digits _ is_copied c.write_digits-start.ensures.written (omega (arith, c.write_digits-start.ensures.start)) (omega arith))
-    ∙ ap (λ (l : List ℕ). l ++ digits) c.self.view_is
+    let sign = minus c.args.negative in
+    let digits = decimal c.args.magnitude in
+    let before = c.make_room.new.self in
+    waits_behind before c.number.new.self (sign ++ digits) c.make_room.new.into
+    (c.number.ensures ∙ ap (λ (l : List ℕ). l ++ digits) c.minus.ensures.value ∙ append_assoc before sign digits)
+    ∙ ap (λ (g : Gathered). joined g (sign ++ digits)) c.make_room.ensures.same

@@ -1,0 +1,11 @@
+use Rattle.std.proofs.Common.{ap, ◌∙◌}
+use Rattle.trace_base.specs.Kept.{held_of}
+use Rattle.trace_base.specs.TailView.{kept}
+use Rattle.trace_base.proofs.TailJoins.{held_put}
+use Rattle.fmt_print.proofs.Showing.{put_shown}
+use Rattle.fmt_print.proofs.printer.Printer.formed.Goals as goal
+
+pub returns : goal.returns
+returns c =
+    put_shown c.args.self.now c.put_into.new.self c.args.into.now c.put_into.new.into c.put_integer.new.into _ c.put_into.ensures.empty c.put_into.ensures.same c.put_integer.ensures.same_slice
+    (ap held_of c.put_integer.ensures.value ∙ held_put (kept c.put_into.new.into) _)
