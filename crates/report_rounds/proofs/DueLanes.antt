@@ -10,6 +10,7 @@ use Rattle.trace_base.specs.declared.layout.Layout.{Layout}
 use Rattle.trace_base.specs.declared.part.Part.{Part}
 use Rattle.subpage.specs.ItemData.{ItemData}
 use Rattle.subpage.specs.Processor.{bad_of, is_there, list_of, page_count}
+use Rattle.line_holes.specs.Holes.{LineText}
 use Rattle.page_pool.specs.Fresh.{IsFresh}
 use Rattle.page_pool.specs.Lines.{most_lines}
 use Rattle.page_pool.specs.declared.cursor.LaneState.{LaneState}
@@ -28,7 +29,7 @@ use Rattle.report_rounds.proofs.Before.{asked_in, before_left, sound_to}
 use Rattle.report_rounds.proofs.LineCounts.{count_cons, one_if}
 use Rattle.report_rounds.proofs.Reading.{size_inside, size_none, there_inside}
 
-module _ (text : ℕ → ItemData → List ℕ) (l : Layout) (file : List ℕ) (written : List CpuLine) (a : Lane) where
+module _ (text : ℕ → ItemData → LineText) (l : Layout) (file : List ℕ) (written : List CpuLine) (a : Lane) where
   -- all lines of a lane's used items are kept or among these pieces
   abbrev pub HasWritten : Type 0
   HasWritten = count_by (has_line text a.cpu) (list_of l file a.part)
@@ -177,7 +178,7 @@ module _ (l : Layout) (len : ℕ) (some : 0 < l.page) where
       )
 
 -- of each processor no more is due than its part has
-pub parts_due : (text : ℕ → ItemData → List ℕ) (l : Layout) (file : List ℕ) (written : List CpuLine) (parts : List (ℕ × Part)) → 0 < l.page
+pub parts_due : (text : ℕ → ItemData → LineText) (l : Layout) (file : List ℕ) (written : List CpuLine) (parts : List (ℕ × Part)) → 0 < l.page
     → l.page * sum_by (due_count text l file written) parts ≤ sum_by (λ part. part.1.size) parts
 parts_due text l file written [] some = omega arith
 parts_due text l file written (part ∷ parts) some =

@@ -16,6 +16,7 @@ use Rattle.trace_outside.proofs.Gains.{gained_both, gained_nothing}
 use Rattle.subpage.specs.ItemData.{ItemData}
 use Rattle.subpage.specs.Cut.{last_key}
 use Rattle.subpage.specs.Processor.{list_of}
+use Rattle.line_holes.specs.Holes.{LineText}
 use Rattle.page_pool.specs.Fresh.{IsFresh}
 use Rattle.page_pool.specs.Lines.{Line, Lines, most_lines}
 use Rattle.page_pool.specs.declared.lane.Lane.{Lane}
@@ -29,7 +30,7 @@ use Rattle.time_merge.specs.declared.ending.End.{End}
 use Rattle.time_merge.specs.declared.ending.End.TheVariants as code
 use Rattle.time_merge.proofs.Choosing.{each_of_all}
 use Rattle.time_merge.proofs.Starting.{fresh_stands}
-use Rattle.round_print.specs.Prints.{CpuLine, text_of}
+use Rattle.round_print.specs.Prints.{CpuLine, filled_text}
 use Rattle.report_rounds.specs.Between.{IsAtStart, IsBetween}
 use Rattle.report_rounds.specs.Due.{ReadsDue, due_bytes, due_count, greatest_up_to, has_line, is_page_due, is_of, pieces_of, whole_pieces, written_pieces}
 use Rattle.report_rounds.specs.Lines.{left_lines}
@@ -71,17 +72,17 @@ module _ (done left : List CpuLine) (rest : List ℕ) where
   pieces = done ++ left
 
   abbrev written : List ℕ
-  written = text_of done ++ rest
+  written = filled_text None done ++ rest
 
-  begins : starts_with nat_eq written (text_of (take (length done) pieces)) ≡ true
+  begins : starts_with nat_eq written (filled_text None (take (length done) pieces)) ≡ true
   begins =
       let first : take (length done) pieces ≡ done = take_at done left (length done) refl in
-      let same : take (length (text_of done)) written ≡ text_of done = take_at (text_of done) rest (length (text_of done)) refl in
-      subst (λ (ps : List CpuLine). starts_with nat_eq written (text_of ps) ≡ true) (sym first)
-      (ap (pointwise nat_eq (text_of done)) same ∙ nat_list_eq_equiv.refl (text_of done))
+      let same : take (length (filled_text None done)) written ≡ filled_text None done = take_at (filled_text None done) rest (length (filled_text None done)) refl in
+      subst (λ (ps : List CpuLine). starts_with nat_eq written (filled_text None ps) ≡ true) (sym first)
+      (ap (pointwise nat_eq (filled_text None done)) same ∙ nat_list_eq_equiv.refl (filled_text None done))
 
   whole_no_less : length done ≤ whole_pieces pieces written
-  whole_no_less = greatest_least (length pieces) (length done) (λ w. starts_with nat_eq written (text_of (take w pieces))) (length_front done left) begins
+  whole_no_less = greatest_least (length pieces) (length done) (λ w. starts_with nat_eq written (filled_text None (take w pieces))) (length_front done left) begins
     where
       length_front : (xs ys : List CpuLine) → length xs ≤ length (xs ++ ys)
       length_front [] ys = omega arith
@@ -93,13 +94,13 @@ module _ (done left : List CpuLine) (rest : List ℕ) where
       let first : take (length done) (take w pieces) ≡ done = take-take (length done) w pieces whole_no_less ∙ take_at done left (length done) refl in
       omega (arith, sum_by-take-le (λ (line : CpuLine). one_if (p line)) (take w pieces) (length done), ap (count_by p) first)
 
-module _ (text : ℕ → ItemData → List ℕ) (l : Layout) (file : List ℕ) where
+module _ (text : ℕ → ItemData → LineText) (l : Layout) (file : List ℕ) where
   -- whatever the end, the sink gained some text
-  ending_gained : (lanes : List Lane) (old new : Option (List ℕ)) (end : End) → IsEnding text l file lanes old new end → (rest : List ℕ) × Gained old new rest
-  ending_gained lanes old new code.Done ending = (_, ending.0)
-  ending_gained lanes old new (code.Malformed cpu page) ending = (_, ending.0)
-  ending_gained lanes old new code.Read ending = ([], ending ∙ gained_nothing old)
-  ending_gained lanes old new code.Write ending = (_, ending.1)
+  ending_gained : (lanes : List Lane) (last : Option ℕ) (old new : Option (List ℕ)) (end : End) → IsEnding text l file lanes last old new end → (rest : List ℕ) × Gained old new rest
+  ending_gained lanes last old new code.Done ending = (_, ending.0)
+  ending_gained lanes last old new (code.Malformed cpu page) ending = (_, ending.0)
+  ending_gained lanes last old new code.Read ending = ([], ending ∙ gained_nothing old)
+  ending_gained lanes last old new code.Write ending = (_, ending.1)
 
   -- a lane at the start has all of its items left
   start_left : (a : Lane) → IsFresh a.cursor → left_of l file a ≡ list_of l file a.part
@@ -132,14 +133,14 @@ module _ (text : ℕ → ItemData → List ℕ) (l : Layout) (file : List ℕ) w
         more (is_of b.cpu),
       )
 
-  module _ (len : ℕ) (same_len : length file ≡ len) (some : 0 < l.page) (first mid : List Lane) (old between new : Option (List ℕ)) (before reads after : ℕ)
-      (start : All (IsAtStart l) first) (going : IsGoing text l file first mid old between) (all : All (IsBetween text l) mid) (parts : parts_of mid ≡ parts_of first)
+  module _ (len : ℕ) (same_len : length file ≡ len) (some : 0 < l.page) (first mid : List Lane) (last_mid : Option ℕ) (old between new : Option (List ℕ)) (before reads after : ℕ)
+      (start : All (IsAtStart l) first) (going : IsGoing text l file first mid last_mid old between) (all : All (IsBetween text l) mid) (parts : parts_of mid ≡ parts_of first)
       (load : HasLoaded l (Some file) len mid reads after) (rest : List ℕ) where
     abbrev done_lines : List CpuLine
     done_lines = going.further.done
 
     abbrev whole_text : List ℕ
-    whole_text = text_of done_lines ++ rest
+    whole_text = filled_text None done_lines ++ rest
 
     abbrev all_pieces : List CpuLine
     all_pieces = pieces_of text l file (parts_of first)
@@ -179,7 +180,7 @@ module _ (text : ℕ → ItemData → List ℕ) (l : Layout) (file : List ℕ) w
         let count : ℕ × Part → ℕ = due_count text l file whole_lines in (
           whole_text,
           (
-            gained_both old between new (text_of done_lines) rest going.further.gained gained,
+            gained_both old between new (filled_text None done_lines) rest going.further.gained gained,
             omega (
               arith,
               fresh_all l len some first (each_of_all (λ (a : Lane). IsFresh a.cursor) first fresh),
@@ -195,16 +196,16 @@ module _ (text : ℕ → ItemData → List ℕ) (l : Layout) (file : List ℕ) w
         )
 
 -- over a file that may tell its bytes
-pub due_told : (text : ℕ → ItemData → List ℕ) (l : Layout) (told now_told : Option (List ℕ)) (len now_len : ℕ) (first mid : List Lane) (old between new : Option (List ℕ)) (before reads after : ℕ)
+pub due_told : (text : ℕ → ItemData → LineText) (l : Layout) (told now_told : Option (List ℕ)) (len now_len : ℕ) (first mid : List Lane) (last_mid : Option ℕ) (old between new : Option (List ℕ)) (before reads after : ℕ)
     (end : End) → now_told ≡ told → now_len ≡ len → IfSome told (λ file. length file ≡ len) → 0 < l.page → All (IsAtStart l) first → All (IsBetween text l) mid → parts_of mid ≡ parts_of first
-    → IfSome told (λ file. IsGoing text l file first mid old between)
-    → HasLoaded l now_told now_len mid reads after → IfSome now_told (λ file. All (Stands l file) mid → IsEnding text l file mid between new end)
+    → IfSome told (λ file. IsGoing text l file first mid last_mid old between)
+    → HasLoaded l now_told now_len mid reads after → IfSome now_told (λ file. All (Stands l file) mid → IsEnding text l file mid last_mid between new end)
     → all_unread l len mid ≤ all_unread l len first → reads ≤ raised before (all_unread l len first - all_unread l len mid)
     → IfSome told (λ file. ReadsDue text l file (parts_of first) old new before after)
-due_told text l None now_told len now_len first mid old between new before reads after end same same_len size some start all parts going load turned less read = tt
-due_told text l (Some file) now_told len now_len first mid old between new before reads after end same same_len size some start all parts going load turned less read =
-    let ending : All (Stands l file) mid → IsEnding text l file mid between new end = subst (λ (o : Option (List ℕ)). IfSome o (λ file. All (Stands l file) mid → IsEnding text l file mid between new end)) same turned in
-    let gained : (rest : List ℕ) × Gained between new rest = ending_gained text l file mid between new end (ending going.stands) in
+due_told text l None now_told len now_len first mid last_mid old between new before reads after end same same_len size some start all parts going load turned less read = tt
+due_told text l (Some file) now_told len now_len first mid last_mid old between new before reads after end same same_len size some start all parts going load turned less read =
+    let ending : All (Stands l file) mid → IsEnding text l file mid last_mid between new end = subst (λ (o : Option (List ℕ)). IfSome o (λ file. All (Stands l file) mid → IsEnding text l file mid last_mid between new end)) same turned in
+    let gained : (rest : List ℕ) × Gained between new rest = ending_gained text l file mid last_mid between new end (ending going.stands) in
     let here : HasLoaded l (Some file) len mid reads after =
     subst (λ (n : ℕ). HasLoaded l (Some file) n mid reads after) same_len (subst (λ (o : Option (List ℕ)). HasLoaded l o now_len mid reads after) same load) in
-    reads_due text l file len size some first mid old between new before reads after start going all parts here gained.0 less read gained.1
+    reads_due text l file len size some first mid last_mid old between new before reads after start going all parts here gained.0 less read gained.1

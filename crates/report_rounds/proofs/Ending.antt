@@ -9,6 +9,7 @@ use Rattle.trace_base.specs.declared.layout.Layout.{Layout}
 use Rattle.subpage.specs.ItemData.{ItemData}
 use Rattle.subpage.specs.Arrangement.{Keyed, key_of, cpu_of, CpusRise, IsRising}
 use Rattle.subpage.specs.Cut.{Cut, earlier, cut_of}
+use Rattle.line_holes.specs.Holes.{LineText}
 use Rattle.page_pool.specs.Lines.{Line}
 use Rattle.page_pool.specs.declared.lane.Lane.{Lane}
 use Rattle.page_pool.specs.declared.cursor.LaneState.{LaneState}
@@ -27,7 +28,8 @@ use Rattle.time_merge.proofs.Parting.{each_append, each_weaker}
 use Rattle.time_merge.proofs.RowLaws.{From, next_cut}
 use Rattle.time_merge.proofs.Starting.{cut_of_rows}
 use Rattle.cpu_workers.specs.Formats.{IsSorted}
-use Rattle.round_print.specs.Prints.{CpuLine, key_in, cpu_in, with_cpu, is_due, later_lines, later_of, line_key}
+use Rattle.time_merge.specs.Horizons.{is_due}
+use Rattle.round_print.specs.Prints.{CpuLine, key_in, cpu_in, with_cpu, later_lines, later_of, line_key}
 use Rattle.report_rounds.specs.Lines.{shown_lines}
 use Rattle.report_rounds.proofs.Shown.{each_shown, shown_rises}
 use Rattle.report_rounds.proofs.RoundsPrinted.{after, left_after, own_lines, rising_lines, start_later}
@@ -166,7 +168,7 @@ none_later h high cpu lane at s own here = at.none lane s own (high_is lane lane
 abbrev cut_made : Option ℕ → ℕ → ℕ → Cut
 cut_made key cpu page = record { key = key; cpu = cpu; page = page }
 
-module _ (text : ℕ → ItemData → List ℕ) (l : Layout) (file : List ℕ) (h : Horizon) where
+module _ (text : ℕ → ItemData → LineText) (l : Layout) (file : List ℕ) (h : Horizon) where
   abbrev pub rows_after : List Lane → List (Row CpuLine)
   rows_after lanes = rows_in (map (after text l file h) lanes)
 

@@ -9,13 +9,15 @@ use Rattle.std.proofs.lemmas.List.Sums.{sum_by-append, sum_by-cons}
 use Rattle.trace_base.specs.declared.layout.Layout.{Layout}
 use Rattle.subpage.specs.ItemData.{ItemData, item_time}
 use Rattle.subpage.specs.Arrangement.{Keyed, keyed_from, put, by_key, CpusRise}
+use Rattle.line_holes.specs.Holes.{LineText}
 use Rattle.page_pool.specs.Lines.{Line}
 use Rattle.page_pool.specs.declared.lane.Lane.{Lane}
 use Rattle.event_cursor.specs.Standing.{left_of}
 use Rattle.time_merge.specs.declared.horizons.Horizon.{Horizon}
 use Rattle.time_merge.specs.LaneRows.{parts_of, row_of}
 use Rattle.time_merge.specs.Rows.{Each, Row}
-use Rattle.round_print.specs.Prints.{CpuLine, due_lines, due_of, is_due, key_in, later_lines, printed, with_cpu}
+use Rattle.time_merge.specs.Horizons.{is_due}
+use Rattle.round_print.specs.Prints.{CpuLine, due_lines, due_of, key_in, later_lines, printed, with_cpu}
 use Rattle.round_print.specs.Rounds.{IsPrinted}
 use Rattle.round_print.proofs.Printing.{after_above, each_at, rise_after}
 use Rattle.report_rounds.specs.Due.{has_line, is_of}
@@ -31,7 +33,7 @@ count_cons {X} p x xs = sum_by-cons (λ (y : X). cond (p y) 1 0) x xs
 pub count_on : {X : Type 0} (p : X → Bool) (xs ys : List X) → count_by p (xs ++ ys) ≡ count_by p xs + count_by p ys
 count_on {X} p xs ys = sum_by-append (λ (y : X). cond (p y) 1 0) xs ys
 
-module _ (text : ℕ → ItemData → List ℕ) where
+module _ (text : ℕ → ItemData → LineText) where
   -- an item has a line or none
   shown_count : (cpu high : ℕ) (xs : List ItemData) → length (shown_lines text (keyed_from cpu high xs)) ≡ count_by (has_line text cpu) xs
   shown_count cpu high [] = refl
@@ -41,7 +43,7 @@ module _ (text : ℕ → ItemData → List ℕ) where
       let shown : List CpuLine = shown_lines text (keyed_from cpu key xs) in
       let rest : length shown ≡ count_by (has_line text cpu) xs = shown_count cpu key xs in
       let one : count_by (has_line text cpu) (x ∷ xs) ≡ one_if (has_line text cpu x) + count_by (has_line text cpu) xs = count_cons (has_line text cpu) x xs in
-      elim (cases_Bool (length (text cpu x) == 0)) as (λ _. length (shown_lines text (keyed_from cpu high (x ∷ xs))) ≡ count_by (has_line text cpu) (x ∷ xs)) [
+      elim (cases_Bool (length (text cpu x).bytes == 0)) as (λ _. length (shown_lines text (keyed_from cpu high (x ∷ xs))) ≡ count_by (has_line text cpu) (x ∷ xs)) [
         | inl none ↦
             let here : length (shown_lines text (keyed_from cpu high (x ∷ xs))) ≡ length shown = ap (λ (b : Bool). length (if b then shown else item_line text first ∷ shown)) none in
             let no : one_if (has_line text cpu x) ≡ 0 = ap (λ (b : Bool). one_if (not b)) none in
@@ -155,7 +157,7 @@ module _ (h : Horizon) where
   printed_count lanes i d lt rise = by_key_count (is_of (get_or lanes i d).cpu) (flat_map (due_of h) lanes) ∙ own_count lanes i d lt rise
 
   -- a lane whose lines up to the horizon are printed has the others to come
-  pub printed_waiting : (text : ℕ → ItemData → List ℕ) (l : Layout) (file : List ℕ) (a b : Lane) → IsPrinted h a b
+  pub printed_waiting : (text : ℕ → ItemData → LineText) (l : Layout) (file : List ℕ) (a b : Lane) → IsPrinted h a b
       → length (waiting_row text l file a).items ≡ length (due_of h a) + length (waiting_row text l file b).items
   printed_waiting text l file a b p =
       omega (

@@ -3,6 +3,7 @@ use Rattle.std.proofs.Common.{◌≡◌, ℕ, ◌<◌, ◌≤◌, max, List, [],
 use Rattle.trace_base.specs.declared.layout.Layout.{Layout}
 use Rattle.subpage.specs.ItemData.{ItemData, item_time}
 use Rattle.subpage.specs.Arrangement.{Keyed, keyed_from}
+use Rattle.line_holes.specs.Holes.{LineText}
 use Rattle.page_pool.specs.Lines.{Line, Lines}
 use Rattle.page_pool.specs.declared.lane.Lane.{Lane}
 use Rattle.event_cursor.specs.Standing.{held_left, keyed_held, most_left}
@@ -10,7 +11,8 @@ use Rattle.time_merge.specs.Advancing.{IsReadied}
 use Rattle.time_merge.specs.declared.horizons.Horizon.{Horizon}
 use Rattle.cpu_workers.specs.Spaces.{Space, space_of, fill}
 use Rattle.cpu_workers.specs.Formats.{IsFormatted}
-use Rattle.round_print.specs.Prints.{later_lines, later_of, is_due}
+use Rattle.time_merge.specs.Horizons.{is_due}
+use Rattle.round_print.specs.Prints.{later_lines, later_of}
 use Rattle.round_print.specs.Rounds.{IsPrinted}
 use Rattle.std.proofs.lemmas.Bool.{cases_Bool}
 use Rattle.std.proofs.Common.{inl, inr}
@@ -29,7 +31,7 @@ later_long h cpu (line ∷ lines) = elim (cases_Bool (is_due h line.key cpu)) as
   | inr later ↦ rw later (omega arith)
 ]
 
-module _ (text : ℕ → ItemData → List ℕ) (l : Layout) where
+module _ (text : ℕ → ItemData → LineText) (l : Layout) where
   pub work_loaded : (told : Option (List ℕ)) (a b : Lane) → IsReadied l told a b → work_of l b ≤ work_of l a
   work_loaded told a b loaded = omega (arith, loaded.most, ap (λ (r : Lines). length r.kept) loaded.place.region)
 

@@ -8,7 +8,7 @@ use Rattle.trace_base.specs.declared.part.Part.{Part}
 use Rattle.trace_outside.specs.Causes.{raised}
 use Rattle.subpage.specs.ItemData.{ItemData}
 use Rattle.subpage.specs.Processor.{page_count}
-use Rattle.page_pool.specs.declared.cursor.Cursor.{Cursor}
+use Rattle.line_holes.specs.Holes.{LineText}
 use Rattle.page_pool.specs.declared.cursor.LaneState.{LaneState}
 use Rattle.page_pool.specs.declared.cursor.LaneState.TheVariants.{Fresh, Held, Ended, Malformed}
 use Rattle.page_pool.specs.declared.lane.Lane.{Lane}
@@ -82,12 +82,12 @@ module _ (l : Layout) (len : ℕ) where
       ∙ ap (λ (s : LaneState). size_from l len a.part (first_unread s b.cursor.next)) state
       ∙ ap (λ (k : ℕ). size_from l len a.part (first_unread a.cursor.state k)) next
 
-  module _ (text : ℕ → ItemData → List ℕ) where
+  module _ (text : ℕ → ItemData → LineText) where
     unread_formatted : (a b : Lane) → IsFormatted text l a b → unread l len b ≡ unread l len a
     unread_formatted a b f = unread_same a b f.keeps.part f.keeps.state f.keeps.next
 
     unread_printed : (h : Horizon) (a b : Lane) → IsPrinted h a b → unread l len b ≡ unread l len a
-    unread_printed h a b p = unread_same a b p.keeps.part (ap (λ (c : Cursor). c.state) p.keeps.cursor) (ap (λ (c : Cursor). c.next) p.keeps.cursor)
+    unread_printed h a b p = unread_same a b p.keeps.lane.part p.keeps.lane.state p.keeps.lane.next
 
     -- formatting and printing read nothing
     pub unread_turned : (h : Horizon) (loaded formed now : List Lane) → length formed ≡ length loaded → length now ≡ length formed → Related (IsFormatted text l) loaded formed → Related (IsPrinted h) formed now

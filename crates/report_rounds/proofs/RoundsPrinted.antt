@@ -8,6 +8,7 @@ use Rattle.trace_base.specs.declared.part.Part.{Part}
 use Rattle.subpage.specs.ItemData.{ItemData}
 use Rattle.subpage.specs.Arrangement.{Keyed, key_of, cpu_of, IsRising, by_key, CpusRise}
 use Rattle.subpage.specs.Cut.{Cut}
+use Rattle.line_holes.specs.Holes.{LineText}
 use Rattle.page_pool.specs.Lines.{Line, Lines}
 use Rattle.page_pool.specs.declared.cursor.Cursor.{Cursor}
 use Rattle.page_pool.specs.declared.lane.Lane.{Lane}
@@ -21,7 +22,7 @@ use Rattle.time_merge.specs.LaneRows.{row_of, parts_of}
 use Rattle.time_merge.proofs.LaneLaws.{is_row}
 use Rattle.time_merge.proofs.RoundLaws.{round}
 use Rattle.round_print.specs.Prints.{CpuLine, key_in, cpu_in, with_cpu, due_lines, later_lines, due_of, later_of, printed, KeysRise, line_key}
-use Rattle.round_print.specs.Rounds.{IsPrinted, KeepsLane}
+use Rattle.round_print.specs.Rounds.{IsPrinted, KeepsTidy}
 use Rattle.report_rounds.specs.Lines.{shown_lines, waiting_of, waiting_rows, left_lines}
 use Rattle.report_rounds.proofs.Pairs.{Related, map_on}
 use Rattle.report_rounds.proofs.Shown.{each_shown}
@@ -58,10 +59,10 @@ start_due c cpu (line ∷ lines) = refl
 abbrev pub wait_made : ℕ → List CpuLine → List CpuLine → Option Cut → Waiting CpuLine
 wait_made cpu kept more cut = record { cpu = cpu; kept = kept; more = more; cut = cut }
 
-abbrev pub wait_with : (ℕ → ItemData → List ℕ) → ℕ → List Line → Row Keyed → Waiting CpuLine
+abbrev pub wait_with : (ℕ → ItemData → LineText) → ℕ → List Line → Row Keyed → Waiting CpuLine
 wait_with text cpu kept row = wait_made cpu (map (with_cpu cpu) kept) (shown_lines text row.items) row.cut
 
-module _ (text : ℕ → ItemData → List ℕ) (l : Layout) (file : List ℕ) where
+module _ (text : ℕ → ItemData → LineText) (l : Layout) (file : List ℕ) where
   -- what waits of a lane once its lines up to a horizon are printed
   abbrev pub after : Horizon → Lane → Waiting CpuLine
   after h lane = wait_with text lane.cpu (later_of h lane) (row_of l file lane)
@@ -136,19 +137,19 @@ unfolding left_of
 region_row l file a r = refl
 
 -- a lane of which nothing but the region changed
-pub same_lane : (before now : Lane) → KeepsLane before now → now ≡ with_region before now.region
+pub same_lane : (before now : Lane) → KeepsTidy before now → now ≡ with_region before now.region
 same_lane before now keeps =
-    ap (λ (c : ℕ). lane_made c now.part now.cursor now.page now.region) keeps.cpu ∙ ap (λ (p : Part). lane_made before.cpu p now.cursor now.page now.region) keeps.part
-    ∙ ap (λ (c : Cursor). lane_made before.cpu before.part c now.page now.region) keeps.cursor ∙ ap (λ (p : List ℕ). lane_made before.cpu before.part before.cursor p now.region) keeps.page
+    ap (λ (c : ℕ). lane_made c now.part now.cursor now.page now.region) keeps.lane.cpu ∙ ap (λ (p : Part). lane_made before.cpu p now.cursor now.page now.region) keeps.lane.part
+    ∙ ap (λ (c : Cursor). lane_made before.cpu before.part c now.page now.region) keeps.lane.cursor ∙ ap (λ (p : List ℕ). lane_made before.cpu before.part before.cursor p now.region) keeps.lane.page
 
-pub same_kept_row : (l : Layout) (file : List ℕ) (before now : Lane) → KeepsLane before now → row_of l file now ≡ row_of l file before
+pub same_kept_row : (l : Layout) (file : List ℕ) (before now : Lane) → KeepsTidy before now → row_of l file now ≡ row_of l file before
 same_kept_row l file before now keeps = ap (row_of l file) (same_lane before now keeps) ∙ region_row l file before now.region
 
-module _ (text : ℕ → ItemData → List ℕ) (l : Layout) (file : List ℕ) where
+module _ (text : ℕ → ItemData → LineText) (l : Layout) (file : List ℕ) where
   printed_row : (h : Horizon) (before now : Lane) → IsPrinted h before now → waiting_of text l file now ≡ after text l file h before
   printed_row h before now p =
       ap (λ (r : Row Keyed). wait_with text now.cpu now.region.kept r) (same_kept_row l file before now p.keeps)
-      ∙ ap (λ (c : ℕ). wait_with text c now.region.kept (row_of l file before)) p.keeps.cpu
+      ∙ ap (λ (c : ℕ). wait_with text c now.region.kept (row_of l file before)) p.keeps.lane.cpu
       ∙ ap (λ (ls : List Line). wait_with text before.cpu ls (row_of l file before)) p.kept
 
   pub printed_left : (h : Horizon) (lanes now : List Lane) → length now ≡ length lanes → Related (IsPrinted h) lanes now → left_lines text l file now ≡ left_after text l file h lanes

@@ -3,7 +3,6 @@ use Rattle.std.proofs.Common.{◌≡◌, ◌≢◌, ℕ, ◌+◌, ◌<◌, ◌�
 use Rattle.std.specs.List.{All, count_by}
 use Rattle.std.specs.Option.{IfSome, IfNone}
 use Rattle.std.proofs.lemmas.List.{append-nil}
-use Rattle.std.proofs.lemmas.List.Concat.{flat_map-append}
 use Rattle.std.proofs.lemmas.List.Elements.{All-get_or, All-weaker}
 use Rattle.trace_base.specs.declared.layout.Layout.{Layout}
 use Rattle.trace_base.specs.declared.part.Part.{Part}
@@ -12,12 +11,14 @@ use Rattle.trace_outside.proofs.PendingLemmas.{prefix_longer}
 use Rattle.subpage.specs.ItemData.{ItemData}
 use Rattle.subpage.specs.Arrangement.{Keyed, CpusRise}
 use Rattle.subpage.specs.Cut.{Cut, cut_of}
+use Rattle.line_holes.specs.Holes.{LineText}
 use Rattle.page_pool.specs.Lines.{Lines}
 use Rattle.page_pool.specs.declared.cursor.Cursor.{Cursor}
 use Rattle.page_pool.specs.declared.cursor.LaneState.{LaneState}
 use Rattle.page_pool.specs.declared.cursor.LaneState.TheVariants.{Fresh, Held, Ended, Malformed}
 use Rattle.page_pool.specs.declared.lane.Lane.{Lane}
-use Rattle.event_cursor.specs.Loading.{KeepsLeft, KeepsPlace}
+use Rattle.page_pool.specs.Keeping.{KeepsLane, loading}
+use Rattle.event_cursor.specs.Loading.{KeepsLeft}
 use Rattle.event_cursor.specs.Standing.{IsInOrder, Stands, held_left}
 use Rattle.time_merge.specs.Advancing.{IsReadied}
 use Rattle.time_merge.specs.declared.ending.End.{End}
@@ -32,7 +33,8 @@ use Rattle.time_merge.proofs.Choosing.{each_of_all}
 use Rattle.time_merge.proofs.LaneLaws.{same_row}
 use Rattle.cpu_workers.specs.Formats.{IsFormatted, IsSorted}
 use Rattle.cpu_workers.proofs.Placing.{stands_region}
-use Rattle.round_print.specs.Prints.{CpuLine, KeysRise, key_in, cpu_in, printed, text_of}
+use Rattle.round_print.specs.Prints.{CpuLine, KeysRise, key_in, cpu_in, printed, filled_text, last_of}
+use Rattle.round_print.proofs.FilledTexts.{text_in_turn}
 use Rattle.round_print.specs.Rounds.{IsPrinted}
 use Rattle.report_rounds.specs.Between.{IsBetween, all_work, work_of}
 use Rattle.report_rounds.specs.Due.{is_of}
@@ -49,7 +51,7 @@ use Rattle.report_rounds.proofs.Progress.{work_formatted, work_less, work_loaded
 use Rattle.report_rounds.proofs.RoundsPrinted.{after, left_after, printed_left, same_lane, wait_with}
 
 -- Lanes that were made ready, and then formatted.
-pub record IsFormed (text : ℕ → ItemData → List ℕ) (l : Layout) (told : Option (List ℕ)) (first loaded formed : List Lane) : Type 0 where
+pub record IsFormed (text : ℕ → ItemData → LineText) (l : Layout) (told : Option (List ℕ)) (first loaded formed : List Lane) : Type 0 where
   pub long_loaded : length loaded ≡ length first
   pub long_formed : length formed ≡ length loaded
   pub in_order : All (IsInOrder l) loaded
@@ -57,7 +59,7 @@ pub record IsFormed (text : ℕ → ItemData → List ℕ) (l : Layout) (told : 
   pub ready : All (IsReady l) loaded
   pub format : Related (IsFormatted text l) loaded formed
 
-module _ (text : ℕ → ItemData → List ℕ) (l : Layout) (told : Option (List ℕ)) (first loaded formed : List Lane) (f : IsFormed text l told first loaded formed) where
+module _ (text : ℕ → ItemData → LineText) (l : Layout) (told : Option (List ℕ)) (first loaded formed : List Lane) (f : IsFormed text l told first loaded formed) where
   loaded_all : All (IsBetween text l) first → All (IsBetween text l) loaded
   loaded_all all = λ i d lt.
       let inside : i < length first = omega (arith, lt, f.long_loaded) in
@@ -82,7 +84,7 @@ module _ (text : ℕ → ItemData → List ℕ) (l : Layout) (told : Option (Lis
     now_all all = all_on (IsPrinted h) (IsBetween text l) (IsBetween text l) formed now long print (printed_between text l h) (formed_all all)
 
     pub now_parts : parts_of now ≡ parts_of first
-    now_parts = parts_on (IsPrinted h) formed now long print (λ a b p. p.keeps.cpu) (λ a b p. p.keeps.part) ∙ formed_parts
+    now_parts = parts_on (IsPrinted h) formed now long print (λ a b p. p.keeps.lane.cpu) (λ a b p. p.keeps.lane.part) ∙ formed_parts
 
     -- formatted and then printed
     abbrev IsDone : Lane → Lane → Type 0
@@ -106,7 +108,7 @@ module _ (text : ℕ → ItemData → List ℕ) (l : Layout) (told : Option (Lis
       some_held : (d : Lane) (s : LaneState) → (get_or loaded least.i d).cursor.state ≡ s → 0 < length (held_left l (get_or loaded least.i d))
       some_held d s e = of_state s (subst (λ (t : LaneState). IsReadyIn t (held_left l a)) e (f.ready least.i d inside))
           (subst (λ (t : LaneState). high_in t b.cursor.high ≡ Some high) (format.keeps.state ∙ e) there.here)
-          (λ bad. sound least.i d (omega (arith, least.inside, long)) (print_i.keeps.cpu ∙ there.own) (ap (λ (c : Cursor). c.state) print_i.keeps.cursor ∙ format.keeps.state ∙ e ∙ bad))
+          (λ bad. sound least.i d (omega (arith, least.inside, long)) (print_i.keeps.lane.cpu ∙ there.own) (ap (λ (c : Cursor). c.state) print_i.keeps.lane.cursor ∙ format.keeps.state ∙ e ∙ bad))
         where
           a : Lane
           a = get_or loaded least.i d
@@ -161,7 +163,7 @@ abbrev cut_made : Option ℕ → ℕ → ℕ → Cut
 cut_made key cpu page = record { key = key; cpu = cpu; page = page }
 
 -- over a file that tells its bytes
-module _ (text : ℕ → ItemData → List ℕ) (l : Layout) (file : List ℕ) where
+module _ (text : ℕ → ItemData → LineText) (l : Layout) (file : List ℕ) where
   rows_are : (lanes : List Lane) → waiting_rows text l file lanes ≡ map (waiting_row text l file) lanes
   rows_are [] = refl
   rows_are (a ∷ lanes) = ap (λ (rs : List (Row CpuLine)). waiting_row text l file a ∷ rs) (rows_are lanes)
@@ -170,7 +172,7 @@ module _ (text : ℕ → ItemData → List ℕ) (l : Layout) (file : List ℕ) w
   unfolding left_lines
   left_on xs ys e = ap (coming key_in cpu_in) (rows_are ys ∙ e ∙ sym (rows_are xs))
 
-  pub loaded_row : (a b : Lane) → KeepsPlace a b → KeepsLeft l file a b → waiting_row text l file b ≡ waiting_row text l file a
+  pub loaded_row : (a b : Lane) → KeepsLane loading a b → KeepsLeft l file a b → waiting_row text l file b ≡ waiting_row text l file a
   loaded_row a b p k =
       ap (λ (r : Row Keyed). row_in (wait_with text b.cpu b.region.kept r)) (same_row l file a b p k)
       ∙ ap (λ (c : ℕ). row_in (wait_with text c b.region.kept (row_of l file a))) p.cpu
@@ -197,16 +199,16 @@ module _ (text : ℕ → ItemData → List ℕ) (l : Layout) (file : List ℕ) w
           ∙ parted l file text h formed is (formed_rise text l (Some file) first loaded formed f rise) formed_stands (each_of_all KeysRise formed (formed_rises text l (Some file) first loaded formed f all))
 
       -- a write failed
-      pub turned_failed : (old new : Option (List ℕ)) → GainedPrefix old new (text_of (printed h formed)) → GainedPrefix old new (text_of (left_lines text l file first))
-      turned_failed old new gained =
-          subst (λ (xs : List CpuLine). GainedPrefix old new (text_of xs)) (sym formed_parted)
-          (subst (λ (xs : List ℕ). GainedPrefix old new xs) (sym (flat_map-append (λ (line : CpuLine). line.text) (printed h formed) (left_after text l file h formed)))
-          (prefix_longer old new (text_of (printed h formed)) (text_of (left_after text l file h formed)) gained))
+      pub turned_failed : (last : Option ℕ) (old new : Option (List ℕ)) → GainedPrefix old new (filled_text last (printed h formed)) → GainedPrefix old new (filled_text last (left_lines text l file first))
+      turned_failed last old new gained =
+          subst (λ (xs : List CpuLine). GainedPrefix old new (filled_text last xs)) (sym formed_parted)
+          (subst (λ (xs : List ℕ). GainedPrefix old new xs) (sym (text_in_turn last (printed h formed) (left_after text l file h formed)))
+          (prefix_longer old new (filled_text last (printed h formed)) (filled_text (last_of last (printed h formed)) (left_after text l file h formed)) gained))
 
-      all_printed : left_after text l file h formed ≡ [] → (old new : Option (List ℕ)) → Gained old new (text_of (printed h formed)) → Gained old new (text_of (left_lines text l file first))
-      all_printed none old new gained =
+      all_printed : left_after text l file h formed ≡ [] → (last : Option ℕ) (old new : Option (List ℕ)) → Gained old new (filled_text last (printed h formed)) → Gained old new (filled_text last (left_lines text l file first))
+      all_printed none last old new gained =
           let whole : left_lines text l file first ≡ printed h formed = formed_parted ∙ ap (λ (xs : List CpuLine). printed h formed ++ xs) none ∙ append-nil (printed h formed) in
-          subst (λ (xs : List CpuLine). Gained old new (text_of xs)) (sym whole) gained
+          subst (λ (xs : List CpuLine). Gained old new (filled_text last xs)) (sym whole) gained
 
       module _ (now : List Lane) (long : length now ≡ length formed) (print : Related (IsPrinted h) formed now) where
         -- of each lane's lines to come those that it printed are gone
@@ -223,8 +225,8 @@ module _ (text : ℕ → ItemData → List ℕ) (l : Layout) (file : List ℕ) w
             let cpu : c.cpu ≡ a.cpu = format.keeps.cpu ∙ load.place.cpu in
             let row : waiting_row text l file c ≡ waiting_row text l file a = formatted_row text l file b c format ∙ loaded_row a b load.place load.left in
             record {
-              cpu = p.keeps.cpu ∙ cpu;
-              part = p.keeps.part ∙ format.keeps.part ∙ load.place.part;
+              cpu = p.keeps.lane.cpu ∙ cpu;
+              part = p.keeps.lane.part ∙ format.keeps.part ∙ load.place.part;
               lines = omega (
                 arith,
                 ap (λ (r : Row CpuLine). length r.items) row,
@@ -234,31 +236,32 @@ module _ (text : ℕ → ItemData → List ℕ) (l : Layout) (file : List ℕ) w
               );
             }
 
-        turned_further : (old new : Option (List ℕ)) → Gained old new (text_of (printed h formed)) → IsFurther text l file first now old new
-        turned_further old new gained = record {
+        turned_further : (last last_now : Option ℕ) (old new : Option (List ℕ)) → Gained old new (filled_text last (printed h formed)) → last_now ≡ last_of last (printed h formed) → IsFurther text l file first now last last_now old new
+        turned_further last last_now old new gained is_last = record {
           done = printed h formed;
           parted = formed_parted ∙ ap (λ (xs : List CpuLine). printed h formed ++ xs) (sym (printed_left text l file h formed now long print));
           gained = gained;
+          behind = is_last;
           long = long ∙ f.long_formed ∙ f.long_loaded;
           own = now_printed;
         }
 
         -- at the malformed sub-buffer before which the horizon's lane stands
         turned_stop : (high : Option ℕ) (cpu page : ℕ) → IsHorizonAt h high cpu → (least : IsLeastLane formed high cpu)
-            → (i : ℕ) × ((i < length now) × ((d : Lane) → StandsBefore cpu page (get_or now i d))) → Lane → (old new : Option (List ℕ)) → Gained old new (text_of (printed h formed))
-            → Gained old new (text_of (left_lines text l file first)) × ((key : Option ℕ) × (cut_of l file (parts_of first) ≡ Some (record { key = key; cpu = cpu; page = page })))
-        turned_stop high cpu page at least stop d old new gained =
+            → (i : ℕ) × ((i < length now) × ((d : Lane) → StandsBefore cpu page (get_or now i d))) → Lane → (last : Option ℕ) (old new : Option (List ℕ)) → Gained old new (filled_text last (printed h formed))
+            → Gained old new (filled_text last (left_lines text l file first)) × ((key : Option ℕ) × (cut_of l file (parts_of first) ≡ Some (record { key = key; cpu = cpu; page = page })))
+        turned_stop high cpu page at least stop d last old new gained =
             let i : ℕ = stop.0 in
             let rise_formed : CpusRise (parts_of formed) = formed_rise text l (Some file) first loaded formed f rise in
             let there = around_least formed d high cpu least rise_formed in
             let inside : i < length formed = omega (arith, stop.1.0, long) in
             let p : IsPrinted h (get_or formed i d) (get_or now i d) = print i d inside in
             let before : StandsBefore cpu page (get_or now i d) = stop.1.1 d in
-            let place : i ≡ least.i = place_is formed high cpu least.i (get_or formed least.i d) there least.inside i d inside (sym p.keeps.cpu ∙ before.own) in
+            let place : i ≡ least.i = place_is formed high cpu least.i (get_or formed least.i d) there least.inside i d inside (sym p.keeps.lane.cpu ∙ before.own) in
             let lane : Lane = get_or formed least.i d in
             let same : get_or formed i d ≡ lane = ap (λ (n : ℕ). get_or formed n d) place in
-            let state : lane.cursor.state ≡ Malformed = ap (λ (a : Lane). a.cursor.state) (sym same) ∙ ap (λ (c : Cursor). c.state) (sym p.keeps.cursor) ∙ before.state in
-            let next : lane.cursor.next ≡ page = ap (λ (a : Lane). a.cursor.next) (sym same) ∙ ap (λ (c : Cursor). c.next) (sym p.keeps.cursor) ∙ before.next in
+            let state : lane.cursor.state ≡ Malformed = ap (λ (a : Lane). a.cursor.state) (sym same) ∙ ap (λ (c : Cursor). c.state) (sym p.keeps.lane.cursor) ∙ before.state in
+            let next : lane.cursor.next ≡ page = ap (λ (a : Lane). a.cursor.next) (sym same) ∙ ap (λ (c : Cursor). c.next) (sym p.keeps.lane.cursor) ∙ before.next in
             let each_stands : Each (Stands l file) formed = each_of_all (Stands l file) formed formed_stands in
             let sorted : All IsSorted formed = All-weaker (IsBetween text l) IsSorted (λ a b. b.sorted) formed (formed_all text l (Some file) first loaded formed f all) in
             let law = stopped text l file h high cpu at formed least.i (take least.i formed) lane (drop (least.i + 1) formed) there rise_formed
@@ -266,17 +269,17 @@ module _ (text : ℕ → ItemData → List ℕ) (l : Layout) (file : List ℕ) w
             let cut : cut_of l file (parts_of first) ≡ Some (record { key = high; cpu = cpu; page = page }) =
             ap (cut_of l file) (sym (formed_parts text l (Some file) first loaded formed f)) ∙ sym (cut_of_waiting l file (after text l file h) (λ a. refl) formed) ∙ law.0
             ∙ ap (λ (n : ℕ). Some (cut_made high cpu n)) next in
-            (all_printed law.1 old new gained, (high, cut))
+            (all_printed law.1 last old new gained, (high, cut))
 
-        turned_at : (high : Option ℕ) (cpu : ℕ) → IsHorizonAt h high cpu → IsLeastLane formed high cpu → (end : Option End) → IsStop now cpu end → (old new : Option (List ℕ)) → Gained old new (text_of (printed h formed))
-            → IsTurned text l file first now old new end
-        turned_at high cpu at least None stop old new gained = turned_further old new gained
-        turned_at high cpu at least (Some ends.Done) stop old new gained = absurd stop
-        turned_at high cpu at least (Some (ends.Malformed c page)) stop old new gained =
-            let ending = turned_stop high cpu page at least stop.1 (some_lane now stop.1.0 stop.1.1.0) old new gained in
+        turned_at : (high : Option ℕ) (cpu : ℕ) → IsHorizonAt h high cpu → IsLeastLane formed high cpu → (end : Option End) → IsStop now cpu end → (last last_now : Option ℕ) (old new : Option (List ℕ)) → Gained old new (filled_text last (printed h formed))
+            → last_now ≡ last_of last (printed h formed) → IsTurned text l file first now last last_now old new end
+        turned_at high cpu at least None stop last last_now old new gained is_last = turned_further last last_now old new gained is_last
+        turned_at high cpu at least (Some ends.Done) stop last last_now old new gained is_last = absurd stop
+        turned_at high cpu at least (Some (ends.Malformed c page)) stop last last_now old new gained is_last =
+            let ending = turned_stop high cpu page at least stop.1 (some_lane now stop.1.0 stop.1.1.0) last old new gained in
             (ending.0, (ending.1.0, ending.1.1 ∙ ap (λ (n : ℕ). Some (cut_made ending.1.0 n page)) (sym stop.0)))
-        turned_at high cpu at least (Some ends.Read) stop old new gained = absurd stop
-        turned_at high cpu at least (Some ends.Write) stop old new gained = absurd stop
+        turned_at high cpu at least (Some ends.Read) stop last last_now old new gained is_last = absurd stop
+        turned_at high cpu at least (Some ends.Write) stop last last_now old new gained is_last = absurd stop
 
   cut_none : (first loaded formed : List Lane) → IsFormed text l (Some file) first loaded formed → All (Stands l file) first → IsHorizon formed code.All → cut_of l file (parts_of first) ≡ None
   cut_none first loaded formed f stands is =
@@ -285,36 +288,36 @@ module _ (text : ℕ → ItemData → List ℕ) (l : Layout) (file : List ℕ) w
 
   -- what a round did whose lines were all written
   pub turned_ok : (first loaded formed : List Lane) → IsFormed text l (Some file) first loaded formed → (h : Horizon) (now : List Lane) → length now ≡ length formed → Related (IsPrinted h) formed now → (end : Option End)
-      → IsHorizon formed h → IsEnd now h end → CpusRise (parts_of first) → All (IsBetween text l) first → All (Stands l file) first → (old new : Option (List ℕ)) → Gained old new (text_of (printed h formed))
-      → IsTurned text l file first now old new end
-  turned_ok first loaded formed f code.All now long print end is stop rise all stands old new gained =
+      → IsHorizon formed h → IsEnd now h end → CpusRise (parts_of first) → All (IsBetween text l) first → All (Stands l file) first → (last last_now : Option ℕ) (old new : Option (List ℕ)) → Gained old new (filled_text last (printed h formed))
+      → last_now ≡ last_of last (printed h formed) → IsTurned text l file first now last last_now old new end
+  turned_ok first loaded formed f code.All now long print end is stop rise all stands last last_now old new gained is_last =
       let none : left_after text l file code.All formed ≡ [] = none_after l file text formed (each_of_all (Stands l file) formed (formed_stands first loaded formed f stands)) is in
-      subst (λ (e : Option End). IsTurned text l file first now old new e) (sym stop)
-      (all_printed first loaded formed f stands code.All is rise all none old new gained, cut_none first loaded formed f stands is)
-  turned_ok first loaded formed f (code.Start c) now long print end is stop rise all stands old new gained =
-      turned_at first loaded formed f stands (code.Start c) is rise all now long print None c (at_start c) is end stop old new gained
-  turned_ok first loaded formed f (code.To k c) now long print end is stop rise all stands old new gained =
-      turned_at first loaded formed f stands (code.To k c) is rise all now long print (Some k) c (at_key k c) is end stop old new gained
+      subst (λ (e : Option End). IsTurned text l file first now last last_now old new e) (sym stop)
+      (all_printed first loaded formed f stands code.All is rise all none last old new gained, cut_none first loaded formed f stands is)
+  turned_ok first loaded formed f (code.Start c) now long print end is stop rise all stands last last_now old new gained is_last =
+      turned_at first loaded formed f stands (code.Start c) is rise all now long print None c (at_start c) is end stop last last_now old new gained is_last
+  turned_ok first loaded formed f (code.To k c) now long print end is stop rise all stands last last_now old new gained is_last =
+      turned_at first loaded formed f stands (code.To k c) is rise all now long print (Some k) c (at_key k c) is end stop last last_now old new gained is_last
 
 -- where there is no end
 pub if_none : {A : Type 0} (o : Option A) (P : Type 0) → P → IfNone o P
 if_none None P p = p
 if_none (Some x) P p = tt
 
-module _ (text : ℕ → ItemData → List ℕ) (l : Layout) where
+module _ (text : ℕ → ItemData → LineText) (l : Layout) where
   pub now_stands_told : (told : Option (List ℕ)) (first loaded formed : List Lane) → IsFormed text l told first loaded formed → (h : Horizon) (now : List Lane) → length now ≡ length formed → Related (IsPrinted h) formed now
       → IfSome told (λ file. All (Stands l file) first → All (Stands l file) now)
   now_stands_told None first loaded formed f h now long print = tt
   now_stands_told (Some file) first loaded formed f h now long print = λ stands. now_stands text l file first loaded formed f stands h now long print
 
   pub turned_told : (told : Option (List ℕ)) (first loaded formed : List Lane) → IsFormed text l told first loaded formed → (h : Horizon) (now : List Lane) → length now ≡ length formed → Related (IsPrinted h) formed now
-      → (end : Option End) → IsHorizon formed h → IsEnd now h end → CpusRise (parts_of first) → All (IsBetween text l) first → (old new : Option (List ℕ)) → Gained old new (text_of (printed h formed))
-      → IfSome told (λ file. All (Stands l file) first → IsTurned text l file first now old new end)
-  turned_told None first loaded formed f h now long print end is stop rise all old new gained = tt
-  turned_told (Some file) first loaded formed f h now long print end is stop rise all old new gained = λ stands.
-      turned_ok text l file first loaded formed f h now long print end is stop rise all stands old new gained
+      → (end : Option End) → IsHorizon formed h → IsEnd now h end → CpusRise (parts_of first) → All (IsBetween text l) first → (last last_now : Option ℕ) (old new : Option (List ℕ)) → Gained old new (filled_text last (printed h formed))
+      → last_now ≡ last_of last (printed h formed) → IfSome told (λ file. All (Stands l file) first → IsTurned text l file first now last last_now old new end)
+  turned_told None first loaded formed f h now long print end is stop rise all last last_now old new gained is_last = tt
+  turned_told (Some file) first loaded formed f h now long print end is stop rise all last last_now old new gained is_last = λ stands.
+      turned_ok text l file first loaded formed f h now long print end is stop rise all stands last last_now old new gained is_last
 
   pub failed_told : (told : Option (List ℕ)) (first loaded formed : List Lane) → IsFormed text l told first loaded formed → (h : Horizon) → IsHorizon formed h → CpusRise (parts_of first) → All (IsBetween text l) first
-      → (old new : Option (List ℕ)) → GainedPrefix old new (text_of (printed h formed)) → IfSome told (λ file. All (Stands l file) first → GainedPrefix old new (text_of (left_lines text l file first)))
-  failed_told None first loaded formed f h is rise all old new gained = tt
-  failed_told (Some file) first loaded formed f h is rise all old new gained = λ stands. turned_failed text l file first loaded formed f stands h is rise all old new gained
+      → (last : Option ℕ) (old new : Option (List ℕ)) → GainedPrefix old new (filled_text last (printed h formed)) → IfSome told (λ file. All (Stands l file) first → GainedPrefix old new (filled_text last (left_lines text l file first)))
+  failed_told None first loaded formed f h is rise all last old new gained = tt
+  failed_told (Some file) first loaded formed f h is rise all last old new gained = λ stands. turned_failed text l file first loaded formed f stands h is rise all last old new gained

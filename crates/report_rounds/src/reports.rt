@@ -1,9 +1,10 @@
 ghost use Rattle.std.specs.Prelude.{◌≡◌, ◌≤◌, [], All, IfSome, sum_by};
 ghost use Rattle.trace_base.specs.Layout.{IsLayout};
 ghost use Rattle.trace_outside.specs.Causes.{Rose, raised};
+ghost use Rattle.trace_outside.specs.Keeping.{KeepsFile, KeepsSink};
 ghost use Rattle.subpage.specs.Arrangement.{CpusRise};
 ghost use Rattle.time_merge.specs.LaneRows.{parts_of};
-ghost use Rattle.report_rounds.specs.Between.{HasRoom, IsAtStart};
+ghost use Rattle.report_rounds.specs.Between.{HasRoom, HidesNoHole, IsAtStart};
 ghost use Rattle.report_rounds.specs.Due.{ReadsDue};
 ghost use Rattle.report_rounds.specs.Reports.{IsReport};
 
@@ -39,24 +40,25 @@ pub fn report_rounds<R: Threads + Sync, F: File, L: Form, G: Gate, O: Sink>(
     requires workers { (1 ≤ workers) × (workers ≤ 64) }
     requires start { All (IsAtStart layout.now) lanes.old }
     requires room { All (HasRoom (L.text form.now)) lanes.old }
+    requires shown { HidesNoHole (L.text form.now) }
     requires rise { CpusRise (parts_of lanes.old) }
     requires empty { pending.old ≡ [] }
     ensures report { IfSome (F.bytes file.old) (λ bytes. IsReport (L.text form.now) layout.now bytes (parts_of lanes.old)
         (O.written out.old) (O.written out.new) result) }
     ensures read { result ≡ End.Read → Rose (F.faults file.old) (F.faults file.new) }
     ensures write { result ≡ End.Write → Rose (O.faults out.old) (O.faults out.new) }
-    ensures later { F.faults file.old ≤ F.faults file.new }
-    ensures out_later { O.faults out.old ≤ O.faults out.new }
+    ensures keeps_out { KeepsSink O.Sink out.old out.new }
     ensures reads { F.reads file.new
         ≤ raised (F.reads file.old) (sum_by (λ part. part.1.size) (parts_of lanes.old)) }
     ensures due { IfSome (F.bytes file.old) (λ bytes. ReadsDue (L.text form.now) layout.now bytes (parts_of lanes.old)
         (O.written out.old) (O.written out.new) (F.reads file.old) (F.reads file.new)) }
-    ensures bytes { F.bytes file.new ≡ F.bytes file.old }
-    ensures size { F.size file.new ≡ F.size file.old }
-    ensures name { O.name out.new ≡ O.name out.old }
+    ensures keeps { KeepsFile F.File file.old file.new }
 {
+    let mut last = None;
     loop {
-        if let Some(end) = turn(rt, form, layout, file, lanes, workers, gate, pending, out) {
+        if let Some(end) = turn(
+            rt, form, layout, file, lanes, workers, gate, &mut last, pending, out,
+        ) {
             return end;
         }
     }

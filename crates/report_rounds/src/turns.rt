@@ -1,6 +1,7 @@
 ghost use Rattle.std.specs.Prelude.{◌≡◌, ◌-◌, ◌<◌, ◌≤◌, [], All, IfNone, IfSome, Some};
 ghost use Rattle.trace_base.specs.Layout.{IsLayout};
 ghost use Rattle.trace_outside.specs.Causes.{Rose, raised};
+ghost use Rattle.trace_outside.specs.Keeping.{KeepsFile, KeepsSink};
 ghost use Rattle.subpage.specs.Arrangement.{CpusRise};
 ghost use Rattle.event_cursor.specs.Standing.{Stands};
 ghost use Rattle.time_merge.specs.LaneRows.{parts_of};
@@ -27,6 +28,7 @@ pub(crate) fn turn<R: Threads + Sync, F: File, L: Form, G: Gate, O: Sink>(
     lanes: &mut [Lane],
     workers: u32,
     gate: &G,
+    last: &mut Option<u64>,
     pending: &mut Pending,
     out: &mut O,
 ) -> Option<End>
@@ -43,27 +45,24 @@ pub(crate) fn turn<R: Threads + Sync, F: File, L: Form, G: Gate, O: Sink>(
     ensures stands { IfNone result (IfSome (F.bytes file.old) (λ bytes.
         All (Stands layout.now bytes) lanes.old → All (Stands layout.now bytes) lanes.new)) }
     ensures turned { IfSome (F.bytes file.old) (λ bytes. All (Stands layout.now bytes) lanes.old
-        → IsTurned (L.text form.now) layout.now bytes lanes.old lanes.new (O.written out.old) (O.written out.new) result) }
+        → IsTurned (L.text form.now) layout.now bytes lanes.old lanes.new last.old last.new (O.written out.old) (O.written out.new) result) }
     ensures read { result ≡ Some End.Read → Rose (F.faults file.old) (F.faults file.new) }
     ensures write { result ≡ Some End.Write → Rose (O.faults out.old) (O.faults out.new) }
-    ensures later { F.faults file.old ≤ F.faults file.new }
-    ensures out_later { O.faults out.old ≤ O.faults out.new }
+    ensures keeps_out { KeepsSink O.Sink out.old out.new }
     ensures loaded { HasLoaded layout.now (F.bytes file.old) (F.size file.old) lanes.old (F.reads file.old)
         (F.reads file.new) }
     ensures reads { IfNone result (F.reads file.new ≤ raised (F.reads file.old)
         (all_unread layout.now (F.size file.old) lanes.old - all_unread layout.now (F.size file.old) lanes.new)) }
     ensures unread { IfNone result (all_unread layout.now (F.size file.old) lanes.new
         ≤ all_unread layout.now (F.size file.old) lanes.old) }
-    ensures bytes { F.bytes file.new ≡ F.bytes file.old }
-    ensures size { F.size file.new ≡ F.size file.old }
-    ensures name { O.name out.new ≡ O.name out.old }
+    ensures keeps { KeepsFile F.File file.old file.new }
 {
-    if !make_all_ready(layout, file, lanes) {
+    let Ok(()) = make_all_ready(layout, file, lanes) else {
         return Some(End::Read);
-    }
+    };
     format_lanes(rt, form, layout, lanes, workers, gate);
     let known = horizon(lanes);
-    match print_round(&known, lanes, pending, out) {
+    match print_round(&known, lanes, last, pending, out) {
         Ok(()) => end_at(known, lanes),
         Err(_) => Some(End::Write),
     }

@@ -1,18 +1,18 @@
 -- The lines that a round prints: of each lane those that it keeps up to the horizon, all of them in one order.
-use Rattle.std.specs.Prelude.{◌≡◌, ◌≤◌, ℕ, Bool, true, false, if◌then◌else◌, List, [], ◌∷◌, length, drop, Option, Some, None}
+use Rattle.std.specs.Prelude.{◌≡◌, ◌≤◌, ℕ, if◌then◌else◌, List, [], ◌∷◌, length, drop, Option, Some, None}
 use Rattle.std.specs.List.{All, flat_map}
 use Rattle.subpage.specs.Arrangement.{IsRising, by_key}
+use Rattle.line_holes.specs.Holes.{LineText, line_text, hole_time, filled_bytes, along, last_time}
 use Rattle.page_pool.specs.Lines.{Line, Lines, most_lines}
 use Rattle.page_pool.specs.declared.lane.Lane.{Lane}
 use Rattle.time_merge.specs.declared.horizons.Horizon.{Horizon}
-use Rattle.time_merge.specs.declared.horizons.Horizon.TheVariants as code
-use Rattle.time_merge.specs.Rows.{up_to_key}
+use Rattle.time_merge.specs.Horizons.{is_due}
 
 -- a line of a processor
 pub record CpuLine : Type 0 where
   pub key : ℕ
   pub cpu : ℕ
-  pub text : List ℕ
+  pub text : LineText
 
 abbrev pub key_in : CpuLine → ℕ
 key_in line = line.key
@@ -22,12 +22,6 @@ cpu_in line = line.cpu
 
 abbrev pub with_cpu : ℕ → Line → CpuLine
 with_cpu cpu line = record { key = line.key; cpu = cpu; text = line.text }
-
--- whether a key and a processor stand at or before a horizon
-abbrev pub is_due : Horizon → ℕ → ℕ → Bool
-is_due code.All key cpu = true
-is_due (code.Start at) key cpu = false
-is_due (code.To k c) key cpu = up_to_key (Some k) c key cpu
 
 -- a processor's lines up to the first that is not due, and the others
 abbrev pub due_lines : Horizon → ℕ → List Line → List CpuLine
@@ -50,7 +44,26 @@ unfoldable pub printed : Horizon → List Lane → List CpuLine
 printed h lanes = by_key key_in (flat_map (due_of h) lanes)
 
 abbrev pub text_of : List CpuLine → List ℕ
-text_of lines = flat_map (λ line. line.text) lines
+text_of lines = flat_map (λ line. line.text.bytes) lines
+
+abbrev pub line_time : CpuLine → Option ℕ
+line_time line = hole_time line.text
+
+-- a line that is filled from the last time has no hole any more
+abbrev pub fill_line : Option ℕ → CpuLine → CpuLine
+fill_line last line = record line { text = line_text (filled_bytes last line.text) None }
+
+-- lines that are filled, one behind another, from the last time on
+abbrev pub filled : Option ℕ → List CpuLine → List CpuLine
+filled last lines = along line_time fill_line last lines
+
+-- their text
+abbrev pub filled_text : Option ℕ → List CpuLine → List ℕ
+filled_text last lines = text_of (filled last lines)
+
+-- the last time behind lines
+abbrev pub last_of : Option ℕ → List CpuLine → Option ℕ
+last_of last lines = last_time line_time last lines
 
 -- the key of the first line, if there is one
 abbrev pub first_key : List CpuLine → Option (Option ℕ)
@@ -88,6 +101,6 @@ pub record IsDropped (before now : Lines) : Type 0 where
   pub tidy : IsTidy now
   pub few : IsFew before → IsFew now
 
-abbrev pub first_text : List Line → List ℕ
-first_text [] = []
-first_text (line ∷ lines) = line.text
+abbrev pub first_line : List Line → LineText
+first_line [] = line_text [] None
+first_line (line ∷ lines) = line.text

@@ -1,6 +1,7 @@
 ghost use Rattle.std.specs.Prelude.{◌≡◌, ◌<◌, length, map, IfSome};
 ghost use Rattle.time_merge.specs.Nexts.{IsLeastAt};
-ghost use Rattle.round_print.specs.Prints.{IsDropped, head_due, is_due};
+ghost use Rattle.time_merge.specs.Horizons.{is_due};
+ghost use Rattle.round_print.specs.Prints.{IsDropped, head_due};
 
 use page_pool::{Lane, Region};
 use time_merge::{Horizon, better};
@@ -23,7 +24,7 @@ fn head_due(horizon: &Horizon, lane: &Lane) -> Option<Option<u64>>
     if lane.region.lines() == 0 {
         return None;
     }
-    let (_, key) = lane.region.line(0);
+    let (_, key, _) = lane.region.line(0);
     if is_due(horizon, key, lane.cpu) {
         Some(Some(key))
     } else {

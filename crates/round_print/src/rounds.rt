@@ -1,29 +1,37 @@
 ghost use Rattle.std.specs.Prelude.{◌≡◌, ◌<◌, [], ℕ, All, length, slice_index_or, IfOk};
 ghost use Rattle.trace_outside.specs.Causes.{HasCause};
 ghost use Rattle.trace_outside.specs.Pending.{Puts};
+ghost use Rattle.line_holes.specs.Holes.{filled_bytes, hole_time, later};
 ghost use Rattle.subpage.specs.Arrangement.{CpusRise};
 ghost use Rattle.time_merge.specs.LaneRows.{parts_of};
-ghost use Rattle.round_print.specs.Prints.{KeysRise, first_text, printed, text_of};
+ghost use Rattle.round_print.specs.Prints.{KeysRise, filled_text, first_line, last_of, printed};
 ghost use Rattle.round_print.specs.Rounds.{Gains, IsLineDropped, IsPrinted};
 
+use crate::filling::put_filled;
 use crate::heads::{drop_line, least_due};
 use page_pool::Lane;
 use time_merge::Horizon;
 use trace_outside::{Failed, Pending, Sink};
 
-/// Puts a lane's first line, and keeps it no longer.
-fn print_first<O: Sink>(lane: &mut Lane, pending: &mut Pending, out: &mut O) -> Result<(), Failed>
+/// Puts a lane's first line, filled from the last time, and keeps it no longer.
+fn print_first<O: Sink>(
+    lane: &mut Lane,
+    last: &mut Option<u64>,
+    pending: &mut Pending,
+    out: &mut O,
+) -> Result<(), Failed>
     requires { 0 < length lane.old.region.kept }
-    ensures puts { Puts (first_text lane.old.region.kept) (O.written out.old) pending.old (O.written out.new)
-        pending.new result }
+    ensures puts { Puts (filled_bytes last.old (first_line lane.old.region.kept)) (O.written out.old) pending.old
+        (O.written out.new) pending.new result }
+    ensures last { last.new ≡ later last.old (hole_time (first_line lane.old.region.kept)) }
     ensures name { O.name out.new ≡ O.name out.old }
     ensures cause { HasCause (O.faults out.old) (O.faults out.new) result }
     ensures dropped { IfOk result (λ _. IsLineDropped lane.old lane.new) }
     ensures cpu { lane.new.cpu ≡ lane.old.cpu }
     ensures part { lane.new.part ≡ lane.old.part }
 {
-    let (text, _) = lane.region.line(0);
-    pending.put(out, text)?;
+    let (text, _, hole) = lane.region.line(0);
+    put_filled(text, hole, last, pending, out)?;
     drop_line(&mut lane.region);
     Ok(())
 }
@@ -32,13 +40,15 @@ fn print_first<O: Sink>(lane: &mut Lane, pending: &mut Pending, out: &mut O) -> 
 fn put_round<O: Sink>(
     horizon: &Horizon,
     lanes: &mut [Lane],
+    last: &mut Option<u64>,
     pending: &mut Pending,
     out: &mut O,
 ) -> Result<(), Failed>
     requires rise { CpusRise (parts_of lanes.old) }
     requires rises { All KeysRise lanes.old }
-    ensures puts { Puts (text_of (printed horizon.now lanes.old)) (O.written out.old) pending.old (O.written out.new)
-        pending.new result }
+    ensures puts { Puts (filled_text last.old (printed horizon.now lanes.old)) (O.written out.old) pending.old
+        (O.written out.new) pending.new result }
+    ensures last { IfOk result (λ _. last.new ≡ last_of last.old (printed horizon.now lanes.old)) }
     ensures name { O.name out.new ≡ O.name out.old }
     ensures cause { HasCause (O.faults out.old) (O.faults out.new) result }
     ensures lanes { IfOk result (λ _. (i : ℕ) (d : Lane) → i < length lanes.old
@@ -48,7 +58,7 @@ fn put_round<O: Sink>(
     ensures rises { IfOk result (λ _. All KeysRise lanes.new) }
 {
     while let Some(i) = least_due(horizon, lanes) {
-        match print_first(&mut lanes[i], pending, out) {
+        match print_first(&mut lanes[i], last, pending, out) {
             Ok(()) => {}
             Err(failed) => return Err(failed),
         }
@@ -57,7 +67,8 @@ fn put_round<O: Sink>(
 }
 
 /// Writes the lines that the lanes keep and that stand at or before the horizon, by key, then processor, then position,
-/// and keeps them no longer. A region that keeps no line any more has all its bytes free.
+/// and keeps them no longer. Each is filled from the last time, `last` at first; behind the call it is that of the last
+/// line with a hole. A region that keeps no line any more has all its bytes free.
 ///
 /// The lines go through `pending`, in which nothing waits before or behind: all of them are written when the call returns,
 /// in pieces as large as it has room for. After `Failed` the sink has a prefix of their text, and the lanes, which are
@@ -65,13 +76,16 @@ fn put_round<O: Sink>(
 pub fn print_round<O: Sink>(
     horizon: &Horizon,
     lanes: &mut [Lane],
+    last: &mut Option<u64>,
     pending: &mut Pending,
     out: &mut O,
 ) -> Result<(), Failed>
     requires rise { CpusRise (parts_of lanes.old) }
     requires rises { All KeysRise lanes.old }
     requires empty { pending.old ≡ [] }
-    ensures written { Gains (O.written out.old) (O.written out.new) (text_of (printed horizon.now lanes.old)) result }
+    ensures written { Gains (O.written out.old) (O.written out.new)
+        (filled_text last.old (printed horizon.now lanes.old)) result }
+    ensures last { IfOk result (λ _. last.new ≡ last_of last.old (printed horizon.now lanes.old)) }
     ensures name { O.name out.new ≡ O.name out.old }
     ensures cause { HasCause (O.faults out.old) (O.faults out.new) result }
     ensures empty { IfOk result (λ _. pending.new ≡ []) }
@@ -81,7 +95,7 @@ pub fn print_round<O: Sink>(
     ensures rise { IfOk result (λ _. CpusRise (parts_of lanes.new)) }
     ensures rises { IfOk result (λ _. All KeysRise lanes.new) }
 {
-    match put_round(horizon, lanes, pending, out) {
+    match put_round(horizon, lanes, last, pending, out) {
         Ok(()) => pending.flush(out),
         Err(failed) => Err(failed),
     }

@@ -1,4 +1,4 @@
-use Rattle.std.proofs.Common.{◌-◌, ◌≤◌, ℕ, refl, subst, sym}
+use Rattle.std.proofs.Common.{◌-◌, ◌≤◌, ℕ, subst, sym}
 use Rattle.trace_outside.specs.Causes.{raised}
 use Rattle.time_merge.specs.Reads.{all_unread}
 use Rattle.report_rounds.proofs.Reading.{unread_turned}
@@ -10,9 +10,9 @@ print_round-requires-clause-rise g c =
     let f : IsFormed (g.L.Form.text c.args.form.now) c.args.layout.now (g.F.File.bytes c.args.file.now) c.args.lanes.now c.make_all_ready.new.lanes c.format_lanes.new.lanes = record {
       long_loaded = c.make_all_ready.auto.lanes;
       long_formed = c.format_lanes.ensures.count;
-      in_order = c.if-not-make_all_ready.ensures.in_order;
-      load = c.if-not-make_all_ready.ensures.each;
-      ready = c.if-not-make_all_ready.ensures.ready refl;
+      in_order = c.in-Ok.ensures.in_order;
+      load = c.in-Ok.ensures.each;
+      ready = c.in-Ok.ensures.ready;
       format = c.format_lanes.ensures.each;
     } in
     formed_rise (g.L.Form.text c.args.form.now) c.args.layout.now (g.F.File.bytes c.args.file.now) c.args.lanes.now c.make_all_ready.new.lanes c.format_lanes.new.lanes f c.requires.rise
@@ -22,88 +22,88 @@ print_round-requires-clause-rises g c =
     let f : IsFormed (g.L.Form.text c.args.form.now) c.args.layout.now (g.F.File.bytes c.args.file.now) c.args.lanes.now c.make_all_ready.new.lanes c.format_lanes.new.lanes = record {
       long_loaded = c.make_all_ready.auto.lanes;
       long_formed = c.format_lanes.ensures.count;
-      in_order = c.if-not-make_all_ready.ensures.in_order;
-      load = c.if-not-make_all_ready.ensures.each;
-      ready = c.if-not-make_all_ready.ensures.ready refl;
+      in_order = c.in-Ok.ensures.in_order;
+      load = c.in-Ok.ensures.each;
+      ready = c.in-Ok.ensures.ready;
       format = c.format_lanes.ensures.each;
     } in
     formed_rises (g.L.Form.text c.args.form.now) c.args.layout.now (g.F.File.bytes c.args.file.now) c.args.lanes.now c.make_all_ready.new.lanes c.format_lanes.new.lanes f c.requires.between
 
-pub returns-in-Ok-clause-between : goal.returns-in-Ok-clause-between
-returns-in-Ok-clause-between g c =
+pub returns-in-Ok-print_round-clause-between : goal.returns-in-Ok-print_round-clause-between
+returns-in-Ok-print_round-clause-between g c =
     let f : IsFormed (g.L.Form.text c.args.form.now) c.args.layout.now (g.F.File.bytes c.args.file.now) c.args.lanes.now c.make_all_ready.new.lanes c.format_lanes.new.lanes = record {
       long_loaded = c.make_all_ready.auto.lanes;
       long_formed = c.format_lanes.ensures.count;
-      in_order = c.if-not-make_all_ready.ensures.in_order;
-      load = c.if-not-make_all_ready.ensures.each;
-      ready = c.if-not-make_all_ready.ensures.ready refl;
+      in_order = c.in-Ok.ensures.in_order;
+      load = c.in-Ok.ensures.each;
+      ready = c.in-Ok.ensures.ready;
       format = c.format_lanes.ensures.each;
     } in
-    if_none c.end_at.result _ (now_all (g.L.Form.text c.args.form.now) c.args.layout.now (g.F.File.bytes c.args.file.now) c.args.lanes.now c.make_all_ready.new.lanes c.format_lanes.new.lanes f c.horizon-known.result c.print_round.new.lanes c.print_round.auto.lanes c.in-Ok.ensures.lanes c.requires.between)
+    if_none c.end_at.result _ (now_all (g.L.Form.text c.args.form.now) c.args.layout.now (g.F.File.bytes c.args.file.now) c.args.lanes.now c.make_all_ready.new.lanes c.format_lanes.new.lanes f c.horizon-known.result c.print_round.new.lanes c.print_round.auto.lanes c.in-Ok-print_round.ensures.lanes c.requires.between)
 
-pub returns-in-Ok-clause-parts : goal.returns-in-Ok-clause-parts
-returns-in-Ok-clause-parts g c =
+pub returns-in-Ok-print_round-clause-parts : goal.returns-in-Ok-print_round-clause-parts
+returns-in-Ok-print_round-clause-parts g c =
     let f : IsFormed (g.L.Form.text c.args.form.now) c.args.layout.now (g.F.File.bytes c.args.file.now) c.args.lanes.now c.make_all_ready.new.lanes c.format_lanes.new.lanes = record {
       long_loaded = c.make_all_ready.auto.lanes;
       long_formed = c.format_lanes.ensures.count;
-      in_order = c.if-not-make_all_ready.ensures.in_order;
-      load = c.if-not-make_all_ready.ensures.each;
-      ready = c.if-not-make_all_ready.ensures.ready refl;
+      in_order = c.in-Ok.ensures.in_order;
+      load = c.in-Ok.ensures.each;
+      ready = c.in-Ok.ensures.ready;
       format = c.format_lanes.ensures.each;
     } in
-    if_none c.end_at.result _ (now_parts (g.L.Form.text c.args.form.now) c.args.layout.now (g.F.File.bytes c.args.file.now) c.args.lanes.now c.make_all_ready.new.lanes c.format_lanes.new.lanes f c.horizon-known.result c.print_round.new.lanes c.print_round.auto.lanes c.in-Ok.ensures.lanes)
+    if_none c.end_at.result _ (now_parts (g.L.Form.text c.args.form.now) c.args.layout.now (g.F.File.bytes c.args.file.now) c.args.lanes.now c.make_all_ready.new.lanes c.format_lanes.new.lanes f c.horizon-known.result c.print_round.new.lanes c.print_round.auto.lanes c.in-Ok-print_round.ensures.lanes)
 
-pub returns-in-Ok-clause-less : goal.returns-in-Ok-clause-less
-returns-in-Ok-clause-less g c =
+pub returns-in-Ok-print_round-clause-less : goal.returns-in-Ok-print_round-clause-less
+returns-in-Ok-print_round-clause-less g c =
     let f : IsFormed (g.L.Form.text c.args.form.now) c.args.layout.now (g.F.File.bytes c.args.file.now) c.args.lanes.now c.make_all_ready.new.lanes c.format_lanes.new.lanes = record {
       long_loaded = c.make_all_ready.auto.lanes;
       long_formed = c.format_lanes.ensures.count;
-      in_order = c.if-not-make_all_ready.ensures.in_order;
-      load = c.if-not-make_all_ready.ensures.each;
-      ready = c.if-not-make_all_ready.ensures.ready refl;
+      in_order = c.in-Ok.ensures.in_order;
+      load = c.in-Ok.ensures.each;
+      ready = c.in-Ok.ensures.ready;
       format = c.format_lanes.ensures.each;
     } in
-    now_less (g.L.Form.text c.args.form.now) c.args.layout.now (g.F.File.bytes c.args.file.now) c.args.lanes.now c.make_all_ready.new.lanes c.format_lanes.new.lanes f c.horizon-known.result c.print_round.new.lanes c.print_round.auto.lanes c.in-Ok.ensures.lanes c.end_at.result c.horizon-known.ensures c.end_at.ensures c.requires.rise c.requires.between
+    now_less (g.L.Form.text c.args.form.now) c.args.layout.now (g.F.File.bytes c.args.file.now) c.args.lanes.now c.make_all_ready.new.lanes c.format_lanes.new.lanes f c.horizon-known.result c.print_round.new.lanes c.print_round.auto.lanes c.in-Ok-print_round.ensures.lanes c.end_at.result c.horizon-known.ensures c.end_at.ensures c.requires.rise c.requires.between
 
-pub returns-in-Ok-clause-stands : goal.returns-in-Ok-clause-stands
-returns-in-Ok-clause-stands g c =
+pub returns-in-Ok-print_round-clause-stands : goal.returns-in-Ok-print_round-clause-stands
+returns-in-Ok-print_round-clause-stands g c =
     let f : IsFormed (g.L.Form.text c.args.form.now) c.args.layout.now (g.F.File.bytes c.args.file.now) c.args.lanes.now c.make_all_ready.new.lanes c.format_lanes.new.lanes = record {
       long_loaded = c.make_all_ready.auto.lanes;
       long_formed = c.format_lanes.ensures.count;
-      in_order = c.if-not-make_all_ready.ensures.in_order;
-      load = c.if-not-make_all_ready.ensures.each;
-      ready = c.if-not-make_all_ready.ensures.ready refl;
+      in_order = c.in-Ok.ensures.in_order;
+      load = c.in-Ok.ensures.each;
+      ready = c.in-Ok.ensures.ready;
       format = c.format_lanes.ensures.each;
     } in
-    if_none c.end_at.result _ (now_stands_told (g.L.Form.text c.args.form.now) c.args.layout.now (g.F.File.bytes c.args.file.now) c.args.lanes.now c.make_all_ready.new.lanes c.format_lanes.new.lanes f c.horizon-known.result c.print_round.new.lanes c.print_round.auto.lanes c.in-Ok.ensures.lanes)
+    if_none c.end_at.result _ (now_stands_told (g.L.Form.text c.args.form.now) c.args.layout.now (g.F.File.bytes c.args.file.now) c.args.lanes.now c.make_all_ready.new.lanes c.format_lanes.new.lanes f c.horizon-known.result c.print_round.new.lanes c.print_round.auto.lanes c.in-Ok-print_round.ensures.lanes)
 
-pub returns-in-Ok-clause-turned : goal.returns-in-Ok-clause-turned
-returns-in-Ok-clause-turned g c =
+pub returns-in-Ok-print_round-clause-turned : goal.returns-in-Ok-print_round-clause-turned
+returns-in-Ok-print_round-clause-turned g c =
     let f : IsFormed (g.L.Form.text c.args.form.now) c.args.layout.now (g.F.File.bytes c.args.file.now) c.args.lanes.now c.make_all_ready.new.lanes c.format_lanes.new.lanes = record {
       long_loaded = c.make_all_ready.auto.lanes;
       long_formed = c.format_lanes.ensures.count;
-      in_order = c.if-not-make_all_ready.ensures.in_order;
-      load = c.if-not-make_all_ready.ensures.each;
-      ready = c.if-not-make_all_ready.ensures.ready refl;
+      in_order = c.in-Ok.ensures.in_order;
+      load = c.in-Ok.ensures.each;
+      ready = c.in-Ok.ensures.ready;
       format = c.format_lanes.ensures.each;
     } in
-    turned_told (g.L.Form.text c.args.form.now) c.args.layout.now (g.F.File.bytes c.args.file.now) c.args.lanes.now c.make_all_ready.new.lanes c.format_lanes.new.lanes f c.horizon-known.result c.print_round.new.lanes c.print_round.auto.lanes c.in-Ok.ensures.lanes c.end_at.result c.horizon-known.ensures c.end_at.ensures c.requires.rise c.requires.between _ _ c.in-Ok.ensures.written
+    turned_told (g.L.Form.text c.args.form.now) c.args.layout.now (g.F.File.bytes c.args.file.now) c.args.lanes.now c.make_all_ready.new.lanes c.format_lanes.new.lanes f c.horizon-known.result c.print_round.new.lanes c.print_round.auto.lanes c.in-Ok-print_round.ensures.lanes c.end_at.result c.horizon-known.ensures c.end_at.ensures c.requires.rise c.requires.between c.args.last.now c.print_round.new.last _ _ c.in-Ok-print_round.ensures.written c.in-Ok-print_round.ensures.last
 
 pub returns-in-Err-clause-turned : goal.returns-in-Err-clause-turned
 returns-in-Err-clause-turned g c =
     let f : IsFormed (g.L.Form.text c.args.form.now) c.args.layout.now (g.F.File.bytes c.args.file.now) c.args.lanes.now c.make_all_ready.new.lanes c.format_lanes.new.lanes = record {
       long_loaded = c.make_all_ready.auto.lanes;
       long_formed = c.format_lanes.ensures.count;
-      in_order = c.if-not-make_all_ready.ensures.in_order;
-      load = c.if-not-make_all_ready.ensures.each;
-      ready = c.if-not-make_all_ready.ensures.ready refl;
+      in_order = c.in-Ok.ensures.in_order;
+      load = c.in-Ok.ensures.each;
+      ready = c.in-Ok.ensures.ready;
       format = c.format_lanes.ensures.each;
     } in
-    failed_told (g.L.Form.text c.args.form.now) c.args.layout.now (g.F.File.bytes c.args.file.now) c.args.lanes.now c.make_all_ready.new.lanes c.format_lanes.new.lanes f c.horizon-known.result c.horizon-known.ensures c.requires.rise c.requires.between _ _ c.in-Err.ensures.written
+    failed_told (g.L.Form.text c.args.form.now) c.args.layout.now (g.F.File.bytes c.args.file.now) c.args.lanes.now c.make_all_ready.new.lanes c.format_lanes.new.lanes f c.horizon-known.result c.horizon-known.ensures c.requires.rise c.requires.between c.args.last.now _ _ c.in-Err.ensures.written
 
 -- what was read, whatever became of the round
-pub returns-then-not-make_all_ready-clause-loaded : goal.returns-then-not-make_all_ready-clause-loaded
-returns-then-not-make_all_ready-clause-loaded g c = record {
+pub returns-in_default-clause-loaded : goal.returns-in_default-clause-loaded
+returns-in_default-clause-loaded g c = record {
   now = c.make_all_ready.new.lanes;
   long = c.make_all_ready.auto.lanes;
   in_order = c.make_all_ready.ensures.in_order;
@@ -112,8 +112,8 @@ returns-then-not-make_all_ready-clause-loaded g c = record {
   reads = c.make_all_ready.ensures.reads;
 }
 
-pub returns-in-Ok-clause-loaded : goal.returns-in-Ok-clause-loaded
-returns-in-Ok-clause-loaded g c = record {
+pub returns-in-Ok-print_round-clause-loaded : goal.returns-in-Ok-print_round-clause-loaded
+returns-in-Ok-print_round-clause-loaded g c = record {
   now = c.make_all_ready.new.lanes;
   long = c.make_all_ready.auto.lanes;
   in_order = c.make_all_ready.ensures.in_order;
@@ -132,16 +132,16 @@ returns-in-Err-clause-loaded g c = record {
   reads = c.make_all_ready.ensures.reads;
 }
 
-pub returns-in-Ok-clause-reads : goal.returns-in-Ok-clause-reads
-returns-in-Ok-clause-reads g c =
+pub returns-in-Ok-print_round-clause-reads : goal.returns-in-Ok-print_round-clause-reads
+returns-in-Ok-print_round-clause-reads g c =
     let all : ℕ = all_unread c.args.layout.now (g.F.File.size c.args.file.now) c.args.lanes.now in
     if_none c.end_at.result _
     (subst (λ (n : ℕ). g.F.File.reads c.make_all_ready.new.file ≤ raised (g.F.File.reads c.args.file.now) (all - n))
-    (sym (unread_turned c.args.layout.now (g.F.File.size c.args.file.now) (g.L.Form.text c.args.form.now) c.horizon-known.result c.make_all_ready.new.lanes c.format_lanes.new.lanes c.print_round.new.lanes c.format_lanes.ensures.count c.print_round.auto.lanes c.format_lanes.ensures.each c.in-Ok.ensures.lanes))
-    (c.if-not-make_all_ready.ensures.reads_done refl))
+    (sym (unread_turned c.args.layout.now (g.F.File.size c.args.file.now) (g.L.Form.text c.args.form.now) c.horizon-known.result c.make_all_ready.new.lanes c.format_lanes.new.lanes c.print_round.new.lanes c.format_lanes.ensures.count c.print_round.auto.lanes c.format_lanes.ensures.each c.in-Ok-print_round.ensures.lanes))
+    c.in-Ok.ensures.reads_done)
 
-pub returns-in-Ok-clause-unread : goal.returns-in-Ok-clause-unread
-returns-in-Ok-clause-unread g c =
+pub returns-in-Ok-print_round-clause-unread : goal.returns-in-Ok-print_round-clause-unread
+returns-in-Ok-print_round-clause-unread g c =
     let all : ℕ = all_unread c.args.layout.now (g.F.File.size c.args.file.now) c.args.lanes.now in
     if_none c.end_at.result _
-    (subst (λ (n : ℕ). n ≤ all) (sym (unread_turned c.args.layout.now (g.F.File.size c.args.file.now) (g.L.Form.text c.args.form.now) c.horizon-known.result c.make_all_ready.new.lanes c.format_lanes.new.lanes c.print_round.new.lanes c.format_lanes.ensures.count c.print_round.auto.lanes c.format_lanes.ensures.each c.in-Ok.ensures.lanes)) c.if-not-make_all_ready.ensures.unread)
+    (subst (λ (n : ℕ). n ≤ all) (sym (unread_turned c.args.layout.now (g.F.File.size c.args.file.now) (g.L.Form.text c.args.form.now) c.horizon-known.result c.make_all_ready.new.lanes c.format_lanes.new.lanes c.print_round.new.lanes c.format_lanes.ensures.count c.print_round.auto.lanes c.format_lanes.ensures.each c.in-Ok-print_round.ensures.lanes)) c.in-Ok.ensures.unread)

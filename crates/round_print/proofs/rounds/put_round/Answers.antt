@@ -4,10 +4,11 @@ use Rattle.trace_outside.specs.Pending.{Holds}
 use Rattle.trace_outside.specs.Writing.{GainedPrefix}
 use Rattle.trace_outside.proofs.PendingLemmas.{prefix_longer}
 use Rattle.time_merge.proofs.Readying.{set_parts}
-use Rattle.round_print.specs.Prints.{CpuLine, printed, text_of, first_text}
+use Rattle.line_holes.specs.Holes.{filled_bytes}
+use Rattle.round_print.specs.Prints.{CpuLine, filled, last_of, printed, text_of, first_line}
 use Rattle.round_print.specs.Rounds.{IsLineDropped}
 use Rattle.round_print.proofs.Printing.{print_none}
-use Rattle.round_print.proofs.PrintSteps.{IsStep, some_kept, is_step, printing_on, printed_all, dropped_at, text_on, starts_with, cut_text}
+use Rattle.round_print.proofs.PrintSteps.{IsStep, some_kept, is_step, printing_on, printed_all, dropped_at, text_on, last_on, starts_with, cut_text}
 use Rattle.round_print.proofs.rounds.put_round.Goals as goal
 
 pub print_first-requires : goal.print_first-requires
@@ -26,17 +27,18 @@ loop-i-preserved g c =
     let step : IsStep c.args.horizon.now c.loop-i.lanes c.in-Some.i c.index-lanes-i.result c.print_first.new.lane =
     is_step c.args.horizon.now c.loop-i.lanes c.in-Some.i c.index-lanes-i.result c.print_first.new.lane c.in-Some.ensures.inside c.index-lanes-i.is c.in-Some.ensures.least c.loop-i.invariant.rise c.loop-i.invariant.rises dropped in
     let done : List ℕ = c.loop-i.invariant.text.0 in
-    let line : List ℕ = first_text (get_or c.loop-i.lanes c.in-Some.i c.index-lanes-i.result).region.kept in
+    let line : List ℕ = filled_bytes c.loop-i.last (first_line (get_or c.loop-i.lanes c.in-Some.i c.index-lanes-i.result).region.kept) in
     record {
       text = (
         done ++ line,
         (
-          text_on c.args.horizon.now c.loop-i.lanes c.in-Some.i c.index-lanes-i.result c.print_first.new.lane done (text_of (printed c.args.horizon.now c.args.lanes.now)) c.index-lanes-i.is step c.loop-i.invariant.text.1.0,
+          text_on c.args.horizon.now c.loop-i.lanes c.in-Some.i c.index-lanes-i.result c.print_first.new.lane c.loop-i.last c.print_first.new.last done (text_of (filled c.args.last.now (printed c.args.horizon.now c.args.lanes.now))) c.index-lanes-i.is step c.print_first.ensures.last c.loop-i.invariant.text.1.0,
           λ before text held.
               let P : List ℕ → Type 0 = λ t. Holds before (g.O.Sink.written c.print_first.new.out) c.print_first.new.pending t in
               subst P (append_assoc text done line) (c.in-Ok.ensures.puts before (text ++ done) (c.loop-i.invariant.text.1.1 before text held)),
         ),
       );
+      last = last_on c.args.horizon.now c.loop-i.lanes c.in-Some.i c.index-lanes-i.result c.print_first.new.lane c.loop-i.last c.print_first.new.last (last_of c.args.last.now (printed c.args.horizon.now c.args.lanes.now)) c.index-lanes-i.is step c.print_first.ensures.last c.loop-i.invariant.last;
       name = c.in-Ok.ensures.name ∙ c.loop-i.invariant.name;
       later = omega (arith, c.in-Ok.ensures.cause.later, c.loop-i.invariant.later);
       parts = set_parts c.loop-i.lanes c.in-Some.i c.index-lanes-i.result c.print_first.new.lane c.in-Some.ensures.inside c.in-Ok.ensures.cpu c.in-Ok.ensures.part ∙ c.loop-i.invariant.parts;
@@ -48,11 +50,11 @@ loop-i-preserved g c =
 pub returns-in-Err-clause-puts : goal.returns-in-Err-clause-puts
 returns-in-Err-clause-puts g c = λ before text held.
     let done : List ℕ = c.loop-i.invariant.text.0 in
-    let line : List ℕ = first_text (get_or c.loop-i.lanes c.in-Some.i c.index-lanes-i.result).region.kept in
-    let starts : (rest : List ℕ) × (text_of (printed c.args.horizon.now c.loop-i.lanes) ≡ line ++ rest) =
-    starts_with c.args.horizon.now c.loop-i.lanes c.in-Some.i c.index-lanes-i.result c.in-Some.ensures.inside c.index-lanes-i.is c.in-Some.ensures.least c.loop-i.invariant.rise c.loop-i.invariant.rises in
+    let line : List ℕ = filled_bytes c.loop-i.last (first_line (get_or c.loop-i.lanes c.in-Some.i c.index-lanes-i.result).region.kept) in
+    let starts : (rest : List ℕ) × (text_of (filled c.loop-i.last (printed c.args.horizon.now c.loop-i.lanes)) ≡ line ++ rest) =
+    starts_with c.args.horizon.now c.loop-i.lanes c.in-Some.i c.index-lanes-i.result c.loop-i.last c.in-Some.ensures.inside c.index-lanes-i.is c.in-Some.ensures.least c.loop-i.invariant.rise c.loop-i.invariant.rises in
     let P : List ℕ → Type 0 = λ t. GainedPrefix before (g.O.Sink.written c.print_first.new.out) t in
-    subst P (cut_text text done line starts.0 (text_of (printed c.args.horizon.now c.args.lanes.now)) (text_of (printed c.args.horizon.now c.loop-i.lanes)) c.loop-i.invariant.text.1.0 starts.1)
+    subst P (cut_text text done line starts.0 (text_of (filled c.args.last.now (printed c.args.horizon.now c.args.lanes.now))) (text_of (filled c.loop-i.last (printed c.args.horizon.now c.loop-i.lanes))) c.loop-i.invariant.text.1.0 starts.1)
     (prefix_longer before (g.O.Sink.written c.print_first.new.out) ((text ++ done) ++ line) starts.0
     (c.in-Err.ensures.puts before (text ++ done) (c.loop-i.invariant.text.1.1 before text held)))
 
@@ -60,7 +62,7 @@ pub returns-clause-puts : goal.returns-clause-puts
 returns-clause-puts g c = λ before text held.
     let done : List ℕ = c.loop-i.invariant.text.0 in
     let none : printed c.args.horizon.now c.loop-i.lanes ≡ [] = print_none c.args.horizon.now c.loop-i.lanes c.in_default.ensures.least in
-    let all : done ≡ text_of (printed c.args.horizon.now c.args.lanes.now) = sym (append-nil done) ∙ ap (λ (ps : List CpuLine). done ++ text_of ps) (sym none) ∙ c.loop-i.invariant.text.1.0 in
+    let all : done ≡ text_of (filled c.args.last.now (printed c.args.horizon.now c.args.lanes.now)) = sym (append-nil done) ∙ ap (λ (ps : List CpuLine). done ++ text_of (filled c.loop-i.last ps)) (sym none) ∙ c.loop-i.invariant.text.1.0 in
     let P : List ℕ → Type 0 = λ t. Holds before (g.O.Sink.written c.loop-i.out) c.loop-i.pending (text ++ t) in
     subst P all (c.loop-i.invariant.text.1.1 before text held)
 
@@ -69,3 +71,6 @@ returns-clause-lanes g c = printed_all c.args.horizon.now c.args.lanes.now c.loo
 
 pub returns-in-Err-clause-parts : goal.returns-in-Err-clause-parts
 returns-in-Err-clause-parts g c = set_parts c.loop-i.lanes c.in-Some.i c.index-lanes-i.result c.print_first.new.lane c.in-Some.ensures.inside c.in-Err.ensures.cpu c.in-Err.ensures.part ∙ c.loop-i.invariant.parts
+
+pub returns-clause-last : goal.returns-clause-last
+returns-clause-last g c = sym (ap (last_of c.loop-i.last) (print_none c.args.horizon.now c.loop-i.lanes c.in_default.ensures.least)) ∙ c.loop-i.invariant.last

@@ -5,13 +5,14 @@ use Rattle.trace_outside.specs.Pending.{Holds}
 use Rattle.subpage.specs.Arrangement.{CpusRise}
 use Rattle.page_pool.specs.declared.lane.Lane.{Lane}
 use Rattle.time_merge.specs.LaneRows.{parts_of}
-use Rattle.round_print.specs.Prints.{KeysRise, printed, text_of}
+use Rattle.round_print.specs.Prints.{KeysRise, filled, last_of, printed, text_of}
 use Rattle.round_print.specs.Rounds.{IsPrinting}
 use Rattle.round_print.proofs.rounds.put_round.Given as goal
 
 abbrev pub invariant-loop-i : goal.invariant-loop-i
 invariant-loop-i g l = record {
-  text : (done : List ℕ) × ((done ++ text_of (printed l.horizon l.lanes) ≡ text_of (printed l.horizon l.fn.lanes)) × ((before : Option (List ℕ)) → (text : List ℕ) → Holds before (g.O.Sink.written l.fn.out) l.fn.pending text → Holds before (g.O.Sink.written l.out) l.pending (text ++ done)));
+  text : (done : List ℕ) × ((done ++ text_of (filled l.last (printed l.horizon l.lanes)) ≡ text_of (filled l.fn.last (printed l.horizon l.fn.lanes))) × ((before : Option (List ℕ)) → (text : List ℕ) → Holds before (g.O.Sink.written l.fn.out) l.fn.pending text → Holds before (g.O.Sink.written l.out) l.pending (text ++ done)));
+  last : last_of l.last (printed l.horizon l.lanes) ≡ last_of l.fn.last (printed l.horizon l.fn.lanes);
   name : g.O.Sink.name l.out ≡ g.O.Sink.name l.fn.out;
   later : g.O.Sink.faults l.fn.out ≤ g.O.Sink.faults l.out;
   parts : parts_of l.lanes ≡ parts_of l.fn.lanes;
