@@ -20,13 +20,16 @@ use Rattle.dat_header.specs.Allowed.{IsHeader}
 use Rattle.dat_header.specs.Items.{Item, Kind, word, version, value, page_text, carried, text, magic_word, version_word, page_word, event_word, section_words, body_words, section_items, items}
 use Rattle.dat_header.specs.Refusal.{begins_with, version_fault, seventh, fault_at, front, Refuses}
 use Rattle.dat_header.specs.Spelling.{SpellsHeader, HasHeader, BeginsWith}
-use Rattle.dat_header.specs.ItemsAt.{word_at, value_at, cpus_of}
-use Rattle.dat_header.specs.Header.{version_at, machine_at, page_text_at, carried_at, sections_at, header_of, IsRefusal}
+use Rattle.dat_header.specs.ItemsAt.{value_at, cpus_of}
+use Rattle.dat_header.specs.Header.{carried_at, sections_at, header_of, IsRefusal}
+use Rattle.dat_header.specs.Opening.{opening_at}
 use Rattle.dat_header.specs.Found.{Found, ◌>>=◌}
 use Rattle.dat_options.specs.Place.{AreBytes}
 use Rattle.dat_header.specs.Laws.{SpellingsDiffer, OneHeader, ReadsBack, ComputesHeader, ComputesRefusal, RefusesByBytes}
 use Rattle.dat_options.proofs.Steps.{some_is}
-use Rattle.dat_header.proofs.Grammar.{found_value, err_or_ok}
+use Rattle.dat_header.proofs.Binds.{bind_more}
+use Rattle.dat_header.proofs.Openings.{header_opened}
+use Rattle.dat_header.proofs.Grammar.{err_or_ok}
 use Rattle.dat_header.proofs.Wrongs.{Wrong}
 use Rattle.dat_header.proofs.WholeRight.{whole_at, IsOpen, right_whole}
 
@@ -34,34 +37,19 @@ use Rattle.dat_header.proofs.WholeRight.{whole_at, IsOpen, right_whole}
 abbrev closed : Header × ℕ → Result Header OpenFault
 closed found = Ok (record found.0 { end = found.1 })
 
-bind_more : {V W X : Type 0} (found : Result V OpenFault) (next : V → Result W OpenFault) (last : W → Result X OpenFault) (other : V → Result X OpenFault)
-    → ((v : V) → (next v >>= last) ≡ other v) → ((found >>= next) >>= last) ≡ (found >>= other)
-bind_more (Ok v) next last other same = same v
-bind_more (Err fault) next last other same = refl
-
-bind_word : {W X : Type 0} (found : Result ℕ OpenFault) (next : (Unit {0}) × ℕ → Result W OpenFault) (last : W → Result X OpenFault) (other : ℕ → Result X OpenFault)
-    → ((n : ℕ) → (next (tt, n) >>= last) ≡ other n) → (((found >>= λ n. found_value tt n) >>= next) >>= last) ≡ (found >>= other)
-bind_word (Ok n) next last other same = same n
-bind_word (Err fault) next last other same = refl
-
 pub header_is : (file : List ℕ) → (whole_at file 0 >>= closed) ≡ header_of file
-unfolding header_of version_at
 header_is file =
-    bind_word (word_at magic_word (NotTrace 0) file 0) _ closed _
-    (λ n1. bind_word (word_at version_word (version_fault n1 (drop n1 file)) file n1) _ closed _
-    (λ n2. bind_more (machine_at file n2) _ closed _
-    (λ m. bind_word (word_at page_word (BadSection m.1) file m.1) _ closed _
-    (λ n3. bind_more (page_text_at m.0 file n3) _ closed _
-    (λ p. bind_word (word_at event_word (BadSection p.1) file p.1) _ closed _
-    (λ n4. bind_more (carried_at m.0.order file n4) _ closed _
-    (λ t. bind_more (value_at 4 m.0.order cpus_of (TooManyCpus t.1) file t.1) _ closed _
-    (λ n. bind_more (sections_at m.0.order n.0 file n.1) _ closed _ (λ s. refl)))))))))
+    bind_more (opening_at file 0) _ closed _
+    (λ o. bind_more (carried_at o.0.machine.order file o.1) _ closed _
+    (λ t. bind_more (value_at 4 o.0.machine.order cpus_of (TooManyCpus t.1) file t.1) _ closed _
+    (λ n. bind_more (sections_at o.0.machine.order n.0 file n.1) _ closed _ (λ s. refl))))
+    ∙ header_opened file
 
 open_items : (header : Header) (end : ℕ) → items (record header { end = end }) ≡ items header
 unfolding items
 open_items header end = refl
 
-any_end : (header : Header) (end : ℕ) → IsHeader header → IsHeader (record header { end = end })
+pub any_end : (header : Header) (end : ℕ) → IsHeader header → IsHeader (record header { end = end })
 any_end header end h = record {
   long = h.long;
   page = h.page;
@@ -92,7 +80,7 @@ reads_back header bytes rest spells =
     let long : 0 + length (text (items (opened header))) ≡ header.end = omega (arith, ap length spells.joined, spells.ends, ap (λ (xs : List Item). length (text xs)) (open_items header 0)) in
     sym (header_is file) ∙ ap (λ (f : Found Header). f >>= closed) again ∙ ap (λ (n : ℕ). let r : Result Header OpenFault = Ok (record header { end = n }) in r) long
 
-ok_is : (header other : Header) → (let one : Result Header OpenFault = Ok header in let two : Result Header OpenFault = Ok other in one ≡ two) → header ≡ other
+pub ok_is : (header other : Header) → (let one : Result Header OpenFault = Ok header in let two : Result Header OpenFault = Ok other in one ≡ two) → header ≡ other
 ok_is header other e = cc
 
 has_is : (file : List ℕ) (header : Header) → HasHeader file header → header_of file ≡ Ok header
@@ -134,14 +122,14 @@ fewer : (xs : List Item) (few more : ℕ) → few ≤ more → text (take more x
 fewer xs few more le =
     ap (λ (n : ℕ). text (take n xs)) (let e : more ≡ few + (more - few) = omega arith in e) ∙ ap text (take-add few (more - few) xs) ∙ flat_map-append (λ item. item.bytes) (take few xs) (take (more - few) (drop few xs))
 
-begins_fewer : (file : List ℕ) (header : Header) (few more : ℕ) → few ≤ more → BeginsWith file (front more header) → BeginsWith file (front few header)
+pub begins_fewer : (file : List ℕ) (header : Header) (few more : ℕ) → few ≤ more → BeginsWith file (front more header) → BeginsWith file (front few header)
 begins_fewer file header few more le begins = (
   text (take (more - few) (drop few (items header))) ++ begins.0,
   begins.1 ∙ ap (λ (t : List ℕ). t ++ begins.0) (fewer (items header) few more le) ∙ append_assoc (text (take few (items header))) (text (take (more - few) (drop few (items header)))) begins.0,
 )
 
 -- all items of a header are at the front where it is spelled
-begins_whole : (file : List ℕ) (header : Header) (count : ℕ) → HasHeader file header → BeginsWith file (front count header)
+pub begins_whole : (file : List ℕ) (header : Header) (count : ℕ) → HasHeader file header → BeginsWith file (front count header)
 begins_whole file header count has =
     let whole : text (items header) ≡ text (take count (items header)) ++ text (drop count (items header)) = ap text (sym (take-append-drop count (items header))) ∙ flat_map-append (λ item. item.bytes) (take count (items header)) (drop count (items header)) in (
       text (drop count (items header)) ++ has.2.0,

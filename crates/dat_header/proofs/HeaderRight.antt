@@ -14,6 +14,7 @@ use Rattle.dat_header.specs.declared.header.System.{System}
 use Rattle.dat_header.specs.declared.pieces.Machine.{Machine}
 use Rattle.dat_header.specs.declared.pieces.PageText.{PageText}
 use Rattle.dat_header.specs.declared.pieces.Carried.{Carried}
+use Rattle.dat_header.specs.declared.pieces.Described.{Described}
 use Rattle.dat_header.specs.Allowed.{AreFormats, AreSystems}
 use Rattle.dat_header.specs.Pieces.{IsMachine, IsPageText, IsCarried}
 use Rattle.dat_header.specs.PageText.{layout_of}
@@ -21,11 +22,13 @@ use Rattle.dat_header.specs.Items.{Item, value, page_text, carried, order_byte, 
 use Rattle.dat_header.specs.Refusal.{fault_at}
 use Rattle.dat_header.specs.ItemsAt.{bytes_at, number_at, value_at, text_at, formats_at, systems_at, order_of, long_of, page_of}
 use Rattle.dat_header.specs.Header.{machine_at, page_text_at, carried_at}
+use Rattle.dat_header.specs.Opening.{IsDescribed, described_at}
 use Rattle.dat_header.specs.Found.{Found, ◌>>=◌, or_wrong}
 use Rattle.dat_options.specs.Place.{AreBytes}
 use Rattle.dat_header.proofs.Values.{checked_is, checked_not}
 use Rattle.dat_header.proofs.Grammar.{Stands, found_value, err_or_ok, at_ok, at_err, not_both, same_value, same_fault, behind, room}
-use Rattle.dat_header.proofs.Wrongs.{Right, one_item, right_item, rights_then, rights_none, rights_as}
+use Rattle.dat_header.proofs.Wrongs.{Right, one_item, right_item, right_made, rights_then, rights_none, rights_as}
+use Rattle.dat_header.proofs.Openings.{carried_is, carried_with}
 use Rattle.dat_header.proofs.Texts.{reads_bytes, reads_number, reads_text, text_end}
 use Rattle.dat_header.proofs.Systems.{reads_formats, formats_end, reads_systems, systems_end}
 use Rattle.dat_header.proofs.ItemRights.{number_long, number_short, options_of, right_order, right_long, right_page, right_carried}
@@ -150,7 +153,17 @@ module _ (machine : Machine) where
   pub right_page_text : Right (one_item (page_text machine.order) (λ page. sized 8 machine.order page.text)) (IsPageText machine) (page_text_at machine)
   right_page_text = right_item (page_text machine.order) (λ page. sized 8 machine.order page.text) (IsPageText machine) (page_text_at machine) plain_page plain_is (record { again = page_again; sound = page_sound }) page_fails
 
--- the texts that are carried unread
+-- the texts that are carried unread, up to the command lines
+abbrev pub described_items : Order → Described → List Item
+described_items order texts =
+    record { kind = carried; bytes = sized 8 order texts.event_text }
+    ∷ record { kind = carried; bytes = formats_text order texts.ftrace }
+    ∷ record { kind = carried; bytes = systems_text order texts.systems }
+    ∷ record { kind = carried; bytes = sized 4 order texts.kallsyms }
+    ∷ record { kind = carried; bytes = sized 4 order texts.printk }
+    ∷ []
+
+-- and with them
 abbrev pub carried_items : Order → Carried → List Item
 carried_items order texts =
     record { kind = carried; bytes = sized 8 order texts.event_text }
@@ -161,7 +174,7 @@ carried_items order texts =
     ∷ record { kind = carried; bytes = sized 8 order texts.cmdlines }
     ∷ []
 
-right_text : (width : ℕ) (order : Order) → 0 < limit width → Right (one_item carried (sized width order)) (λ content. length content < limit width) (text_at width order)
+pub right_text : (width : ℕ) (order : Order) → 0 < limit width → Right (one_item carried (sized width order)) (λ content. length content < limit width) (text_at width order)
 right_text width order some = right_carried (sized width order) (λ content. length content < limit width) (text_at width order) [] some (reads_text width order) (text_end width order)
 
 right_formats : (order : Order) → Right (one_item carried (formats_text order)) AreFormats (formats_at order)
@@ -170,36 +183,45 @@ right_formats order = right_carried (formats_text order) AreFormats (formats_at 
 right_systems : (order : Order) → Right (one_item carried (systems_text order)) AreSystems (systems_at order)
 right_systems order = right_carried (systems_text order) AreSystems (systems_at order) [] (record { counted = omega arith; each = λ k d h. absurd (omega arith) }) (reads_systems order) (systems_end order)
 
-abbrev carried_of : List ℕ → List (List ℕ) → List System → List ℕ → List ℕ → List ℕ → Carried
-carried_of event_text ftrace systems kallsyms printk cmdlines = record { event_text = event_text; ftrace = ftrace; systems = systems; kallsyms = kallsyms; printk = printk; cmdlines = cmdlines }
+abbrev described_of : List ℕ → List (List ℕ) → List System → List ℕ → List ℕ → Described
+described_of event_text ftrace systems kallsyms printk = record { event_text = event_text; ftrace = ftrace; systems = systems; kallsyms = kallsyms; printk = printk }
+
+abbrev pub described_in : Carried → Described
+described_in texts = described_of texts.event_text texts.ftrace texts.systems texts.kallsyms texts.printk
 
 module _ (order : Order) where
-  abbrev carried_1 : List ℕ → List ℕ → ℕ → Found Carried
-  carried_1 e file at = formats_at order file at >>= λ f. systems_at order file f.1 >>= λ s. text_at 4 order file s.1 >>= λ k. text_at 4 order file k.1 >>= λ p. text_at 8 order file p.1 >>= λ c. Ok (carried_of e f.0 s.0 k.0 p.0 c.0, c.1)
+  abbrev described_1 : List ℕ → List ℕ → ℕ → Found Described
+  described_1 e file at = formats_at order file at >>= λ f. systems_at order file f.1 >>= λ s. text_at 4 order file s.1 >>= λ k. text_at 4 order file k.1 >>= λ p. Ok (described_of e f.0 s.0 k.0 p.0, p.1)
 
-  abbrev carried_2 : List ℕ → List (List ℕ) → List ℕ → ℕ → Found Carried
-  carried_2 e f file at = systems_at order file at >>= λ s. text_at 4 order file s.1 >>= λ k. text_at 4 order file k.1 >>= λ p. text_at 8 order file p.1 >>= λ c. Ok (carried_of e f s.0 k.0 p.0 c.0, c.1)
+  abbrev described_2 : List ℕ → List (List ℕ) → List ℕ → ℕ → Found Described
+  described_2 e f file at = systems_at order file at >>= λ s. text_at 4 order file s.1 >>= λ k. text_at 4 order file k.1 >>= λ p. Ok (described_of e f s.0 k.0 p.0, p.1)
 
-  abbrev carried_3 : List ℕ → List (List ℕ) → List System → List ℕ → ℕ → Found Carried
-  carried_3 e f s file at = text_at 4 order file at >>= λ k. text_at 4 order file k.1 >>= λ p. text_at 8 order file p.1 >>= λ c. Ok (carried_of e f s k.0 p.0 c.0, c.1)
+  abbrev described_3 : List ℕ → List (List ℕ) → List System → List ℕ → ℕ → Found Described
+  described_3 e f s file at = text_at 4 order file at >>= λ k. text_at 4 order file k.1 >>= λ p. Ok (described_of e f s k.0 p.0, p.1)
 
-  abbrev carried_4 : List ℕ → List (List ℕ) → List System → List ℕ → List ℕ → ℕ → Found Carried
-  carried_4 e f s k file at = text_at 4 order file at >>= λ p. text_at 8 order file p.1 >>= λ c. Ok (carried_of e f s k p.0 c.0, c.1)
+  abbrev described_4 : List ℕ → List (List ℕ) → List System → List ℕ → List ℕ → ℕ → Found Described
+  described_4 e f s k file at = text_at 4 order file at >>= λ p. Ok (described_of e f s k p.0, p.1)
 
-  abbrev carried_5 : List ℕ → List (List ℕ) → List System → List ℕ → List ℕ → List ℕ → ℕ → Found Carried
-  carried_5 e f s k p file at = text_at 8 order file at >>= λ c. Ok (carried_of e f s k p c.0, c.1)
+  pub right_described : Right (described_items order) IsDescribed (described_at order)
+  unfolding described_at
+  right_described = rights_as _ (described_items order) _ IsDescribed _ (described_at order)
+      (λ texts is. record { event_text = is.0; ftrace = is.1.0; systems = is.1.1.0; kallsyms = is.1.1.1.0; printk = is.1.1.1.1.0 })
+      (λ texts is. (is.event_text, (is.ftrace, (is.systems, (is.kallsyms, (is.printk, refl)))))) (λ texts is. refl) (λ file at. refl)
+      (rights_then _ _ (text_at 8 order) _ _ described_1 (λ t. t.event_text) 1 (right_text 8 order (omega arith)) (λ e. refl) (λ e is. rights_then _ _ (formats_at order) _ _ (described_2 e) (λ t. t.ftrace) 1 (right_formats order) (λ f. refl)
+      (λ f is. rights_then _ _ (systems_at order) _ _ (described_3 e f) (λ t. t.systems) 1 (right_systems order) (λ s. refl)
+      (λ s is. rights_then _ _ (text_at 4 order) _ _ (described_4 e f s) (λ t. t.kallsyms) 1 (right_text 4 order (omega arith)) (λ k. refl)
+      (λ k is. rights_then _ _ (text_at 4 order) _ _ (λ p file at. Ok (described_of e f s k p, at)) (λ t. t.printk) 1 (right_text 4 order (omega arith)) (λ p. refl) (λ p is. rights_none (described_of e f s k p)) (λ p t q. ap (λ (x : Described). x.printk) q))
+      (λ k t q. ap (λ (x : Described). x.kallsyms) q.1))
+      (λ s t q. ap (λ (x : Described). x.systems) q.1.1))
+      (λ f t q. ap (λ (x : Described). x.ftrace) q.1.1.1)) (λ e t q. ap (λ (x : Described). x.event_text) q.1.1.1.1))
+
+  abbrev cmdlines_1 : Described → List ℕ → ℕ → Found Carried
+  cmdlines_1 d file at = text_at 8 order file at >>= λ c. Ok (carried_with d c.0, c.1)
 
   pub right_carried_texts : Right (carried_items order) IsCarried (carried_at order)
-  unfolding carried_at
   right_carried_texts = rights_as _ (carried_items order) _ IsCarried _ (carried_at order)
-      (λ texts is. record { event_text = is.0; ftrace = is.1.0; systems = is.1.1.0; kallsyms = is.1.1.1.0; printk = is.1.1.1.1.0; cmdlines = is.1.1.1.1.1.0 })
-      (λ texts is. (is.event_text, (is.ftrace, (is.systems, (is.kallsyms, (is.printk, (is.cmdlines, refl))))))) (λ texts is. refl) (λ file at. refl)
-      (rights_then _ _ (text_at 8 order) _ _ carried_1 (λ t. t.event_text) 1 (right_text 8 order (omega arith)) (λ e. refl) (λ e is. rights_then _ _ (formats_at order) _ _ (carried_2 e) (λ t. t.ftrace) 1 (right_formats order) (λ f. refl)
-      (λ f is. rights_then _ _ (systems_at order) _ _ (carried_3 e f) (λ t. t.systems) 1 (right_systems order) (λ s. refl)
-      (λ s is. rights_then _ _ (text_at 4 order) _ _ (carried_4 e f s) (λ t. t.kallsyms) 1 (right_text 4 order (omega arith)) (λ k. refl)
-      (λ k is. rights_then _ _ (text_at 4 order) _ _ (carried_5 e f s k) (λ t. t.printk) 1 (right_text 4 order (omega arith)) (λ p. refl)
-      (λ p is. rights_then _ _ (text_at 8 order) _ _ (λ c file at. Ok (carried_of e f s k p c, at)) (λ t. t.cmdlines) 1 (right_text 8 order (omega arith)) (λ c. refl) (λ c is. rights_none (carried_of e f s k p c)) (λ c t q. ap (λ (x : Carried). x.cmdlines) q))
-      (λ p t q. ap (λ (x : Carried). x.printk) q.1))
-      (λ k t q. ap (λ (x : Carried). x.kallsyms) q.1.1))
-      (λ s t q. ap (λ (x : Carried). x.systems) q.1.1.1))
-      (λ f t q. ap (λ (x : Carried). x.ftrace) q.1.1.1.1)) (λ e t q. ap (λ (x : Carried). x.event_text) q.1.1.1.1.1))
+      (λ texts is. record { event_text = is.0.event_text; ftrace = is.0.ftrace; systems = is.0.systems; kallsyms = is.0.kallsyms; printk = is.0.printk; cmdlines = is.1.0 })
+      (λ texts is. (record { event_text = is.event_text; ftrace = is.ftrace; systems = is.systems; kallsyms = is.kallsyms; printk = is.printk }, (is.cmdlines, refl))) (λ texts is. refl) (λ file at. carried_is order at file)
+      (rights_then (described_items order) IsDescribed (described_at order) _ _ cmdlines_1 described_in 5 right_described (λ d. refl)
+      (λ d is. right_made _ (λ (content : List ℕ). length content < limit 8) (text_at 8 order) (carried_with d) (λ (t : Carried). t.cmdlines) (λ c. refl) (right_text 8 order (omega arith)))
+      (λ d t e. sym (ap described_in e.1)))

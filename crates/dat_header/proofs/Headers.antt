@@ -71,7 +71,7 @@ plain_allowed order long page l p =
       data_in_front = omega (arith, fits.0);
       data_aligned = fits.1;
       page_least = size.0;
-      page_most = size.1;
+      page_most = omega (arith, size.1);
     }
 
 apart_is : (layout : Layout) → (leb (layout.time_at + 8) layout.commit_at || leb (layout.commit_at + layout.commit_size) layout.time_at) ≡ true
@@ -81,14 +81,13 @@ apart_is layout e = elim (either (leb (layout.time_at + 8) layout.commit_at) (le
   | inr behind ↦ inr (leb-true _ _ behind)
 ]
 
-may_be_is : (layout : Layout) → may_be layout ≡ true → IsPageSize layout.page → IsLayout layout
-may_be_is layout e p =
+may_be_is : (layout : Layout) → may_be layout ≡ true → 4096 ≤ layout.page → layout.page ≤ 262144 → IsLayout layout
+may_be_is layout e least most =
     let six = both _ _ e in
     let five = both _ _ six.0 in
     let four = both _ _ five.0 in
     let three = both _ _ four.0 in
     let two = both _ _ three.0 in
-    let size = page_is layout.page p in
     record {
       commit_is_long = long_is layout.commit_size two.0;
       time_before_data = leb-true _ _ three.1;
@@ -96,8 +95,8 @@ may_be_is layout e p =
       apart = apart_is layout two.1;
       data_in_front = leb-true _ _ six.1;
       data_aligned = eqb-true _ _ five.1;
-      page_least = size.0;
-      page_most = size.1;
+      page_least = least;
+      page_most = most;
     }
 
 chosen_is : (chosen : Bool) (one layout : Layout) → (if chosen then Some one else None) ≡ Some layout → (chosen ≡ true) × (one ≡ layout)
@@ -106,8 +105,12 @@ chosen_is false one layout e = cc
 
 by_lines_is : (order : Order) (page : ℕ) (time commit content : FieldData) (layout : Layout) → IsPageSize page → layout_by order page time commit content ≡ Some layout → IsLayout layout
 by_lines_is order page time commit content layout p e =
-    let chosen = chosen_is _ _ layout e in
-    subst IsLayout chosen.1 (may_be_is _ (both _ _ chosen.0).1 p)
+    let made : Layout = record { order = order; time_at = time.offset; commit_at = commit.offset; commit_size = commit.size; data_at = content.offset; page = content.offset + content.size } in
+    let chosen = chosen_is _ made layout e in
+    let held = both _ _ chosen.0 in
+    let sized = both _ _ (both _ _ (both _ _ held.0).1).0 in
+    let least : page ≤ made.page = leb-true _ _ sized.0 in
+    subst IsLayout chosen.1 (may_be_is made held.1 (omega (arith, (page_is page p).0, least)) (leb-true _ _ sized.1))
 
 bound_is : {V W : Type 0} (value : Option V) (next : V → Option W) (is : W) → option_and_then next value ≡ Some is → (v : V) × (next v ≡ Some is)
 bound_is None next is e = cc

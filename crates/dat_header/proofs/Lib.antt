@@ -7,6 +7,8 @@ pub mod Layouts
 pub mod Choices
 pub mod Headers
 pub mod Grammar
+pub mod Binds
+pub mod Openings
 pub mod Wrongs
 pub mod Texts
 pub mod Systems
@@ -14,7 +16,11 @@ pub mod Fronts
 pub mod ItemRights
 pub mod HeaderRight
 pub mod SectionsRight
+pub mod OpeningRight
 pub mod WholeRight
 pub mod HeaderLaws
+pub mod PartialSteps
+pub mod Partials
 pub mod Written
 pub mod Wrapped
+pub mod Tables

@@ -36,7 +36,7 @@ pub record Right {V : Type 0} (items : V → List Item) (allowed : V → Type 0)
 one_is : (x y : Item) → Some x ≡ Some y → x ≡ y
 one_is x y e = some_is x y e
 
-get_front : (xs ys : List Item) (k : ℕ) → k < length xs → slice_get (xs ++ ys) k ≡ slice_get xs k
+pub get_front : (xs ys : List Item) (k : ℕ) → k < length xs → slice_get (xs ++ ys) k ≡ slice_get xs k
 get_front [] ys k inside = absurd (omega arith)
 get_front (x ∷ xs) ys zero inside = refl
 get_front (x ∷ xs) ys (suc k) inside = get_front xs ys k (omega arith)
@@ -49,7 +49,7 @@ get_back (x ∷ xs) ys (suc count) k is = ap (slice_get (x ∷ xs ++ ys)) (let e
 take_back : (xs ys : List Item) (count k : ℕ) → count ≡ length xs → take (count + k) (xs ++ ys) ≡ xs ++ take k ys
 take_back xs ys count k is = ap (λ (n : ℕ). take (n + k) (xs ++ ys)) is ∙ take-append-add xs ys k
 
-text_both : (xs ys : List Item) → text (xs ++ ys) ≡ text xs ++ text ys
+pub text_both : (xs ys : List Item) → text (xs ++ ys) ≡ text xs ++ text ys
 text_both xs ys = flat_map-append (λ item. item.bytes) xs ys
 
 module _ {V W : Type 0} (items : V → List Item) (allowed : V → Type 0) (read : List ℕ → ℕ → Found V)

@@ -1,7 +1,7 @@
 -- The layout that a header_page text gives to the file's sub-buffers.
 -- Source: trace-cmd.dat.v6(5), `header_page`; the text is the kernel's events/header_page. The limits on the places are
 -- this program's.
-use Rattle.std.specs.Prelude.{◌+◌, ◌%◌, ◌==◌, ◌&&◌, ◌||◌, Bool, ℕ, nat_le, List, [], ◌∷◌, Option, Some, None, if◌then◌else◌, codes}
+use Rattle.std.specs.Prelude.{◌+◌, ◌%◌, ◌==◌, ◌&&◌, ◌||◌, Bool, ℕ, nat_le, count_ones, List, [], ◌∷◌, Option, Some, None, if◌then◌else◌, codes}
 use Rattle.std.specs.List.{find, filter_map}
 use Rattle.std.specs.Str.{bytes_eq}
 use Rattle.trace_base.specs.FieldLine.{FieldData}
@@ -30,11 +30,16 @@ may_be layout = (layout.commit_size == 4 || layout.commit_size == 8)
     && layout.data_at % 4 == 0
     && nat_le layout.data_at 256
 
--- the layout by these three lines, with a timestamp of 64 bits and data that end with the page
+-- a sub-buffer has at least a page and at most 262,144 bytes, and their number is a power of two: one bit of it is set
+abbrev pub is_sub_buffer_size : ℕ → ℕ → Bool
+is_sub_buffer_size page size = nat_le page size && nat_le size 262144 && count_ones size == 1
+
+-- the layout by these three lines, with a timestamp of 64 bits and data that end with the sub-buffer
 abbrev pub layout_by : Order → ℕ → FieldData → FieldData → FieldData → Option Layout
 layout_by order page time commit content =
-    let layout : Layout = record { order = order; time_at = time.offset; commit_at = commit.offset; commit_size = commit.size; data_at = content.offset; page = page } in
-    if time.size == 8 && content.offset + content.size == page && may_be layout then Some layout else None
+    let size = content.offset + content.size in
+    let layout : Layout = record { order = order; time_at = time.offset; commit_at = commit.offset; commit_size = commit.size; data_at = content.offset; page = size } in
+    if time.size == 8 && is_sub_buffer_size page size && may_be layout then Some layout else None
 
 abbrev pub layout_by_lines : Order → ℕ → List FieldData → Option Layout
 layout_by_lines order page lines = do
@@ -43,7 +48,8 @@ layout_by_lines order page lines = do
   content ← line_named (codes "data") lines
   layout_by order page time commit content
 
--- the layout of a file with this order, user's long, page size and header_page text; an empty text stands for the plain one
+-- the layout of a file with this order, user's long, page size and header_page text; an empty text stands for
+-- the plain one, whose sub-buffers have the page's size
 unfoldable pub layout_of : Order → ℕ → ℕ → List ℕ → Option Layout
 layout_of order long page [] = Some (plain_layout order long page)
 layout_of order long page (byte ∷ text) = layout_by_lines order page (field_lines (byte ∷ text))

@@ -5,12 +5,13 @@ ghost use Rattle.std.specs.List.{All};
 ghost use Rattle.dat_header.specs.Allowed.{AreFormats, IsSystem, AreSystems};
 ghost use Rattle.dat_header.specs.Pieces.{IsCarried};
 ghost use Rattle.dat_header.specs.Header.{carried_at};
+ghost use Rattle.dat_header.specs.Opening.{IsDescribed, described_at};
 ghost use Rattle.dat_header.specs.Steps.{Steps, seen};
 ghost use Rattle.dat_header.specs.ItemsAt.{texts_at, formats_at, system_at, each_system_at, systems_at};
 
 use crate::header::System;
 use crate::items::{read_long_text, read_name, read_number, read_text};
-use crate::pieces::Carried;
+use crate::pieces::{Carried, Described};
 use dat_options::OpenFault;
 use std::alloc::Global;
 use trace_base::{ByteText, ListOf, Order};
@@ -26,21 +27,43 @@ pub(crate) fn read_carried<F: File>(
     ensures allowed { IfOk result (λ found. IsCarried found.0) }
     ensures steps { Steps (λ found. found.1) (λ bytes. carried_at order bytes at) at (seen F.bytes F.size F.faults F.reads file.old) (seen F.bytes F.size F.faults F.reads file.new) result }
 {
+    let (described, after) = read_described(alloc, order, file, at)?;
+    let (cmdlines, after) = read_long_text(alloc, order, file, after)?;
+    let carried = Carried {
+        event_text: described.event_text,
+        ftrace: described.ftrace,
+        systems: described.systems,
+        kallsyms: described.kallsyms,
+        printk: described.printk,
+        cmdlines,
+    };
+    Ok((carried, after))
+}
+
+// The texts up to the command lines.
+pub(crate) fn read_described<F: File>(
+    alloc: Global,
+    order: Order,
+    file: &mut F,
+    at: u64,
+) -> Result<(Described, u64), OpenFault>
+    requires inside { at ≤ F.size file.old }
+    ensures allowed { IfOk result (λ found. IsDescribed found.0) }
+    ensures steps { Steps (λ found. found.1) (λ bytes. described_at order bytes at) at (seen F.bytes F.size F.faults F.reads file.old) (seen F.bytes F.size F.faults F.reads file.new) result }
+{
     let (event_text, after) = read_long_text(alloc, order, file, at)?;
     let (ftrace, after) = read_formats(alloc, order, file, after)?;
     let (systems, after) = read_systems(alloc, order, file, after)?;
     let (kallsyms, after) = read_text(alloc, order, file, after)?;
     let (printk, after) = read_text(alloc, order, file, after)?;
-    let (cmdlines, after) = read_long_text(alloc, order, file, after)?;
-    let carried = Carried {
+    let described = Described {
         event_text,
         ftrace,
         systems,
         kallsyms,
         printk,
-        cmdlines,
     };
-    Ok((carried, after))
+    Ok((described, after))
 }
 
 // Format texts behind their number.

@@ -10,7 +10,7 @@ ghost use Rattle.dat_header.specs.ItemsAt.{word_in, word_at, bytes_at, number_at
 use dat_options::OpenFault;
 use std::alloc::Global;
 use trace_base::{ByteText, Order, read_u32, read_u64};
-use trace_outside::{Failed, File, read_all, read_bytes, read_piece};
+use trace_outside::{File, read_all, read_bytes, read_piece};
 
 // As many of the bytes that are asked for as are there.
 pub(crate) fn read_there<F: File>(
@@ -22,10 +22,8 @@ pub(crate) fn read_there<F: File>(
     ensures { GivesThere at into.new (seen F.bytes F.size F.faults F.reads file.old) (seen F.bytes F.size F.faults F.reads file.new) result }
 {
     let there = (file.len() - at).min(into.len() as u64) as usize;
-    match read_all(file, at, &mut into[..there]) {
-        Ok(()) => Ok(there),
-        Err(Failed) => Err(OpenFault::Read),
-    }
+    read_all(file, at, &mut into[..there])?;
+    Ok(there)
 }
 
 // A word that has to stand there.

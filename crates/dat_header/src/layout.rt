@@ -4,7 +4,7 @@ ghost use Rattle.std.specs.Prelude.{◌≡◌, ◌≤◌, IfOk};
 ghost use Rattle.std.specs.Option.{option_map};
 ghost use Rattle.trace_base.specs.FieldReading.{field_view};
 ghost use Rattle.trace_base.specs.Layout.{IsLayout};
-ghost use Rattle.dat_header.specs.PageText.{field_lines, layout_of, layout_by, line_named, may_be};
+ghost use Rattle.dat_header.specs.PageText.{field_lines, is_sub_buffer_size, layout_of, layout_by, line_named, may_be};
 ghost use Rattle.dat_header.specs.Pieces.{IsMachine, IsPageText};
 ghost use Rattle.dat_header.specs.Header.{page_text_at};
 ghost use Rattle.dat_header.specs.Steps.{Steps, seen};
@@ -76,20 +76,26 @@ fn layout_by(
 ) -> Option<Layout>
     ensures { result ≡ layout_by machine.now.order machine.now.page (field_view time.now) (field_view commit.now) (field_view content.now) }
 {
+    let size = content.offset as u64 + content.size as u64;
+    if time.size != 8 || !is_sub_buffer_size(machine.page, size) {
+        return None;
+    }
     let layout = Layout {
         order: machine.order,
         time_at: time.offset,
         commit_at: commit.offset,
         commit_size: commit.size,
         data_at: content.offset,
-        page: machine.page,
+        page: size as u32,
     };
-    let ends_with_page = content.offset as u64 + content.size as u64 == machine.page as u64;
-    if time.size == 8 && ends_with_page && may_be(&layout) {
-        Some(layout)
-    } else {
-        None
-    }
+    if may_be(&layout) { Some(layout) } else { None }
+}
+
+// Kernels since Linux 6.8 make sub-buffers of several pages where `buffer_subbuf_size_kb` says so.
+fn is_sub_buffer_size(page: u32, size: u64) -> bool
+    ensures { result ≡ is_sub_buffer_size page size }
+{
+    u64::from(page) <= size && size <= 262_144 && size.is_power_of_two()
 }
 
 fn may_be(layout: &Layout) -> bool

@@ -19,7 +19,24 @@ pub(crate) struct PageText {
     pub(crate) layout: Layout,
 }
 
-// The texts that are carried unread.
+// What stands in front of the texts that are carried unread.
+#[derive(Drop)]
+pub(crate) struct Opening {
+    pub(crate) machine: Machine,
+    pub(crate) page: PageText,
+}
+
+// The texts that are carried unread, up to the command lines.
+#[derive(Drop)]
+pub(crate) struct Described {
+    pub(crate) event_text: ByteText,
+    pub(crate) ftrace: ListOf<ByteText>,
+    pub(crate) systems: ListOf<System>,
+    pub(crate) kallsyms: ByteText,
+    pub(crate) printk: ByteText,
+}
+
+// All texts that are carried unread.
 #[derive(Drop)]
 pub(crate) struct Carried {
     pub(crate) event_text: ByteText,

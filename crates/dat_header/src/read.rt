@@ -1,18 +1,17 @@
 // The whole header, read piece after piece.
 
-ghost use Rattle.std.specs.Prelude.{◌≡◌, ◌≤◌, length, IfOk, IsErrOf};
+ghost use Rattle.std.specs.Prelude.{◌≡◌, ◌≤◌, IfOk, IsErrOf};
 ghost use Rattle.trace_outside.specs.Causes.{Rose, raised};
+ghost use Rattle.trace_outside.specs.Keeping.{KeepsFile};
 ghost use Rattle.trace_base.specs.Layout.{IsLayout};
-ghost use Rattle.dat_header.specs.Header.{ReadsHeader, header_of, joined, version_at};
+ghost use Rattle.dat_header.specs.Header.{ReadsHeader, header_of, joined};
 ghost use Rattle.dat_header.specs.Allowed.{IsHeader, IsBody};
-ghost use Rattle.dat_header.specs.Refusal.{version_fault};
 ghost use Rattle.dat_header.specs.Steps.{Steps, seen};
 
 use crate::carried::read_carried;
 use crate::header::Header;
-use crate::items::{read_there, read_word, word_in};
-use crate::layout::read_page_text;
-use crate::machine::{read_cpus, read_machine};
+use crate::machine::read_cpus;
+use crate::opening::read_opening;
 use crate::pieces::{Carried, Machine, PageText, Sections};
 use crate::sections::read_sections;
 use dat_options::OpenFault;
@@ -29,7 +28,6 @@ use trace_outside::File;
 pub fn read_header<F: File>(alloc: Global, file: &mut F) -> Result<Header, OpenFault>
     ensures answer { ReadsHeader (F.bytes file.old) result }
     ensures read { IsErrOf result OpenFault.Read → Rose (F.faults file.old) (F.faults file.new) }
-    ensures later { F.faults file.old ≤ F.faults file.new }
     ensures reads { IfOk result (λ header. F.reads file.new ≤ raised (F.reads file.old) header.end) }
     ensures most { F.reads file.new ≤ raised (F.reads file.old) (F.size file.old) }
     ensures end_inside { IfOk result (λ header. header.end ≤ F.size file.old) }
@@ -37,8 +35,7 @@ pub fn read_header<F: File>(alloc: Global, file: &mut F) -> Result<Header, OpenF
     ensures layout { IfOk result (λ header. IsLayout header.layout) }
     ensures cpus { IfOk result (λ header. header.cpus ≤ 1024) }
     ensures parts { IfOk result (λ header. IsBody header.cpus header.body) }
-    ensures bytes { F.bytes file.new ≡ F.bytes file.old }
-    ensures size { F.size file.new ≡ F.size file.old }
+    ensures keeps { KeepsFile F.File file.old file.new }
 {
     read_pieces(alloc, file)
 }
@@ -48,38 +45,12 @@ fn read_pieces<F: File>(alloc: Global, file: &mut F) -> Result<Header, OpenFault
     ensures allowed { IfOk result IsHeader }
     ensures steps { Steps (λ header. header.end) header_of 0 (seen F.bytes F.size F.faults F.reads file.old) (seen F.bytes F.size F.faults F.reads file.new) result }
 {
-    let at_version = read_word(file, 0, b"\x17\x08\x44tracing", OpenFault::NotTrace(0))?;
-    let at_order = read_version(file, at_version)?;
-    let (machine, after) = read_machine(file, at_order)?;
-    let at_page = read_word(file, after, b"header_page\0", OpenFault::BadSection(after))?;
-    let (page, after) = read_page_text(alloc, &machine, file, at_page)?;
-    let at_event = read_word(file, after, b"header_event\0", OpenFault::BadSection(after))?;
-    let (carried, at_cpus) = read_carried(alloc, machine.order, file, at_event)?;
-    let (cpus, after) = read_cpus(machine.order, file, at_cpus)?;
-    let (sections, end) = read_sections(alloc, machine.order, cpus, file, after)?;
-    Ok(joined(machine, page, carried, cpus, sections, end))
-}
-
-// The word of the file's version.
-fn read_version<F: File>(file: &mut F, at: u64) -> Result<u64, OpenFault>
-    requires inside { at ≤ F.size file.old }
-    ensures { Steps (λ next. next) (λ bytes. version_at bytes at) at (seen F.bytes F.size F.faults F.reads file.old) (seen F.bytes F.size F.faults F.reads file.new) result }
-{
-    let mut buffer = [0; 2];
-    let count = read_there(file, at, &mut buffer)?;
-    let there = &buffer[..count];
-    word_in(there, b"6\0", version_fault(there, at), at, file.len())
-}
-
-// The fault of another version than 6, where these bytes are there.
-fn version_fault(there: &[u8], at: u64) -> OpenFault
-    ensures { result ≡ version_fault at there.now }
-{
-    if there.starts_with(b"7\0") {
-        OpenFault::Compressed(at)
-    } else {
-        OpenFault::OtherVersion(at)
-    }
+    let (opening, at_event) = read_opening(alloc, file)?;
+    let order = opening.machine.order;
+    let (carried, at_cpus) = read_carried(alloc, order, file, at_event)?;
+    let (cpus, after) = read_cpus(order, file, at_cpus)?;
+    let (sections, end) = read_sections(alloc, order, cpus, file, after)?;
+    Ok(joined(opening.machine, opening.page, carried, cpus, sections, end))
 }
 
 // The header of these pieces.

@@ -1,8 +1,9 @@
 ghost use Rattle.std.specs.Prelude.{◌≡◌};
 ghost use Rattle.dat_options.specs.Answer.{fault_of_piece};
+ghost use Rattle.dat_options.specs.declared.fault.OpenFault.TheVariants.{Read};
 
 use thiserror::Error;
-use trace_outside::PieceFault;
+use trace_outside::{Failed, PieceFault};
 
 /// Why a file was not opened as a trace.
 ///
@@ -46,6 +47,14 @@ pub enum OpenFault {
     /// There was no memory.
     #[error("out of memory")]
     Memory,
+}
+
+impl From<Failed> for OpenFault {
+    ghost from_gives = { λ failed opened. opened ≡ Read };
+
+    fn from(_failed: Failed) -> OpenFault {
+        OpenFault::Read
+    }
 }
 
 impl From<PieceFault> for OpenFault {

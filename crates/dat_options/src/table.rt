@@ -3,6 +3,7 @@
 ghost use Rattle.std.specs.Prelude.{◌≡◌, ◌+◌, ◌-◌, ◌*◌, ◌%◌, ◌≤◌, length, IfOk, IfErr, OnOk, OnErr, IsErrOf};
 ghost use Rattle.std.specs.List.{All};
 ghost use Rattle.trace_outside.specs.Causes.{HasCause, Rose, raised};
+ghost use Rattle.trace_outside.specs.Keeping.{KeepsFile};
 ghost use Rattle.trace_outside.specs.Writing.{Gained, GainedPrefix};
 ghost use Rattle.dat_options.specs.Answer.{AnswersTold, IsEnd};
 ghost use Rattle.dat_options.specs.Table.{IsPart, FindsTable, part_text, table_text, table_from};
@@ -41,9 +42,7 @@ pub fn read_table<F: File>(
     ensures unread { IsErrOf result (OpenFault.Truncated (F.size file.old)) → F.reads file.new ≡ F.reads file.old }
     ensures most { F.reads file.new ≤ raised (F.reads file.old) (F.size file.old - at) }
     ensures cause { IsErrOf result OpenFault.Read → Rose (F.faults file.old) (F.faults file.new) }
-    ensures later { F.faults file.old ≤ F.faults file.new }
-    ensures bytes { F.bytes file.new ≡ F.bytes file.old }
-    ensures size { F.size file.new ≡ F.size file.old }
+    ensures keeps { KeepsFile F.File file.old file.new }
 {
     let size = 16 * cpus as u64;
     let text = read_bytes(alloc, file, at, size)?;

@@ -1,18 +1,23 @@
 -- What is left of a lane while sub-buffers are loaded.
-use Rattle.std.proofs.Common.{◌≡◌, ℕ, ◌+◌, ◌-◌, ◌<◌, ◌≤◌, List, [], ◌++◌, Option, Some, None, refl, sym, ap, ◌∙◌, arith}
+use Rattle.std.proofs.Common.{◌≡◌, ℕ, suc, ◌+◌, ◌-◌, ◌<◌, ◌≤◌, false, List, [], ◌++◌, length, drop, Option, Some, None, refl, sym, ap, ◌∙◌, arith}
 use Rattle.std.specs.Option.{is_none, IfSome}
 use Rattle.std.specs.List.{position_from}
 use Rattle.trace_base.specs.declared.layout.Layout.{Layout}
 use Rattle.trace_base.specs.declared.part.Part.{Part}
+use Rattle.subpage.specs.declared.mark.Mark.{Mark}
 use Rattle.subpage.specs.ItemData.{ItemData}
+use Rattle.subpage.specs.Marks.{items_from}
 use Rattle.subpage.specs.Processor.{items_at, page_count, pages_from, joined, list_of, bad_of}
 use Rattle.subpage.proofs.Joining.{one_more, stops}
 use Rattle.page_pool.specs.declared.lane.Lane.{Lane}
+use Rattle.page_pool.specs.Keeping.{KeepsLane, loading}
+use Rattle.page_pool.specs.declared.cursor.Ahead.{Ahead}
 use Rattle.page_pool.specs.declared.cursor.LaneState.TheVariants.{Fresh, Held, Ended, Malformed}
-use Rattle.event_cursor.specs.Standing.{held_left, left_of, bad_left, OwnIfHeld, Stands}
+use Rattle.event_cursor.specs.Fetched.{HoldsItems}
+use Rattle.event_cursor.specs.Standing.{HoldsPage, TellsAhead, held_left, left_of, bad_left, OwnIfHeld, Stands}
 use Rattle.event_cursor.specs.declared.loading.Loaded.{Loaded}
 use Rattle.event_cursor.specs.declared.loading.Loaded.TheVariants as loaded
-use Rattle.event_cursor.specs.Loading.{KeepsLeft, KeepsPlace, IsState, IsAnswer}
+use Rattle.event_cursor.specs.Loading.{KeepsLeft, IsState, IsAnswer}
 
 -- the sub-buffers that are not loaded yet, by the numbers in the lane
 abbrev pub left_at : Layout → List ℕ → List ItemData → Part → ℕ → List ItemData
@@ -84,17 +89,41 @@ pub answers_ended : (l : Layout) (file : List ℕ) (b : Lane) (answer : Loaded) 
 answers_ended l file b loaded.Loaded s a e = let h : Held ≡ Ended = sym s.0 ∙ e in absurd cc
 answers_ended l file b loaded.End s a e = a
 answers_ended l file b (loaded.Malformed k) s a e = let h : Malformed ≡ Ended = sym s.0 ∙ e in absurd cc
-answers_ended l file b loaded.Read s a e = let h : Fresh ≡ Ended = sym s ∙ e in absurd cc
 
 pub answers_malformed : (l : Layout) (file : List ℕ) (b : Lane) (answer : Loaded) → IsState l b answer → IsAnswer l file b answer → b.cursor.state ≡ Malformed → (left_of l file b ≡ []) × (bad_left l file b ≡ Some b.cursor.next)
 answers_malformed l file b loaded.Loaded s a e = let h : Held ≡ Malformed = sym s.0 ∙ e in absurd cc
 answers_malformed l file b loaded.End s a e = let h : Ended ≡ Malformed = sym s ∙ e in absurd cc
 answers_malformed l file b (loaded.Malformed k) s a e = (a.0, a.1 ∙ ap (λ (n : ℕ). Some n) (sym s.1))
-answers_malformed l file b loaded.Read s a e = let h : Fresh ≡ Malformed = sym s ∙ e in absurd cc
 
 -- where it stands after an answer
 pub stands_answered : (l : Layout) (told : Option (List ℕ)) (a m b : Lane) (answer : Loaded) → IfSome told (λ file. KeepsLeft l file a m) → IfSome told (λ file. KeepsLeft l file m b)
-    → KeepsPlace a m → KeepsPlace m b → IsState l b answer → IfSome told (λ file. IsAnswer l file b answer) → IfSome told (λ file. OwnIfHeld l file b) → IfSome told (λ file. Stands l file a → Stands l file b)
+    → KeepsLane loading a m → KeepsLane loading m b → IsState l b answer → IfSome told (λ file. IsAnswer l file b answer) → IfSome told (λ file. OwnIfHeld l file b) → IfSome told (λ file. Stands l file a → Stands l file b)
 stands_answered l None a m b answer k k2 p q s i own = tt
 stands_answered l (Some file) a m b answer k k2 p q s i own = λ stands.
     stands_again l file a b (keeps_trans l file a m b k k2) (q.part ∙ p.part) (q.high ∙ p.high) own (answers_ended l file b answer s i) (answers_malformed l file b answer s i) stands
+
+-- where it stands after a read that failed
+pub stands_failed : (l : Layout) (told : Option (List ℕ)) (a m b : Lane) → IfSome told (λ file. KeepsLeft l file a m) → IfSome told (λ file. KeepsLeft l file m b)
+    → KeepsLane loading a m → KeepsLane loading m b → b.cursor.state ≡ Fresh → IfSome told (λ file. OwnIfHeld l file b) → IfSome told (λ file. Stands l file a → Stands l file b)
+stands_failed l None a m b k k2 p q fresh own = tt
+stands_failed l (Some file) a m b k k2 p q fresh own = λ stands.
+    stands_again l file a b (keeps_trans l file a m b k k2) (q.part ∙ p.part) (q.high ∙ p.high) own
+    (λ e. let h : Fresh ≡ Ended = sym fresh ∙ e in absurd cc) (λ e. let h : Fresh ≡ Malformed = sym fresh ∙ e in absurd cc) stands
+
+-- an item is ahead where one is told
+pub some_ahead : (l : Layout) (page : List ℕ) (mark : Mark) (high : Option ℕ) (ahead : Option Ahead) → TellsAhead l page mark high ahead → is_none ahead ≡ false → 0 < length (items_from l page mark)
+some_ahead l page mark high None tells some = absurd cc
+some_ahead l page mark high (Some ahead) tells some = let e : length (items_from l page mark) ≡ suc (length (items_from l page ahead.behind)) = ap length tells.items in omega (arith, e)
+
+-- a sub-buffer that was just loaded is held at its first item
+pub holds_first : (l : Layout) (b : Lane) → HoldsItems l b.page (Some b.cursor.mark) → b.cursor.at ≡ 0 → TellsAhead l b.page b.cursor.mark b.cursor.high b.cursor.ahead → b.cursor.next ≡ b.cursor.held + 1 → HoldsPage l b
+holds_first l b holds at ahead next = record {
+  all = items_from l b.page b.cursor.mark;
+  all_are = holds.1;
+  few = holds.2;
+  used_up = omega (arith, at);
+  mark = holds.0;
+  left = ap (λ (n : ℕ). drop n (items_from l b.page b.cursor.mark)) (sym at);
+  ahead = ahead;
+  next = next;
+}

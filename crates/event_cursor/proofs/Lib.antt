@@ -6,4 +6,5 @@ pub mod Leaving
 pub mod KeyLaws
 pub mod Standing
 pub mod Returning
+pub mod Fronts
 pub mod UsedItems

@@ -1,53 +1,23 @@
 -- The used items of a lane that holds a sub-buffer: those of the sub-buffers before it, and so many of its own.
-use Rattle.std.proofs.Common.{◌≡◌, ℕ, zero, suc, ◌+◌, ◌-◌, ◌*◌, ◌/◌, ◌%◌, min, ◌<◌, ◌≤◌, true, List, [], ◌∷◌, ◌++◌, length, map, take, drop, Option, Some, None, refl, sym, ap, ◌∙◌, append_assoc, arith}
-use Rattle.std.specs.Option.{is_none, unwrap_or}
-use Rattle.std.specs.List.{position_from, range_with_len}
+use Rattle.std.proofs.Common.{◌≡◌, ℕ, ◌+◌, ◌-◌, ◌*◌, ◌/◌, ◌%◌, min, ◌<◌, ◌≤◌, true, List, [], ◌++◌, length, take, drop, Option, Some, refl, sym, ap, subst, ◌∙◌, append_assoc, arith}
+use Rattle.std.specs.Option.{is_none, unwrap_or, IfSome}
+use Rattle.std.specs.List.{position_from}
 use Rattle.std.proofs.lemmas.Bool.{leb-true, and_parts}
-use Rattle.std.proofs.lemmas.List.{take-append-drop, take_at, length-append, map-append}
-use Rattle.std.proofs.lemmas.List.FromFn.{length-map-range_with_len}
+use Rattle.std.proofs.lemmas.List.{take-append-drop, take_at, length-append}
+use Rattle.std.proofs.lemmas.List.FromFn.{take-map-range_with_len}
 use Rattle.std.proofs.Math.Nat.{le-div_iff_mul-le}
 use Rattle.trace_base.specs.declared.layout.Layout.{Layout}
 use Rattle.trace_base.specs.declared.part.Part.{Part}
 use Rattle.subpage.specs.ItemData.{ItemData}
 use Rattle.subpage.specs.Processor.{is_there, items_at, page_count, pages_from, joined, list_of, bad_of}
-use Rattle.subpage.proofs.Joining.{joined-some, one_more}
+use Rattle.subpage.proofs.Joining.{one_more}
 use Rattle.page_pool.specs.declared.lane.Lane.{Lane}
 use Rattle.page_pool.specs.declared.cursor.LaneState.TheVariants.{Held}
 use Rattle.event_cursor.specs.Standing.{IsInOrder, left_of, Stands}
 use Rattle.event_cursor.proofs.Leaving.{left_is, bad_is}
 use Rattle.event_cursor.proofs.Returning.{items_held}
-
-range_parts : (a k n : ℕ) → k ≤ n → range_with_len a n ≡ range_with_len a k ++ range_with_len (a + k) (n - k)
-range_parts a zero n le =
-    let here : a ≡ a + 0 = omega arith in
-    let all : n ≡ n - 0 = omega arith in
-    ap (λ (b : ℕ). range_with_len b n) here ∙ ap (range_with_len (a + 0)) all
-range_parts a (suc k) zero le = absurd (omega arith)
-range_parts a (suc k) (suc n) le =
-    let there : a + 1 + k ≡ a + suc k = omega arith in
-    let rest : n - k ≡ suc n - suc k = omega arith in
-    ap (λ (ns : List ℕ). a ∷ ns)
-    (range_parts (a + 1) k n (omega arith)
-    ∙ ap (λ (b : ℕ). range_with_len (a + 1) k ++ range_with_len b (n - k)) there
-    ∙ ap (λ (m : ℕ). range_with_len (a + 1) k ++ range_with_len (a + suc k) m) rest)
-
-no_sooner : (b m : ℕ) (pages : List (Option (List ItemData))) → position_from is_none b pages ≡ Some m → b ≤ m
-no_sooner b m [] e = absurd cc
-no_sooner b m (None ∷ pages) e = let same : b ≡ m = cc in omega arith
-no_sooner b m (Some xs ∷ pages) e = let further : b + 1 ≤ m = no_sooner (b + 1) m pages e in omega arith
-
--- where the first malformed sub-buffer is none of the first ones, their items come first
-joined_parts : (a b : ℕ) (front back : List (Option (List ItemData))) → a + length front ≡ b
-    → position_from is_none a (front ++ back) ≡ position_from is_none b back → joined (front ++ back) ≡ joined front ++ joined back
-joined_parts a b [] back n e = refl
-joined_parts a b (None ∷ front) back n e =
-    let sooner : b ≤ a = no_sooner b a back (sym e) in
-    absurd (omega arith)
-joined_parts a b (Some xs ∷ front) back n e =
-    joined-some xs (front ++ back)
-    ∙ ap (λ (ys : List ItemData). xs ++ ys) (joined_parts (a + 1) b front back (omega arith) e)
-    ∙ sym (append_assoc xs (joined front) (joined back))
-    ∙ ap (λ (ys : List ItemData). ys ++ joined back) (sym (joined-some xs front))
+use Rattle.event_cursor.proofs.Told.{told_map}
+use Rattle.event_cursor.proofs.Fronts.{no_sooner, joined_split, drop_range}
 
 -- what comes before the same end is the same
 same_front : (used front end : List ItemData) → used ++ end ≡ front ++ end → used ≡ front
@@ -77,16 +47,18 @@ used_are l file a some order s held =
     let back = pages_from l file part k (count - k) in
     let rest = joined (pages_from l file part (k + 1) (count - (k + 1))) in
     let step = one_more l file part k count here.all lt (sym is) in
+    let pages = pages_from l file part 0 count in
     let begin : 0 + k ≡ k = omega arith in
-    let whole : pages_from l file part 0 count ≡ front ++ back =
-    ap (map (items_at l file part)) (range_parts 0 k count (omega (arith, lt)))
-    ∙ map-append (items_at l file part) (range_with_len 0 k) (range_with_len (0 + k) (count - k))
-    ∙ ap (λ (n : ℕ). front ++ pages_from l file part n (count - k)) begin in
-    let bad : position_from is_none 0 (front ++ back) ≡ position_from is_none k back =
-    ap (position_from is_none 0) (sym whole) ∙ s.bad ∙ bad_is l file a part (k + 1) refl here.next ∙ sym step.1 in
-    let long : 0 + length front ≡ k = omega (arith, length-map-range_with_len (items_at l file part) 0 k) in
+    let first : take k pages ≡ front = take-map-range_with_len (items_at l file part) 0 count k (omega (arith, lt)) in
+    let last : drop k pages ≡ back =
+    drop_range (items_at l file part) 0 count k ∙ ap (λ (n : ℕ). pages_from l file part n (count - k)) begin in
+    let bad : position_from is_none 0 pages ≡ position_from is_none k back = s.bad ∙ bad_is l file a part (k + 1) refl here.next ∙ sym step.1 in
+    let sound : IfSome (position_from is_none 0 pages) (λ bad. 0 + k ≤ bad) =
+    told_map (λ bad. k ≤ bad) (λ bad. 0 + k ≤ bad) (position_from is_none 0 pages) (λ bad le. omega (arith, le))
+    (subst (λ (o : Option ℕ). IfSome o (λ bad. k ≤ bad)) (sym bad) (no_sooner k back)) in
     let all : list_of l file part ≡ joined front ++ (here.all ++ rest) =
-    ap joined whole ∙ joined_parts 0 k front back long bad ∙ ap (λ (ys : List ItemData). joined front ++ ys) step.0 in
+    joined_split 0 k pages sound ∙ ap (λ (ps : List (Option (List ItemData))). joined ps ++ joined (drop k pages)) first
+    ∙ ap (λ (ps : List (Option (List ItemData))). joined front ++ joined ps) last ∙ ap (λ (ys : List ItemData). joined front ++ ys) step.0 in
     let taken = take at here.all in
     let dropped = drop at here.all in
     let left : left_of l file a ≡ dropped ++ rest = left_is l file a dropped part (k + 1) (rw held here.left) refl here.next in

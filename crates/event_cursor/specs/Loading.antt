@@ -1,19 +1,12 @@
 -- What loading does to a lane.
-use Rattle.std.specs.Prelude.{◌≡◌, ℕ, ◌<◌, ◌≤◌, List, [], length, Some, None}
+use Rattle.std.specs.Prelude.{◌≡◌, ℕ, ◌+◌, ◌<◌, List, [], length, Option, Some, None}
 use Rattle.trace_base.specs.declared.layout.Layout.{Layout}
 use Rattle.page_pool.specs.declared.lane.Lane.{Lane}
 use Rattle.page_pool.specs.declared.cursor.LaneState.TheVariants.{Fresh, Held, Ended, Malformed}
 use Rattle.event_cursor.specs.declared.loading.Loaded.{Loaded}
 use Rattle.event_cursor.specs.declared.loading.Loaded.TheVariants as loaded
 use Rattle.event_cursor.specs.Standing.{held_left, left_of, bad_left}
-
--- The lane is still its processor's, and nothing of it was used up.
-pub record KeepsPlace (before now : Lane) : Type 0 where
-  pub cpu : now.cpu ≡ before.cpu
-  pub part : now.part ≡ before.part
-  pub high : now.cursor.high ≡ before.cursor.high
-  pub region : now.region ≡ before.region
-  pub forward : before.cursor.next ≤ now.cursor.next
+use Rattle.event_cursor.specs.Unread.{IsAsked, size_there, unread}
 
 -- What was left is left.
 pub record KeepsLeft (layout : Layout) (file : List ℕ) (before now : Lane) : Type 0 where
@@ -25,7 +18,6 @@ abbrev pub IsState : Layout → Lane → Loaded → Type 0
 IsState layout lane loaded.Loaded = (lane.cursor.state ≡ Held) × (0 < length (held_left layout lane))
 IsState layout lane loaded.End = lane.cursor.state ≡ Ended
 IsState layout lane (loaded.Malformed k) = (lane.cursor.state ≡ Malformed) × (lane.cursor.next ≡ k)
-IsState layout lane loaded.Read = lane.cursor.state ≡ Fresh
 
 -- what the answer says of the file
 abbrev pub IsAnswer : Layout → List ℕ → Lane → Loaded → Type 0
@@ -33,4 +25,15 @@ IsAnswer layout file lane loaded.Loaded = Unit {0}
 IsAnswer layout file lane loaded.End = (left_of layout file lane ≡ []) × (bad_left layout file lane ≡ None)
 IsAnswer layout file lane (loaded.Malformed k) =
     (left_of layout file lane ≡ []) × (bad_left layout file lane ≡ Some k)
-IsAnswer layout file lane loaded.Read = Unit {0}
+
+-- A sub-buffer without an item was gone through.
+pub record IsPassed (layout : Layout) (len : ℕ) (before now : Lane) : Type 0 where
+  pub fresh : now.cursor.state ≡ Fresh
+  pub next : now.cursor.next ≡ before.cursor.next + 1
+  pub read : unread layout len before
+      ≡ unread layout len now + size_there layout len before.part before.cursor.next
+
+-- what loading the next sub-buffer comes to
+abbrev pub ComesTo : Layout → ℕ → Lane → Lane → Option Loaded → Type 0
+ComesTo layout len before now None = IsPassed layout len before now
+ComesTo layout len before now (Some answer) = IsState layout now answer × IsAsked layout len before now

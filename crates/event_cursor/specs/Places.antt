@@ -44,12 +44,6 @@ pub record IsPlace (layout : Layout) (file : List ℕ) (part : Part) (place : Pl
   pub high : place.high ≡ last_key used
   pub bad : bad_of layout file part ≡ bad_behind layout file part place
 
--- the lane is still its processor's
-pub record KeepsPart (before now : Lane) : Type 0 where
-  pub cpu : now.cpu ≡ before.cpu
-  pub part : now.part ≡ before.part
-  pub region : now.region ≡ before.region
-
 -- the lane holds a sub-buffer at this place
 pub record HoldsAt (place : Place) (lane : Lane) : Type 0 where
   pub state : lane.cursor.state ≡ Held
@@ -62,7 +56,6 @@ pub record HoldsAt (place : Place) (lane : Lane) : Type 0 where
 abbrev pub IsSought : Place → Lane → Sought → Type 0
 IsSought place lane sought.Held = HoldsAt place lane
 IsSought place lane sought.Malformed = lane.cursor.state ≡ Fresh
-IsSought place lane sought.Read = lane.cursor.state ≡ Fresh
 
 -- The lane stands at the place, and has left what is behind it.
 pub record StandsAt (layout : Layout) (file : List ℕ) (place : Place) (lane : Lane) : Type 0 where
@@ -75,4 +68,3 @@ abbrev pub SoughtIn : Layout → List ℕ → Part → Place → Lane → Sought
 SoughtIn layout file part place lane sought.Held =
     HasPlace layout file part place × (IsPlace layout file part place → StandsAt layout file place lane)
 SoughtIn layout file part place lane sought.Malformed = HasPlace layout file part place → ⊥
-SoughtIn layout file part place lane sought.Read = Unit {0}

@@ -2,6 +2,7 @@
 use Rattle.std.specs.Prelude.{◌≡◌, ℕ, ◌+◌, ◌∷◌, Some}
 use Rattle.trace_base.specs.declared.layout.Layout.{Layout}
 use Rattle.page_pool.specs.declared.lane.Lane.{Lane}
+use Rattle.page_pool.specs.Keeping.{KeepsLane, stepping}
 use Rattle.subpage.specs.declared.item.Item.{Item}
 use Rattle.subpage.specs.ItemData.{ItemData}
 use Rattle.subpage.specs.ItemView.{item_view}
@@ -12,20 +13,10 @@ use Rattle.event_cursor.specs.Standing.{held_left}
 abbrev pub head_view : ℕ → ℕ × Item → Keyed
 head_view cpu head = record { key = head.0; cpu = cpu; item = item_view head.1 }
 
--- nothing but the place in the held sub-buffer changed
-pub record KeepsPage (before now : Lane) : Type 0 where
-  pub cpu : now.cpu ≡ before.cpu
-  pub part : now.part ≡ before.part
-  pub region : now.region ≡ before.region
-  pub page : now.page ≡ before.page
-  pub state : now.cursor.state ≡ before.cursor.state
-  pub held : now.cursor.held ≡ before.cursor.held
-  pub next : now.cursor.next ≡ before.cursor.next
-
 -- One item was used up: the first of those that the held sub-buffer had left.
 pub record IsStepped (layout : Layout) (before now : Lane) : Type 0 where
   pub first : ItemData
   pub left : held_left layout before ≡ first ∷ held_left layout now
   pub high : now.cursor.high ≡ Some (key_behind before.cursor.high first)
   pub at : now.cursor.at ≡ before.cursor.at + 1
-  pub page : KeepsPage before now
+  pub page : KeepsLane stepping before now

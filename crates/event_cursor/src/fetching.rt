@@ -1,6 +1,7 @@
-ghost use Rattle.std.specs.Prelude.{◌≡◌, ◌+◌, ◌*◌, ◌≤◌, length, IfSome, OnOk, is_some};
+ghost use Rattle.std.specs.Prelude.{◌≡◌, ◌+◌, ◌*◌, ◌≤◌, length, IfOk, IfSome, OnOk, is_some};
 ghost use Rattle.trace_base.specs.Layout.{IsLayout};
-ghost use Rattle.trace_outside.specs.Causes.{HasCause, Rose, raised};
+ghost use Rattle.trace_outside.specs.Causes.{HasCause, raised};
+ghost use Rattle.trace_outside.specs.Keeping.{KeepsFile};
 ghost use Rattle.trace_outside.specs.Reading.{GivesBytesAt};
 ghost use Rattle.event_cursor.specs.Fetched.{HoldsItems, IsFetched, IsOwnPage};
 ghost use Rattle.event_cursor.specs.Unread.{is_there_in, size_there};
@@ -9,17 +10,6 @@ use page_pool::ByteBuffer;
 use subpage::{Mark, open_page};
 use trace_base::{Layout, Part};
 use trace_outside::{Failed, File, read_all};
-
-/// What a sub-buffer is that was asked for.
-#[derive(Clone, Copy, Debug)]
-pub(crate) enum Fetched {
-    /// It is well formed, and its items begin at this mark.
-    Page(Mark),
-    /// It is malformed, or not there.
-    Malformed,
-    /// A read failed.
-    Read,
-}
 
 /// Where a sub-buffer of a part stands in a file of `len` bytes. `None` where it does not stand wholly in the part and
 /// in the file.
@@ -54,42 +44,37 @@ fn read_buffer<F: File>(file: &mut F, place: u64, page: &mut ByteBuffer) -> Resu
     ensures long { length page.new ≡ length page.old }
     ensures given { OnOk result (GivesBytesAt (F.bytes file.old) place (length page.new) page.new) }
     ensures reads { F.reads file.new ≤ raised (F.reads file.old) (length page.old) }
-    ensures bytes { F.bytes file.new ≡ F.bytes file.old }
-    ensures size { F.size file.new ≡ F.size file.old }
+    ensures keeps { KeepsFile F.File file.old file.new }
     ensures cause { HasCause (F.faults file.old) (F.faults file.new) result }
 {
     read_all(file, place, page.bytes_mut())
 }
 
-/// Reads a sub-buffer of a part into the buffer. Where it is not there nothing is read.
+/// Reads a sub-buffer of a part into the buffer, and tells the mark before its items. `None`: it is malformed, or not there,
+/// and where it is not there nothing is read.
 pub(crate) fn fetch<F: File>(
     layout: &Layout,
     file: &mut F,
     part: Part,
     number: u64,
     page: &mut ByteBuffer,
-) -> Fetched
+) -> Result<Option<Mark>, Failed>
     requires allowed { IsLayout layout.now }
     requires long { length page.old ≡ layout.now.page }
     ensures long { length page.new ≡ layout.now.page }
-    ensures holds { HoldsItems layout.now page.new result }
-    ensures told { IfSome (F.bytes file.old) (λ bytes. IsFetched layout.now bytes part number page.new result) }
-    ensures own { IfSome (F.bytes file.old) (λ bytes. IsOwnPage layout.now bytes part number page.new result) }
-    ensures read { result ≡ Fetched.Read → Rose (F.faults file.old) (F.faults file.new) }
-    ensures later { F.faults file.old ≤ F.faults file.new }
+    ensures holds { IfOk result (HoldsItems layout.now page.new) }
+    ensures told { IfOk result (λ found.
+        IfSome (F.bytes file.old) (λ bytes. IsFetched layout.now bytes part number page.new found)) }
+    ensures own { IfOk result (λ found.
+        IfSome (F.bytes file.old) (λ bytes. IsOwnPage layout.now bytes part number page.new found)) }
+    ensures cause { HasCause (F.faults file.old) (F.faults file.new) result }
     ensures reads { F.reads file.new
         ≤ raised (F.reads file.old) (size_there layout.now (F.size file.old) part number) }
-    ensures bytes { F.bytes file.new ≡ F.bytes file.old }
-    ensures size { F.size file.new ≡ F.size file.old }
+    ensures keeps { KeepsFile F.File file.old file.new }
 {
     let Some(place) = place_of(layout, file.len(), part, number) else {
-        return Fetched::Malformed;
+        return Ok(None);
     };
-    match read_buffer(file, place, page) {
-        Ok(()) => match open_page(layout, page.bytes()) {
-            Some(mark) => Fetched::Page(mark),
-            None => Fetched::Malformed,
-        },
-        Err(Failed) => Fetched::Read,
-    }
+    read_buffer(file, place, page)?;
+    Ok(open_page(layout, page.bytes()))
 }

@@ -1,19 +1,21 @@
-ghost use Rattle.std.specs.Prelude.{◌≡◌, ◌≤◌, ◌<◌, ◌↔◌, true, IsTrue, length, drop, IfSome, IfNone};
+ghost use Rattle.std.specs.Prelude.{◌≡◌, ◌≤◌, ◌<◌, ◌↔◌, true, IsTrue, length, drop, IfNone, IfOk, IfSome, OnErr};
 ghost use Rattle.trace_base.specs.Layout.{IsLayout};
-ghost use Rattle.trace_outside.specs.Causes.{Rose, raised};
+ghost use Rattle.trace_outside.specs.Causes.{HasCause, raised};
+ghost use Rattle.trace_outside.specs.Keeping.{KeepsFile};
 ghost use Rattle.subpage.specs.Marks.{IsMark, items_from};
+ghost use Rattle.page_pool.specs.Keeping.{KeepsLane, seeking};
 ghost use Rattle.event_cursor.specs.Fetched.{HoldsItems, IsFetched, IsOwnPage};
-ghost use Rattle.event_cursor.specs.Places.{IsSought, KeepsPart, SoughtIn, place_in};
+ghost use Rattle.event_cursor.specs.Places.{IsSought, SoughtIn, place_in};
 ghost use Rattle.event_cursor.specs.Standing.{IsInOrder, Stands};
 ghost use Rattle.event_cursor.specs.Unread.{is_there_in};
 
-use crate::fetching::{Fetched, fetch};
+use crate::fetching::fetch;
 use crate::places::Place;
 use crate::stepping::ahead_at;
 use page_pool::{Cursor, Lane, LaneState};
 use subpage::{Mark, first_at, open_page};
 use trace_base::Layout;
-use trace_outside::File;
+use trace_outside::{Failed, File};
 
 /// What going back came to.
 #[derive(Clone, Copy, Debug, PartialEq, Eq)]
@@ -22,8 +24,6 @@ pub enum Sought {
     Held,
     /// The sub-buffer is malformed, or has fewer items than the place says.
     Malformed,
-    /// A read failed. The lane is not to be used again.
-    Read,
 }
 
 /// Where a lane stands that holds a sub-buffer.
@@ -64,30 +64,32 @@ fn holds_page(lane: &Lane, number: u64) -> bool
     lane.cursor.state == LaneState::Held && lane.cursor.held == number
 }
 
-/// The mark before the first item of a sub-buffer of the lane's part. It is read unless it is held.
-fn turn_to<F: File>(layout: &Layout, number: u64, file: &mut F, lane: &mut Lane) -> Fetched
+/// The mark before the first item of a sub-buffer of the lane's part. It is read unless it is held. `None`: it is malformed.
+fn turn_to<F: File>(
+    layout: &Layout,
+    number: u64,
+    file: &mut F,
+    lane: &mut Lane,
+) -> Result<Option<Mark>, Failed>
     requires allowed { IsLayout layout.now }
     requires in_order { IsInOrder layout.now lane.old }
     ensures long { length lane.new.page ≡ layout.now.page }
-    ensures holds { HoldsItems layout.now lane.new.page result }
-    ensures part { KeepsPart lane.old lane.new }
-    ensures own { IfSome (F.bytes file.old) (λ bytes. Stands layout.now bytes lane.old
-        → IsOwnPage layout.now bytes lane.new.part number lane.new.page result) }
-    ensures told { IfSome (F.bytes file.old) (λ bytes. Stands layout.now bytes lane.old
-        → IsFetched layout.now bytes lane.new.part number lane.new.page result) }
-    ensures malformed { result ≡ Fetched.Malformed → lane.new.cursor.state ≡ LaneState.Fresh }
-    ensures failed { result ≡ Fetched.Read → lane.new.cursor.state ≡ LaneState.Fresh }
-    ensures read { result ≡ Fetched.Read → Rose (F.faults file.old) (F.faults file.new) }
+    ensures holds { IfOk result (HoldsItems layout.now lane.new.page) }
+    ensures part { KeepsLane seeking lane.old lane.new }
+    ensures own { IfOk result (λ found. IfSome (F.bytes file.old) (λ bytes. Stands layout.now bytes lane.old
+        → IsOwnPage layout.now bytes lane.new.part number lane.new.page found)) }
+    ensures told { IfOk result (λ found. IfSome (F.bytes file.old) (λ bytes. Stands layout.now bytes lane.old
+        → IsFetched layout.now bytes lane.new.part number lane.new.page found)) }
+    ensures failed { OnErr result (lane.new.cursor.state ≡ LaneState.Fresh) }
+    ensures cause { HasCause (F.faults file.old) (F.faults file.new) result }
     ensures held { lane.old.cursor.state ≡ LaneState.Held → lane.old.cursor.held ≡ number
         → F.reads file.new ≡ F.reads file.old }
     ensures reads { F.reads file.new ≤ raised (F.reads file.old) layout.now.page }
-    ensures later { F.faults file.old ≤ F.faults file.new }
-    ensures bytes { F.bytes file.new ≡ F.bytes file.old }
-    ensures size { F.size file.new ≡ F.size file.old }
+    ensures keeps { KeepsFile F.File file.old file.new }
 {
     if holds_page(lane, number) {
         if let Some(mark) = open_page(layout, lane.page.bytes()) {
-            return Fetched::Page(mark);
+            return Ok(Some(mark));
         }
     }
     lane.cursor.state = LaneState::Fresh;
@@ -98,32 +100,38 @@ fn turn_to<F: File>(layout: &Layout, number: u64, file: &mut F, lane: &mut Lane)
 /// greatest time so far. It reads that sub-buffer, and nothing where the lane holds it.
 ///
 /// `Malformed` exactly where the sub-buffer is malformed or has fewer than `place.at` items: never for a place of the
-/// processor's items in a file that tells its bytes. Behind `Malformed` and `Read` the lane holds no sub-buffer.
-pub fn seek<F: File>(layout: &Layout, place: &Place, file: &mut F, lane: &mut Lane) -> Sought
+/// processor's items in a file that tells its bytes. The lane holds no sub-buffer then.
+///
+/// # Errors
+/// `Failed` where a read failed. The lane holds no sub-buffer then, and is not to be used again.
+pub fn seek<F: File>(
+    layout: &Layout,
+    place: &Place,
+    file: &mut F,
+    lane: &mut Lane,
+) -> Result<Sought, Failed>
     requires allowed { IsLayout layout.now }
     requires in_order { IsInOrder layout.now lane.old }
     requires there { is_there_in layout.now (F.size file.old) lane.old.part place.now.page ≡ true }
     ensures in_order { IsInOrder layout.now lane.new }
-    ensures part { KeepsPart lane.old lane.new }
-    ensures sought { IsSought place.now lane.new result }
-    ensures told { IfSome (F.bytes file.old) (λ bytes. Stands layout.now bytes lane.old
-        → SoughtIn layout.now bytes lane.old.part place.now lane.new result) }
-    ensures read { result ≡ Sought.Read → Rose (F.faults file.old) (F.faults file.new) }
+    ensures part { KeepsLane seeking lane.old lane.new }
+    ensures sought { IfOk result (IsSought place.now lane.new) }
+    ensures failed { OnErr result (lane.new.cursor.state ≡ LaneState.Fresh) }
+    ensures told { IfOk result (λ sought. IfSome (F.bytes file.old) (λ bytes. Stands layout.now bytes lane.old
+        → SoughtIn layout.now bytes lane.old.part place.now lane.new sought)) }
+    ensures cause { HasCause (F.faults file.old) (F.faults file.new) result }
     ensures held { lane.old.cursor.state ≡ LaneState.Held → lane.old.cursor.held ≡ place.now.page
         → F.reads file.new ≡ F.reads file.old }
     ensures reads { F.reads file.new ≤ raised (F.reads file.old) layout.now.page }
-    ensures later { F.faults file.old ≤ F.faults file.new }
-    ensures bytes { F.bytes file.new ≡ F.bytes file.old }
-    ensures size { F.size file.new ≡ F.size file.old }
+    ensures keeps { KeepsFile F.File file.old file.new }
 {
-    let first = match turn_to(layout, place.page, file, lane) {
-        Fetched::Page(mark) => mark,
-        Fetched::Malformed => return Sought::Malformed,
-        Fetched::Read => return Sought::Read,
-    };
+    let found = turn_to(layout, place.page, file, lane)?;
     lane.cursor.state = LaneState::Fresh;
+    let Some(first) = found else {
+        return Ok(Sought::Malformed);
+    };
     let Some(mark) = pass(layout, lane.page.bytes(), first, place.at) else {
-        return Sought::Malformed;
+        return Ok(Sought::Malformed);
     };
     let ahead = ahead_at(layout, lane.page.bytes(), mark, place.high);
     lane.cursor = Cursor {
@@ -135,5 +143,5 @@ pub fn seek<F: File>(layout: &Layout, place: &Place, file: &mut F, lane: &mut La
         high: place.high,
         ahead,
     };
-    Sought::Held
+    Ok(Sought::Held)
 }

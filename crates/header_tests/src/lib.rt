@@ -7,3 +7,5 @@ mod dumps;
 mod headers;
 #[cfg(test)]
 mod sections;
+#[cfg(test)]
+mod sub_buffer_sizes;

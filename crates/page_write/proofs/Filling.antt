@@ -132,11 +132,11 @@ alone_room layout x ok =
     let p = and_parts (follow (item_time x) []) (leb (length (data_text layout (x ∷ []))) (area_len layout)) ok.alone in
     rw (alone_len layout x) (leb-true _ _ p.1)
 
-pub payload_few : (layout : Layout) (time : ℕ) (payload : List ℕ) → IsLayout layout → IsPackable layout (EventAt time payload) → length payload ≤ 65536
+pub payload_few : (layout : Layout) (time : ℕ) (payload : List ℕ) → IsLayout layout → IsPackable layout (EventAt time payload) → length payload ≤ 262144
 unfolding opened
 payload_few layout time payload allowed ok = omega (arith, alone_room layout (EventAt time payload) ok, event_len_least (length payload), allowed.page_most)
 
-pub opened_small : (layout : Layout) (x : ItemData) → IsLayout layout → IsPackable layout x → (opened layout x).used ≤ 65536
+pub opened_small : (layout : Layout) (x : ItemData) → IsLayout layout → IsPackable layout x → (opened layout x).used ≤ 262144
 opened_small layout x allowed ok = omega (arith, alone_room layout x ok, allowed.page_most)
 
 -- the two answers, for the items of the numbers

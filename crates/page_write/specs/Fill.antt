@@ -63,4 +63,4 @@ pub record IsFill (layout : Layout) (fill : Option Fill) (held : List ItemData) 
   pub fill_is : fill ≡ fill_of layout held
 
 abbrev pub IsSmall : Option Fill → Type 0
-IsSmall fill = IfSome fill (λ f. f.used ≤ 65536)
+IsSmall fill = IfSome fill (λ f. f.used ≤ 262144)

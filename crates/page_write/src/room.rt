@@ -92,7 +92,7 @@ fn opened_by(layout: &Layout, item: &Item<'_>) -> Fill
     requires allowed { IsLayout layout.now }
     requires packable { IsPackable layout.now (item_view item.now) }
     ensures value { result ≡ opened layout.now (item_view item.now) }
-    ensures small { result.used ≤ 65536 }
+    ensures small { result.used ≤ 262144 }
 {
     match *item {
         Item::Event { time, payload } => Fill {
@@ -111,7 +111,7 @@ fn opened_by(layout: &Layout, item: &Item<'_>) -> Fill
 fn gone_on_by(layout: &Layout, fill: Fill, item: &Item<'_>) -> Option<Fill>
     requires allowed { IsLayout layout.now }
     requires packable { IsPackable layout.now (item_view item.now) }
-    requires small { fill.used ≤ 65536 }
+    requires small { fill.used ≤ 262144 }
     ensures value { result ≡ gone_on layout.now fill (item_view item.now) }
     ensures small { IsSmall result }
 {

@@ -9,7 +9,6 @@ use std::alloc::Global;
 use std::test::Fail;
 use trace_base::ByteText;
 use trace_outside::{Failed, MemFile, MemSink, Sink};
-use trace_samples::BoundedSink;
 
 const LITTLE: &[u8] =
     b"\x17\x08\x44tracing6\0\0\x08\0\x10\0\0header_page\0\0\0\0\0\0\0\0\0header_event\0\0\0\0\0\0\0\0\0\
@@ -69,8 +68,9 @@ fn names_and_faults(rt: HostRuntime) -> Result<(), Fail> {
     ] {
         assert_eq!(rt; file_name(base, number).as_str(), name);
     }
-    let mut out = BoundedSink::new(alloc, 0);
+    let mut out = MemSink::new(alloc);
+    out.fail_from(1);
     assert_eq!(rt; place_behind(alloc, BIG, &mut out), None);
-    assert_eq!(rt; out.faults, 1);
+    assert_eq!(rt; out.faults(), 1);
     Ok(())
 }

@@ -1,5 +1,6 @@
-ghost use Rattle.std.specs.Prelude.{◌≡◌, ◌≢◌, ◌+◌, ◌-◌, ◌<◌, ◌≤◌, ℕ, [], All, length, slice_index_or, IfSome};
-ghost use Rattle.trace_outside.specs.Causes.{Rose, raised};
+ghost use Rattle.std.specs.Prelude.{◌≡◌, ◌+◌, ◌-◌, ◌<◌, ◌≤◌, ℕ, [], All, length, slice_index_or, IfOk, IfSome, OnOk};
+ghost use Rattle.trace_outside.specs.Causes.{HasCause, raised};
+ghost use Rattle.trace_outside.specs.Keeping.{KeepsFile};
 ghost use Rattle.trace_base.specs.Layout.{IsLayout};
 ghost use Rattle.subpage.specs.Arrangement.{CpusRise};
 ghost use Rattle.event_cursor.specs.Standing.{IsInOrder, Stands};
@@ -17,7 +18,7 @@ use page_pool::Lane;
 use split_pieces::Gauge;
 use time_merge::{Next, next_lane};
 use trace_base::Layout;
-use trace_outside::File;
+use trace_outside::{Failed, File};
 use word_values::Moment;
 
 /// Where a piece ends.
@@ -31,11 +32,12 @@ pub enum PieceEnd {
     Done,
     /// Behind the last item before a malformed sub-buffer.
     Malformed { cpu: u32, page: u64 },
-    /// A read failed.
-    Read,
 }
 
 /// Goes through the items of a piece, in their order, and counts each lane's items and their sub-buffers.
+///
+/// # Errors
+/// `Failed` where a read failed.
 pub fn measure<F: File>(
     layout: &Layout,
     file: &mut F,
@@ -43,7 +45,7 @@ pub fn measure<F: File>(
     stop: Option<Moment>,
     gauge: &mut Gauge,
     tallies: &mut [Tally],
-) -> PieceEnd
+) -> Result<PieceEnd, Failed>
     requires allowed { IsLayout layout.now }
     requires in_order { All (IsInOrder layout.now) lanes.old }
     requires rise { CpusRise (parts_of lanes.old) }
@@ -51,10 +53,10 @@ pub fn measure<F: File>(
     ensures in_order { All (IsInOrder layout.now) lanes.new }
     ensures parts { parts_of lanes.new ≡ parts_of lanes.old }
     ensures long { length tallies.new ≡ length lanes.new }
-    ensures measured { IfSome (F.bytes file.old) (λ bytes. All (Stands layout.now bytes) lanes.old
+    ensures measured { IfOk result (λ end. IfSome (F.bytes file.old) (λ bytes. All (Stands layout.now bytes) lanes.old
         → Tallied layout.now lanes.old [] tallies.old
-        → IsMeasured layout.now bytes stop gauge.old gauge.new lanes.old lanes.new tallies.new result) }
-    ensures ready { result ≢ PieceEnd.Read → All (IsReady layout.now) lanes.new }
+        → IsMeasured layout.now bytes stop gauge.old gauge.new lanes.old lanes.new tallies.new end)) }
+    ensures ready { OnOk result (All (IsReady layout.now) lanes.new) }
     ensures advance { (i : ℕ) (d : Lane) → i < length lanes.old
         → Advances (slice_index_or lanes.old i d) (slice_index_or lanes.new i d) }
     // Of a lane that no sub-buffer is loaded of no item is taken.
@@ -66,21 +68,18 @@ pub fn measure<F: File>(
         + all_reading layout.now (F.size file.old) lanes.new) }
     ensures unread { all_unread layout.now (F.size file.old) lanes.new
         ≤ all_unread layout.now (F.size file.old) lanes.old }
-    ensures read { result ≡ PieceEnd.Read → Rose (F.faults file.old) (F.faults file.new) }
-    ensures later { F.faults file.old ≤ F.faults file.new }
-    ensures bytes { F.bytes file.new ≡ F.bytes file.old }
-    ensures size { F.size file.new ≡ F.size file.old }
+    ensures cause { HasCause (F.faults file.old) (F.faults file.new) result }
+    ensures keeps { KeepsFile F.File file.old file.new }
 {
     loop {
-        match next_lane(layout, file, lanes) {
+        match next_lane(layout, file, lanes)? {
             Next::Lane(i) => match choose(layout, &lanes[i], stop, gauge, &mut tallies[i]) {
                 Choice::Takes => step(layout, &mut lanes[i]),
-                Choice::Past => return PieceEnd::Past,
-                Choice::Full => return PieceEnd::Full,
+                Choice::Past => return Ok(PieceEnd::Past),
+                Choice::Full => return Ok(PieceEnd::Full),
             },
-            Next::Done => return PieceEnd::Done,
-            Next::Malformed { cpu, page } => return PieceEnd::Malformed { cpu, page },
-            Next::Read => return PieceEnd::Read,
+            Next::Done => return Ok(PieceEnd::Done),
+            Next::Malformed { cpu, page } => return Ok(PieceEnd::Malformed { cpu, page }),
         }
     }
 }

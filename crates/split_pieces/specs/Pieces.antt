@@ -1,7 +1,7 @@
 -- What a split makes of lists of items, each with its key.
 -- Source: trace-cmd-split(1). Where a start, an end or a unit falls between items is a choice of this project.
 use Rattle.std.specs.Prelude.{ℕ, suc, zero, ◌+◌, ◌<◌, Bool, true, false, ◌&&◌, ◌||◌, not, nat_lt, nat_le, if◌then◌else◌, List, [], ◌∷◌, ◌++◌, length, drop, map, filter, Option, Some, None}
-use Rattle.std.specs.List.{flat_map}
+use Rattle.std.specs.List.{flat_map, list_any}
 use Rattle.subpage.specs.ItemData.{ItemData, EventAt, LossAt}
 use Rattle.subpage.specs.Arrangement.{Keyed}
 use Rattle.word_values.specs.declared.moment.Moment.{Moment}
@@ -22,10 +22,6 @@ behind_where p (x ∷ xs) = if p x then behind_where p xs else x ∷ xs
 abbrev pub is_some_left : List Keyed → Bool
 is_some_left [] = false
 is_some_left (x ∷ xs) = true
-
-abbrev pub has_one : (Keyed → Bool) → List Keyed → Bool
-has_one p [] = false
-has_one p (x ∷ xs) = p x || has_one p xs
 
 abbrev pub event_item : ItemData → Bool
 event_item (EventAt time payload) = true
@@ -54,7 +50,7 @@ up_to_end (Some moment) xs = front_where (λ x. not (is_past moment x.key)) xs
 -- there is such an item
 abbrev pub has_end : Option Moment → List Keyed → Bool
 has_end None xs = false
-has_end (Some moment) xs = has_one (λ x. is_past moment x.key) xs
+has_end (Some moment) xs = list_any (λ x. is_past moment x.key) xs
 
 -- what start and end leave
 abbrev pub left_in : Rules → List Keyed → List Keyed

@@ -1,17 +1,14 @@
 ghost use Rattle.std.specs.Prelude.{◌≡◌};
 ghost use Rattle.split_pieces.specs.Moments.{is_before, is_past, time_as};
 
+use trace_base::micros;
 use word_values::Moment;
 
 // A key, in nanoseconds, as it is compared with the moment's value.
 fn time_as(micro: bool, key: u64) -> u64
     ensures { result ≡ time_as micro key }
 {
-    if micro {
-        key / 1000 + (key % 1000 + 500) / 1000
-    } else {
-        key
-    }
+    if micro { micros(key) } else { key }
 }
 
 /// Whether an item of this key stands before the moment.

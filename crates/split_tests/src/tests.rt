@@ -1,7 +1,6 @@
 //! Traces in memory, split and read back.
 
 mod faults;
-mod folder;
 mod items;
 mod lanes;
 mod passes;

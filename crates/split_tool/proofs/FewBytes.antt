@@ -42,7 +42,7 @@ use Rattle.split_file.proofs.ShortHeader.{still_header, text_short}
 use Rattle.split_tool.specs.Counted.{lists_of}
 use Rattle.split_tool.specs.NewFiles.{ReadBack, files_from, new_files}
 use Rattle.split_tool.specs.Rules.{rules_of}
-use Rattle.split_tool.proofs.FewItems.{filter_few}
+use Rattle.split_tool.proofs.FewItems.{Few, filter_few}
 use Rattle.split_tool.proofs.FileAfterFile.{len_parts}
 use Rattle.split_tool.proofs.Making.{cut_few, left_few}
 use Rattle.split_tool.proofs.Owning.{each_append, each_filter, each_piece, each_up, each_by_key}
@@ -138,7 +138,7 @@ front_most header allowed =
     omega (arith, (div_ceil_times long header.page (page_some header.page allowed.page)).1, page_most header.page allowed.page)
 
 text_most : (header : Header) (xs : List Keyed) (n : ℕ) → IsHeader header → Each (Told header.layout) xs → length xs ≤ n
-    → length (file_text header (lists_of header.cpus xs)) ≤ length (header_text header (blank header.cpus)) + 65536 + n * 65536
+    → length (file_text header (lists_of header.cpus xs)) ≤ length (header_text header (blank header.cpus)) + 65536 + n * 262144
 unfolding file_text
 text_most header xs n allowed told few =
     let l = header.layout in
@@ -146,7 +146,7 @@ text_most header xs n allowed told few =
     let lists = lists_of header.cpus xs in
     let table = table_of header lists in
     let owned : items_in lists ≤ n = omega (arith, owned_few header.cpus xs, few) in
-    let most : items_in lists * l.page ≤ n * 65536 = mul-le-mul owned layout.page_most in
+    let most : items_in lists * l.page ≤ n * 262144 = mul-le-mul owned layout.page_most in
     let many : length table ≡ header.cpus = length-table header lists ∙ lists_long header.cpus xs in
     omega (
       arith,
@@ -160,7 +160,7 @@ text_most header xs n allowed told few =
 -- WHAT A FILE TAKES
 
 record Fits (l : Layout) (most : ℕ) (xs : List Keyed) : Type 0 where
-  few : length xs * 4 ≤ most
+  few : Few (length xs) most
   told : Each (Told l) xs
 
 each_drop : {X : Type 0} (P : X → Type 0) (n : ℕ) (xs : List X) → Each P xs → Each P (drop n xs)
@@ -189,21 +189,21 @@ each_when : (Q : List Keyed → Type 0) (all : List Keyed) (more : List (List Ke
 each_when Q [] more a = tt
 each_when Q (x ∷ xs) more a = a
 
-next_fits : (l : Layout) (most : ℕ) (unit : PieceUnit) (lists : List (List Keyed)) → Each (Each (Told l)) lists → length (joined_lists lists) * 4 ≤ most → Fits l most (next_file unit lists)
+next_fits : (l : Layout) (most : ℕ) (unit : PieceUnit) (lists : List (List Keyed)) → Each (Each (Told l)) lists → Few (length (joined_lists lists)) most → Fits l most (next_file unit lists)
 next_fits l most unit lists told few = record { few = omega (arith, len_parts unit lists, few); told = each_next (Told l) unit lists told }
 
-within_fit : (l : Layout) (most : ℕ) (unit : PieceUnit) (n : ℕ) (lists : List (List Keyed)) → Each (Each (Told l)) lists → length (joined_lists lists) * 4 ≤ most → Each (Fits l most) (files_within unit n lists)
+within_fit : (l : Layout) (most : ℕ) (unit : PieceUnit) (n : ℕ) (lists : List (List Keyed)) → Each (Each (Told l)) lists → Few (length (joined_lists lists)) most → Each (Fits l most) (files_within unit n lists)
 within_fit l most unit zero lists told few = tt
 within_fit l most unit (suc n) lists told few =
     let behind = behind_file unit lists in
     each_when (Fits l most) (joined_lists lists) (next_file unit lists ∷ files_within unit n behind)
     (next_fits l most unit lists told few, within_fit l most unit n behind (each_behind (Told l) unit lists told) (omega (arith, len_parts unit lists, few)))
 
-files_fit : (l : Layout) (most : ℕ) (rules : Rules) (lists : List (List Keyed)) → Each (Each (Told l)) lists → length (joined_lists lists) * 4 ≤ most → Each (Fits l most) (files rules lists)
+files_fit : (l : Layout) (most : ℕ) (rules : Rules) (lists : List (List Keyed)) → Each (Each (Told l)) lists → Few (length (joined_lists lists)) most → Each (Fits l most) (files rules lists)
 files_fit l most rules lists told few =
     let left = map (left_in rules) lists in
     let left_told = each_left (Told l) rules lists told in
-    let fewer : length (joined_lists left) * 4 ≤ most = omega (arith, left_few rules lists, few) in
+    let fewer : Few (length (joined_lists left)) most = omega (arith, left_few rules lists, few) in
     let behind = behind_file rules.unit left in
     let more : Each (Fits l most) (files_left rules.unit behind) =
     within_fit l most rules.unit (length (joined_lists behind)) behind (each_behind (Told l) rules.unit left left_told) (omega (arith, len_parts rules.unit left, fewer)) in
@@ -250,8 +250,8 @@ named_back : (header : Header) (base : List ℕ) (number most : ℕ) (lists : Li
     → Each (Fits header.layout most) lists → ReadBack header lists (files_from header base number lists)
 named_back header base number most [] allowed text few fit = tt
 named_back header base number most (xs ∷ lists) allowed text few fit =
-    let items : length xs ≤ 2 ^ 47 = omega (arith, fit.0.few, few) in
-    let short : length (file_text header (lists_of header.cpus xs)) < 2 ^ 64 = omega (arith, text_most header xs (2 ^ 47) allowed fit.0.told items, text) in (
+    let items : length xs ≤ 70367670452223 = omega (arith, fit.0.few, few) in
+    let short : length (file_text header (lists_of header.cpus xs)) < 2 ^ 64 = omega (arith, text_most header xs 70367670452223 allowed fit.0.told items, text) in (
       reads_back_all header (lists_of header.cpus xs) allowed (lists_long header.cpus xs) (owned_told header.layout 0 header.cpus xs fit.0.told) short,
       named_back header base (number + 1) most lists allowed text few fit.1,
     )

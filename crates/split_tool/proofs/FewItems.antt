@@ -1,4 +1,4 @@
--- A file has room for few items: each takes four bytes of its sub-buffer.
+-- A file has room for few items: each takes eight bytes of its sub-buffer, whose front takes some more.
 use Rattle.std.proofs.Common.{◌≡◌, ℕ, zero, suc, ◌+◌, ◌-◌, ◌*◌, ◌^◌, ◌≤◌, ◌⊎◌, Bool, true, false, ◌&&◌, leb, cond, max, List, [], ◌∷◌, ◌++◌, length, drop, Option, Some, None, refl, ap, ◌∙◌, inl, inr, arith, length-append, length-drop}
 use Rattle.std.specs.List.{filter}
 use Rattle.std.proofs.lemmas.Bool.{cases_Bool, leb-true}
@@ -9,7 +9,7 @@ use Rattle.trace_base.specs.declared.part.Part.{Part}
 use Rattle.trace_base.specs.Layout.{IsLayout}
 use Rattle.subpage.specs.ItemData.{ItemData, told_by, events, item_time}
 use Rattle.subpage.specs.RunningTime.{time_after}
-use Rattle.subpage.specs.Element.{ElementData, Event, End, Discarded, Extend, Stamp, Row, short_event, long_event, end, discarded, extend, stamp, Spelled, nothing, begins_with}
+use Rattle.subpage.specs.Element.{ElementData, Row, short_event, long_event, end, discarded, extend, stamp, Spelled, nothing, begins_with}
 use Rattle.subpage.specs.Page.{items, committed, committed_size, commit_word, data_area, page_losses, losses, has_missed, timestamp, behind_committed}
 use Rattle.subpage.specs.Processor.{items_at, is_there, page_end, page_bytes, page_count, pages_from, joined, list_of}
 use Rattle.subpage.specs.Arrangement.{Keyed, keyed_from, all_keyed, by_key, put, key_of, arranged}
@@ -17,33 +17,33 @@ use Rattle.subpage.specs.Cut.{lists_of, cut_of, is_up_to, reached_of}
 use Rattle.subpage.proofs.PageItems.{items_are}
 use Rattle.subpage.proofs.Joining.{joined-some, joined-none}
 
--- AN ELEMENT TAKES FOUR BYTES
+-- This many items stand in this many bytes: a sub-buffer of at most 2^18 bytes has less than 2^15 items, and takes four bytes more
+-- than eight an item.
+abbrev pub Few : ℕ → ℕ → Type 0
+Few count bytes = count * 65537 ≤ bytes * 8192
 
-row_long : (order : Order) (e : ElementData) (front : List ℕ) → Row order e front → 4 ≤ length front
-row_long order e front (short_event first payload kind delta f some few long) = omega (arith, length-append first payload, f.four)
-row_long order e front (long_event first next payload padding delta n f w some long whole) = omega (arith, length-append first (next ++ (payload ++ padding)), f.four)
-row_long order e front (end first padding f) = omega (arith, length-append first padding, f.four)
-row_long order e front (discarded first next content delta n f some w least long) = omega (arith, length-append first (next ++ content), f.four)
-row_long order e front (extend first next low high f w) = omega (arith, length-append first next, f.four)
-row_long order e front (stamp first next low high f w small) = omega (arith, length-append first next, f.four)
+-- AN ITEM TAKES EIGHT BYTES
 
-spelled_long : (order : Order) (es : List ElementData) (bytes : List ℕ) → Spelled order es bytes → length es * 4 ≤ length bytes
-spelled_long order es bytes nothing = omega arith
-spelled_long order es bytes (begins_with e others front back row last behind) =
-    omega (arith, length-append front back, row_long order e front row, spelled_long order others back behind)
+told_long : (order : Order) (e : ElementData) (front : List ℕ) → Row order e front → (time : ℕ) → length (told_by time e) * 8 ≤ length front
+told_long order e front (short_event first payload kind delta f some few long) time = omega (arith, length-append first payload, f.four, some, long)
+told_long order e front (long_event first next payload padding delta n f w some long whole) time =
+    omega (arith, length-append first (next ++ (payload ++ padding)), length-append next (payload ++ padding), f.four, w.four)
+told_long order e front (end first padding f) time = omega arith
+told_long order e front (discarded first next content delta n f some w least long) time = omega arith
+told_long order e front (extend first next low high f w) time = omega arith
+told_long order e front (stamp first next low high f w small) time = omega arith
 
-one_told : (time : ℕ) (e : ElementData) → length (told_by time e) ≤ 1
-one_told time (Event delta payload) = omega arith
-one_told time End = omega arith
-one_told time (Discarded delta) = omega arith
-one_told time (Extend delta) = omega arith
-one_told time (Stamp to) = omega arith
-
-few_events : (time : ℕ) (es : List ElementData) → length (events time es) ≤ length es
-few_events time [] = omega arith
-few_events time (e ∷ es) =
+few_events : (order : Order) (es : List ElementData) (bytes : List ℕ) → Spelled order es bytes → (time : ℕ) → length (events time es) * 8 ≤ length bytes
+few_events order es bytes nothing time = omega arith
+few_events order es bytes (begins_with e others front back row last behind) time =
     let after = time_after time e in
-    omega (arith, length-append (told_by after e) (events after es), one_told after e, few_events after es)
+    omega (
+      arith,
+      length-append front back,
+      length-append (told_by after e) (events after others),
+      told_long order e front row after,
+      few_events order others back behind after,
+    )
 
 one_loss : (l : Layout) (word time : ℕ) (behind : List ℕ) → length (losses l word time behind) ≤ 1
 one_loss l word time behind = elim (cases_Bool (has_missed word)) [
@@ -51,7 +51,7 @@ one_loss l word time behind = elim (cases_Bool (has_missed word)) [
   | inr b ↦ rw b (omega arith)
 ]
 
-few_on_page : (l : Layout) (page : List ℕ) (xs : List ItemData) → items l page ≡ Some xs → length xs * 4 ≤ length page - l.data_at + 4
+few_on_page : (l : Layout) (page : List ℕ) (xs : List ItemData) → items l page ≡ Some xs → length xs * 8 ≤ length page - l.data_at + 8
 few_on_page l page xs e =
     let a = items_are l page xs e in
     let bytes = committed l page in
@@ -61,17 +61,29 @@ few_on_page l page xs e =
       whole,
       length-append (page_losses l page) (events (timestamp l page) a.elements),
       one_loss l (commit_word l page) (timestamp l page) (behind_committed l page),
-      few_events (timestamp l page) a.elements,
-      spelled_long l.order a.elements bytes a.spelled,
+      few_events l.order a.elements bytes a.spelled (timestamp l page),
       length-take (committed_size (commit_word l page)) (data_area l page),
       length-drop l.data_at page,
     )
+
+-- the data begin behind the timestamp and the commit word
+front_long : (l : Layout) → IsLayout l → 12 ≤ l.data_at
+front_long l allowed = elim allowed.apart [
+  | inl time_first ↦ elim allowed.commit_is_long [
+    | inl four ↦ omega (arith, time_first, four, allowed.commit_before_data)
+    | inr eight ↦ omega (arith, time_first, eight, allowed.commit_before_data)
+  ]
+  | inr commit_first ↦ elim allowed.commit_is_long [
+    | inl four ↦ omega (arith, commit_first, four, allowed.time_before_data)
+    | inr eight ↦ omega (arith, commit_first, eight, allowed.time_before_data)
+  ]
+]
 
 -- A PROCESSOR'S SUB-BUFFERS STAND IN THE FILE
 
 record Held (l : Layout) (file : List ℕ) (k : ℕ) (xs : List ItemData) : Type 0 where
   there : (k + 1) * l.page ≤ length file
-  few : length xs * 4 ≤ l.page
+  few : Few (length xs) l.page
 
 held_at : (l : Layout) (file : List ℕ) (part : Part) (k : ℕ) (xs : List ItemData) → IsLayout l → items_at l file part k ≡ Some xs → Held l file k xs
 unfolding items_at
@@ -87,9 +99,10 @@ held_at l file part k xs allowed e = by_there (is_there l file part k) refl e
             arith,
             few_on_page l bytes xs e,
             length-take l.page (drop (part.offset + k * l.page) file),
-            allowed.time_before_data,
+            front_long l allowed,
             allowed.data_in_front,
             allowed.page_least,
+            allowed.page_most,
           );
         }
       where
@@ -101,13 +114,13 @@ held_at l file part k xs allowed e = by_there (is_there l file part k) refl e
             by_leb false e c is = absurd cc
             by_leb true e c is = let h = leb-true _ _ e in omega (arith, h)
 
-few_from : (l : Layout) (file : List ℕ) (part : Part) (k n : ℕ) → IsLayout l → (length (joined (pages_from l file part k n)) * 4 + k * l.page ≤ length file) ⊎ (length (joined (pages_from l file part k n)) ≡ 0)
+few_from : (l : Layout) (file : List ℕ) (part : Part) (k n : ℕ) → IsLayout l → (length (joined (pages_from l file part k n)) * 65537 + k * l.page * 8192 ≤ length file * 8192) ⊎ (length (joined (pages_from l file part k n)) ≡ 0)
 few_from l file part k zero allowed = inr refl
 few_from l file part k (suc n) allowed = by_page (items_at l file part k) refl (few_from l file part (k + 1) n allowed)
   where
     by_page : (o : Option (List ItemData)) → items_at l file part k ≡ o
-        → (length (joined (pages_from l file part (k + 1) n)) * 4 + (k + 1) * l.page ≤ length file) ⊎ (length (joined (pages_from l file part (k + 1) n)) ≡ 0)
-        → (length (joined (o ∷ pages_from l file part (k + 1) n)) * 4 + k * l.page ≤ length file) ⊎ (length (joined (o ∷ pages_from l file part (k + 1) n)) ≡ 0)
+        → (length (joined (pages_from l file part (k + 1) n)) * 65537 + (k + 1) * l.page * 8192 ≤ length file * 8192) ⊎ (length (joined (pages_from l file part (k + 1) n)) ≡ 0)
+        → (length (joined (o ∷ pages_from l file part (k + 1) n)) * 65537 + k * l.page * 8192 ≤ length file * 8192) ⊎ (length (joined (o ∷ pages_from l file part (k + 1) n)) ≡ 0)
     by_page None e few = inr (ap length (joined-none (pages_from l file part (k + 1) n)))
     by_page (Some xs) e few =
         let h = held_at l file part k xs allowed e in
@@ -118,7 +131,7 @@ few_from l file part k (suc n) allowed = by_page (items_at l file part k) refl (
           | inr none ↦ inl (omega (arith, long, h.there, h.few, none, allowed.page_least))
         ]
 
-pub few_in_list : (l : Layout) (file : List ℕ) (part : Part) → IsLayout l → length (list_of l file part) * 4 ≤ length file
+pub few_in_list : (l : Layout) (file : List ℕ) (part : Part) → IsLayout l → Few (length (list_of l file part)) (length file)
 unfolding list_of
 few_in_list l file part allowed = elim (few_from l file part 0 (page_count l part) allowed) [
   | inl few ↦ omega (arith, few)
@@ -131,7 +144,7 @@ keyed_long : (cpu high : ℕ) (xs : List ItemData) → length (keyed_from cpu hi
 keyed_long cpu high [] = refl
 keyed_long cpu high (x ∷ xs) = ap suc (keyed_long cpu (max high (item_time x)) xs)
 
-pub few_keyed : (l : Layout) (file : List ℕ) (parts : List (ℕ × Part)) → IsLayout l → length (all_keyed (lists_of l file parts)) * 4 ≤ length parts * length file
+pub few_keyed : (l : Layout) (file : List ℕ) (parts : List (ℕ × Part)) → IsLayout l → Few (length (all_keyed (lists_of l file parts))) (length parts * length file)
 few_keyed l file [] allowed = omega arith
 few_keyed l file (p ∷ parts) allowed =
     let mine = keyed_from p.0 0 (list_of l file p.1) in
@@ -155,7 +168,7 @@ filter_few p (x ∷ xs) = elim (cases_Bool (p x)) [
   | inr b ↦ let h = filter_few p xs in rw b (omega (arith, h))
 ]
 
-pub few_reached : (l : Layout) (file : List ℕ) (parts : List (ℕ × Part)) → IsLayout l → length (reached_of l file parts) * 4 ≤ length parts * length file
+pub few_reached : (l : Layout) (file : List ℕ) (parts : List (ℕ × Part)) → IsLayout l → Few (length (reached_of l file parts)) (length parts * length file)
 unfolding reached_of arranged
 few_reached l file parts allowed =
     let all = all_keyed (lists_of l file parts) in

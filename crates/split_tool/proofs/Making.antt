@@ -46,14 +46,14 @@ use Rattle.split_file.proofs.Wrapped.{front_wrapped}
 use Rattle.split_tool.specs.declared.lists.Ends.{Ends}
 use Rattle.split_tool.specs.Counted.{lists_of}
 use Rattle.split_tool.specs.Lists.{files_of, files_behind, lists_left, bad_left}
-use Rattle.split_tool.specs.Made.{next_text, Prepared, Written, Made, IsMade}
+use Rattle.split_tool.specs.Made.{Prepared, Written, Made, IsMade}
 use Rattle.split_tool.specs.Measured.{taken_of}
 use Rattle.split_tool.specs.NewFiles.{Creates, files_from, new_files, end_by, IsSplit}
 use Rattle.split_tool.specs.Rules.{rules_of}
 use Rattle.split_tool.specs.Started.{Started}
 use Rattle.split_tool.specs.Stored.{NewFile, FilesStored}
 use Rattle.split_tool.proofs.Beginning.{started_lists, started_bad}
-use Rattle.split_tool.proofs.FewItems.{few_keyed, few_reached, filter_few}
+use Rattle.split_tool.proofs.FewItems.{Few, few_keyed, few_reached, filter_few}
 use Rattle.split_tool.proofs.FileAfterFile.{goes_on, ends as no_files, fewer_left, some_length}
 use Rattle.split_tool.proofs.Owning.{tail_rises, above, each_as}
 use Rattle.split_tool.proofs.Preparing.{left_still, first_cpu, other_parts}
@@ -104,10 +104,10 @@ own_joined : (l : Layout) (file : List ℕ) (parts : List (ℕ × Part)) → joi
 own_joined l file [] = refl
 own_joined l file (p ∷ parts) = ap (λ (xs : List Keyed). own_list l file p ++ xs) (own_joined l file parts)
 
-pub cut_few : (l : Layout) (file : List ℕ) (rules : Rules) (parts : List (ℕ × Part)) → IsLayout l → length (joined_lists (lists_to_cut rules l file parts)) * 4 ≤ length parts * length file
+pub cut_few : (l : Layout) (file : List ℕ) (rules : Rules) (parts : List (ℕ × Part)) → IsLayout l → Few (length (joined_lists (lists_to_cut rules l file parts))) (length parts * length file)
 cut_few l file rules parts allowed = by_apart (is_apart rules)
   where
-    by_apart : (b : Bool) → length (joined_lists (if b then map (own_list l file) parts else reached_of l file parts ∷ [])) * 4 ≤ length parts * length file
+    by_apart : (b : Bool) → Few (length (joined_lists (if b then map (own_list l file) parts else reached_of l file parts ∷ []))) (length parts * length file)
     by_apart true = let e : length (joined_lists (map (own_list l file) parts)) ≡ length (all_keyed (lists_in l file parts)) = ap length (own_joined l file parts) in omega (arith, e, few_keyed l file parts allowed)
     by_apart false = omega (arith, length-append (reached_of l file parts) [], few_reached l file parts allowed)
 

@@ -28,7 +28,7 @@ use Rattle.split_passes.specs.Measures.{Tallied, Measured, IsMeasured, list_left
 use Rattle.time_merge.proofs.Advancing.{same_length}
 use Rattle.split_tool.specs.declared.lists.Ends.{Ends}
 use Rattle.split_tool.specs.Lists.{come_of, left_in_rows, bad_in_rows, lists_left, bad_left}
-use Rattle.split_tool.specs.Measured.{is_full, bad_of_end, PieceTaken, ListMeasured, IsListMeasured, taken_of, FileMeasured, IsFileMeasured}
+use Rattle.split_tool.specs.Measured.{is_full, bad_of_end, PieceTaken, ListMeasured, taken_of, FileMeasured}
 use Rattle.split_tool.proofs.Beginning.{single, place_of, one_bad}
 use Rattle.split_tool.proofs.Owning.{each_at, own_apart}
 use Rattle.split_tool.proofs.OneByOne.{all_mid, still_mid, one_of, one_in_mid, first_more, put_more, put_others, Trios, trios_push, trio_at, trio_some, each_take, each_drop, each_from}
@@ -144,9 +144,9 @@ module _ (l : Layout) (file : List ℕ) (rules : Rules) (gauge after : Gauge) (f
 
 pub list_measured : (l : Layout) (file : List ℕ) (rules : Rules) (gauge after : Gauge) (first now : List Lane) (tallies : List Tally) (before ends : Ends) (end : PieceEnd) (closed : Bool)
     → ((xs : List Keyed) → piece_by gauge xs ≡ piece rules.unit xs) → ((xs : List Keyed) → closes_by gauge xs ≡ unit_closes rules.unit xs) → parts_of now ≡ parts_of first
-    → (end ≡ code.Read → ⊥) → closed ≡ (not rules.repeat && closes_by after []) → ends.more ≡ (before.more || is_full end) → ends.bad ≡ option_or before.bad (bad_of_end end closed)
+    → closed ≡ (not rules.repeat && closes_by after []) → ends.more ≡ (before.more || is_full end) → ends.bad ≡ option_or before.bad (bad_of_end end closed)
     → IsMeasured l file rules.stop gauge after first now tallies end → ListMeasured l file rules first now tallies before ends
-list_measured l file rules gauge after first now tallies before ends code.Full closed sp sc parts never close more bad m =
+list_measured l file rules gauge after first now tallies before ends code.Full closed sp sc parts close more bad m =
     let all : ends.more ≡ true = more ∙ or_true before.more in
     measured_by l file rules gauge after first now tallies sp sc parts m.0 before ends code.Full closed more bad (sym (some_there _ m.1.0))
     (λ last.
@@ -155,17 +155,17 @@ list_measured l file rules gauge after first now tallies before ends code.Full c
     ∙ ap (λ (u : Bool). bad_by (has_end rules.stop (come_of (rows_of l file now))) rules.repeat u (option_map place_of (least_cut (rows_of l file now)))) m.1.1
     ∙ ap (λ (r : Bool). bad_by (has_end rules.stop (come_of (rows_of l file now))) r true (option_map place_of (least_cut (rows_of l file now)))) again
     ∙ full_bad _ _))
-list_measured l file rules gauge after first now tallies before ends code.Past closed sp sc parts never close more bad m =
+list_measured l file rules gauge after first now tallies before ends code.Past closed sp sc parts close more bad m =
     measured_by l file rules gauge after first now tallies sp sc parts m.0 before ends code.Past closed more bad (sym (ap is_some_left m.1.0))
     (λ last. sym (first_bad l file rules gauge after first now tallies sp sc parts m.0
     ∙ ap (λ (h : Bool). bad_by h rules.repeat (closes_by gauge (list_left l file rules.stop first)) (option_map place_of (least_cut (rows_of l file now)))) m.1.1
     ∙ past_bad _ _ _))
-list_measured l file rules gauge after first now tallies before ends code.Done closed sp sc parts never close more bad m =
+list_measured l file rules gauge after first now tallies before ends code.Done closed sp sc parts close more bad m =
     measured_by l file rules gauge after first now tallies sp sc parts m.0 before ends code.Done closed more bad (sym (ap is_some_left (nothing_now l file rules gauge after first now tallies sp sc parts m.0 m.1.0)))
     (λ last. sym (first_bad l file rules gauge after first now tallies sp sc parts m.0
     ∙ ap (λ (c : Option Cut). bad_by (has_end rules.stop (come_of (rows_of l file now))) rules.repeat (closes_by gauge (list_left l file rules.stop first)) (option_map place_of c)) m.1.2
     ∙ no_bad _ _ _))
-list_measured l file rules gauge after first now tallies before ends (code.Malformed cpu page) closed sp sc parts never close more bad m =
+list_measured l file rules gauge after first now tallies before ends (code.Malformed cpu page) closed sp sc parts close more bad m =
     measured_by l file rules gauge after first now tallies sp sc parts m.0 before ends (code.Malformed cpu page) closed more bad (sym (ap is_some_left (nothing_now l file rules gauge after first now tallies sp sc parts m.0 m.1.0)))
     (λ last. sym (first_bad l file rules gauge after first now tallies sp sc parts m.0
     ∙ ap (λ (h : Bool). bad_by h rules.repeat (closes_by gauge (list_left l file rules.stop first)) (option_map place_of (least_cut (rows_of l file now)))) (ap (has_end rules.stop) m.1.0 ∙ no_end rules.stop)
@@ -173,7 +173,6 @@ list_measured l file rules gauge after first now tallies before ends (code.Malfo
     ∙ ap (λ (c : Option Cut). bad_by false rules.repeat (closes_by after []) (option_map place_of c)) m.1.2.1
     ∙ end_bad rules.repeat (closes_by after []) cpu page
     ∙ ap (bad_of_end (code.Malformed cpu page)) (sym close)))
-list_measured l file rules gauge after first now tallies before ends code.Read closed sp sc parts never close more bad m = absurd (never refl)
 
 -- GROUPS
 
@@ -200,10 +199,9 @@ module _ (l : Layout) (file : List ℕ) (rules : Rules) where
 
 -- ALL LANES AS ONE LIST
 
-pub whole_measured : (l : Layout) (file : List ℕ) (rules : Rules) (first now : List Lane) (tallies : List Tally) (before : Ends) (result : Option Ends) → is_apart rules ≡ false → before.more ≡ false → before.bad ≡ None
-    → IsListMeasured l file rules first now tallies before result → IsFileMeasured l file rules first now tallies result
-whole_measured l file rules first now tallies before None whole more bad m = tt
-whole_measured l file rules first now tallies before (Some ends) whole more bad m =
+pub whole_measured : (l : Layout) (file : List ℕ) (rules : Rules) (first now : List Lane) (tallies : List Tally) (before ends : Ends) → is_apart rules ≡ false → before.more ≡ false → before.bad ≡ None
+    → ListMeasured l file rules first now tallies before ends → FileMeasured l file rules first now tallies ends
+whole_measured l file rules first now tallies before ends whole more bad m =
     let p = m.taken in
     let left = left_in_rows rules.stop (rows_of l file first) in
     let firsts = lists_whole l file rules first whole in

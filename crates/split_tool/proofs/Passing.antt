@@ -138,6 +138,15 @@ all_started l file rules start n first now is apart enough enough2 s =
     by_apart true always o e come = come ∙ ap (λ (m : Option Moment). map (λ rows. from_start m (come_of rows)) (map single (rows_of l file first))) (sym e)
     by_apart false always o e come = absurd cc
 
+-- lanes that are one list
+pub whole_started : (l : Layout) (file : List ℕ) (rules : Rules) (start : Option Moment) (first now : List Lane) → rules.start ≡ start → is_apart rules ≡ false → ListStarted l file start first now → Started l file rules first now
+whole_started l file rules start first now is whole s = record { stands = s.stands; come = by_whole (is_apart rules) whole rules.start is }
+  where
+    by_whole : (b : Bool) → b ≡ false → (o : Option Moment) → o ≡ start
+        → map come_of (if b then map single (rows_of l file now) else rows_of l file now ∷ []) ≡ map (λ rows. from_start o (come_of rows)) (if b then map single (rows_of l file first) else rows_of l file first ∷ [])
+    by_whole true never o e = absurd cc
+    by_whole false never o e = ap (λ (xs : List Keyed). xs ∷ []) s.come ∙ ap (λ (m : Option Moment). from_start m (come_of (rows_of l file first)) ∷ []) (sym e)
+
 -- the lane at hand stands as at first
 pub stands_mid : (l : Layout) (file : List ℕ) (start : Option Moment) (i : ℕ) (first now : List Lane) → All (Stands l file) first → StartedTo l file start i first now → All (Stands l file) (mid_of i (i + 1 - i) now)
 stands_mid l file start i first now stands s =

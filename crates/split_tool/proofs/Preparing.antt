@@ -42,8 +42,8 @@ use Rattle.split_file.specs.NewFile.{front_len, front_text, table_of, in_table}
 use Rattle.split_tool.specs.declared.lists.Ends.{Ends}
 use Rattle.split_tool.specs.Counted.{lists_of, AreCounted}
 use Rattle.split_tool.specs.Lists.{groups, left_in_rows, bad_in_rows, lists_left, bad_left}
-use Rattle.split_tool.specs.Measured.{taken_of, FileMeasured, IsFileMeasured}
-use Rattle.split_tool.specs.Made.{FileLeft, Prepared, IsPrepared, IsWritten}
+use Rattle.split_tool.specs.Measured.{taken_of, FileMeasured}
+use Rattle.split_tool.specs.Made.{FileLeft, Prepared, IsWritten}
 use Rattle.split_tool.proofs.FewItems.{few_in_list}
 use Rattle.split_tool.proofs.Owning.{IsNotLane, none_else}
 use Rattle.split_tool.proofs.Tables.{same_data}
@@ -184,17 +184,16 @@ data_all : (l : Layout) (file : List ℕ) (rules : Rules) (lanes : List Lane) (c
 unfolding data_of
 data_all l file rules lanes cpus rise below = same_data l (taken_of l file rules lanes) cpus 0 lanes rise (cpus_from lanes) (cpus_below cpus lanes below) (λ c le others. none_else l file rules lanes c others)
 
-pub prepared : (header : Header) (file : List ℕ) (rules : Rules) (first ready now : List Lane) (fronts : List Place) (tallies : List Tally) (table0 table : List Part) (at : ℕ) (result : Option Ends)
+pub prepared : (header : Header) (file : List ℕ) (rules : Rules) (first ready now : List Lane) (fronts : List Place) (tallies : List Tally) (table0 table : List Part) (at : ℕ) (ends : Ends)
     → IsHeader header → CpusRise (parts_of first) → All (λ (a : Lane). a.cpu < header.cpus) first → rows_of header.layout file ready ≡ rows_of header.layout file first → parts_of ready ≡ parts_of first → parts_of now ≡ parts_of ready
     → All (IsInOrder header.layout) ready → All (IsReady header.layout) ready → All (Stands header.layout file) ready
     → ((i : ℕ) (d : Lane) (p : Place) → i < length ready → get_or fronts i p ≡ place_in (get_or ready i d))
     → at ≡ front_len header % 2 ^ 64 → length table0 ≡ header.cpus
     → ((xs : List Keyed) (place : ℕ) → at ≡ place % 2 ^ 64 → AreCounted header.layout now tallies xs → table ≡ map in_table (parts_from header.layout place (lists_of (length table0) xs)))
     → length file < 2 ^ 64
-    → IsFileMeasured header.layout file rules ready now tallies result → IsPrepared header file rules first now fronts tallies table result
+    → FileMeasured header.layout file rules ready now tallies ends → Prepared header file rules first now fronts tallies table ends
 unfolding table_of
-prepared header file rules first ready now fronts tallies table0 table at None allowed rise below rows parts later order are_ready stands noted place cpus filled small m = tt
-prepared header file rules first ready now fronts tallies table0 table at (Some ends) allowed rise below rows parts later order are_ready stands noted place cpus filled small m =
+prepared header file rules first ready now fronts tallies table0 table at ends allowed rise below rows parts later order are_ready stands noted place cpus filled small m =
     let l = header.layout in
     let taken1 = taken_of l file rules ready in
     let taken = taken_of l file rules first in
@@ -225,7 +224,7 @@ prepared_told header rules first ready now fronts tallies0 tallies table0 table 
 prepared_told header rules first ready now fronts tallies0 tallies table0 table at ends (Some file) now_told e allowed rise below parts later order are_ready noted place cpus filled clear rows stands m = λ s small.
     let Measures : List ℕ → Type 0 = λ file. All (Stands header.layout file) ready → ((i : ℕ) (t : Tally) → i < length tallies0 → IsTally header.layout (get_or tallies0 i t) []) → FileMeasured header.layout file rules ready now tallies ends in
     let measured : Measures file = subst (λ (o : Option (List ℕ)). IfSome o Measures) e m in
-    prepared header file rules first ready now fronts tallies table0 table at (Some ends) allowed rise below rows parts later order are_ready (stands s) noted place cpus filled small (measured (stands s) clear)
+    prepared header file rules first ready now fronts tallies table0 table at ends allowed rise below rows parts later order are_ready (stands s) noted place cpus filled small (measured (stands s) clear)
 
 -- the lists as they were written back
 pub prepared_back : (header : Header) (rules : Rules) (first now : List Lane) (fronts fronts1 : List Place) (tallies tallies1 : List Tally) (table table1 : List Part) (ends : Ends) (told : Option (List ℕ)) → fronts1 ≡ fronts → tallies1 ≡ tallies → table1 ≡ table

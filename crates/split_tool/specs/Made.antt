@@ -1,5 +1,5 @@
 -- One new file on its way.
-use Rattle.std.specs.Prelude.{◌≡◌, ℕ, true, false, ◌&&◌, ◌⊎◌, List, ◌++◌, map, IfSome, Option, Result, Some, None, Ok, Err}
+use Rattle.std.specs.Prelude.{◌≡◌, ℕ, true, false, ◌&&◌, ◌⊎◌, List, ◌++◌, map, IfSome, Option, Result, Some, Ok, Err}
 use Rattle.std.specs.List.{All}
 use Rattle.std.specs.FinMap.{insert}
 use Rattle.trace_base.specs.declared.layout.Layout.{Layout}
@@ -46,10 +46,6 @@ pub record Prepared (header : Header) (file : List ℕ) (rules : Rules) (first n
   pub table_is : table ≡ map in_table (table_of header (lists_of header.cpus (taken_of header.layout file rules first)))
   pub bytes : data_of header.layout (owns first (taken_of header.layout file rules first))
       ≡ data_of header.layout (lists_of header.cpus (taken_of header.layout file rules first))
-
-abbrev pub IsPrepared : Header → List ℕ → Rules → List Lane → List Lane → List Place → List Tally → List Part → Option Ends → Type 0
-IsPrepared header file rules first now fronts tallies table None = Unit {0}
-IsPrepared header file rules first now fronts tallies table (Some ends) = Prepared header file rules first now fronts tallies table ends
 
 -- a file was written
 pub record Written (header : Header) (file : List ℕ) (table : List Part) (lists : List (List ItemData)) (before now : List Lane) (old new : Option (List ℕ)) : Type 0 where

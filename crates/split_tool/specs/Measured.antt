@@ -22,7 +22,6 @@ is_full code.Full = true
 is_full code.Past = false
 is_full code.Done = false
 is_full (code.Malformed cpu page) = false
-is_full code.Read = false
 
 abbrev pub bad_of_end : PieceEnd → Bool → Option (ℕ × ℕ)
 bad_of_end (code.Malformed cpu page) false = Some (cpu, page)
@@ -30,7 +29,6 @@ bad_of_end (code.Malformed cpu page) true = None
 bad_of_end code.Full closed = None
 bad_of_end code.Past closed = None
 bad_of_end code.Done closed = None
-bad_of_end code.Read closed = None
 
 -- the piece of one list was taken
 pub record PieceTaken (layout : Layout) (file : List ℕ) (rules : Rules) (first now : List Lane) (tallies : List Tally) : Type 0 where
@@ -47,10 +45,6 @@ pub record ListMeasured (layout : Layout) (file : List ℕ) (rules : Rules) (fir
   pub more : ends.more ≡ (before.more || is_some_left (left_in_rows rules.stop (rows_of layout file now)))
   pub bad : (ends.more && rules.repeat) ≡ false → ends.bad ≡ option_or before.bad (bad_in_rows rules (rows_of layout file first))
 
-abbrev pub IsListMeasured : Layout → List ℕ → Rules → List Lane → List Lane → List Tally → Ends → Option Ends → Type 0
-IsListMeasured layout file rules first now tallies before None = Unit {0}
-IsListMeasured layout file rules first now tallies before (Some ends) = ListMeasured layout file rules first now tallies before ends
-
 -- what a file takes of lanes
 abbrev pub taken_of : Layout → List ℕ → Rules → List Lane → List Keyed
 taken_of layout file rules lanes = next_file rules.unit (lists_left layout file rules lanes)
@@ -66,7 +60,3 @@ pub record FileMeasured (layout : Layout) (file : List ℕ) (rules : Rules) (fir
   pub more : ends.more ≡ is_some_left (joined_lists (lists_left layout file rules now))
   pub bad_ends : (ends.more && rules.repeat) ≡ false → ends.bad ≡ bad_left layout file rules first
   pub bad : rules.repeat ≡ true → bad_left layout file rules now ≡ bad_left layout file rules first
-
-abbrev pub IsFileMeasured : Layout → List ℕ → Rules → List Lane → List Lane → List Tally → Option Ends → Type 0
-IsFileMeasured layout file rules first now tallies None = Unit {0}
-IsFileMeasured layout file rules first now tallies (Some ends) = FileMeasured layout file rules first now tallies ends

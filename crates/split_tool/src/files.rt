@@ -1,7 +1,8 @@
 // One new file.
 
-ghost use Rattle.std.specs.Prelude.{◌≡◌, ◌+◌, ◌<◌, ◌≤◌, ◌^◌, All, IfErr, IfOk, IfSome, List, MatchResult, None, length};
-ghost use Rattle.trace_outside.specs.Causes.{Rose, raised};
+ghost use Rattle.std.specs.Prelude.{◌≡◌, ◌+◌, ◌<◌, ◌≤◌, ◌^◌, All, IfErr, IfOk, IfSome, List, MatchResult, OnOk, length};
+ghost use Rattle.trace_outside.specs.Causes.{HasCause, Rose, raised};
+ghost use Rattle.trace_outside.specs.Keeping.{KeepsFile, KeepsSink};
 ghost use Rattle.dat_header.specs.Allowed.{IsHeader};
 ghost use Rattle.subpage.specs.Arrangement.{CpusRise};
 ghost use Rattle.subpage.specs.ItemData.{ItemData};
@@ -10,7 +11,7 @@ ghost use Rattle.time_merge.specs.LaneRows.{parts_of};
 ghost use Rattle.split_passes.specs.AllAgain.{AreFronts};
 ghost use Rattle.split_passes.specs.Reads.{all_packing};
 ghost use Rattle.split_file.specs.Names.{file_name};
-ghost use Rattle.split_tool.specs.Made.{IsMade, IsPrepared, IsWritten};
+ghost use Rattle.split_tool.specs.Made.{IsMade, IsWritten, Prepared};
 ghost use Rattle.split_tool.specs.NewFiles.{LeavesUnfinished};
 ghost use Rattle.split_tool.specs.Reads.{Spent, to_read};
 ghost use Rattle.split_tool.specs.Stored.{KeepsCounts};
@@ -27,14 +28,14 @@ use split_pieces::Rules;
 use time_merge::{End, make_all_ready};
 use trace_outside::{Failed, File, Folder, Sink};
 
-// Goes through the file's pieces, and leaves what the second pass needs in the work. None: a read failed.
+// Goes through the file's pieces, and leaves what the second pass needs in the work.
 fn measure_file<F: File>(
     plan: &SplitPlan<'_>,
     rules: &Rules,
     file: &mut F,
     lanes: &mut [Lane],
     work: &mut SplitWork,
-) -> Option<Ends>
+) -> Result<Ends, Failed>
     requires allowed { IsHeader plan.now.header.now }
     requires in_order { All (IsInOrder plan.now.header.now.layout) lanes.old }
     requires rise { CpusRise (parts_of lanes.old) }
@@ -43,25 +44,21 @@ fn measure_file<F: File>(
     ensures in_order { All (IsInOrder plan.now.header.now.layout) lanes.new }
     ensures parts { parts_of lanes.new ≡ parts_of lanes.old }
     ensures work { IsWorkFor plan.now.header.now (length lanes.new) work.new }
-    ensures told { IfSome (F.bytes file.old) (λ bytes. All (Stands plan.now.header.now.layout bytes) lanes.old
+    ensures told { IfOk result (λ ends. IfSome (F.bytes file.old) (λ bytes. All (Stands plan.now.header.now.layout bytes) lanes.old
         → length bytes < 2 ^ 64
-        → IsPrepared plan.now.header.now bytes rules.now lanes.old lanes.new work.new.fronts.items work.new.tallies.items work.new.table.items result) }
+        → Prepared plan.now.header.now bytes rules.now lanes.old lanes.new work.new.fronts.items work.new.tallies.items work.new.table.items ends)) }
     ensures reads { F.reads file.new
         ≤ raised (F.reads file.old) (to_read plan.now.header.now.layout (F.size file.old) lanes.old) }
     // What packing the file reads is left.
-    ensures spent { IfSome result (λ ends. Spent (to_read plan.now.header.now.layout (F.size file.old) lanes.old)
+    ensures spent { OnOk result (Spent (to_read plan.now.header.now.layout (F.size file.old) lanes.old)
         (to_read plan.now.header.now.layout (F.size file.old) lanes.new
         + all_packing plan.now.header.now.layout (F.size file.old) lanes.new work.new.fronts.items work.new.tallies.items)
         (F.reads file.old) (F.reads file.new)) }
-    ensures read { result ≡ None → Rose (F.faults file.old) (F.faults file.new) }
-    ensures later { F.faults file.old ≤ F.faults file.new }
-    ensures bytes { F.bytes file.new ≡ F.bytes file.old }
-    ensures size { F.size file.new ≡ F.size file.old }
+    ensures cause { HasCause (F.faults file.old) (F.faults file.new) result }
+    ensures keeps { KeepsFile F.File file.old file.new }
 {
     let layout = &plan.header.layout;
-    if !make_all_ready(layout, file, lanes) {
-        return None;
-    }
+    make_all_ready(layout, file, lanes)?;
     note_fronts(lanes, work.fronts.as_mut_slice());
     clear(work.tallies.as_mut_slice());
     let ends = measure_lists(layout, file, lanes, rules, work.tallies.as_mut_slice())?;
@@ -73,7 +70,7 @@ fn measure_file<F: File>(
         work.tallies.as_slice(),
         work.table.as_mut_slice(),
     );
-    Some(ends)
+    Ok(ends)
 }
 
 // Writes the whole file.
@@ -97,12 +94,10 @@ fn write_file<F: File, O: Sink>(
         (all_packing plan.now.header.now.layout (F.size file.old) lanes.old work.old.fronts.items work.old.tallies.items) }
     ensures left { result ≡ End.Done → to_read plan.now.header.now.layout (F.size file.old) lanes.new
         ≡ to_read plan.now.header.now.layout (F.size file.old) lanes.old }
-    ensures name { O.name out.new ≡ O.name out.old }
+    ensures keeps_out { KeepsSink O.Sink out.old out.new }
     ensures read { result ≡ End.Read → Rose (F.faults file.old) (F.faults file.new) }
     ensures write { result ≡ End.Write → Rose (O.faults out.old) (O.faults out.new) }
-    ensures later { F.faults file.old ≤ F.faults file.new }
-    ensures bytes { F.bytes file.new ≡ F.bytes file.old }
-    ensures size { F.size file.new ≡ F.size file.old }
+    ensures keeps { KeepsFile F.File file.old file.new }
 {
     match write_front(plan.header, work.table.as_slice(), out) {
         Ok(()) => {}
@@ -152,14 +147,12 @@ pub(crate) fn make_file<F: File, D: Folder>(
         (to_read plan.now.header.now.layout (F.size file.old) lanes.new) (F.reads file.old) (F.reads file.new)) }
     ensures read { IfErr result (λ end. end ≡ End.Read → Rose (F.faults file.old) (F.faults file.new)) }
     ensures write { IfErr result (λ end. end ≡ End.Write → Rose (D.counts folder.old).writing (D.counts folder.new).writing) }
-    ensures later { F.faults file.old ≤ F.faults file.new }
     ensures counts { KeepsCounts (D.counts folder.old) (D.counts folder.new) }
     ensures created { MatchResult result (λ _. (D.counts folder.new).created ≡ raised (D.counts folder.old).created 1)
         (λ _. (D.counts folder.new).created ≤ raised (D.counts folder.old).created 1) }
-    ensures bytes { F.bytes file.new ≡ F.bytes file.old }
-    ensures size { F.size file.new ≡ F.size file.old }
+    ensures keeps { KeepsFile F.File file.old file.new }
 {
-    let Some(ends) = measure_file(plan, rules, file, lanes, work) else {
+    let Ok(ends) = measure_file(plan, rules, file, lanes, work) else {
         return Err(End::Read);
     };
     let name = file_name(plan.words.base, number);

@@ -1,9 +1,10 @@
 // The lists that one file takes its pieces of.
 
-ghost use Rattle.std.specs.Prelude.{◌≡◌, ◌-◌, ◌<◌, ◌≤◌, ◌&&◌, ◌||◌, ℕ, Bool, IsTrue, false, not, [], All, IfSome, None, length, slice_index_or};
+ghost use Rattle.std.specs.Prelude.{◌≡◌, ◌-◌, ◌<◌, ◌≤◌, ◌&&◌, ◌||◌, ℕ, false, not, [], All, IfOk, IfSome, None, OnOk, length, slice_index_or};
 ghost use Rattle.std.specs.Option.{option_or};
 ghost use Rattle.trace_base.specs.Layout.{IsLayout};
-ghost use Rattle.trace_outside.specs.Causes.{Rose, raised};
+ghost use Rattle.trace_outside.specs.Causes.{HasCause, raised};
+ghost use Rattle.trace_outside.specs.Keeping.{KeepsFile};
 ghost use Rattle.subpage.specs.Arrangement.{CpusRise};
 ghost use Rattle.page_pool.specs.declared.lane.Lane.{Lane};
 ghost use Rattle.event_cursor.specs.Standing.{IsInOrder, Stands};
@@ -14,13 +15,13 @@ ghost use Rattle.split_pieces.specs.Gauging.{closes_by};
 ghost use Rattle.split_passes.specs.Measures.{Tallied};
 ghost use Rattle.split_passes.specs.Tallies.{IsTally};
 ghost use Rattle.split_passes.specs.declared.tally.Tally.{Tally};
-ghost use Rattle.split_tool.specs.Measured.{IsFileMeasured, IsListMeasured, bad_of_end, is_full};
+ghost use Rattle.split_tool.specs.Measured.{FileMeasured, ListMeasured, bad_of_end, is_full};
 
 use page_pool::Lane;
 use split_passes::{PieceEnd, Tally, measure};
 use split_pieces::{Gauge, Rules};
 use trace_base::Layout;
-use trace_outside::File;
+use trace_outside::{Failed, File};
 
 /// What is left behind a file's pieces.
 #[derive(Clone, Copy, Debug, PartialEq, Eq)]
@@ -63,17 +64,6 @@ fn is_full(end: PieceEnd) -> bool
         PieceEnd::Past => false,
         PieceEnd::Done => false,
         PieceEnd::Malformed { .. } => false,
-        PieceEnd::Read => false,
-    }
-}
-
-fn is_read(end: PieceEnd) -> bool
-    ensures yes { IsTrue result → end ≡ PieceEnd.Read }
-    ensures never { result ≡ false → end ≡ PieceEnd.Read → ⊥ }
-{
-    match end {
-        PieceEnd::Read => true,
-        PieceEnd::Full | PieceEnd::Past | PieceEnd::Done | PieceEnd::Malformed { .. } => false,
     }
 }
 
@@ -91,7 +81,6 @@ fn bad_of_end(end: PieceEnd, closed: bool) -> Option<(u32, u64)>
         PieceEnd::Full => None,
         PieceEnd::Past => None,
         PieceEnd::Done => None,
-        PieceEnd::Read => None,
     }
 }
 
@@ -102,7 +91,7 @@ fn is_closed(repeat: bool, gauge: &Gauge) -> bool
     !repeat && gauge.is_full()
 }
 
-// Measures the piece of one list. None: a read failed.
+// Measures the piece of one list.
 fn measure_list<F: File>(
     layout: &Layout,
     file: &mut F,
@@ -110,7 +99,7 @@ fn measure_list<F: File>(
     rules: &Rules,
     tallies: &mut [Tally],
     before: Ends,
-) -> Option<Ends>
+) -> Result<Ends, Failed>
     requires allowed { IsLayout layout.now }
     requires in_order { All (IsInOrder layout.now) lanes.old }
     requires rise { CpusRise (parts_of lanes.old) }
@@ -118,10 +107,10 @@ fn measure_list<F: File>(
     ensures in_order { All (IsInOrder layout.now) lanes.new }
     ensures parts { parts_of lanes.new ≡ parts_of lanes.old }
     ensures long { length tallies.new ≡ length lanes.new }
-    ensures told { IfSome (F.bytes file.old) (λ bytes. All (Stands layout.now bytes) lanes.old
+    ensures told { IfOk result (λ ends. IfSome (F.bytes file.old) (λ bytes. All (Stands layout.now bytes) lanes.old
         → Tallied layout.now lanes.old [] tallies.old
-        → IsListMeasured layout.now bytes rules.now lanes.old lanes.new tallies.new before result) }
-    ensures ready { IfSome result (λ ends. All (IsReady layout.now) lanes.new) }
+        → ListMeasured layout.now bytes rules.now lanes.old lanes.new tallies.new before ends)) }
+    ensures ready { OnOk result (All (IsReady layout.now) lanes.new) }
     ensures advance { (i : ℕ) (d : Lane) → i < length lanes.old
         → Advances (slice_index_or lanes.old i d) (slice_index_or lanes.new i d) }
     ensures over { (i : ℕ) (d : Lane) (t : Tally) → i < length lanes.old
@@ -129,32 +118,30 @@ fn measure_list<F: File>(
         → slice_index_or tallies.new i t ≡ slice_index_or tallies.old i t }
     ensures reads { F.reads file.new
         ≤ raised (F.reads file.old) (all_unread layout.now (F.size file.old) lanes.old) }
-    ensures reads_done { IfSome result (λ ends. F.reads file.new ≤ raised (F.reads file.old)
+    ensures reads_done { OnOk result (F.reads file.new ≤ raised (F.reads file.old)
         (all_unread layout.now (F.size file.old) lanes.old - all_unread layout.now (F.size file.old) lanes.new)) }
     ensures unread { all_unread layout.now (F.size file.old) lanes.new
         ≤ all_unread layout.now (F.size file.old) lanes.old }
-    ensures read { result ≡ None → Rose (F.faults file.old) (F.faults file.new) }
-    ensures later { F.faults file.old ≤ F.faults file.new }
-    ensures bytes { F.bytes file.new ≡ F.bytes file.old }
-    ensures size { F.size file.new ≡ F.size file.old }
+    ensures cause { HasCause (F.faults file.old) (F.faults file.new) result }
+    ensures keeps { KeepsFile F.File file.old file.new }
 {
     let mut gauge = Gauge::new(rules.unit);
-    let end = measure(layout, file, lanes, rules.stop, &mut gauge, tallies);
-    if is_read(end) {
-        return None;
-    }
+    let end = measure(layout, file, lanes, rules.stop, &mut gauge, tallies)?;
     let closed = is_closed(rules.repeat, &gauge);
-    Some(before.and(end, closed))
+    Ok(before.and(end, closed))
 }
 
-/// Measures the pieces of a file: of all lanes as one list, or of each by itself. None: a read failed.
+/// Measures the pieces of a file: of all lanes as one list, or of each by itself.
+///
+/// # Errors
+/// `Failed` where a read failed.
 pub(crate) fn measure_lists<F: File>(
     layout: &Layout,
     file: &mut F,
     lanes: &mut [Lane],
     rules: &Rules,
     tallies: &mut [Tally],
-) -> Option<Ends>
+) -> Result<Ends, Failed>
     requires allowed { IsLayout layout.now }
     requires in_order { All (IsInOrder layout.now) lanes.old }
     requires rise { CpusRise (parts_of lanes.old) }
@@ -162,10 +149,10 @@ pub(crate) fn measure_lists<F: File>(
     ensures in_order { All (IsInOrder layout.now) lanes.new }
     ensures parts { parts_of lanes.new ≡ parts_of lanes.old }
     ensures long { length tallies.new ≡ length lanes.new }
-    ensures told { IfSome (F.bytes file.old) (λ bytes. All (Stands layout.now bytes) lanes.old
+    ensures told { IfOk result (λ ends. IfSome (F.bytes file.old) (λ bytes. All (Stands layout.now bytes) lanes.old
         → ((i : ℕ) (t : Tally) → i < length tallies.old → IsTally layout.now (slice_index_or tallies.old i t) [])
-        → IsFileMeasured layout.now bytes rules.now lanes.old lanes.new tallies.new result) }
-    ensures ready { IfSome result (λ ends. All (IsReady layout.now) lanes.new) }
+        → FileMeasured layout.now bytes rules.now lanes.old lanes.new tallies.new ends)) }
+    ensures ready { OnOk result (All (IsReady layout.now) lanes.new) }
     ensures advance { (i : ℕ) (d : Lane) → i < length lanes.old
         → Advances (slice_index_or lanes.old i d) (slice_index_or lanes.new i d) }
     ensures over { (i : ℕ) (d : Lane) (t : Tally) → i < length lanes.old
@@ -173,32 +160,26 @@ pub(crate) fn measure_lists<F: File>(
         → slice_index_or tallies.new i t ≡ slice_index_or tallies.old i t }
     ensures reads { F.reads file.new
         ≤ raised (F.reads file.old) (all_unread layout.now (F.size file.old) lanes.old) }
-    ensures reads_done { IfSome result (λ ends. F.reads file.new ≤ raised (F.reads file.old)
+    ensures reads_done { OnOk result (F.reads file.new ≤ raised (F.reads file.old)
         (all_unread layout.now (F.size file.old) lanes.old - all_unread layout.now (F.size file.old) lanes.new)) }
     ensures unread { all_unread layout.now (F.size file.old) lanes.new
         ≤ all_unread layout.now (F.size file.old) lanes.old }
-    ensures read { result ≡ None → Rose (F.faults file.old) (F.faults file.new) }
-    ensures later { F.faults file.old ≤ F.faults file.new }
-    ensures bytes { F.bytes file.new ≡ F.bytes file.old }
-    ensures size { F.size file.new ≡ F.size file.old }
+    ensures cause { HasCause (F.faults file.old) (F.faults file.new) result }
+    ensures keeps { KeepsFile F.File file.old file.new }
 {
     if !rules.is_apart() {
         return measure_list(layout, file, lanes, rules, tallies, Ends::none());
     }
     let mut ends = Ends::none();
     for i in 0..lanes.len() {
-        let list = measure_list(
+        ends = measure_list(
             layout,
             file,
             &mut lanes[i..i + 1],
             rules,
             &mut tallies[i..i + 1],
             ends,
-        );
-        let Some(more) = list else {
-            return None;
-        };
-        ends = more;
+        )?;
     }
-    Some(ends)
+    Ok(ends)
 }

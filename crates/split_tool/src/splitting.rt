@@ -1,6 +1,7 @@
 ghost use Rattle.std.specs.Prelude.{◌≡◌, ◌*◌, ◌<◌, ◌≤◌, ◌&&◌, All, IfSome, List, length, sum_by};
 ghost use Rattle.trace_base.specs.declared.part.Part.{Part};
 ghost use Rattle.trace_outside.specs.Causes.{Rose, raised};
+ghost use Rattle.trace_outside.specs.Keeping.{KeepsFile};
 ghost use Rattle.dat_header.specs.Allowed.{IsHeader};
 ghost use Rattle.subpage.specs.Arrangement.{CpusRise};
 ghost use Rattle.page_pool.specs.Fresh.{IsFresh};
@@ -82,17 +83,16 @@ pub fn split<F: File, D: Folder>(
     // next one.
     ensures reads { F.reads file.new
         ≤ raised (F.reads file.old) (3 * sum_by (λ part. part.1.size) (parts_of lanes.old)) }
-    ensures later { F.faults file.old ≤ F.faults file.new }
-    ensures bytes { F.bytes file.new ≡ F.bytes file.old }
+    ensures keeps { KeepsFile F.File file.old file.new }
     ensures read { result ≡ End.Read → Rose (F.faults file.old) (F.faults file.new) }
     ensures write { result ≡ End.Write → Rose (D.counts folder.old).writing (D.counts folder.new).writing }
 {
     // A file's length is a number of 64 bits, so there are fewer items than 128 bits count.
     let _size = file.len();
     let rules = rules_of(plan.words);
-    if !pass_start(&plan.header.layout, file, lanes, &rules) {
+    let Ok(()) = pass_start(&plan.header.layout, file, lanes, &rules) else {
         return End::Read;
-    }
+    };
     for number in 1..u128::MAX {
         match make_file(plan, &rules, number, file, lanes, work, folder) {
             Ok(ends) => {

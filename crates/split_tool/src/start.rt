@@ -1,8 +1,9 @@
 // The items before the start.
 
-ghost use Rattle.std.specs.Prelude.{◌≡◌, ◌-◌, ◌<◌, ◌≤◌, ℕ, All, IfSome, IsTrue, Some, false, length, slice_index_or};
+ghost use Rattle.std.specs.Prelude.{◌≡◌, ◌-◌, ◌<◌, ◌≤◌, ℕ, All, IfSome, OnOk, Some, length, slice_index_or};
 ghost use Rattle.trace_base.specs.Layout.{IsLayout};
-ghost use Rattle.trace_outside.specs.Causes.{Rose, raised};
+ghost use Rattle.trace_outside.specs.Causes.{HasCause, raised};
+ghost use Rattle.trace_outside.specs.Keeping.{KeepsFile};
 ghost use Rattle.subpage.specs.Arrangement.{CpusRise, Keyed};
 ghost use Rattle.page_pool.specs.declared.lane.Lane.{Lane};
 ghost use Rattle.event_cursor.specs.Keys.{first_of};
@@ -18,7 +19,7 @@ use page_pool::Lane;
 use split_pieces::{Rules, is_before};
 use time_merge::{Next, next_lane};
 use trace_base::Layout;
-use trace_outside::File;
+use trace_outside::{Failed, File};
 use word_values::Moment;
 
 // Whether a lane's first item stands before the start.
@@ -32,80 +33,81 @@ fn stands_before(layout: &Layout, lane: &Lane, start: Moment) -> bool
     }
 }
 
-// Passes over the items of a list of lanes that stand before the start. False: a read failed.
-fn pass_list<F: File>(layout: &Layout, file: &mut F, lanes: &mut [Lane], start: Moment) -> bool
+// Passes over the items of a list of lanes that stand before the start.
+fn pass_list<F: File>(
+    layout: &Layout,
+    file: &mut F,
+    lanes: &mut [Lane],
+    start: Moment,
+) -> Result<(), Failed>
     requires allowed { IsLayout layout.now }
     requires in_order { All (IsInOrder layout.now) lanes.old }
     requires rise { CpusRise (parts_of lanes.old) }
     ensures in_order { All (IsInOrder layout.now) lanes.new }
     ensures parts { parts_of lanes.new ≡ parts_of lanes.old }
-    ensures told { IfSome (F.bytes file.old) (λ bytes. All (Stands layout.now bytes) lanes.old → IsTrue result
-        → ListStarted layout.now bytes (Some start) lanes.old lanes.new) }
+    ensures told { OnOk result (IfSome (F.bytes file.old) (λ bytes. All (Stands layout.now bytes) lanes.old
+        → ListStarted layout.now bytes (Some start) lanes.old lanes.new)) }
     ensures advance { (i : ℕ) (d : Lane) → i < length lanes.old
         → Advances (slice_index_or lanes.old i d) (slice_index_or lanes.new i d) }
     ensures reads { F.reads file.new
         ≤ raised (F.reads file.old) (all_unread layout.now (F.size file.old) lanes.old) }
-    ensures reads_done { IsTrue result → F.reads file.new ≤ raised (F.reads file.old)
-        (all_unread layout.now (F.size file.old) lanes.old - all_unread layout.now (F.size file.old) lanes.new) }
+    ensures reads_done { OnOk result (F.reads file.new ≤ raised (F.reads file.old)
+        (all_unread layout.now (F.size file.old) lanes.old - all_unread layout.now (F.size file.old) lanes.new)) }
     ensures unread { all_unread layout.now (F.size file.old) lanes.new
         ≤ all_unread layout.now (F.size file.old) lanes.old }
-    ensures read { result ≡ false → Rose (F.faults file.old) (F.faults file.new) }
-    ensures later { F.faults file.old ≤ F.faults file.new }
-    ensures bytes { F.bytes file.new ≡ F.bytes file.old }
-    ensures size { F.size file.new ≡ F.size file.old }
+    ensures cause { HasCause (F.faults file.old) (F.faults file.new) result }
+    ensures keeps { KeepsFile F.File file.old file.new }
 {
     loop {
-        match next_lane(layout, file, lanes) {
+        match next_lane(layout, file, lanes)? {
             Next::Lane(i) => {
                 if !stands_before(layout, &lanes[i], start) {
-                    return true;
+                    return Ok(());
                 }
                 step(layout, &mut lanes[i]);
             }
-            Next::Done => return true,
-            Next::Malformed { .. } => return true,
-            Next::Read => return false,
+            Next::Done => return Ok(()),
+            Next::Malformed { .. } => return Ok(()),
         }
     }
 }
 
-/// Passes over the items before the start, in each lane by itself or in all together. False: a read failed.
+/// Passes over the items before the start, in each lane by itself or in all together.
+///
+/// # Errors
+/// `Failed` where a read failed.
 pub(crate) fn pass_start<F: File>(
     layout: &Layout,
     file: &mut F,
     lanes: &mut [Lane],
     rules: &Rules,
-) -> bool
+) -> Result<(), Failed>
     requires allowed { IsLayout layout.now }
     requires in_order { All (IsInOrder layout.now) lanes.old }
     requires rise { CpusRise (parts_of lanes.old) }
     ensures in_order { All (IsInOrder layout.now) lanes.new }
     ensures parts { parts_of lanes.new ≡ parts_of lanes.old }
-    ensures told { IfSome (F.bytes file.old) (λ bytes. All (Stands layout.now bytes) lanes.old → IsTrue result
-        → Started layout.now bytes rules.now lanes.old lanes.new) }
+    ensures told { OnOk result (IfSome (F.bytes file.old) (λ bytes. All (Stands layout.now bytes) lanes.old
+        → Started layout.now bytes rules.now lanes.old lanes.new)) }
     ensures advance { (i : ℕ) (d : Lane) → i < length lanes.old
         → Advances (slice_index_or lanes.old i d) (slice_index_or lanes.new i d) }
     ensures reads { F.reads file.new
         ≤ raised (F.reads file.old) (all_unread layout.now (F.size file.old) lanes.old) }
-    ensures reads_done { IsTrue result → F.reads file.new ≤ raised (F.reads file.old)
-        (all_unread layout.now (F.size file.old) lanes.old - all_unread layout.now (F.size file.old) lanes.new) }
+    ensures reads_done { OnOk result (F.reads file.new ≤ raised (F.reads file.old)
+        (all_unread layout.now (F.size file.old) lanes.old - all_unread layout.now (F.size file.old) lanes.new)) }
     ensures unread { all_unread layout.now (F.size file.old) lanes.new
         ≤ all_unread layout.now (F.size file.old) lanes.old }
-    ensures read { result ≡ false → Rose (F.faults file.old) (F.faults file.new) }
-    ensures later { F.faults file.old ≤ F.faults file.new }
-    ensures bytes { F.bytes file.new ≡ F.bytes file.old }
-    ensures size { F.size file.new ≡ F.size file.old }
+    ensures cause { HasCause (F.faults file.old) (F.faults file.new) result }
+    ensures keeps { KeepsFile F.File file.old file.new }
 {
     let Some(start) = rules.start else {
-        return true;
+        return Ok(());
     };
     if !rules.is_apart() {
         return pass_list(layout, file, lanes, start);
     }
     for i in 0..lanes.len() {
-        if !pass_list(layout, file, &mut lanes[i..i + 1], start) {
-            return false;
-        }
+        pass_list(layout, file, &mut lanes[i..i + 1], start)?;
     }
-    true
+    Ok(())
 }

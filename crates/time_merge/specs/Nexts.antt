@@ -41,7 +41,6 @@ IsNext layout file lanes (code.Lane i) = IsNextLane layout file lanes i
 IsNext layout file lanes code.Done = (to_come layout file lanes ≡ []) × (least_cut (rows_of layout file lanes) ≡ None)
 IsNext layout file lanes (code.Malformed cpu page) =
     (to_come layout file lanes ≡ []) × ((key : Option ℕ) × (least_cut (rows_of layout file lanes) ≡ Some (record { key = key; cpu = cpu; page = page })))
-IsNext layout file lanes code.Read = Unit {0}
 
 -- a lane that is next holds an item
 abbrev pub HoldsNext : Layout → List Lane → Next → Type 0
@@ -49,4 +48,3 @@ HoldsNext layout lanes (code.Lane i) =
     (i < length lanes) × ((d : Lane) → ((slice_index_or lanes i d).cursor.state ≡ Held) × (0 < length (held_left layout (slice_index_or lanes i d))))
 HoldsNext layout lanes code.Done = Unit {0}
 HoldsNext layout lanes (code.Malformed cpu page) = Unit {0}
-HoldsNext layout lanes code.Read = Unit {0}

@@ -1,6 +1,7 @@
-ghost use Rattle.std.specs.Prelude.{◌≡◌, ◌≢◌, ◌+◌, ◌-◌, ◌<◌, ◌≤◌, ℕ, length, map, slice_index_or, All, IfSome, IsTrue, false, sum_by};
+ghost use Rattle.std.specs.Prelude.{◌≡◌, ◌+◌, ◌-◌, ◌<◌, ◌≤◌, ℕ, length, map, slice_index_or, All, IfOk, IfSome, IsTrue, OnErr, OnOk, false, sum_by};
 ghost use Rattle.trace_base.specs.Layout.{IsLayout};
-ghost use Rattle.trace_outside.specs.Causes.{Rose, raised};
+ghost use Rattle.trace_outside.specs.Causes.{HasCause, raised};
+ghost use Rattle.trace_outside.specs.Keeping.{KeepsFile};
 ghost use Rattle.subpage.specs.Arrangement.{CpusRise};
 ghost use Rattle.page_pool.specs.declared.lane.Lane.{Lane};
 ghost use Rattle.event_cursor.specs.Standing.{IsInOrder, Stands, most_left};
@@ -14,7 +15,7 @@ use crate::ready::make_all_ready;
 use event_cursor::head_key;
 use page_pool::{Lane, LaneState};
 use trace_base::Layout;
-use trace_outside::File;
+use trace_outside::{Failed, File};
 
 /// What comes next of several lanes.
 #[derive(Clone, Copy, Debug, PartialEq, Eq)]
@@ -25,8 +26,6 @@ pub enum Next {
     Done,
     /// Nothing: the items end before this malformed sub-buffer.
     Malformed { cpu: u32, page: u64 },
-    /// A read failed. The lanes are not to be used again.
-    Read,
 }
 
 /// What comes next of a ready lane: the key of its head, or that of the last item before its malformed sub-buffer.
@@ -76,48 +75,47 @@ fn is_malformed(lane: &Lane) -> bool
 /// `Lane(i)` exactly where a reached item is left: it is the head of lane `i`. `Done` exactly where none is left and there
 /// is no cut, `Malformed` exactly where none is left and there is one, with the sub-buffer of the least cut. It looks at
 /// each lane once, and takes no memory.
-pub fn next_lane<F: File>(layout: &Layout, file: &mut F, lanes: &mut [Lane]) -> Next
+///
+/// # Errors
+/// `Failed` where a read failed. The lanes are not to be used again then.
+pub fn next_lane<F: File>(layout: &Layout, file: &mut F, lanes: &mut [Lane]) -> Result<Next, Failed>
     requires allowed { IsLayout layout.now }
     requires in_order { All (IsInOrder layout.now) lanes.old }
     requires rise { CpusRise (parts_of lanes.old) }
     ensures in_order { All (IsInOrder layout.now) lanes.new }
     ensures parts { parts_of lanes.new ≡ parts_of lanes.old }
-    ensures holds { HoldsNext layout.now lanes.new result }
-    ensures ready { result ≢ Next.Read → All (IsReady layout.now) lanes.new }
+    ensures holds { IfOk result (HoldsNext layout.now lanes.new) }
+    ensures ready { OnOk result (All (IsReady layout.now) lanes.new) }
     ensures advance { (i : ℕ) (d : Lane) → i < length lanes.old
         → Advances (slice_index_or lanes.old i d) (slice_index_or lanes.new i d) }
     ensures rows { IfSome (F.bytes file.old) (λ bytes.
         rows_of layout.now bytes lanes.new ≡ rows_of layout.now bytes lanes.old) }
     ensures stands { IfSome (F.bytes file.old) (λ bytes.
         All (Stands layout.now bytes) lanes.old → All (Stands layout.now bytes) lanes.new) }
-    ensures next { IfSome (F.bytes file.old) (λ bytes.
-        All (Stands layout.now bytes) lanes.old → IsNext layout.now bytes lanes.new result) }
+    ensures next { IfOk result (λ next. IfSome (F.bytes file.old) (λ bytes.
+        All (Stands layout.now bytes) lanes.old → IsNext layout.now bytes lanes.new next)) }
     ensures most { sum_by (most_left layout.now) lanes.new ≤ sum_by (most_left layout.now) lanes.old }
-    ensures read { result ≡ Next.Read → Rose (F.faults file.old) (F.faults file.new) }
-    ensures later { F.faults file.old ≤ F.faults file.new }
+    ensures cause { HasCause (F.faults file.old) (F.faults file.new) result }
     // Each sub-buffer is read once.
     ensures reads { F.reads file.new ≤ raised (F.reads file.old)
         (all_unread layout.now (F.size file.old) lanes.old - all_unread layout.now (F.size file.old) lanes.new
         + all_reading layout.now (F.size file.old) lanes.new) }
-    ensures stops { result ≡ Next.Read → HasStopped layout.now (F.size file.old) lanes.old lanes.new (F.reads file.old)
-        (F.reads file.new) }
+    ensures stops { OnErr result (HasStopped layout.now (F.size file.old) lanes.old lanes.new (F.reads file.old)
+        (F.reads file.new)) }
     ensures unread { all_unread layout.now (F.size file.old) lanes.new
         ≤ all_unread layout.now (F.size file.old) lanes.old }
-    ensures bytes { F.bytes file.new ≡ F.bytes file.old }
-    ensures size { F.size file.new ≡ F.size file.old }
+    ensures keeps { KeepsFile F.File file.old file.new }
 {
-    if !make_all_ready(layout, file, lanes) {
-        return Next::Read;
-    }
+    make_all_ready(layout, file, lanes)?;
     let Some(i) = least_of(layout, lanes) else {
-        return Next::Done;
+        return Ok(Next::Done);
     };
     if is_malformed(&lanes[i]) {
-        Next::Malformed {
+        Ok(Next::Malformed {
             cpu: lanes[i].cpu,
             page: lanes[i].cursor.next,
-        }
+        })
     } else {
-        Next::Lane(i)
+        Ok(Next::Lane(i))
     }
 }

@@ -1,6 +1,7 @@
 // The whole generated file, in memory.
 
-ghost use Rattle.std.specs.Prelude.{◌≡◌, ◌<◌, ◌≤◌, ◌^◌, ◌-◌, ◌++◌, length, Some, IfOk, IfSome, OnOk};
+ghost use Rattle.std.specs.Prelude.{◌≡◌, ◌<◌, ◌≤◌, ◌^◌, ◌-◌, ◌++◌, length, None, Some, IfOk, IfSome, OnOk};
+ghost use Rattle.trace_outside.specs.Memory.{file_fault};
 ghost use Rattle.trace_outside.specs.Writing.{Gained};
 ghost use Rattle.dat_header.specs.Spelling.{SpellsHeader};
 ghost use Rattle.dat_header.specs.Written.{header_text, written};
@@ -28,6 +29,7 @@ pub fn generate(alloc: Global, seed: u64, events: u32) -> Result<MemFile, AllocE
     ensures bytes { IfOk result (λ file. ⟦<MemFile as File>⟧.bytes file ≡ Some (file_text seed events)) }
     ensures no_faults { IfOk result (λ file. ⟦<MemFile as File>⟧.faults file ≡ 0) }
     ensures no_reads { IfOk result (λ file. ⟦<MemFile as File>⟧.reads file ≡ 0) }
+    ensures no_fault_set { IfOk result (λ file. file_fault file ≡ None) }
 {
     let header = header(alloc)?;
     let mut data = MemSink::new(alloc);

@@ -1,7 +1,7 @@
 //! A lane gone through from several places, and places that are gone to. At each the key that the lane tells by itself is
 //! its head's.
 
-ghost use Rattle.std.specs.Prelude.{◌≡◌, ◌≢◌, ◌<◌, false, IsTrue, [], length};
+ghost use Rattle.std.specs.Prelude.{◌≡◌, ◌≢◌, ◌<◌, false, IfOk, IsTrue, [], length};
 ghost use Rattle.trace_base.specs.Layout.{IsLayout};
 ghost use Rattle.page_pool.specs.Fresh.{IsNew};
 ghost use Rattle.event_cursor.specs.Standing.{IsInOrder, held_left};
@@ -12,10 +12,10 @@ use std::alloc::{AllocError, Global};
 use std::str::Split;
 use std::test::Fail;
 use subpage::Item;
-use trace_base::{Layout, Part};
-use trace_outside::File;
+use trace_base::{ByteText, Layout, Part};
+use trace_outside::{Failed, File, MemFile};
 use trace_samples::Page::{Lossy, Malformed, Of};
-use trace_samples::{DamagedFile, layout, put_pages};
+use trace_samples::{layout, put_pages};
 
 // A file of five sub-buffers: two events; nothing; a loss of seven and two events, with a time before the last one; one
 // that commits more than it can hold; one event.
@@ -95,16 +95,16 @@ fn knows_key(layout: &Layout, lane: &Lane) -> bool
 }
 
 // Loads the lane where it has no item.
-fn ready<F: File>(layout: &Layout, file: &mut F, lane: &mut Lane) -> Loaded
+fn ready<F: File>(layout: &Layout, file: &mut F, lane: &mut Lane) -> Result<Loaded, Failed>
     requires allowed { IsLayout layout.now }
     requires in_order { IsInOrder layout.now lane.old }
     requires sound { lane.old.cursor.state ≢ LaneState.Malformed }
     ensures in_order { IsInOrder layout.now lane.new }
-    ensures held { result ≡ Loaded.Loaded → lane.new.cursor.state ≡ LaneState.Held }
-    ensures some { result ≡ Loaded.Loaded → 0 < length (held_left layout.now lane.new) }
+    ensures held { IfOk result (λ loaded. loaded ≡ Loaded.Loaded → lane.new.cursor.state ≡ LaneState.Held) }
+    ensures some { IfOk result (λ loaded. loaded ≡ Loaded.Loaded → 0 < length (held_left layout.now lane.new)) }
 {
     if holds_item(layout, lane) {
-        return Loaded::Loaded;
+        return Ok(Loaded::Loaded);
     }
     load(layout, file, lane)
 }
@@ -125,16 +125,21 @@ fn keyed(letter: u8) -> (u64, Item<'static>) {
 }
 
 // The lane has just these items left, with these keys, and then this is loaded.
-fn tells<F: File>(layout: &Layout, file: &mut F, lane: &mut Lane, items: &str, end: Loaded) -> bool
+fn tells<F: File>(
+    layout: &Layout,
+    file: &mut F,
+    lane: &mut Lane,
+    items: &str,
+    end: Result<Loaded, Failed>,
+) -> bool
     requires allowed { IsLayout layout.now }
     requires in_order { IsInOrder layout.now lane.old }
     requires sound { lane.old.cursor.state ≢ LaneState.Malformed }
 {
     for letter in items.as_bytes() {
-        match ready(layout, file, lane) {
-            Loaded::Loaded => {}
-            Loaded::End | Loaded::Malformed(_) | Loaded::Read => return false,
-        }
+        let Ok(Loaded::Loaded) = ready(layout, file, lane) else {
+            return false;
+        };
         if head(layout, lane) != Some(keyed(*letter)) || !knows_key(layout, lane) {
             return false;
         }
@@ -154,10 +159,10 @@ fn go_on<F: File>(layout: &Layout, file: &mut F, lane: &mut Lane, count: u32)
     ensures in_order { IsInOrder layout.now lane.new }
 {
     for _ in 0..count {
-        match ready(layout, file, lane) {
-            Loaded::Loaded => step(layout, lane),
-            Loaded::End | Loaded::Malformed(_) | Loaded::Read => return,
-        }
+        let Ok(Loaded::Loaded) = ready(layout, file, lane) else {
+            return;
+        };
+        step(layout, lane);
     }
 }
 
@@ -176,61 +181,62 @@ fn stands_at(lane: &Lane, wanted: &Place) -> bool {
 // items, and then the malformed sub-buffer of this number.
 fn go_to(
     layout: &Layout,
-    file: &mut DamagedFile,
+    file: &mut MemFile,
     lane: &mut Lane,
     to: &Place,
     items: &str,
     bad: u64,
-) -> Option<(Sought, u64)>
+) -> Option<(Result<Sought, Failed>, u64)>
     requires allowed { IsLayout layout.now }
     requires in_order { IsInOrder layout.now lane.old }
 {
-    let before = file.reads;
+    let before = file.reads();
     if !is_there(layout, file.len(), lane.part, to.page) {
         return None;
     }
     let sought = seek(layout, to, file, lane);
-    let read = file.reads.wrapping_sub(before);
+    let read = file.reads().wrapping_sub(before);
     match sought {
-        Sought::Held => {
-            file.from = u64::MAX;
+        Ok(Sought::Held) => {
+            file.fail_at(u64::MAX);
             let is_right = stands_at(lane, to)
                 && knows_key(layout, lane)
-                && tells(layout, file, lane, items, Loaded::Malformed(bad));
+                && tells(layout, file, lane, items, Ok(Loaded::Malformed(bad)));
             if is_right { Some((sought, read)) } else { None }
         }
-        Sought::Malformed | Sought::Read => Some((sought, read)),
+        Ok(Sought::Malformed) | Err(Failed) => Some((sought, read)),
     }
 }
 
-// A lane over this part of the file, whose bytes from a place on cannot be read, tells just these items, and then this is
+// A lane over this part of the file, of which the byte at a place cannot be read, tells just these items, and then this is
 // loaded.
 fn tells_part(
     alloc: Global,
     part: Part,
-    from: u64,
+    byte: u64,
     items: &str,
-    end: Loaded,
+    end: Result<Loaded, Failed>,
 ) -> Result<bool, AllocError> {
     let layout = layout();
-    let mut file = DamagedFile::new(file_bytes(alloc)?, from);
+    let mut file = MemFile::new(ByteText::from_vec(file_bytes(alloc)?));
+    file.fail_at(byte);
     let mut pool = Pool::new(alloc, 1, 4096, 16)?;
     let lanes = pool.lanes();
     set_part(&layout, &mut lanes[0], part);
     let told = tells(&layout, &mut file, &mut lanes[0], items, end);
-    Ok(told && file.faults == u64::from(end == Loaded::Read))
+    Ok(told && file.faults() == u64::from(end == Err(Failed)))
 }
 
-// A lane that used so many items up goes to a place, while the bytes from a place on cannot be read.
+// A lane that used so many items up goes to a place, while the byte at a place cannot be read.
 fn goes_to(
     alloc: Global,
     used: u32,
     to: Place,
-    from: u64,
+    byte: u64,
     behind: &str,
-) -> Result<Option<(Sought, u64)>, AllocError> {
+) -> Result<Option<(Result<Sought, Failed>, u64)>, AllocError> {
     let layout = layout();
-    let mut file = DamagedFile::new(file_bytes(alloc)?, u64::MAX);
+    let mut file = MemFile::new(ByteText::from_vec(file_bytes(alloc)?));
     let mut pool = Pool::new(alloc, 1, 4096, 16)?;
     let lanes = pool.lanes();
     let part = Part {
@@ -239,7 +245,7 @@ fn goes_to(
     };
     set_part(&layout, &mut lanes[0], part);
     go_on(&layout, &mut file, &mut lanes[0], used);
-    file.from = from;
+    file.fail_at(byte);
     Ok(go_to(&layout, &mut file, &mut lanes[0], &to, behind, 3))
 }
 
@@ -259,15 +265,15 @@ fn small(word: &str) -> u32 {
 }
 
 // What is loaded at last: the end, a failed read, or a malformed sub-buffer by its number.
-fn end_of(word: &str) -> Loaded {
+fn end_of(word: &str) -> Result<Loaded, Failed> {
     match word {
-        "end" => Loaded::End,
-        "read" => Loaded::Read,
-        bad => Loaded::Malformed(number(bad)),
+        "end" => Ok(Loaded::End),
+        "read" => Err(Failed),
+        bad => Ok(Loaded::Malformed(number(bad))),
     }
 }
 
-// Where the part begins, its length, from where on the file cannot be read, the items, and what is loaded then.
+// Where the part begins, its length, the place of the byte that cannot be read, the items, and what is loaded then.
 const PARTS: &str = "\
 0 4096 - ab end
 0 12288 - abcde end
@@ -293,24 +299,24 @@ fn items_of_a_part_with_keys_that_never_fall(rt: HostRuntime) -> Result<(), Fail
             offset: number(word(&mut words)),
             size: number(word(&mut words)),
         };
-        let from = number(word(&mut words));
+        let byte = number(word(&mut words));
         let items = word(&mut words);
         let end = end_of(word(&mut words));
-        assert!(rt; tells_part(rt.alloc(), part, from, items, end)?, "{row}");
+        assert!(rt; tells_part(rt.alloc(), part, byte, items, end)?, "{row}");
     }
     Ok(())
 }
 
-fn sought_of(word: &str) -> Sought {
+fn sought_of(word: &str) -> Result<Sought, Failed> {
     match word {
-        "held" => Sought::Held,
-        "read" => Sought::Read,
-        _ => Sought::Malformed,
+        "held" => Ok(Sought::Held),
+        "read" => Err(Failed),
+        _ => Ok(Sought::Malformed),
     }
 }
 
-// How many items were used up before, the place by its sub-buffer, its item and the greatest time so far, from where on
-// the file cannot be read, the items that are left then, what was found, and how many bytes were read for it.
+// How many items were used up before, the place by its sub-buffer, its item and the greatest time so far, the place of the
+// byte that cannot be read, the items that are left then, what was found, and how many bytes were read for it.
 const PLACES: &str = "\
 0 2 1 30 - de held 4096
 0 1 0 30 - cde held 4096
@@ -321,8 +327,8 @@ const PLACES: &str = "\
 1 2 3 40 -  held 4096
 2 0 3 30 0  malformed 0
 2 3 0 40 -  malformed 4096
-2 2 0 30 0  read 0
-2 2 0 30 8200  read 8";
+2 2 0 30 8192  read 0
+2 2 0 30 8200  read 0";
 
 #[test]
 fn places_forth_and_back(rt: HostRuntime) -> Result<(), Fail> {
@@ -334,11 +340,11 @@ fn places_forth_and_back(rt: HostRuntime) -> Result<(), Fail> {
             at: small(word(&mut words)),
             high: word(&mut words).parse::<u64>().ok(),
         };
-        let from = number(word(&mut words));
+        let byte = number(word(&mut words));
         let items = word(&mut words);
         let sought = sought_of(word(&mut words));
         let read = number(word(&mut words));
-        let found = goes_to(rt.alloc(), used, to, from, items)?;
+        let found = goes_to(rt.alloc(), used, to, byte, items)?;
         assert!(rt; found == Some((sought, read)), "{row}");
     }
     Ok(())

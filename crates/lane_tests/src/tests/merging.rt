@@ -1,6 +1,6 @@
 //! Lanes gone through whole: two processors, and where a malformed sub-buffer ends them.
 
-ghost use Rattle.std.specs.Prelude.{◌≡◌, ◌+◌, ◌<◌, ◌≤◌, length, Some, All, IfOk, IfSome, option_map};
+ghost use Rattle.std.specs.Prelude.{◌≡◌, ◌+◌, ◌<◌, ◌≤◌, length, Some, All, IfOk, IfSome, OnErr, option_map};
 ghost use Rattle.trace_base.specs.Layout.{IsLayout};
 ghost use Rattle.trace_outside.specs.Causes.{Rose};
 ghost use Rattle.subpage.specs.Arrangement.{CpusRise, key_of};
@@ -17,7 +17,7 @@ use std::alloc::{AllocError, Global};
 use std::test::Fail;
 use time_merge::{Next, next_lane};
 use trace_base::{ByteText, Layout, Part};
-use trace_outside::{File, MemFile};
+use trace_outside::{Failed, File, MemFile};
 use trace_samples::Page::{Malformed, Of};
 use trace_samples::{Page, layout, put_pages};
 
@@ -39,31 +39,33 @@ fn use_head(layout: &Layout, lane: &mut Lane) -> u64
     key
 }
 
-// The keys of all reached items in their order, and how they end.
+// The keys of all reached items in their order, and how they end, or that a read failed.
 fn all_keys<F: File>(
     alloc: Global,
     layout: &Layout,
     file: &mut F,
     lanes: &mut [Lane],
-) -> Result<(Vec<u64>, Next), AllocError>
+) -> Result<(Vec<u64>, Result<Next, Failed>), AllocError>
     requires allowed { IsLayout layout.now }
     requires in_order { All (IsInOrder layout.now) lanes.old }
     requires rise { CpusRise (parts_of lanes.old) }
     requires fresh { All (λ lane. IsFresh lane.cursor) lanes.old }
-    ensures through { IfOk result (λ r. IfSome (F.bytes file.old) (λ bytes.
-        IsThrough layout.now bytes (parts_of lanes.old) r.0.items r.1)) }
-    ensures read { IfOk result (λ r. r.1 ≡ Next.Read → Rose (F.faults file.old) (F.faults file.new)) }
+    ensures through { IfOk result (λ r. IfOk r.1 (λ end. IfSome (F.bytes file.old) (λ bytes.
+        IsThrough layout.now bytes (parts_of lanes.old) r.0.items end))) }
+    ensures read { IfOk result (λ r. OnErr r.1 (Rose (F.faults file.old) (F.faults file.new))) }
 {
     let mut keys = Vec::new(alloc);
     loop {
         match next_lane(layout, file, lanes) {
-            Next::Lane(i) => {
+            Ok(Next::Lane(i)) => {
                 let key = use_head(layout, &mut lanes[i]);
                 keys.push(key)?;
             }
-            Next::Done => return Ok((keys, Next::Done)),
-            Next::Malformed { cpu, page } => return Ok((keys, Next::Malformed { cpu, page })),
-            Next::Read => return Ok((keys, Next::Read)),
+            Ok(Next::Done) => return Ok((keys, Ok(Next::Done))),
+            Ok(Next::Malformed { cpu, page }) => {
+                return Ok((keys, Ok(Next::Malformed { cpu, page })));
+            }
+            Err(Failed) => return Ok((keys, Err(Failed))),
         }
     }
 }
@@ -133,7 +135,7 @@ fn items_come_by_key_up_to_the_least_cut(rt: HostRuntime) -> Result<(), Fail> {
         let lanes = pool.lanes();
         set_lanes(&layout(), lanes);
         let (keys, ended) = all_keys(rt.alloc(), &layout(), &mut file, lanes)?;
-        assert!(rt; ended == end);
+        assert!(rt; ended == Ok(end));
         assert_eq!(rt; keys.len(), reached);
         for (key, wanted) in keys.iter().zip(all) {
             assert_eq!(rt; *key, wanted);

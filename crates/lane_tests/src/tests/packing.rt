@@ -1,6 +1,6 @@
 //! Sub-buffers packed again: two that a kernel wrote, and some written out byte by byte.
 
-ghost use Rattle.std.specs.Prelude.{◌≡◌, All, length, IfOk, IfSome};
+ghost use Rattle.std.specs.Prelude.{◌≡◌, ◌≤◌, All, length, IfOk, IfSome};
 ghost use Rattle.trace_base.specs.Layout.{IsLayout};
 ghost use Rattle.page_write.specs.PageBytes.{IsPackable};
 
@@ -8,7 +8,7 @@ use page_write::{Added, Packer, Room, both_add};
 use std::alloc::{AllocError, Global};
 use std::test::Fail;
 use subpage::{Page, check_page};
-use trace_base::{Layout, Order, put_u64};
+use trace_base::{Layout, Order, put_u32, put_u64};
 
 /// A sub-buffer of 4096 bytes with a commit word of 8: its timestamp, its commit word and the bytes that its data begin
 /// with; zero bytes fill it.
@@ -136,6 +136,51 @@ fn packs_again(rt: HostRuntime) -> Result<(), Fail> {
         ("a payload of one byte", filled, long),
     ] {
         assert!(rt; packs(a, &from, &to)?, "{name}");
+    }
+    Ok(())
+}
+
+/// The layout of sub-buffers of 8,192 or of 262,144 bytes.
+fn several_pages(order: Order, size: u32) -> Layout
+    ensures allowed { IsLayout result }
+    ensures least { 4096 ≤ result.page }
+{
+    let size = if size == 8_192 { 8_192 } else { 262_144 };
+    Layout::plain(order, 8, size)
+}
+
+/// A sub-buffer of time 1,000 with one event, which fills it.
+fn filled_up(alloc: Global, layout: &Layout) -> Result<Vec<u8>, AllocError>
+    requires least { 4096 ≤ layout.now.page }
+    ensures { IfOk result (λ v. length v.items ≡ layout.now.page) }
+{
+    let mut out = vec![in alloc; 7; layout.page as usize]?;
+    let bytes = out.as_mut_slice();
+    put_u64(layout.order, 1_000, &mut bytes[..8]);
+    put_u64(layout.order, u64::from(layout.page - 16), &mut bytes[8..16]);
+    put_u32(layout.order, 0, &mut bytes[16..20]);
+    put_u32(layout.order, layout.page - 20, &mut bytes[20..24]);
+    Ok(out)
+}
+
+/// Whether its item is packed into just the same sub-buffer.
+fn packs_filled(alloc: Global, order: Order, size: u32) -> Result<bool, AllocError> {
+    let layout = several_pages(order, size);
+    let bytes = filled_up(alloc, &layout)?;
+    let mut into = vec![in alloc; 0xff; layout.page as usize]?;
+    let Some(page) = checked(&layout, bytes.as_slice()) else {
+        return Ok(false);
+    };
+    pack_again(&layout, &page, into.as_mut_slice());
+    Ok(into.as_slice() == bytes.as_slice())
+}
+
+#[test]
+fn sub_buffers_of_several_pages_are_packed_again(rt: HostRuntime) -> Result<(), Fail> {
+    for order in [Order::Little, Order::Big] {
+        for size in [8_192, 262_144] {
+            assert!(rt; packs_filled(rt.alloc(), order, size)?);
+        }
     }
     Ok(())
 }

@@ -49,7 +49,7 @@ fn form(into: &mut [u8], text: &[u8]) -> u32 {
 
 fn keep(region: &mut Region, key: u64, text: &[u8]) -> Put {
     let len = form(region.free(), text);
-    region.put_line(key, len)
+    region.put_line(key, len, None)
 }
 
 // The region keeps just these lines.
@@ -59,7 +59,7 @@ fn keeps(region: &Region, lines: &[(u64, &[u8])]) -> bool {
         return false;
     }
     for i in 0..count {
-        let (text, key) = region.line(i);
+        let (text, key, _) = region.line(i);
         let (wanted_key, wanted) = lines[i as usize];
         if key != wanted_key || text != wanted {
             return false;

@@ -14,7 +14,7 @@ use std::thread::Threads;
 use time_merge::End;
 use trace_base::ByteText;
 use trace_outside::{File, MemFile, MemSink, NoGate, Pending, Sink};
-use trace_samples::{BoundedSink, DamagedFile, layout};
+use trace_samples::layout;
 
 // Reports processors from number 3 on, each with so many of the file's sub-buffers, in regions of `room` bytes. `None`:
 // there is no such call.
@@ -295,24 +295,44 @@ const FAILING: [Page; 4] = [
     },
 ];
 
+// The file of these sub-buffers. A read that asks for the byte at this place fails.
+fn failing_file(alloc: Global, pages: &[Page], byte: u64) -> Result<MemFile, AllocError> {
+    let bytes = bytes_of(alloc, pages)?;
+    let mut file = MemFile::new(ByteText::copy(alloc, bytes.as_slice())?);
+    file.fail_at(byte);
+    Ok(file)
+}
+
+// A sink that takes so many bytes, one a write, and no more.
+fn sink_of(alloc: Global, room: u64) -> MemSink {
+    let mut out = MemSink::new(alloc);
+    out.short(1);
+    out.fail_from(room.saturating_add(1));
+    out
+}
+
 #[test]
 fn lines_are_whole_before_a_failed_read(rt: HostRuntime) -> Result<(), Fail> {
     let all = "d0d1e1e1e1d2d3d0e4d5";
-    for (from, room, text, end, reads) in [
+    for (byte, room, text, end, reads) in [
         (0, 2, "", Read, 0),
-        (4096, 2, "", Read, 4096),
+        // The first sub-buffer of the second processor.
+        (8192, 2, "", Read, 4096),
         // The last sub-buffer is read before the second one where that is far from being needed.
         (12_288, 2, "d0d1e1e1e1", Read, 8192),
         (12_288, 65_537, "d0d1e1e1e1", Read, 12_288),
         (16_384, 2, all, Done, 16_384),
         (16_384, 65_537, all, Done, 16_384),
     ] {
-        let mut file = DamagedFile::new(bytes_of(rt.alloc(), &FAILING)?, from);
+        let mut file = failing_file(rt.alloc(), &FAILING, byte)?;
         let mut out = MemSink::new(rt.alloc());
         let found = report(&rt, rt.alloc(), &[2, 2], room, 2, &mut file, &mut out)?;
-        assert!(rt; found == Some(end) && file.reads == reads, "{from}: {room}");
-        assert!(rt; out.bytes() == text.as_bytes(), "{from}: {room}");
-        assert!(rt; file.faults == u64::from(end == Read), "{from}: {room}");
+        assert!(rt;
+            found == Some(end) && file.reads() == reads,
+            "{byte}: {room}"
+        );
+        assert!(rt; out.bytes() == text.as_bytes(), "{byte}: {room}");
+        assert!(rt; file.faults() == u64::from(end == Read), "{byte}: {room}");
     }
     Ok(())
 }
@@ -325,13 +345,12 @@ fn a_prefix_is_written_before_a_failed_write(rt: HostRuntime) -> Result<(), Fail
         (19, "d0d1e1e1e1d2d3d0e4d", Write),
         (20, "d0d1e1e1e1d2d3d0e4d5", Done),
     ] {
-        let bytes = bytes_of(rt.alloc(), &FAILING)?;
-        let mut file = MemFile::new(ByteText::copy(rt.alloc(), bytes.as_slice())?);
-        let mut out = BoundedSink::new(rt.alloc(), room);
+        let mut file = failing_file(rt.alloc(), &FAILING, u64::MAX)?;
+        let mut out = sink_of(rt.alloc(), room);
         let found = report(&rt, rt.alloc(), &[2, 2], 65_537, 2, &mut file, &mut out)?;
         assert!(rt; found == Some(end), "{room}");
         assert!(rt; out.bytes() == text.as_bytes(), "{room}");
-        assert!(rt; out.faults == u64::from(end == Write), "{room}");
+        assert!(rt; out.faults() == u64::from(end == Write), "{room}");
     }
     Ok(())
 }
@@ -353,12 +372,12 @@ fn no_more_is_read_than_is_due_by_what_was_written(rt: HostRuntime) -> Result<()
         (5437, 30, 9 + 21, Write),
         (5438, 30, 9 + 21, Done),
     ] {
-        let mut file = DamagedFile::new(bytes_of(rt.alloc(), pages.as_slice())?, u64::MAX);
-        let mut out = BoundedSink::new(rt.alloc(), room);
+        let mut file = failing_file(rt.alloc(), pages.as_slice(), u64::MAX)?;
+        let mut out = sink_of(rt.alloc(), room);
         let found = report(&rt, rt.alloc(), &[9, 21], 65_537, 2, &mut file, &mut out)?;
         assert!(rt; found == Some(end), "{room}");
-        assert!(rt; file.reads == 4096 * read, "{room}: {read}");
-        assert!(rt; file.reads <= 4096 * due, "{room}: {due}");
+        assert!(rt; file.reads() == 4096 * read, "{room}: {read}");
+        assert!(rt; file.reads() <= 4096 * due, "{room}: {due}");
     }
     Ok(())
 }

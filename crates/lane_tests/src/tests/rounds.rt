@@ -1,6 +1,6 @@
 //! Rounds over the lines of two processors.
 
-ghost use Rattle.std.specs.Prelude.{◌≡◌, ◌≤◌, [], All, length};
+ghost use Rattle.std.specs.Prelude.{◌≡◌, ◌≤◌, [], All, IfSome, length};
 ghost use Rattle.subpage.specs.Arrangement.{CpusRise};
 ghost use Rattle.time_merge.specs.LaneRows.{parts_of};
 ghost use Rattle.round_print.specs.Prints.{KeysRise, KeysUpTo};
@@ -12,7 +12,6 @@ use std::alloc::{AllocError, Global};
 use std::test::Fail;
 use time_merge::Horizon;
 use trace_outside::{Failed, MemSink, Pending, Sink};
-use trace_samples::BoundedSink;
 
 // Copies the text to the front of the bytes, as far as there is room.
 fn copy(into: &mut [u8], text: &[u8]) -> u32 {
@@ -21,7 +20,17 @@ fn copy(into: &mut [u8], text: &[u8]) -> u32 {
     count.min(16) as u32
 }
 
-fn keep(lane: &mut Lane, last: u64, key: u64, text: &[u8])
+// A hole that is in a line of this length.
+fn hole_in(hole: Option<(u32, u64)>, len: u32) -> Option<(u32, u64)>
+    ensures { IfSome result (λ hole. hole.0 ≤ len) }
+{
+    match hole {
+        Some((place, time)) if place <= len => Some((place, time)),
+        _ => None,
+    }
+}
+
+fn keep(lane: &mut Lane, last: u64, key: u64, text: &[u8], hole: Option<(u32, u64)>)
     requires not_before { last ≤ key }
     requires rises { KeysRise lane.old }
     requires up_to { KeysUpTo last lane.old }
@@ -30,7 +39,8 @@ fn keep(lane: &mut Lane, last: u64, key: u64, text: &[u8])
     ensures cpu { lane.new.cpu ≡ lane.old.cpu }
 {
     let len = copy(lane.region.free(), text);
-    lane.region.put_line(key, len);
+    let hole = hole_in(hole, len);
+    lane.region.put_line(key, len, hole);
 }
 
 fn fill_first(lane: &mut Lane)
@@ -39,10 +49,10 @@ fn fill_first(lane: &mut Lane)
 {
     lane.region.clear();
     lane.cpu = 3;
-    keep(lane, 0, 10, b"a");
-    keep(lane, 10, 30, b"b");
-    keep(lane, 30, 30, b"c");
-    keep(lane, 30, 50, b"d");
+    keep(lane, 0, 10, b"a", None);
+    keep(lane, 10, 30, b"b", None);
+    keep(lane, 30, 30, b"c", None);
+    keep(lane, 30, 50, b"d", None);
 }
 
 fn fill_second(lane: &mut Lane)
@@ -51,9 +61,9 @@ fn fill_second(lane: &mut Lane)
 {
     lane.region.clear();
     lane.cpu = 7;
-    keep(lane, 0, 20, b"e");
-    keep(lane, 20, 30, b"f");
-    keep(lane, 30, 40, b"g");
+    keep(lane, 0, 20, b"e", None);
+    keep(lane, 20, 30, b"f", None);
+    keep(lane, 30, 40, b"g", None);
 }
 
 fn fill(lanes: &mut [Lane])
@@ -65,6 +75,37 @@ fn fill(lanes: &mut [Lane])
     fill_second(&mut lanes[1]);
 }
 
+// Lines of both, of which some have a hole.
+fn fill_holed(lanes: &mut [Lane])
+    requires two { length lanes.old ≡ 2 }
+    ensures rise { CpusRise (parts_of lanes.new) }
+    ensures rises { All KeysRise lanes.new }
+{
+    fill_holed_first(&mut lanes[0]);
+    fill_holed_second(&mut lanes[1]);
+}
+
+fn fill_holed_first(lane: &mut Lane)
+    ensures rises { KeysRise lane.new }
+    ensures cpu { lane.new.cpu ≡ 3 }
+{
+    lane.region.clear();
+    lane.cpu = 3;
+    keep(lane, 0, 10, b"a1\n", Some((2, 10)));
+    keep(lane, 10, 30, b"b\n", None);
+    keep(lane, 30, 50, b"c\n", Some((0, 5)));
+}
+
+fn fill_holed_second(lane: &mut Lane)
+    ensures rises { KeysRise lane.new }
+    ensures cpu { lane.new.cpu ≡ 7 }
+{
+    lane.region.clear();
+    lane.cpu = 7;
+    keep(lane, 0, 20, b"d2\n", Some((2, 17)));
+    keep(lane, 20, 40, b"e4\n", Some((3, 40)));
+}
+
 fn kept(lanes: &[Lane]) -> (u32, u32)
     requires two { length lanes.now ≡ 2 }
 {
@@ -74,6 +115,7 @@ fn kept(lanes: &[Lane]) -> (u32, u32)
 fn print_rounds<O: Sink>(
     horizons: &[Horizon],
     lanes: &mut [Lane],
+    last: &mut Option<u64>,
     pending: &mut Pending,
     out: &mut O,
 ) -> Result<(), Failed>
@@ -82,7 +124,7 @@ fn print_rounds<O: Sink>(
     requires empty { pending.old ≡ [] }
 {
     for horizon in horizons {
-        match print_round(horizon, lanes, pending, out) {
+        match print_round(horizon, lanes, last, pending, out) {
             Ok(()) => {}
             Err(failed) => return Err(failed),
         }
@@ -102,7 +144,7 @@ fn prints(
     fill(lanes);
     let mut pending = Pending::new(alloc)?;
     let mut out = MemSink::new(alloc);
-    let result = print_round(&horizon, lanes, &mut pending, &mut out);
+    let result = print_round(&horizon, lanes, &mut None, &mut pending, &mut out);
     Ok(result == Ok(()) && out.bytes() == text && kept(lanes) == left)
 }
 
@@ -127,26 +169,59 @@ fn lines_up_to_a_horizon(rt: HostRuntime) -> Result<(), Fail> {
     Ok(())
 }
 
+// Each round is one write, the first of which that fails ends them.
 #[test]
 fn one_round_behind_another(rt: HostRuntime) -> Result<(), Fail> {
-    for (room, result, text, writes) in [
-        (7, Ok(()), "aebcfgd", 3),
-        (8, Ok(()), "aebcfgd", 3),
-        (3, Err(Failed), "aeb", 2),
-        (0, Err(Failed), "", 0),
+    for (fails, result, text, writes) in [
+        (4, Ok(()), "aebcfgd", 3),
+        (3, Err(Failed), "aebc", 3),
+        (2, Err(Failed), "a", 2),
+        (1, Err(Failed), "", 1),
     ] {
         let mut pool = Pool::new(rt.alloc(), 2, 4096, 16)?;
         let lanes = pool.lanes();
         fill(lanes);
         let mut pending = Pending::new(rt.alloc())?;
-        let mut out = BoundedSink::new(rt.alloc(), room);
-        let found = print_rounds(&[To(10, 3), To(30, 3), All], lanes, &mut pending, &mut out);
-        assert!(rt; found == result, "{room}");
-        assert!(rt;
-            out.bytes() == text.as_bytes() && out.writes == writes,
-            "{room}"
+        let mut out = MemSink::new(rt.alloc());
+        out.fail_from(fails);
+        let found = print_rounds(
+            &[To(10, 3), To(30, 3), All],
+            lanes,
+            &mut None,
+            &mut pending,
+            &mut out,
         );
-        assert_eq!(rt; out.faults, u64::from(result.is_err()), "{room}");
+        assert!(rt; found == result, "{fails}");
+        assert!(rt;
+            out.bytes() == text.as_bytes() && out.writes() == writes,
+            "{fails}"
+        );
+        assert_eq!(rt; out.faults(), u64::from(result.is_err()), "{fails}");
+    }
+    Ok(())
+}
+
+#[test]
+fn holes_are_filled_from_the_line_before(rt: HostRuntime) -> Result<(), Fail> {
+    for (horizon, last, text, now) in [
+        (To(10, 3), None, "a1\n", Some(10)),
+        (To(20, 7), None, "a1\nd2 (+7)\n", Some(17)),
+        (To(30, 7), Some(12), "a1 (-2)\nd2 (+7)\nb\n", Some(17)),
+        (All, None, "a1\nd2 (+7)\nb\ne4\n (+23) (-35)c\n", Some(5)),
+        (Start(3), Some(9), "", Some(9)),
+    ] {
+        let mut pool = Pool::new(rt.alloc(), 2, 4096, 16)?;
+        let lanes = pool.lanes();
+        fill_holed(lanes);
+        let mut pending = Pending::new(rt.alloc())?;
+        let mut out = MemSink::new(rt.alloc());
+        let mut time = last;
+        let result = print_round(&horizon, lanes, &mut time, &mut pending, &mut out);
+        assert!(rt;
+            result == Ok(()) && out.bytes() == text.as_bytes(),
+            "{text}"
+        );
+        assert!(rt; time == now, "{text}");
     }
     Ok(())
 }

@@ -2,8 +2,9 @@
 
 mod gates;
 
-ghost use Rattle.std.specs.Prelude.{◌≡◌, ◌+◌, ◌<◌, ◌%◌, ◌==◌, if◌then◌else◌, [], ◌∷◌, All, length};
+ghost use Rattle.std.specs.Prelude.{◌≡◌, ◌+◌, ◌<◌, ◌%◌, ◌==◌, if◌then◌else◌, [], ◌∷◌, All, None, length};
 ghost use Rattle.trace_base.specs.Layout.{IsLayout};
+ghost use Rattle.line_holes.specs.Holes.{line_text};
 ghost use Rattle.subpage.specs.ItemData.{item_time};
 ghost use Rattle.subpage.specs.ItemView.{item_view};
 ghost use Rattle.page_pool.specs.Fresh.{IsNew};
@@ -48,13 +49,13 @@ fn letters_of(time: u64) -> &'static [u8]
 }
 
 impl Form for Letters {
-    ghost text = { λ form cpu item.
-        if item_time item % 3 == 0 then [] else if item_time item % 3 == 1 then 97 ∷ [] else 98 ∷ 99 ∷ [] };
+    ghost text = { λ form cpu item. line_text
+        (if item_time item % 3 == 0 then [] else if item_time item % 3 == 1 then 97 ∷ [] else 98 ∷ 99 ∷ []) None };
 
-    fn line(&self, _cpu: u32, item: &Item<'_>, into: &mut Tail<'_>) -> u32 {
+    fn line(&self, _cpu: u32, item: &Item<'_>, into: &mut Tail<'_>) -> (u32, Option<(u32, u64)>) {
         let text = letters_of(time_of(item));
         into.put(text);
-        text.len() as u32
+        (text.len() as u32, None)
     }
 }
 
@@ -77,7 +78,7 @@ fn open_lane(layout: &Layout, file: &mut MemFile, lane: &mut Lane, number: u32)
             offset: u64::from(number) * 4096,
             size: 4096,
         };
-        load(layout, file, lane);
+        let _ = load(layout, file, lane);
     }
 }
 

@@ -1,11 +1,11 @@
 // Folders in which a call fails: the files before it stand, and an older one of the next name stands as it was.
 
-use super::folder::{FailingFolder, Fails};
 use super::splits::{put_end, put_file, split_into, words_of};
 use super::traces::file_of;
 use std::alloc::Global;
 use std::test::Fail;
 use trace_args::{Command, read_words};
+use trace_outside::{MemFault, MemFolder};
 use trace_samples::Page;
 use trace_samples::Page::Of;
 
@@ -14,12 +14,7 @@ const FIVE: &[&[Page]] = &[&[Of(&[10_000, 20_000, 30_000, 40_000, 50_000])]];
 // What stands under the name of the second file before.
 const OLDER: &[u8] = b"an older file";
 
-fn put_name(
-    alloc: Global,
-    text: &mut String,
-    folder: &FailingFolder,
-    name: &str,
-) -> Result<(), Fail> {
+fn put_name(alloc: Global, text: &mut String, folder: &MemFolder, name: &str) -> Result<(), Fail> {
     match folder.get(name) {
         None => text.push_str("-/")?,
         Some(OLDER) => text.push_str("older/")?,
@@ -28,13 +23,13 @@ fn put_name(
     Ok(())
 }
 
-// The files that stand after a split into three, how it ends, and how many were created.
-fn text_of(alloc: Global, fails: Fails) -> Result<String, Fail> {
+// The files that stand after a split into three, how it ends, and how many were created. Each write takes so many bytes.
+fn text_of(alloc: Global, most: u32, fault: MemFault) -> Result<String, Fail> {
     let mut text = String::new(alloc);
-    let mut folder = FailingFolder::new(alloc, fails);
-    if !folder.put("part.2", OLDER) {
-        return Ok(text);
-    }
+    let mut folder = MemFolder::new(alloc);
+    folder.put("part.2", OLDER)?;
+    folder.short(most);
+    folder.fail(fault);
     let words = words_of(alloc, "-e 2 -r")?;
     let Ok(Command::Split(words)) = read_words(alloc, &words) else {
         return Ok(text);
@@ -52,16 +47,16 @@ fn text_of(alloc: Global, fails: Fails) -> Result<String, Fail> {
 
 #[test]
 fn an_older_file_stands_after_a_fault(rt: HostRuntime) -> Result<(), Fail> {
-    for (fails, told) in [
-        (Fails::Create(1), "-/older/-/write 0"),
-        (Fails::Create(2), "10 20 |/older/-/write 1"),
-        (Fails::Create(3), "10 20 |/30 40 |/-/write 2"),
-        (Fails::Create(4), "10 20 |/30 40 |/50 |/done 3"),
-        (Fails::Finish(1), "-/older/-/write 1"),
-        (Fails::Finish(2), "10 20 |/older/-/write 2"),
-        (Fails::Finish(3), "10 20 |/30 40 |/-/write 3"),
+    for (fault, told) in [
+        (MemFault::Create(1), "-/older/-/write 0"),
+        (MemFault::Create(2), "10 20 |/older/-/write 1"),
+        (MemFault::Create(3), "10 20 |/30 40 |/-/write 2"),
+        (MemFault::Create(4), "10 20 |/30 40 |/50 |/done 3"),
+        (MemFault::Finish(1), "-/older/-/write 1"),
+        (MemFault::Finish(2), "10 20 |/older/-/write 2"),
+        (MemFault::Finish(3), "10 20 |/30 40 |/-/write 3"),
     ] {
-        let text = text_of(rt.alloc(), fails)?;
+        let text = text_of(rt.alloc(), u32::MAX, fault)?;
         assert!(rt; text.as_str() == told, "{text}");
     }
     Ok(())
@@ -69,15 +64,16 @@ fn an_older_file_stands_after_a_fault(rt: HostRuntime) -> Result<(), Fail> {
 
 #[test]
 fn each_failed_write_leaves_the_files_before(rt: HostRuntime) -> Result<(), Fail> {
-    // The header's pieces, the zero bytes behind it, and the sub-buffer.
-    for room in [0, 1, 10, 20, 100, 117, 118, 4095, 4096, 8191] {
-        let text = text_of(rt.alloc(), Fails::Write(2, room))?;
+    // A file has 8,192 bytes, each of which is written by itself: the header's pieces, the zero bytes behind it, and the
+    // sub-buffer.
+    for byte in [1_u64, 2, 11, 21, 101, 118, 119, 4096, 4097, 8192] {
+        let text = text_of(rt.alloc(), 1, MemFault::Write(byte.saturating_add(8192)))?;
         assert!(rt;
             text.as_str() == "10 20 |/older/-/write 2",
-            "{room}: {text}"
+            "{byte}: {text}"
         );
     }
-    let text = text_of(rt.alloc(), Fails::Write(2, 8192))?;
-    assert_eq!(rt; text.as_str(), "10 20 |/30 40 |/50 |/done 3");
+    let text = text_of(rt.alloc(), 1, MemFault::Write(16_385))?;
+    assert_eq!(rt; text.as_str(), "10 20 |/30 40 |/-/write 3");
     Ok(())
 }

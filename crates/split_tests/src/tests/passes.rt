@@ -21,9 +21,9 @@ use std::test::Fail;
 use subpage::check_page;
 use time_merge::{End, make_all_ready};
 use trace_base::{Layout, Part};
-use trace_outside::{File, MemSink, Sink};
+use trace_outside::{Failed, File, MemSink, Sink};
 use trace_samples::Page::{Lossy, Malformed, Of};
-use trace_samples::{BoundedSink, PAGE, Page, layout, put_pages};
+use trace_samples::{PAGE, Page, layout, put_pages};
 use word_values::{Moment, PieceUnit};
 
 /// A row a line: the sub-buffers of two processors, what a piece takes, the items of all pieces, why the last one ends, and
@@ -142,7 +142,7 @@ fn pass_piece<F: File, O: Sink>(
     unit: PieceUnit,
     stop: Option<Moment>,
     out: &mut O,
-) -> Passed
+) -> Result<Passed, Failed>
     requires allowed { IsLayout layout.now }
     requires page { layout.now.page ≡ 4096 }
     requires two { length lanes.old ≡ 2 }
@@ -159,30 +159,17 @@ fn pass_piece<F: File, O: Sink>(
     let mut fronts = [place; 2];
     let mut tallies = [Tally::new(), Tally::new()];
     let mut page = [0; 4096];
-    if !make_all_ready(layout, file, lanes) {
-        return Passed {
-            end: PieceEnd::Read,
-            packed: End::Read,
-            pages: [0; 2],
-        };
-    }
+    make_all_ready(layout, file, lanes)?;
     note_fronts(lanes, &mut fronts);
     clear(&mut tallies);
     let mut gauge = Gauge::new(unit);
-    let end = measure(layout, file, lanes, stop, &mut gauge, &mut tallies);
-    if end == PieceEnd::Read {
-        return Passed {
-            end,
-            packed: End::Read,
-            pages: [0; 2],
-        };
-    }
+    let end = measure(layout, file, lanes, stop, &mut gauge, &mut tallies)?;
     let packed = pack_all(layout, file, lanes, &fronts, &tallies, &mut page, out);
-    Passed {
+    Ok(Passed {
         end,
         packed,
         pages: [tallies[0].pages(), tallies[1].pages()],
-    }
+    })
 }
 
 // The items of so many sub-buffers at the front, and the bytes behind them.
@@ -233,6 +220,10 @@ fn put_piece<F: File>(
         stop_of(words),
         &mut out,
     );
+    let Ok(passed) = passed else {
+        text.push_str("unread")?;
+        return Ok(Done);
+    };
     let rest = put_told(text, out.bytes(), passed.pages[0])?;
     let rest = put_told(text, rest, passed.pages[1])?;
     if passed.packed != End::Done || !rest.is_empty() {
@@ -272,7 +263,6 @@ fn put_end(text: &mut String, end: PieceEnd) -> Result<(), Fail> {
         PieceEnd::Past => text.push_str(";past")?,
         PieceEnd::Done => text.push_str(";done")?,
         PieceEnd::Malformed { cpu, page } => write!(text, ";malformed {cpu} {page}")?,
-        PieceEnd::Read => text.push_str(";read")?,
     }
     Ok(())
 }
@@ -320,7 +310,12 @@ fn pieces_are_packed(rt: HostRuntime) -> Result<(), Fail> {
 const THREE: [&[Page]; 2] = [&[Of(&[10, 20]), Of(&[30])], &[Of(&[15])]];
 
 // How the passes over all items end, where so many reads are good and the sink has room for so many bytes.
-fn passes(alloc: Global, reads: u64, then: Then, room: usize) -> Result<(PieceEnd, End), Fail> {
+fn passes(
+    alloc: Global,
+    reads: u64,
+    then: Then,
+    room: u64,
+) -> Result<Result<(PieceEnd, End), Failed>, Fail> {
     let mut file = WatchedFile {
         bytes: bytes_of(alloc, THREE)?,
         good: reads,
@@ -328,43 +323,45 @@ fn passes(alloc: Global, reads: u64, then: Then, room: usize) -> Result<(PieceEn
         faults: 0,
         reads: 0,
     };
-    let mut out = BoundedSink::new(alloc, room);
+    let mut out = MemSink::new(alloc);
+    out.short(1);
+    out.fail_from(room.saturating_add(1));
     let mut pool = Pool::new(alloc, 2, 4096, 16)?;
     let lanes = pool.lanes();
     let layout = layout();
     set_lanes(&layout, lanes, THREE);
-    let passed = pass_piece(&layout, &mut file, lanes, All, None, &mut out);
-    Ok((passed.end, passed.packed))
+    match pass_piece(&layout, &mut file, lanes, All, None, &mut out) {
+        Ok(passed) => Ok(Ok((passed.end, passed.packed))),
+        Err(Failed) => Ok(Err(Failed)),
+    }
 }
 
 #[test]
 fn faults_and_other_bytes(rt: HostRuntime) -> Result<(), Fail> {
     // Three sub-buffers, each of which both passes read.
-    for (reads, then, room, end, packed) in [
-        (6, Then::Fails, 8192, Done, End::Done),
-        (0, Then::Fails, 8192, PieceEnd::Read, End::Read),
-        (2, Then::Fails, 8192, PieceEnd::Read, End::Read),
-        (3, Then::Fails, 8192, Done, End::Read),
-        (5, Then::Fails, 8192, Done, End::Read),
+    for (reads, then, room, passed) in [
+        (6, Then::Fails, 8192, Ok((Done, End::Done))),
+        (0, Then::Fails, 8192, Err(Failed)),
+        (2, Then::Fails, 8192, Err(Failed)),
+        (3, Then::Fails, 8192, Ok((Done, End::Read))),
+        (5, Then::Fails, 8192, Ok((Done, End::Read))),
         (
             3,
             Then::Zeros,
             8192,
-            Done,
-            End::Malformed { cpu: 0, page: 1 },
+            Ok((Done, End::Malformed { cpu: 0, page: 1 })),
         ),
         (
             5,
             Then::Zeros,
             8192,
-            Done,
-            End::Malformed { cpu: 1, page: 0 },
+            Ok((Done, End::Malformed { cpu: 1, page: 0 })),
         ),
-        (6, Then::Fails, 0, Done, End::Write),
-        (6, Then::Fails, 4096, Done, End::Write),
+        (6, Then::Fails, 0, Ok((Done, End::Write))),
+        (6, Then::Fails, 4096, Ok((Done, End::Write))),
     ] {
         assert!(rt;
-            passes(rt.alloc(), reads, then, room)? == (end, packed),
+            passes(rt.alloc(), reads, then, room)? == passed,
             "{reads} reads"
         );
     }

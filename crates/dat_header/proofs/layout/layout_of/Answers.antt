@@ -1,4 +1,4 @@
-use Rattle.std.proofs.Common.{◌∙◌, sym}
+use Rattle.std.proofs.Common.{◌∙◌, sym, arith}
 use Rattle.dat_header.proofs.Headers.{page_is}
 use Rattle.dat_header.proofs.Layouts.{layout_found}
 use Rattle.dat_header.proofs.layout.layout_of.Goals as goal
@@ -10,4 +10,4 @@ pub plain-requires-clause-page_least : goal.plain-requires-clause-page_least
 plain-requires-clause-page_least c = (page_is _ c.requires.page).0
 
 pub plain-requires-clause-page_most : goal.plain-requires-clause-page_most
-plain-requires-clause-page_most c = (page_is _ c.requires.page).1
+plain-requires-clause-page_most c = let most = (page_is _ c.requires.page).1 in omega (arith, most)

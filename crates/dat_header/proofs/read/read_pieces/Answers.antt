@@ -2,81 +2,49 @@ use Rattle.std.proofs.Common.{sym, ap, subst, arith}
 use Rattle.std.proofs.lemmas.Result.{err_from_is_err_and}
 use Rattle.dat_header.specs.declared.header.Header.{Header}
 use Rattle.dat_header.specs.Allowed.{IsHeader}
-use Rattle.dat_header.proofs.Headers.{found_header, header_allowed}
 use Rattle.dat_header.specs.Header.{header_of}
-use Rattle.dat_header.proofs.Steps.{steps_then, steps_failed, steps_here}
+use Rattle.dat_header.proofs.Headers.{found_header, header_allowed}
+use Rattle.dat_header.proofs.Openings.{header_opened, opened_header}
+use Rattle.dat_header.proofs.Steps.{steps_same, steps_then, steps_failed, steps_here}
 use Rattle.dat_header.proofs.read.read_pieces.Goals as goal
 
-pub returns-in_err-at_version-clause-steps : goal.returns-in_err-at_version-clause-steps
-unfolding header_of
-returns-in_err-at_version-clause-steps g c =
+pub returns-in_err-opening-clause-steps : goal.returns-in_err-opening-clause-steps
+returns-in_err-opening-clause-steps g c =
     let p = err_from_is_err_and c.from_residual.result c.from_residual.ensures.1 in
-    rw (p.1, p.2) (steps_failed _ _ _ _ _ _ _ _ c.in_err-at_version.ensures)
-
-pub returns-in_err-at_order-clause-steps : goal.returns-in_err-at_order-clause-steps
-unfolding header_of
-returns-in_err-at_order-clause-steps g c =
-    let p = err_from_is_err_and c.from_residual-in_err-at_order.result c.from_residual-in_err-at_order.ensures.1 in
-    rw (p.1, p.2) (steps_then _ _ _ _ _ _ _ _ _ _ c.in_ok-at_version.ensures (steps_failed _ _ _ _ _ _ _ _ c.in_err-at_order.ensures))
-
-pub returns-in_err-machine-clause-steps : goal.returns-in_err-machine-clause-steps
-unfolding header_of
-returns-in_err-machine-clause-steps g c =
-    let p = err_from_is_err_and c.from_residual-in_err-machine.result c.from_residual-in_err-machine.ensures.1 in
-    rw (p.1, p.2) (steps_then _ _ _ _ _ _ _ _ _ _ c.in_ok-at_version.ensures (steps_then _ _ _ _ _ _ _ _ _ _ c.in_ok-at_order.ensures (steps_failed _ _ _ _ _ _ _ _ c.in_err-machine.ensures.steps)))
-
-pub returns-in_err-at_page-clause-steps : goal.returns-in_err-at_page-clause-steps
-unfolding header_of
-returns-in_err-at_page-clause-steps g c =
-    let p = err_from_is_err_and c.from_residual-in_err-at_page.result c.from_residual-in_err-at_page.ensures.1 in
-    rw (p.1, p.2) (steps_then _ _ _ _ _ _ _ _ _ _ c.in_ok-at_version.ensures (steps_then _ _ _ _ _ _ _ _ _ _ c.in_ok-at_order.ensures (steps_then _ _ _ _ _ _ _ _ _ _ c.in_ok-machine.ensures.steps (steps_failed _ _ _ _ _ _ _ _ c.in_err-at_page.ensures))))
-
-pub returns-in_err-page-clause-steps : goal.returns-in_err-page-clause-steps
-unfolding header_of
-returns-in_err-page-clause-steps g c =
-    let p = err_from_is_err_and c.from_residual-in_err-page.result c.from_residual-in_err-page.ensures.1 in
-    rw (p.1, p.2) (steps_then _ _ _ _ _ _ _ _ _ _ c.in_ok-at_version.ensures (steps_then _ _ _ _ _ _ _ _ _ _ c.in_ok-at_order.ensures (steps_then _ _ _ _ _ _ _ _ _ _ c.in_ok-machine.ensures.steps (steps_then _ _ _ _ _ _ _ _ _ _ c.in_ok-at_page.ensures (steps_failed _ _ _ _ _ _ _ _ c.in_err-page.ensures.steps)))))
-
-pub returns-in_err-at_event-clause-steps : goal.returns-in_err-at_event-clause-steps
-unfolding header_of
-returns-in_err-at_event-clause-steps g c =
-    let p = err_from_is_err_and c.from_residual-in_err-at_event.result c.from_residual-in_err-at_event.ensures.1 in
-    rw (p.1, p.2) (steps_then _ _ _ _ _ _ _ _ _ _ c.in_ok-at_version.ensures (steps_then _ _ _ _ _ _ _ _ _ _ c.in_ok-at_order.ensures (steps_then _ _ _ _ _ _ _ _ _ _ c.in_ok-machine.ensures.steps (steps_then _ _ _ _ _ _ _ _ _ _ c.in_ok-at_page.ensures (steps_then _ _ _ _ _ _ _ _ _ _ c.in_ok-page.ensures.steps (steps_failed _ _ _ _ _ _ _ _ c.in_err-at_event.ensures))))))
+    rw (p.1, p.2) (steps_same (λ (header : Header). header.end) opened_header header_of 0 _ _ _ header_opened (steps_failed _ _ _ _ _ _ _ _ c.in_err-opening.ensures.steps))
 
 pub returns-in_err-carried-clause-steps : goal.returns-in_err-carried-clause-steps
-unfolding header_of
 returns-in_err-carried-clause-steps g c =
     let p = err_from_is_err_and c.from_residual-in_err-carried.result c.from_residual-in_err-carried.ensures.1 in
-    rw (p.1, p.2) (steps_then _ _ _ _ _ _ _ _ _ _ c.in_ok-at_version.ensures (steps_then _ _ _ _ _ _ _ _ _ _ c.in_ok-at_order.ensures (steps_then _ _ _ _ _ _ _ _ _ _ c.in_ok-machine.ensures.steps (steps_then _ _ _ _ _ _ _ _ _ _ c.in_ok-at_page.ensures (steps_then _ _ _ _ _ _ _ _ _ _ c.in_ok-page.ensures.steps (steps_then _ _ _ _ _ _ _ _ _ _ c.in_ok-at_event.ensures (steps_failed _ _ _ _ _ _ _ _ c.in_err-carried.ensures.steps)))))))
+    rw (p.1, p.2) (steps_same (λ (header : Header). header.end) opened_header header_of 0 _ _ _ header_opened
+    (steps_then _ _ _ _ _ _ _ _ _ _ c.in_ok-opening.ensures.steps (steps_failed _ _ _ _ _ _ _ _ c.in_err-carried.ensures.steps)))
 
 pub returns-in_err-cpus-clause-steps : goal.returns-in_err-cpus-clause-steps
-unfolding header_of
 returns-in_err-cpus-clause-steps g c =
     let p = err_from_is_err_and c.from_residual-in_err-cpus.result c.from_residual-in_err-cpus.ensures.1 in
-    rw (p.1, p.2) (steps_then _ _ _ _ _ _ _ _ _ _ c.in_ok-at_version.ensures (steps_then _ _ _ _ _ _ _ _ _ _ c.in_ok-at_order.ensures (steps_then _ _ _ _ _ _ _ _ _ _ c.in_ok-machine.ensures.steps (steps_then _ _ _ _ _ _ _ _ _ _ c.in_ok-at_page.ensures (steps_then _ _ _ _ _ _ _ _ _ _ c.in_ok-page.ensures.steps (steps_then _ _ _ _ _ _ _ _ _ _ c.in_ok-at_event.ensures (steps_then _ _ _ _ _ _ _ _ _ _ c.in_ok-carried.ensures.steps (steps_failed _ _ _ _ _ _ _ _ c.in_err-cpus.ensures.steps))))))))
+    rw (p.1, p.2) (steps_same (λ (header : Header). header.end) opened_header header_of 0 _ _ _ header_opened
+    (steps_then _ _ _ _ _ _ _ _ _ _ c.in_ok-opening.ensures.steps (steps_then _ _ _ _ _ _ _ _ _ _ c.in_ok-carried.ensures.steps (steps_failed _ _ _ _ _ _ _ _ c.in_err-cpus.ensures.steps))))
 
 pub returns-in_err-sections-clause-steps : goal.returns-in_err-sections-clause-steps
-unfolding header_of
 returns-in_err-sections-clause-steps g c =
     let p = err_from_is_err_and c.from_residual-in_err-sections.result c.from_residual-in_err-sections.ensures.1 in
-    rw (p.1, p.2) (steps_then _ _ _ _ _ _ _ _ _ _ c.in_ok-at_version.ensures (steps_then _ _ _ _ _ _ _ _ _ _ c.in_ok-at_order.ensures (steps_then _ _ _ _ _ _ _ _ _ _ c.in_ok-machine.ensures.steps (steps_then _ _ _ _ _ _ _ _ _ _ c.in_ok-at_page.ensures (steps_then _ _ _ _ _ _ _ _ _ _ c.in_ok-page.ensures.steps (steps_then _ _ _ _ _ _ _ _ _ _ c.in_ok-at_event.ensures (steps_then _ _ _ _ _ _ _ _ _ _ c.in_ok-carried.ensures.steps (steps_then _ _ _ _ _ _ _ _ _ _ c.in_ok-cpus.ensures.steps (steps_failed _ _ _ _ _ _ _ _ c.in_err-sections.ensures.steps)))))))))
+    rw (p.1, p.2) (steps_same (λ (header : Header). header.end) opened_header header_of 0 _ _ _ header_opened
+    (steps_then _ _ _ _ _ _ _ _ _ _ c.in_ok-opening.ensures.steps (steps_then _ _ _ _ _ _ _ _ _ _ c.in_ok-carried.ensures.steps
+    (steps_then _ _ _ _ _ _ _ _ _ _ c.in_ok-cpus.ensures.steps (steps_failed _ _ _ _ _ _ _ _ c.in_err-sections.ensures.steps)))))
 
 pub returns-clause-steps : goal.returns-clause-steps
-unfolding header_of
 returns-clause-steps g c =
     let last = c.in_ok-sections.ensures.steps in
-    steps_then _ _ _ _ _ _ _ _ _ _ c.in_ok-at_version.ensures
-    (steps_then _ _ _ _ _ _ _ _ _ _ c.in_ok-at_order.ensures
-    (steps_then _ _ _ _ _ _ _ _ _ _ c.in_ok-machine.ensures.steps
-    (steps_then _ _ _ _ _ _ _ _ _ _ c.in_ok-at_page.ensures
-    (steps_then _ _ _ _ _ _ _ _ _ _ c.in_ok-page.ensures.steps
-    (steps_then _ _ _ _ _ _ _ _ _ _ c.in_ok-at_event.ensures
+    steps_same (λ (header : Header). header.end) opened_header header_of 0 _ _ _ header_opened
+    (steps_then _ _ _ _ _ _ _ _ _ _ c.in_ok-opening.ensures.steps
     (steps_then _ _ _ _ _ _ _ _ _ _ c.in_ok-carried.ensures.steps
     (steps_then _ _ _ _ _ _ _ _ _ _ c.in_ok-cpus.ensures.steps
     (steps_then _ _ _ _ _ _ _ _ _ _ last
-    (steps_here (λ header. header.end) _ _ _ c.joined.result (ap found_header (sym c.joined.ensures)) (ap (λ (header : Header). header.end) c.joined.ensures) (omega (arith, last.inside, last.size)))))))))))
+    (steps_here (λ header. header.end) _ _ _ c.joined.result (ap found_header (sym c.joined.ensures)) (ap (λ (header : Header). header.end) c.joined.ensures) (omega (arith, last.inside, last.size)))))))
 
 pub returns-clause-allowed : goal.returns-clause-allowed
 returns-clause-allowed g c =
+    let opening = c.in_ok-opening.opening in
     subst IsHeader (sym c.joined.ensures)
-    (header_allowed c.in_ok-machine.machine c.in_ok-page.page c.in_ok-carried.carried c.in_ok-cpus.cpus c.in_ok-sections.sections c.in_ok-sections.end c.in_ok-machine.ensures.machine c.in_ok-page.ensures.allowed c.in_ok-carried.ensures.allowed c.in_ok-cpus.ensures.allowed c.in_ok-sections.ensures.allowed)
+    (header_allowed opening.machine opening.page c.in_ok-carried.carried c.in_ok-cpus.cpus c.in_ok-sections.sections c.in_ok-sections.end c.in_ok-opening.ensures.allowed.machine c.in_ok-opening.ensures.allowed.page
+    c.in_ok-carried.ensures.allowed c.in_ok-cpus.ensures.allowed c.in_ok-sections.ensures.allowed)

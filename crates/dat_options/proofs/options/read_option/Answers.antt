@@ -35,7 +35,7 @@ returns-in_err-read_piece-2-clause-first g c =
     let short : size < c.args.at + 2 + 4 → IfSome told (λ bytes. option_at order (drop c.args.at bytes) ≡ None) = no_size order told size c.args.at c.id_of-id.result (g.met.F.File.size_is c.args.file.now) c.if-id-eq0.false c.id_of-id.type_inv id in
     let p = err_from_is_err_and c.from_residual-in_err-read_piece-2.result c.from_residual-in_err-read_piece-2.ensures.1 in
     rw (p.1, p.2) (faulty order told size c.args.at c.in_err-read_piece-2.field-0.0 c.read_piece-2.new.into (c.args.at + 2) (λ past. short (omega (arith, past)))
-    (fills_same told _ size _ (c.args.at + 2) (Err c.in_err-read_piece-2.field-0.0) c.read_piece-2.new.into c.in_ok-read_piece.ensures.bytes c.in_ok-read_piece.ensures.size c.in_err-read_piece-2.ensures.filled))
+    (fills_same told _ size _ (c.args.at + 2) (Err c.in_err-read_piece-2.field-0.0) c.read_piece-2.new.into c.in_ok-read_piece.ensures.keeps.bytes c.in_ok-read_piece.ensures.keeps.size c.in_err-read_piece-2.ensures.filled))
 
 pub returns-in_err-bytes-clause-first : goal.returns-in_err-bytes-clause-first
 returns-in_err-bytes-clause-first g c =
@@ -43,11 +43,11 @@ returns-in_err-bytes-clause-first g c =
     let at = c.args.at in
     let told = g.F.File.bytes c.args.file.now in
     let size = g.F.File.size c.args.file.now in
-    let same = c.in_ok-read_piece-2.ensures.bytes ∙ c.in_ok-read_piece.ensures.bytes in
-    let as_long = c.in_ok-read_piece-2.ensures.size ∙ c.in_ok-read_piece.ensures.size in
+    let same = c.in_ok-read_piece-2.ensures.keeps.bytes ∙ c.in_ok-read_piece.ensures.keeps.bytes in
+    let as_long = c.in_ok-read_piece-2.ensures.keeps.size ∙ c.in_ok-read_piece.ensures.keeps.size in
     let id : HoldsAt told at (bytes_of order 2 c.id_of-id.result) = filled_holds told _ size at c.read_piece.new.into _ refl c.in_ok-read_piece.ensures.filled c.id_of-id.ensures in
-    let count : HoldsAt told (at + 2) (bytes_of order 4 c.size_of-size.result) = filled_holds told _ _ (at + 2) c.read_piece-2.new.into _ c.in_ok-read_piece.ensures.bytes c.in_ok-read_piece-2.ensures.filled c.size_of-size.ensures in
-    let room : at + 6 ≤ size = omega (arith, c.in_ok-read_piece-2.ensures.filled, c.in_ok-read_piece.ensures.size) in
+    let count : HoldsAt told (at + 2) (bytes_of order 4 c.size_of-size.result) = filled_holds told _ _ (at + 2) c.read_piece-2.new.into _ c.in_ok-read_piece.ensures.keeps.bytes c.in_ok-read_piece-2.ensures.filled c.size_of-size.ensures in
+    let room : at + 6 ≤ size = omega (arith, c.in_ok-read_piece-2.ensures.filled, c.in_ok-read_piece.ensures.keeps.size) in
     let short = no_content order told size at c.id_of-id.result c.size_of-size.result (g.met.F.File.size_is c.args.file.now) c.if-id-eq0.false c.id_of-id.type_inv c.size_of-size.type_inv id count room in
     let p = err_from_is_err_and c.from_residual-in_err-bytes.result c.from_residual-in_err-bytes.ensures.1 in
     rw (p.1, p.2) (faulty_piece order told size at c.in_err-bytes.field-0.0 c.size_of-size.result (at + 6) short
@@ -60,12 +60,12 @@ returns-clause-first g c =
     let told = g.F.File.bytes c.args.file.now in
     let size = g.F.File.size c.args.file.now in
     let id : HoldsAt told at (bytes_of order 2 c.id_of-id.result) = filled_holds told _ size at c.read_piece.new.into _ refl c.in_ok-read_piece.ensures.filled c.id_of-id.ensures in
-    let count : HoldsAt told (at + 2) (bytes_of order 4 c.size_of-size.result) = filled_holds told _ _ (at + 2) c.read_piece-2.new.into _ c.in_ok-read_piece.ensures.bytes c.in_ok-read_piece-2.ensures.filled c.size_of-size.ensures in
+    let count : HoldsAt told (at + 2) (bytes_of order 4 c.size_of-size.result) = filled_holds told _ _ (at + 2) c.read_piece-2.new.into _ c.in_ok-read_piece.ensures.keeps.bytes c.in_ok-read_piece-2.ensures.filled c.size_of-size.ensures in
     let given = c.in_ok-bytes.ensures.given in
-    let content : HoldsAt told (at + 6) c.in_ok-bytes.bytes = given_holds told _ (at + 6) c.size_of-size.result c.in_ok-bytes.bytes (c.in_ok-read_piece-2.ensures.bytes ∙ c.in_ok-read_piece.ensures.bytes) given.0 given.2 in
+    let content : HoldsAt told (at + 6) c.in_ok-bytes.bytes = given_holds told _ (at + 6) c.size_of-size.result c.in_ok-bytes.bytes (c.in_ok-read_piece-2.ensures.keeps.bytes ∙ c.in_ok-read_piece.ensures.keeps.bytes) given.0 given.2 in
     record {
       allowed = record { may_be_written = record { id_is_some = c.if-id-eq0.false; size_fits = omega (arith, given.0, c.size_of-size.type_inv) }; id_fits = c.id_of-id.type_inv };
       behind = omega (arith, length-option_text order (record { id = c.id_of-id.result; bytes = c.in_ok-bytes.bytes }), given.0);
-      inside = omega (arith, given.1, c.in_ok-read_piece-2.ensures.size, c.in_ok-read_piece.ensures.size);
+      inside = omega (arith, given.1, c.in_ok-read_piece-2.ensures.keeps.size, c.in_ok-read_piece.ensures.keeps.size);
       text = option_holds order told at c.id_of-id.result c.size_of-size.result c.in_ok-bytes.bytes given.0 id count content;
     }

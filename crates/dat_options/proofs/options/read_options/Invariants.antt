@@ -1,6 +1,7 @@
 use Rattle.std.proofs.Common.{◌≡◌, ◌+◌, ◌-◌, ◌≤◌, max, length}
 use Rattle.std.specs.List.{All, flat_map}
 use Rattle.trace_outside.specs.Causes.{raised}
+use Rattle.trace_outside.specs.Keeping.{KeepsFile}
 use Rattle.dat_options.specs.Options.{IsOption, option_text}
 use Rattle.dat_options.proofs.FirstLaws.{HoldsAt}
 use Rattle.dat_options.proofs.options.read_options.Given as goal
@@ -12,9 +13,7 @@ invariant-loop-options g l = record {
   holds : HoldsAt (g.F.File.bytes l.initial.file) l.at (flat_map (option_text l.order) l.options.items);
   inside : l.place ≤ max l.at (g.F.File.size l.initial.file);
   reads : g.F.File.reads l.file ≡ raised (g.F.File.reads l.initial.file) (l.place - l.at);
-  later : g.F.File.faults l.initial.file ≤ g.F.File.faults l.file;
-  bytes : g.F.File.bytes l.file ≡ g.F.File.bytes l.initial.file;
-  size : g.F.File.size l.file ≡ g.F.File.size l.initial.file;
+  keeps : KeepsFile g.F.File l.initial.file l.file;
 }
 
 abbrev pub decreases-loop-options : goal.decreases-loop-options

@@ -1,9 +1,11 @@
 use Rattle.std.proofs.Common.{◌≡◌, ◌-◌, ◌≤◌, length}
 use Rattle.std.specs.Option.{IfSome}
 use Rattle.trace_outside.specs.Causes.{raised}
+use Rattle.trace_outside.specs.Keeping.{KeepsFile}
 use Rattle.page_pool.specs.declared.cursor.LaneState.TheVariants.{Fresh}
+use Rattle.page_pool.specs.Keeping.{KeepsLane, loading}
 use Rattle.event_cursor.specs.Standing.{most_left}
-use Rattle.event_cursor.specs.Loading.{KeepsLeft, KeepsPlace}
+use Rattle.event_cursor.specs.Loading.{KeepsLeft}
 use Rattle.event_cursor.specs.Unread.{unread}
 use Rattle.event_cursor.proofs.loading.load.Given as goal
 
@@ -11,16 +13,14 @@ abbrev pub invariant-loop-lane : goal.invariant-loop-lane
 invariant-loop-lane g l = record {
   long : length l.lane.page ≡ l.layout.page;
   fresh : l.lane.cursor.state ≡ Fresh;
-  place : KeepsPlace l.fn.lane l.lane;
+  place : KeepsLane loading l.fn.lane l.lane;
   most : most_left l.layout l.lane ≤ most_left l.layout l.fn.lane;
   reads : g.F.File.reads l.file
       ≤ raised (g.F.File.reads l.fn.file)
       (unread l.layout (g.F.File.size l.fn.file) l.fn.lane - unread l.layout (g.F.File.size l.fn.file) l.lane);
   unread : unread l.layout (g.F.File.size l.fn.file) l.lane ≤ unread l.layout (g.F.File.size l.fn.file) l.fn.lane;
   left : IfSome (g.F.File.bytes l.fn.file) (λ bytes. KeepsLeft l.layout bytes l.fn.lane l.lane);
-  bytes : g.F.File.bytes l.file ≡ g.F.File.bytes l.fn.file;
-  size : g.F.File.size l.file ≡ g.F.File.size l.fn.file;
-  later : g.F.File.faults l.fn.file ≤ g.F.File.faults l.file;
+  keeps : KeepsFile g.F.File l.fn.file l.file;
 }
 
 abbrev pub decreases-loop-lane : goal.decreases-loop-lane

@@ -1,4 +1,4 @@
-use Rattle.std.proofs.Common.{ℕ, List, Some, refl, ap, subst}
+use Rattle.std.proofs.Common.{ℕ, List, Some, refl, ap, subst, arith}
 use Rattle.event_cursor.specs.Standing.{HasAhead, TellsAhead}
 use Rattle.event_cursor.proofs.OneOn.{ahead_of, held_first, step_holds}
 use Rattle.event_cursor.proofs.stepping.step.Goals as goal
@@ -24,5 +24,5 @@ returns-in-Some-clause-used c =
       left = held_first a.cursor.state _ _ _ c.requires.held here.items;
       high = ap (λ (n : ℕ). Some n) here.key;
       at = refl;
-      page = record { cpu = refl; part = refl; region = refl; page = refl; state = refl; held = refl; next = refl };
+      page = record { cpu = refl; part = refl; region = refl; page = refl; state = refl; held = refl; next = refl; forward = omega arith; high = tt; cursor = tt };
     }

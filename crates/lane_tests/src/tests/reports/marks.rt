@@ -1,6 +1,7 @@
 //! Lines of two bytes.
 
-ghost use Rattle.std.specs.Prelude.{◌≡◌, ◌+◌, ◌%◌, ◌==◌, if◌then◌else◌, [], ◌∷◌, take};
+ghost use Rattle.std.specs.Prelude.{◌≡◌, ◌+◌, ◌%◌, ◌==◌, if◌then◌else◌, [], ◌∷◌, None, take};
+ghost use Rattle.line_holes.specs.Holes.{line_text};
 ghost use Rattle.subpage.specs.ItemData.{item_time};
 ghost use Rattle.subpage.specs.ItemView.{item_view};
 
@@ -35,14 +36,14 @@ fn time_of(item: &Item<'_>) -> u64
 }
 
 impl Form for Marks {
-    ghost text = { λ form cpu item.
-        take (if item_time item % 10 == 7 then 0 else 2) ((97 + cpu % 26) ∷ (48 + item_time item % 10) ∷ []) };
+    ghost text = { λ form cpu item. line_text
+        (take (if item_time item % 10 == 7 then 0 else 2) ((97 + cpu % 26) ∷ (48 + item_time item % 10) ∷ [])) None };
 
-    fn line(&self, cpu: u32, item: &Item<'_>, into: &mut Tail<'_>) -> u32 {
+    fn line(&self, cpu: u32, item: &Item<'_>, into: &mut Tail<'_>) -> (u32, Option<(u32, u64)>) {
         let time = time_of(item);
         let text = mark(cpu, time);
         let len = len_of(time);
         into.put(&text[..len as usize]);
-        len
+        (len, None)
     }
 }

@@ -12,50 +12,50 @@ pub returns-in-Ok-finish_file-clause-told : goal.returns-in-Ok-finish_file-claus
 returns-in-Ok-finish_file-clause-told g c =
     let header = c.args.plan.now.header.now in
     let work = c.measure_file.new.work in
-    told_again _ _ _ (g.F.File.bytes c.args.file.now) (g.F.File.bytes c.measure_file.new.file) c.measure_file.ensures.bytes (λ file m w s small.
+    told_again _ _ _ (g.F.File.bytes c.args.file.now) (g.F.File.bytes c.measure_file.new.file) c.measure_file.ensures.keeps.bytes (λ file m w s small.
     let p = m s small in
     finished header file c.args.rules.now (file_name c.args.plan.now.words.now.base.now c.args.number) (g.D.Out.Sink.name c.write_file.new.out) c.args.lanes.now c.measure_file.new.lanes c.write_file.new.lanes
     work.fronts.items work.tallies.items work.table.items (g.D.Folder.files c.args.folder.now) (g.D.Folder.files c.create_file.new.self) (g.D.Folder.files c.finish_file.new.self)
-    (g.D.Out.Sink.written c.in-Ok.out) (g.D.Out.Sink.written c.write_file.new.out) c.in-Some.ends
-    c.in-Ok.ensures.files (c.write_file.ensures.name ∙ c.in-Ok.ensures.named ∙ c.as_str.ensures.value ∙ c.file_name-name.ensures) c.in-Ok.ensures.empty c.in-Ok-finish_file.ensures.stored
+    (g.D.Out.Sink.written c.in-Ok-create_file.out) (g.D.Out.Sink.written c.write_file.new.out) c.in-Ok.ends
+    c.in-Ok-create_file.ensures.files (c.write_file.ensures.keeps_out.name ∙ c.in-Ok-create_file.ensures.named ∙ c.as_str.ensures.value ∙ c.file_name-name.ensures) c.in-Ok-create_file.ensures.empty c.in-Ok-finish_file.ensures.stored
     p (w p.left.stands (owns c.args.lanes.now (taken_of header.layout file c.args.rules.now c.args.lanes.now)) p.fronts_are))
-    c.in-Some.ensures.told c.in-Done.ensures.told
+    c.in-Ok.ensures.told c.in-Done.ensures.told
 
 pub returns-in-Err-clause-told : goal.returns-in-Err-clause-told
 returns-in-Err-clause-told g c =
     told_all _ (g.F.File.bytes c.args.file.now) (λ file stands small.
     unmade_finish _ _ _ (file_name c.args.plan.now.words.now.base.now c.args.number) (g.D.Out.Sink.name c.write_file.new.out) (g.D.Folder.files c.args.folder.now) (g.D.Folder.files c.create_file.new.self) (g.D.Folder.files c.finish_file.new.self)
-    c.in-Ok.ensures.files (c.write_file.ensures.name ∙ c.in-Ok.ensures.named ∙ c.as_str.ensures.value ∙ c.file_name-name.ensures) c.create_file.ensures.counts.unfinished c.in-Err.ensures.counts.unfinished c.in-Err.ensures.others)
+    c.in-Ok-create_file.ensures.files (c.write_file.ensures.keeps_out.name ∙ c.in-Ok-create_file.ensures.named ∙ c.as_str.ensures.value ∙ c.file_name-name.ensures) c.create_file.ensures.counts.unfinished c.in-Err.ensures.counts.unfinished c.in-Err.ensures.others)
 
 pub returns-in-Write-clause-told : goal.returns-in-Write-clause-told
-returns-in-Write-clause-told g c = told_all _ (g.F.File.bytes c.args.file.now) (λ file stands small. inl (c.drop_file-in-Write.ensures.files ∙ c.in-Ok.ensures.files))
+returns-in-Write-clause-told g c = told_all _ (g.F.File.bytes c.args.file.now) (λ file stands small. inl (c.drop_file-in-Write.ensures.files ∙ c.in-Ok-create_file.ensures.files))
 
 pub returns-in-Ok-finish_file-clause-spent : goal.returns-in-Ok-finish_file-clause-spent
 returns-in-Ok-finish_file-clause-spent g c =
     written_spent c.args.plan.now.header.now.layout (g.F.File.size c.args.file.now) (g.F.File.size c.measure_file.new.file) c.args.lanes.now c.measure_file.new.lanes c.measure_file.new.work.fronts.items c.measure_file.new.work.tallies.items _ _ _
-    c.measure_file.ensures.size c.in-Some.ensures.spent c.write_file.ensures.reads c.write_file.new.lanes (c.in-Done.ensures.left refl)
+    c.measure_file.ensures.keeps.size c.in-Ok.ensures.spent c.write_file.ensures.reads c.write_file.new.lanes (c.in-Done.ensures.left refl)
 
 pub returns-in-Ok-finish_file-clause-reads : goal.returns-in-Ok-finish_file-clause-reads
 returns-in-Ok-finish_file-clause-reads g c =
     written_stops c.args.plan.now.header.now.layout (g.F.File.size c.args.file.now) (g.F.File.size c.measure_file.new.file) c.args.lanes.now c.measure_file.new.lanes c.measure_file.new.work.fronts.items c.measure_file.new.work.tallies.items _ _ _
-    c.measure_file.ensures.size c.in-Some.ensures.spent c.write_file.ensures.reads
+    c.measure_file.ensures.keeps.size c.in-Ok.ensures.spent c.write_file.ensures.reads
 
 pub returns-in-Err-clause-reads : goal.returns-in-Err-clause-reads
 returns-in-Err-clause-reads g c =
     written_stops c.args.plan.now.header.now.layout (g.F.File.size c.args.file.now) (g.F.File.size c.measure_file.new.file) c.args.lanes.now c.measure_file.new.lanes c.measure_file.new.work.fronts.items c.measure_file.new.work.tallies.items _ _ _
-    c.measure_file.ensures.size c.in-Some.ensures.spent c.write_file.ensures.reads
+    c.measure_file.ensures.keeps.size c.in-Ok.ensures.spent c.write_file.ensures.reads
 
 pub returns-in-Malformed-clause-reads : goal.returns-in-Malformed-clause-reads
 returns-in-Malformed-clause-reads g c =
     written_stops c.args.plan.now.header.now.layout (g.F.File.size c.args.file.now) (g.F.File.size c.measure_file.new.file) c.args.lanes.now c.measure_file.new.lanes c.measure_file.new.work.fronts.items c.measure_file.new.work.tallies.items _ _ _
-    c.measure_file.ensures.size c.in-Some.ensures.spent c.write_file.ensures.reads
+    c.measure_file.ensures.keeps.size c.in-Ok.ensures.spent c.write_file.ensures.reads
 
 pub returns-in-Read-clause-reads : goal.returns-in-Read-clause-reads
 returns-in-Read-clause-reads g c =
     written_stops c.args.plan.now.header.now.layout (g.F.File.size c.args.file.now) (g.F.File.size c.measure_file.new.file) c.args.lanes.now c.measure_file.new.lanes c.measure_file.new.work.fronts.items c.measure_file.new.work.tallies.items _ _ _
-    c.measure_file.ensures.size c.in-Some.ensures.spent c.write_file.ensures.reads
+    c.measure_file.ensures.keeps.size c.in-Ok.ensures.spent c.write_file.ensures.reads
 
 pub returns-in-Write-clause-reads : goal.returns-in-Write-clause-reads
 returns-in-Write-clause-reads g c =
     written_stops c.args.plan.now.header.now.layout (g.F.File.size c.args.file.now) (g.F.File.size c.measure_file.new.file) c.args.lanes.now c.measure_file.new.lanes c.measure_file.new.work.fronts.items c.measure_file.new.work.tallies.items _ _ _
-    c.measure_file.ensures.size c.in-Some.ensures.spent c.write_file.ensures.reads
+    c.measure_file.ensures.keeps.size c.in-Ok.ensures.spent c.write_file.ensures.reads

@@ -1,4 +1,4 @@
-use Rattle.std.proofs.Common.{List, [], ◌≡◌, ◌<◌, length, arith, get_or, ap, sym, subst, ◌∙◌, refl}
+use Rattle.std.proofs.Common.{List, [], ◌≡◌, ◌<◌, length, arith, get_or, ap, sym, subst, ◌∙◌}
 use Rattle.std.proofs.lemmas.List.{take_at}
 use Rattle.dat_header.proofs.Headers.{header_layout}
 use Rattle.time_merge.proofs.Advancing.{same_length}
@@ -34,8 +34,8 @@ returns-clause-told g c =
     prepared_back header c.args.rules.now c.args.lanes.now c.measure_lists.new.lanes c.note_fronts.new.fronts _ c.measure_lists.new.tallies _ c.fill_table.new.table _ c.in_ok-ends.ends (g.F.File.bytes c.args.file.now)
     (take_at c.note_fronts.new.fronts _ work.fronts.len fronts_long) (take_at c.measure_lists.new.tallies _ work.tallies.len tallies_long) (take_at c.fill_table.new.table _ work.table.len table_long)
     (prepared_told header c.args.rules.now c.args.lanes.now c.make_all_ready.new.lanes c.measure_lists.new.lanes c.note_fronts.new.fronts c.as_mut_slice-3.result.now c.measure_lists.new.tallies c.as_mut_slice-4.result.now c.fill_table.new.table
-    c.data_place-at.result c.in_ok-ends.ends (g.F.File.bytes c.args.file.now) (g.F.File.bytes c.make_all_ready.new.file) c.make_all_ready.ensures.bytes
-    c.requires.allowed c.requires.rise c.requires.cpus c.make_all_ready.ensures.parts c.measure_lists.ensures.parts c.make_all_ready.ensures.in_order (c.if-not-make_all_ready.ensures.ready refl)
+    c.data_place-at.result c.in_ok-ends.ends (g.F.File.bytes c.args.file.now) (g.F.File.bytes c.make_all_ready.new.file) c.make_all_ready.ensures.keeps.bytes
+    c.requires.allowed c.requires.rise c.requires.cpus c.make_all_ready.ensures.parts c.measure_lists.ensures.parts c.make_all_ready.ensures.in_order c.in_ok-make_all_ready.ensures.ready
     c.note_fronts.ensures.noted c.data_place-at.ensures (ap length table_is ∙ c.requires.work.table)
     (λ xs place at are. c.fill_table.ensures xs place at (subst (λ (ts : List Tally). AreCounted l c.measure_lists.new.lanes ts xs) (sym counted) are))
     (λ i t lt. subst (λ (ts : List Tally). IsTally l (get_or ts i t) []) (sym cleared) (c.clear.ensures.none l i t (omega (arith, lt, ap length cleared, c.clear.ensures.long))))
@@ -59,7 +59,7 @@ returns-clause-spent g c =
     measured_back l size some c.args.lanes.now c.measure_lists.new.lanes c.note_fronts.new.fronts _ c.measure_lists.new.tallies _ _ _
     (take_at c.note_fronts.new.fronts _ work.fronts.len fronts_long) (take_at c.measure_lists.new.tallies _ work.tallies.len tallies_long)
     (measured_spent l size some (g.F.File.size c.make_all_ready.new.file) c.args.lanes.now c.make_all_ready.new.lanes c.measure_lists.new.lanes c.note_fronts.new.fronts c.as_mut_slice-3.result.now c.measure_lists.new.tallies _ _ _
-    c.make_all_ready.ensures.size lanes later c.note_fronts.ensures.long (c.measure_lists.ensures.long ∙ later) c.make_all_ready.ensures.in_order (c.if-not-make_all_ready.ensures.ready refl) c.in_ok-ends.ensures.ready
+    c.make_all_ready.ensures.keeps.size lanes later c.note_fronts.ensures.long (c.measure_lists.ensures.long ∙ later) c.make_all_ready.ensures.in_order c.in_ok-make_all_ready.ensures.ready c.in_ok-ends.ensures.ready
     c.make_all_ready.ensures.advance c.measure_lists.ensures.advance c.note_fronts.ensures.noted
     (λ i t lt. subst (λ (ts : List Tally). IsTally l (get_or ts i t) []) (sym cleared) (c.clear.ensures.none l i t (omega (arith, lt, lanes, c.requires.work.tallies, tally_room, c.as_mut_slice-2.ensures.len))))
     c.measure_lists.ensures.over c.make_all_ready.ensures.reads c.make_all_ready.ensures.unread c.in_ok-ends.ensures.reads_done c.measure_lists.ensures.unread)
@@ -68,15 +68,15 @@ pub returns-clause-reads : goal.returns-clause-reads
 returns-clause-reads g c =
     let header = c.args.plan.now.header.now in
     loaded_out header.layout (g.F.File.size c.args.file.now) (omega (arith, (header_layout header c.requires.allowed).page_least)) (g.F.File.size c.make_all_ready.new.file) c.args.lanes.now c.make_all_ready.new.lanes _ _ _
-    c.make_all_ready.ensures.size (c.if-not-make_all_ready.ensures.ready refl) c.make_all_ready.ensures.reads c.make_all_ready.ensures.unread c.measure_lists.ensures.reads
+    c.make_all_ready.ensures.keeps.size c.in_ok-make_all_ready.ensures.ready c.make_all_ready.ensures.reads c.make_all_ready.ensures.unread c.measure_lists.ensures.reads
 
 pub returns-in_err-ends-clause-reads : goal.returns-in_err-ends-clause-reads
 returns-in_err-ends-clause-reads g c =
     let header = c.args.plan.now.header.now in
     loaded_out header.layout (g.F.File.size c.args.file.now) (omega (arith, (header_layout header c.requires.allowed).page_least)) (g.F.File.size c.make_all_ready.new.file) c.args.lanes.now c.make_all_ready.new.lanes _ _ _
-    c.make_all_ready.ensures.size (c.if-not-make_all_ready.ensures.ready refl) c.make_all_ready.ensures.reads c.make_all_ready.ensures.unread c.measure_lists.ensures.reads
+    c.make_all_ready.ensures.keeps.size c.in_ok-make_all_ready.ensures.ready c.make_all_ready.ensures.reads c.make_all_ready.ensures.unread c.measure_lists.ensures.reads
 
-pub returns-then-not-make_all_ready-clause-reads : goal.returns-then-not-make_all_ready-clause-reads
-returns-then-not-make_all_ready-clause-reads g c =
+pub returns-in_err-make_all_ready-clause-reads : goal.returns-in_err-make_all_ready-clause-reads
+returns-in_err-make_all_ready-clause-reads g c =
     let header = c.args.plan.now.header.now in
     loaded_stops header.layout (g.F.File.size c.args.file.now) (omega (arith, (header_layout header c.requires.allowed).page_least)) c.args.lanes.now c.make_all_ready.new.lanes _ _ c.make_all_ready.ensures.reads c.make_all_ready.ensures.unread

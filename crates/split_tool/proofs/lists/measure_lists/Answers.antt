@@ -1,6 +1,8 @@
 use Rattle.std.proofs.Common.{rules, refl, arith, ◌≡◌, ◌+◌, ◌-◌, ◌<◌, ◌≤◌, length, get_or, sym, ◌∙◌}
+use Rattle.std.proofs.lemmas.Result.{IfOk-weaker}
 use Rattle.std.proofs.lemmas.List.Elements.{AllWithin-none}
 use borrow.Rule.Slice.PartMut.{same_len_mid}
+use Rattle.trace_outside.proofs.Keeping.{file_kept, file_still}
 use Rattle.event_cursor.specs.Standing.{IsInOrder}
 use Rattle.event_cursor.proofs.Told.{told_all, told_map, told_again}
 use Rattle.time_merge.specs.LaneRows.{IsReady}
@@ -13,9 +15,11 @@ use Rattle.split_tool.proofs.lists.measure_lists.Goals as goal
 pub returns-then-not-is_apart-clause-told : goal.returns-then-not-is_apart-clause-told
 returns-then-not-is_apart-clause-told g c =
     let l = c.args.layout.now in
+    IfOk-weaker c.measure_list.result _ _ (λ ends told.
     told_map _ _ (g.F.File.bytes c.args.file.now) (λ file m s none.
-    whole_measured l file c.args.rules.now c.args.lanes.now c.measure_list.new.lanes c.measure_list.new.tallies c.none.result c.measure_list.result
+    whole_measured l file c.args.rules.now c.args.lanes.now c.measure_list.new.lanes c.measure_list.new.tallies c.none.result ends
     (sym c.is_apart.ensures ∙ c.if-not-is_apart.true) c.none.ensures.more c.none.ensures.bad (m s (λ i d e lt. none i e (omega (arith, lt, c.requires.long)))))
+    told)
     c.measure_list.ensures.told
 
 pub loop-i-init : goal.loop-i-init
@@ -29,20 +33,15 @@ loop-i-init g c = record {
   over = λ j d t lt over. refl;
   reads = omega arith;
   unread = omega arith;
-  bytes = refl;
-  size = refl;
-  later = omega arith;
+  keeps = file_still _ _;
 }
 
-pub measure_list-list-requires-clause-in_order : goal.measure_list-list-requires-clause-in_order
-measure_list-list-requires-clause-in_order g c = all_mid (IsInOrder c.args.layout.now) c.loop-i.i _ c.loop-i.lanes c.loop-i.invariant.in_order
+pub returns-in_err-ends-clause-in_order : goal.returns-in_err-ends-clause-in_order
+returns-in_err-ends-clause-in_order g c =
+    all_put (IsInOrder c.args.layout.now) c.loop-i.i _ c.loop-i.lanes c.measure_list-in-loop-i.new.lanes c.loop-i.invariant.in_order c.measure_list-in-loop-i.ensures.in_order
 
-pub returns-in_default-clause-in_order : goal.returns-in_default-clause-in_order
-returns-in_default-clause-in_order g c =
-    all_put (IsInOrder c.args.layout.now) c.loop-i.i _ c.loop-i.lanes c.measure_list-list.new.lanes c.loop-i.invariant.in_order c.measure_list-list.ensures.in_order
-
-pub returns-in_default-clause-parts : goal.returns-in_default-clause-parts
-returns-in_default-clause-parts g c = map_put _ c.loop-i.i _ c.loop-i.lanes c.measure_list-list.new.lanes c.measure_list-list.ensures.parts ∙ c.loop-i.invariant.parts
+pub returns-in_err-ends-clause-parts : goal.returns-in_err-ends-clause-parts
+returns-in_err-ends-clause-parts g c = map_put _ c.loop-i.i _ c.loop-i.lanes c.measure_list-in-loop-i.new.lanes c.measure_list-in-loop-i.ensures.parts ∙ c.loop-i.invariant.parts
 
 pub loop-i-preserved : goal.loop-i-preserved
 loop-i-preserved g c =
@@ -50,27 +49,25 @@ loop-i-preserved g c =
     let i = c.loop-i.i in
     let lt : i < length c.loop-i.lanes = search rules in
     let lt2 : i < length c.loop-i.tallies = omega (arith, lt, c.loop-i.invariant.long) in
-    let parts = map_put _ i _ c.loop-i.lanes c.measure_list-list.new.lanes c.measure_list-list.ensures.parts in
-    let one : length c.measure_list-list.new.lanes ≡ 1 = same_length c.measure_list-list.new.lanes _ c.measure_list-list.ensures.parts ∙ one_in_mid i c.loop-i.lanes lt in
+    let parts = map_put _ i _ c.loop-i.lanes c.measure_list-in-loop-i.new.lanes c.measure_list-in-loop-i.ensures.parts in
+    let one : length c.measure_list-in-loop-i.new.lanes ≡ 1 = same_length c.measure_list-in-loop-i.new.lanes _ c.measure_list-in-loop-i.ensures.parts ∙ one_in_mid i c.loop-i.lanes lt in
     record {
-      in_order = all_put (IsInOrder l) i _ c.loop-i.lanes c.measure_list-list.new.lanes c.loop-i.invariant.in_order c.measure_list-list.ensures.in_order;
+      in_order = all_put (IsInOrder l) i _ c.loop-i.lanes c.measure_list-in-loop-i.new.lanes c.loop-i.invariant.in_order c.measure_list-in-loop-i.ensures.in_order;
       parts = parts ∙ c.loop-i.invariant.parts;
-      long = same_len_mid i (i + 1 - i) c.loop-i.tallies c.measure_list-list.new.tallies (c.measure_list-list.ensures.long ∙ one ∙ sym (one_in_mid i c.loop-i.tallies lt2))
+      long = same_len_mid i (i + 1 - i) c.loop-i.tallies c.measure_list-in-loop-i.new.tallies (c.measure_list-in-loop-i.ensures.long ∙ one ∙ sym (one_in_mid i c.loop-i.tallies lt2))
           ∙ c.loop-i.invariant.long ∙ sym (same_length _ c.loop-i.lanes parts);
-      measured = told_again _ _ _ (g.F.File.bytes c.args.file.now) (g.F.File.bytes c.loop-i.file) c.loop-i.invariant.bytes (λ file p m s none.
+      measured = told_again _ _ _ (g.F.File.bytes c.args.file.now) (g.F.File.bytes c.loop-i.file) c.loop-i.invariant.keeps.bytes (λ file p m s none.
           let q = p s none in
-          measured_more l file c.args.rules.now i c.args.lanes.now c.loop-i.lanes c.measure_list-list.new.lanes c.args.tallies.now c.loop-i.tallies c.measure_list-list.new.tallies c.loop-i.ends c.in-Some.more lt lt2
-          c.measure_list-list.ensures.parts c.measure_list-list.ensures.long
+          measured_more l file c.args.rules.now i c.args.lanes.now c.loop-i.lanes c.measure_list-in-loop-i.new.lanes c.args.tallies.now c.loop-i.tallies c.measure_list-in-loop-i.new.tallies c.loop-i.ends c.in_ok-ends.ends lt lt2
+          c.measure_list-in-loop-i.ensures.parts c.measure_list-in-loop-i.ensures.long
           (m (still_stand l file c.args.rules.now i c.args.lanes.now c.loop-i.lanes c.args.tallies.now c.loop-i.tallies c.loop-i.ends s q) (clear_mid l file c.args.rules.now i c.args.lanes.now c.loop-i.lanes c.args.tallies.now c.loop-i.tallies c.loop-i.ends lt c.loop-i.invariant.long none q)) q)
-          c.loop-i.invariant.measured c.in-Some.ensures.told;
-      ready = ready_on i c.loop-i.lanes c.measure_list-list.new.lanes lt one l c.in-Some.ensures.ready c.loop-i.invariant.ready;
-      advance = lane_on c.loop-i.i c.loop-i.lanes c.measure_list-list.new.lanes lt one c.args.lanes.now (same_length c.loop-i.lanes c.args.lanes.now c.loop-i.invariant.parts) c.measure_list-list.ensures.advance c.loop-i.invariant.advance;
-      over = tally_on c.loop-i.i c.loop-i.lanes c.measure_list-list.new.lanes lt one c.args.lanes.now c.args.tallies.now c.loop-i.tallies c.measure_list-list.new.tallies lt2 (c.measure_list-list.ensures.long ∙ one) c.loop-i.invariant.advance c.measure_list-list.ensures.over c.loop-i.invariant.over;
-      reads = on_reads c.loop-i.i c.loop-i.lanes c.measure_list-list.new.lanes lt one c.args.layout.now (g.F.File.size c.args.file.now) (g.F.File.size c.loop-i.file) _ _ _ _ c.loop-i.invariant.size c.loop-i.invariant.reads c.loop-i.invariant.unread c.measure_list-list.ensures.unread c.in-Some.ensures.reads_done;
-      unread = on_unread c.loop-i.i c.loop-i.lanes c.measure_list-list.new.lanes lt one c.args.layout.now (g.F.File.size c.args.file.now) (g.F.File.size c.loop-i.file) _ _ 0 _ c.loop-i.invariant.size c.loop-i.invariant.reads c.loop-i.invariant.unread c.measure_list-list.ensures.unread;
-      bytes = c.measure_list-list.ensures.bytes ∙ c.loop-i.invariant.bytes;
-      size = c.measure_list-list.ensures.size ∙ c.loop-i.invariant.size;
-      later = omega (arith, c.measure_list-list.ensures.later, c.loop-i.invariant.later);
+          c.loop-i.invariant.measured c.in_ok-ends.ensures.told;
+      ready = ready_on i c.loop-i.lanes c.measure_list-in-loop-i.new.lanes lt one l c.in_ok-ends.ensures.ready c.loop-i.invariant.ready;
+      advance = lane_on c.loop-i.i c.loop-i.lanes c.measure_list-in-loop-i.new.lanes lt one c.args.lanes.now (same_length c.loop-i.lanes c.args.lanes.now c.loop-i.invariant.parts) c.measure_list-in-loop-i.ensures.advance c.loop-i.invariant.advance;
+      over = tally_on c.loop-i.i c.loop-i.lanes c.measure_list-in-loop-i.new.lanes lt one c.args.lanes.now c.args.tallies.now c.loop-i.tallies c.measure_list-in-loop-i.new.tallies lt2 (c.measure_list-in-loop-i.ensures.long ∙ one) c.loop-i.invariant.advance c.measure_list-in-loop-i.ensures.over c.loop-i.invariant.over;
+      reads = on_reads c.loop-i.i c.loop-i.lanes c.measure_list-in-loop-i.new.lanes lt one c.args.layout.now (g.F.File.size c.args.file.now) (g.F.File.size c.loop-i.file) _ _ _ _ c.loop-i.invariant.keeps.size c.loop-i.invariant.reads c.loop-i.invariant.unread c.measure_list-in-loop-i.ensures.unread c.in_ok-ends.ensures.reads_done;
+      unread = on_unread c.loop-i.i c.loop-i.lanes c.measure_list-in-loop-i.new.lanes lt one c.args.layout.now (g.F.File.size c.args.file.now) (g.F.File.size c.loop-i.file) _ _ 0 _ c.loop-i.invariant.keeps.size c.loop-i.invariant.reads c.loop-i.invariant.unread c.measure_list-in-loop-i.ensures.unread;
+      keeps = file_kept c.loop-i.invariant.keeps c.measure_list-in-loop-i.ensures.keeps;
     }
 
 pub returns-clause-told : goal.returns-clause-told
@@ -83,30 +80,30 @@ returns-clause-told g c =
     over (omega (arith, long, over)) (omega (arith, long, over, c.loop-i.invariant.long)) (p s none))
     c.loop-i.invariant.measured
 
-pub returns-in_default-clause-advance : goal.returns-in_default-clause-advance
-returns-in_default-clause-advance g c =
+pub returns-in_err-ends-clause-advance : goal.returns-in_err-ends-clause-advance
+returns-in_err-ends-clause-advance g c =
     let lt : c.loop-i.i < length c.loop-i.lanes = search rules in
-    let one : length c.measure_list-list.new.lanes ≡ 1 = same_length c.measure_list-list.new.lanes _ c.measure_list-list.ensures.parts ∙ one_in_mid c.loop-i.i c.loop-i.lanes lt in
-    lane_on c.loop-i.i c.loop-i.lanes c.measure_list-list.new.lanes lt one c.args.lanes.now (same_length c.loop-i.lanes c.args.lanes.now c.loop-i.invariant.parts) c.measure_list-list.ensures.advance c.loop-i.invariant.advance
+    let one : length c.measure_list-in-loop-i.new.lanes ≡ 1 = same_length c.measure_list-in-loop-i.new.lanes _ c.measure_list-in-loop-i.ensures.parts ∙ one_in_mid c.loop-i.i c.loop-i.lanes lt in
+    lane_on c.loop-i.i c.loop-i.lanes c.measure_list-in-loop-i.new.lanes lt one c.args.lanes.now (same_length c.loop-i.lanes c.args.lanes.now c.loop-i.invariant.parts) c.measure_list-in-loop-i.ensures.advance c.loop-i.invariant.advance
 
-pub returns-in_default-clause-over : goal.returns-in_default-clause-over
-returns-in_default-clause-over g c =
+pub returns-in_err-ends-clause-over : goal.returns-in_err-ends-clause-over
+returns-in_err-ends-clause-over g c =
     let lt : c.loop-i.i < length c.loop-i.lanes = search rules in
-    let one : length c.measure_list-list.new.lanes ≡ 1 = same_length c.measure_list-list.new.lanes _ c.measure_list-list.ensures.parts ∙ one_in_mid c.loop-i.i c.loop-i.lanes lt in
+    let one : length c.measure_list-in-loop-i.new.lanes ≡ 1 = same_length c.measure_list-in-loop-i.new.lanes _ c.measure_list-in-loop-i.ensures.parts ∙ one_in_mid c.loop-i.i c.loop-i.lanes lt in
     let lt2 : c.loop-i.i < length c.loop-i.tallies = omega (arith, lt, c.loop-i.invariant.long) in
-    tally_on c.loop-i.i c.loop-i.lanes c.measure_list-list.new.lanes lt one c.args.lanes.now c.args.tallies.now c.loop-i.tallies c.measure_list-list.new.tallies lt2 (c.measure_list-list.ensures.long ∙ one) c.loop-i.invariant.advance c.measure_list-list.ensures.over c.loop-i.invariant.over
+    tally_on c.loop-i.i c.loop-i.lanes c.measure_list-in-loop-i.new.lanes lt one c.args.lanes.now c.args.tallies.now c.loop-i.tallies c.measure_list-in-loop-i.new.tallies lt2 (c.measure_list-in-loop-i.ensures.long ∙ one) c.loop-i.invariant.advance c.measure_list-in-loop-i.ensures.over c.loop-i.invariant.over
 
-pub returns-in_default-clause-reads : goal.returns-in_default-clause-reads
-returns-in_default-clause-reads g c =
+pub returns-in_err-ends-clause-reads : goal.returns-in_err-ends-clause-reads
+returns-in_err-ends-clause-reads g c =
     let lt : c.loop-i.i < length c.loop-i.lanes = search rules in
-    let one : length c.measure_list-list.new.lanes ≡ 1 = same_length c.measure_list-list.new.lanes _ c.measure_list-list.ensures.parts ∙ one_in_mid c.loop-i.i c.loop-i.lanes lt in
-    on_stops c.loop-i.i c.loop-i.lanes c.measure_list-list.new.lanes lt one c.args.layout.now (g.F.File.size c.args.file.now) (g.F.File.size c.loop-i.file) _ _ _ _ c.loop-i.invariant.size c.loop-i.invariant.reads c.loop-i.invariant.unread c.measure_list-list.ensures.unread c.measure_list-list.ensures.reads
+    let one : length c.measure_list-in-loop-i.new.lanes ≡ 1 = same_length c.measure_list-in-loop-i.new.lanes _ c.measure_list-in-loop-i.ensures.parts ∙ one_in_mid c.loop-i.i c.loop-i.lanes lt in
+    on_stops c.loop-i.i c.loop-i.lanes c.measure_list-in-loop-i.new.lanes lt one c.args.layout.now (g.F.File.size c.args.file.now) (g.F.File.size c.loop-i.file) _ _ _ _ c.loop-i.invariant.keeps.size c.loop-i.invariant.reads c.loop-i.invariant.unread c.measure_list-in-loop-i.ensures.unread c.measure_list-in-loop-i.ensures.reads
 
-pub returns-in_default-clause-unread : goal.returns-in_default-clause-unread
-returns-in_default-clause-unread g c =
+pub returns-in_err-ends-clause-unread : goal.returns-in_err-ends-clause-unread
+returns-in_err-ends-clause-unread g c =
     let lt : c.loop-i.i < length c.loop-i.lanes = search rules in
-    let one : length c.measure_list-list.new.lanes ≡ 1 = same_length c.measure_list-list.new.lanes _ c.measure_list-list.ensures.parts ∙ one_in_mid c.loop-i.i c.loop-i.lanes lt in
-    on_unread c.loop-i.i c.loop-i.lanes c.measure_list-list.new.lanes lt one c.args.layout.now (g.F.File.size c.args.file.now) (g.F.File.size c.loop-i.file) _ _ 0 _ c.loop-i.invariant.size c.loop-i.invariant.reads c.loop-i.invariant.unread c.measure_list-list.ensures.unread
+    let one : length c.measure_list-in-loop-i.new.lanes ≡ 1 = same_length c.measure_list-in-loop-i.new.lanes _ c.measure_list-in-loop-i.ensures.parts ∙ one_in_mid c.loop-i.i c.loop-i.lanes lt in
+    on_unread c.loop-i.i c.loop-i.lanes c.measure_list-in-loop-i.new.lanes lt one c.args.layout.now (g.F.File.size c.args.file.now) (g.F.File.size c.loop-i.file) _ _ 0 _ c.loop-i.invariant.keeps.size c.loop-i.invariant.reads c.loop-i.invariant.unread c.measure_list-in-loop-i.ensures.unread
 
 pub returns-clause-reads : goal.returns-clause-reads
 returns-clause-reads g c = omega (arith, c.loop-i.invariant.reads)

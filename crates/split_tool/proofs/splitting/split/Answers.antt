@@ -1,4 +1,5 @@
 use Rattle.std.proofs.Common.{◌<◌, ◌^◌, refl, arith, rules, sym, subst, ◌∙◌}
+use Rattle.trace_outside.proofs.Keeping.{file_kept}
 use Rattle.subpage.specs.Arrangement.{CpusRise}
 use Rattle.dat_header.proofs.Headers.{header_layout}
 use Rattle.event_cursor.proofs.Told.{told_all, told_both, told_map, told_again}
@@ -16,8 +17,8 @@ use Rattle.split_tool.proofs.Making.{created_last, created_stops, progress_none,
 use Rattle.split_tool.proofs.Storing.{kept_twice, leaves_none, leaves_since, some_stored, stages_none}
 use Rattle.split_tool.proofs.splitting.split.Goals as goal
 
-pub returns-then-not-pass_start-clause-told : goal.returns-then-not-pass_start-clause-told
-returns-then-not-pass_start-clause-told g c =
+pub returns-in_default-clause-told : goal.returns-in_default-clause-told
+returns-in_default-clause-told g c =
     let old = g.D.Folder.files c.args.folder.now in
     told_all _ (g.F.File.bytes c.args.file.now) (λ file.
     let news = new_files (split_view c.args.plan.now.words.now) c.args.plan.now.header.now file (parts_of c.args.lanes.now) in
@@ -32,13 +33,11 @@ loop-number-init g c =
       work = subst (λ n. IsWorkFor c.args.plan.now.header.now n c.args.work.now) (sym (same_length c.pass_start.new.lanes c.args.lanes.now c.pass_start.ensures.parts)) c.requires.work;
       progress = told_both _ _ _ (g.F.File.bytes c.args.file.now) (λ file long started.
           progress_none c.args.plan.now.header.now (split_view c.args.plan.now.words.now) c.rules_of-rules.result file c.args.lanes.now c.pass_start.new.lanes (g.D.Folder.files c.args.folder.now) c.requires.allowed c.rules_of-rules.ensures c.requires.rise c.requires.cpus
-          c.requires.fresh c.pass_start.ensures.parts (omega (arith, long, size)) (started (fresh_stand c.args.plan.now.header.now.layout file c.args.lanes.now c.requires.fresh) c.if-not-pass_start.false))
-          (g.met.F.File.size_is c.args.file.now) c.pass_start.ensures.told;
+          c.requires.fresh c.pass_start.ensures.parts (omega (arith, long, size)) (started (fresh_stand c.args.plan.now.header.now.layout file c.args.lanes.now c.requires.fresh)))
+          (g.met.F.File.size_is c.args.file.now) c.in-Ok.ensures.told;
       spent = passed_spent c.args.plan.now.header.now.layout (g.F.File.size c.args.file.now) (omega (arith, (header_layout c.args.plan.now.header.now c.requires.allowed).page_least)) c.args.lanes.now c.pass_start.new.lanes _ _
-          (same_length c.pass_start.new.lanes c.args.lanes.now c.pass_start.ensures.parts) c.pass_start.ensures.advance (c.pass_start.ensures.reads_done c.if-not-pass_start.false) c.pass_start.ensures.unread;
-      bytes = c.pass_start.ensures.bytes;
-      size = c.pass_start.ensures.size;
-      later = c.pass_start.ensures.later;
+          (same_length c.pass_start.new.lanes c.args.lanes.now c.pass_start.ensures.parts) c.pass_start.ensures.advance c.in-Ok.ensures.reads_done c.pass_start.ensures.unread;
+      keeps = c.pass_start.ensures.keeps;
       counts = record { reading = omega arith; writing = omega arith; unfinished = omega arith; misses = refl; opened = refl; closed = refl; bytes = refl };
       unfinished = refl;
       created = omega arith;
@@ -58,12 +57,12 @@ returns-then-not-goes_on-clause-told g c =
     let old = g.D.Folder.files c.args.folder.now in
     let mid = g.D.Folder.files c.loop-number.folder in
     let new = g.D.Folder.files c.make_file.new.folder in
-    told_again _ _ _ (g.F.File.bytes c.args.file.now) (g.F.File.bytes c.loop-number.file) c.loop-number.invariant.bytes (λ file p m.
+    told_again _ _ _ (g.F.File.bytes c.args.file.now) (g.F.File.bytes c.loop-number.file) c.loop-number.invariant.keeps.bytes (λ file p m.
     let news = new_files words header file (parts_of c.args.lanes.now) in
     let bad = bad_reached (rules_of words) header.layout file (parts_of c.args.lanes.now) in
-    progress_last header words.base file c.rules_of-rules.result news bad c.loop-number.number c.loop-number.lanes c.make_file.new.lanes old mid new c.in-Ok.ends c.end_by.result (g.D.Folder.counts c.args.folder.now) (g.D.Folder.counts c.make_file.new.folder) (sym c.goes_on.ensures ∙ c.if-not-goes_on.true) c.end_by.ensures
+    progress_last header words.base file c.rules_of-rules.result news bad c.loop-number.number c.loop-number.lanes c.make_file.new.lanes old mid new c.in-Ok-make_file.ends c.end_by.result (g.D.Folder.counts c.args.folder.now) (g.D.Folder.counts c.make_file.new.folder) (sym c.goes_on.ensures ∙ c.if-not-goes_on.true) c.end_by.ensures
     (m p.stands p.small) p)
-    c.loop-number.invariant.progress c.in-Ok.ensures.told
+    c.loop-number.invariant.progress c.in-Ok-make_file.ensures.told
 
 pub loop-number-preserved : goal.loop-number-preserved
 loop-number-preserved g c =
@@ -77,20 +76,18 @@ loop-number-preserved g c =
       in_order = c.make_file.ensures.in_order;
       parts = c.make_file.ensures.parts ∙ c.loop-number.invariant.parts;
       work = c.make_file.ensures.work;
-      progress = told_again _ _ _ (g.F.File.bytes c.args.file.now) (g.F.File.bytes c.loop-number.file) c.loop-number.invariant.bytes (λ file p m.
+      progress = told_again _ _ _ (g.F.File.bytes c.args.file.now) (g.F.File.bytes c.loop-number.file) c.loop-number.invariant.keeps.bytes (λ file p m.
           let news = new_files words header file (parts_of c.args.lanes.now) in
           let bad = bad_reached (rules_of words) header.layout file (parts_of c.args.lanes.now) in
-          progress_more header words.base file c.rules_of-rules.result news bad c.loop-number.number c.loop-number.lanes c.make_file.new.lanes old mid new c.in-Ok.ends unit (sym c.goes_on.ensures ∙ c.if-not-goes_on.false)
+          progress_more header words.base file c.rules_of-rules.result news bad c.loop-number.number c.loop-number.lanes c.make_file.new.lanes old mid new c.in-Ok-make_file.ends unit (sym c.goes_on.ensures ∙ c.if-not-goes_on.false)
           (m p.stands p.small) p)
-          c.loop-number.invariant.progress c.in-Ok.ensures.told;
+          c.loop-number.invariant.progress c.in-Ok-make_file.ensures.told;
       spent = spent_more _ _ _ _ _ _ c.loop-number.invariant.spent
-          (same_spent header.layout (g.F.File.size c.args.file.now) (g.F.File.size c.loop-number.file) c.loop-number.lanes c.make_file.new.lanes _ _ c.loop-number.invariant.size c.in-Ok.ensures.spent);
-      bytes = c.make_file.ensures.bytes ∙ c.loop-number.invariant.bytes;
-      size = c.make_file.ensures.size ∙ c.loop-number.invariant.size;
-      later = omega (arith, c.make_file.ensures.later, c.loop-number.invariant.later);
+          (same_spent header.layout (g.F.File.size c.args.file.now) (g.F.File.size c.loop-number.file) c.loop-number.lanes c.make_file.new.lanes _ _ c.loop-number.invariant.keeps.size c.in-Ok-make_file.ensures.spent);
+      keeps = file_kept c.loop-number.invariant.keeps c.make_file.ensures.keeps;
       counts = kept_twice _ _ _ c.loop-number.invariant.counts c.make_file.ensures.counts;
-      unfinished = c.in-Ok.ensures.unfinished ∙ c.loop-number.invariant.unfinished;
-      created = omega (arith, c.loop-number.invariant.created, c.in-Ok.ensures.created, c.loop-number.invariant.least);
+      unfinished = c.in-Ok-make_file.ensures.unfinished ∙ c.loop-number.invariant.unfinished;
+      created = omega (arith, c.loop-number.invariant.created, c.in-Ok-make_file.ensures.created, c.loop-number.invariant.least);
       least = omega (arith, c.loop-number.invariant.least);
     }
 
@@ -101,7 +98,7 @@ returns-in-Err-clause-told g c =
     let old = g.D.Folder.files c.args.folder.now in
     let mid = g.D.Folder.files c.loop-number.folder in
     let new = g.D.Folder.files c.make_file.new.folder in
-    told_again _ _ _ (g.F.File.bytes c.args.file.now) (g.F.File.bytes c.loop-number.file) c.loop-number.invariant.bytes (λ file p m.
+    told_again _ _ _ (g.F.File.bytes c.args.file.now) (g.F.File.bytes c.loop-number.file) c.loop-number.invariant.keeps.bytes (λ file p m.
     let news = new_files words header file (parts_of c.args.lanes.now) in
     let bad = bad_reached (rules_of words) header.layout file (parts_of c.args.lanes.now) in
     progress_stops header words.base file c.rules_of-rules.result news bad c.loop-number.number c.loop-number.lanes c.make_file.new.lanes old mid new c.in-Err.end c.in-Err.end (g.D.Folder.counts c.args.folder.now) (g.D.Folder.counts c.loop-number.folder) (g.D.Folder.counts c.make_file.new.folder) refl c.loop-number.invariant.counts.unfinished
@@ -109,7 +106,7 @@ returns-in-Err-clause-told g c =
     c.loop-number.invariant.progress c.in-Err.ensures.told
 
 pub returns-in-Err-clause-read : goal.returns-in-Err-clause-read
-returns-in-Err-clause-read g c = λ is. let rose = c.in-Err.ensures.read is in omega (arith, rose, c.loop-number.invariant.later)
+returns-in-Err-clause-read g c = λ is. let rose = c.in-Err.ensures.read is in omega (arith, rose, c.loop-number.invariant.keeps.later)
 
 pub returns-in-Err-clause-write : goal.returns-in-Err-clause-write
 returns-in-Err-clause-write g c = λ is. let rose = c.in-Err.ensures.write is in omega (arith, rose, c.loop-number.invariant.counts.writing)
@@ -122,8 +119,8 @@ returns-clause-told g c =
 pub pass_start-requires-clause-allowed : goal.pass_start-requires-clause-allowed
 pass_start-requires-clause-allowed g c = header_layout c.args.plan.now.header.now c.requires.allowed
 
-pub returns-then-not-pass_start-clause-created : goal.returns-then-not-pass_start-clause-created
-returns-then-not-pass_start-clause-created g c = told_all _ (g.F.File.bytes c.args.file.now) (λ file. omega arith)
+pub returns-in_default-clause-created : goal.returns-in_default-clause-created
+returns-in_default-clause-created g c = told_all _ (g.F.File.bytes c.args.file.now) (λ file. omega arith)
 
 pub returns-then-not-goes_on-clause-created : goal.returns-then-not-goes_on-clause-created
 returns-then-not-goes_on-clause-created g c =
@@ -132,15 +129,15 @@ returns-then-not-goes_on-clause-created g c =
     let old = g.D.Folder.files c.args.folder.now in
     let mid = g.D.Folder.files c.loop-number.folder in
     let new = g.D.Folder.files c.make_file.new.folder in
-    told_again _ _ _ (g.F.File.bytes c.args.file.now) (g.F.File.bytes c.loop-number.file) c.loop-number.invariant.bytes (λ file p m.
+    told_again _ _ _ (g.F.File.bytes c.args.file.now) (g.F.File.bytes c.loop-number.file) c.loop-number.invariant.keeps.bytes (λ file p m.
     let news = new_files words header file (parts_of c.args.lanes.now) in
     let bad = bad_reached (rules_of words) header.layout file (parts_of c.args.lanes.now) in
-    created_last header words.base file c.rules_of-rules.result news bad c.loop-number.number c.loop-number.lanes c.make_file.new.lanes old mid new c.in-Ok.ends c.end_by.result
+    created_last header words.base file c.rules_of-rules.result news bad c.loop-number.number c.loop-number.lanes c.make_file.new.lanes old mid new c.in-Ok-make_file.ends c.end_by.result
     (g.D.Folder.counts c.args.folder.now).created (g.D.Folder.counts c.loop-number.folder).created (g.D.Folder.counts c.make_file.new.folder).created
     (sym c.goes_on.ensures ∙ c.if-not-goes_on.true) c.end_by.ensures
     (m p.stands p.small)
-    c.loop-number.invariant.least c.loop-number.invariant.created c.in-Ok.ensures.created p)
-    c.loop-number.invariant.progress c.in-Ok.ensures.told
+    c.loop-number.invariant.least c.loop-number.invariant.created c.in-Ok-make_file.ensures.created p)
+    c.loop-number.invariant.progress c.in-Ok-make_file.ensures.told
 
 pub returns-in-Err-clause-created : goal.returns-in-Err-clause-created
 returns-in-Err-clause-created g c =
@@ -149,7 +146,7 @@ returns-in-Err-clause-created g c =
     let old = g.D.Folder.files c.args.folder.now in
     let mid = g.D.Folder.files c.loop-number.folder in
     let new = g.D.Folder.files c.make_file.new.folder in
-    told_again _ _ _ (g.F.File.bytes c.args.file.now) (g.F.File.bytes c.loop-number.file) c.loop-number.invariant.bytes (λ file p m.
+    told_again _ _ _ (g.F.File.bytes c.args.file.now) (g.F.File.bytes c.loop-number.file) c.loop-number.invariant.keeps.bytes (λ file p m.
     let news = new_files words header file (parts_of c.args.lanes.now) in
     let bad = bad_reached (rules_of words) header.layout file (parts_of c.args.lanes.now) in
     created_stops header words.base file c.rules_of-rules.result news bad c.loop-number.number c.loop-number.lanes c.make_file.new.lanes old mid new c.in-Err.end c.in-Err.end (g.D.Folder.counts c.loop-number.folder).unfinished (g.D.Folder.counts c.make_file.new.folder).unfinished
@@ -164,7 +161,7 @@ returns-clause-created g c =
     c.loop-number.invariant.progress
 
 pub returns-then-not-goes_on-clause-unfinished : goal.returns-then-not-goes_on-clause-unfinished
-returns-then-not-goes_on-clause-unfinished g c = leaves_none c.in-Ok.ends.bad c.end_by.result _ _ c.end_by.ensures (c.in-Ok.ensures.unfinished ∙ c.loop-number.invariant.unfinished)
+returns-then-not-goes_on-clause-unfinished g c = leaves_none c.in-Ok-make_file.ends.bad c.end_by.result _ _ c.end_by.ensures (c.in-Ok-make_file.ensures.unfinished ∙ c.loop-number.invariant.unfinished)
 
 pub returns-in-Err-clause-unfinished : goal.returns-in-Err-clause-unfinished
 returns-in-Err-clause-unfinished g c = leaves_since c.in-Err.end _ _ _ c.loop-number.invariant.unfinished c.in-Err.ensures.unfinished
@@ -175,8 +172,8 @@ returns-in-Err-clause-counts g c = kept_twice _ _ _ c.loop-number.invariant.coun
 pub returns-then-not-goes_on-clause-counts : goal.returns-then-not-goes_on-clause-counts
 returns-then-not-goes_on-clause-counts g c = kept_twice _ _ _ c.loop-number.invariant.counts c.make_file.ensures.counts
 
-pub returns-then-not-pass_start-clause-reads : goal.returns-then-not-pass_start-clause-reads
-returns-then-not-pass_start-clause-reads g c =
+pub returns-in_default-clause-reads : goal.returns-in_default-clause-reads
+returns-in_default-clause-reads g c =
     let header = c.args.plan.now.header.now in
     start_less header.layout (g.F.File.size c.args.file.now) (omega (arith, (header_layout header c.requires.allowed).page_least)) c.args.lanes.now _ _ c.requires.fresh (omega (arith, c.pass_start.ensures.reads))
 
@@ -185,13 +182,13 @@ returns-then-not-goes_on-clause-reads g c =
     let header = c.args.plan.now.header.now in
     start_less header.layout (g.F.File.size c.args.file.now) (omega (arith, (header_layout header c.requires.allowed).page_least)) c.args.lanes.now _ _ c.requires.fresh
     (spent_all _ _ _ _ (spent_more _ _ _ _ _ _ c.loop-number.invariant.spent
-    (same_spent header.layout (g.F.File.size c.args.file.now) (g.F.File.size c.loop-number.file) c.loop-number.lanes c.make_file.new.lanes _ _ c.loop-number.invariant.size c.in-Ok.ensures.spent)))
+    (same_spent header.layout (g.F.File.size c.args.file.now) (g.F.File.size c.loop-number.file) c.loop-number.lanes c.make_file.new.lanes _ _ c.loop-number.invariant.keeps.size c.in-Ok-make_file.ensures.spent)))
 
 pub returns-in-Err-clause-reads : goal.returns-in-Err-clause-reads
 returns-in-Err-clause-reads g c =
     let header = c.args.plan.now.header.now in
     start_less header.layout (g.F.File.size c.args.file.now) (omega (arith, (header_layout header c.requires.allowed).page_least)) c.args.lanes.now _ _ c.requires.fresh
-    (spent_stops header.layout (g.F.File.size c.args.file.now) (g.F.File.size c.loop-number.file) c.args.lanes.now c.loop-number.lanes _ _ _ c.loop-number.invariant.size c.loop-number.invariant.spent c.make_file.ensures.reads)
+    (spent_stops header.layout (g.F.File.size c.args.file.now) (g.F.File.size c.loop-number.file) c.args.lanes.now c.loop-number.lanes _ _ _ c.loop-number.invariant.keeps.size c.loop-number.invariant.spent c.make_file.ensures.reads)
 
 pub returns-clause-reads : goal.returns-clause-reads
 returns-clause-reads g c =

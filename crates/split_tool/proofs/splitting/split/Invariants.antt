@@ -1,7 +1,8 @@
-use Rattle.std.proofs.Common.{◌≡◌, ◌-◌, ◌^◌, ◌<◌, ◌≤◌, length}
+use Rattle.std.proofs.Common.{◌≡◌, ◌-◌, ◌^◌, ◌≤◌, length}
 use Rattle.std.specs.Option.{IfSome}
 use Rattle.std.specs.List.{All}
 use Rattle.trace_outside.specs.Causes.{raised}
+use Rattle.trace_outside.specs.Keeping.{KeepsFile}
 use Rattle.trace_args.specs.Command.{split_view}
 use Rattle.event_cursor.specs.Standing.{IsInOrder}
 use Rattle.time_merge.specs.LaneRows.{parts_of}
@@ -22,9 +23,7 @@ invariant-loop-number g l = record {
   progress : IfSome (g.F.File.bytes l.fn.file) (λ file. Progress l.plan.header.now l.plan.words.now.base.now file l.rules (new_files (split_view l.plan.words.now) l.plan.header.now file (parts_of l.fn.lanes))
       (bad_reached (rules_of (split_view l.plan.words.now)) l.plan.header.now.layout file (parts_of l.fn.lanes)) l.number l.lanes (g.D.Folder.files l.fn.folder) (g.D.Folder.files l.folder));
   spent : Spent (to_read l.plan.header.now.layout (g.F.File.size l.fn.file) l.fn.lanes) (to_read l.plan.header.now.layout (g.F.File.size l.fn.file) l.lanes) (g.F.File.reads l.fn.file) (g.F.File.reads l.file);
-  bytes : g.F.File.bytes l.file ≡ g.F.File.bytes l.fn.file;
-  size : g.F.File.size l.file ≡ g.F.File.size l.fn.file;
-  later : g.F.File.faults l.fn.file ≤ g.F.File.faults l.file;
+  keeps : KeepsFile g.F.File l.fn.file l.file;
   counts : KeepsCounts (g.D.Folder.counts l.fn.folder) (g.D.Folder.counts l.folder);
   unfinished : (g.D.Folder.counts l.folder).unfinished ≡ (g.D.Folder.counts l.fn.folder).unfinished;
   created : (g.D.Folder.counts l.folder).created ≡ raised (g.D.Folder.counts l.fn.folder).created (l.number - 1);

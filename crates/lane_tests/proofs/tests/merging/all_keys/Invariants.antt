@@ -1,6 +1,7 @@
-use Rattle.std.proofs.Common.{◌≡◌, ◌≤◌, sum_by}
+use Rattle.std.proofs.Common.{◌≡◌, sum_by}
 use Rattle.std.specs.Option.{IfSome}
 use Rattle.std.specs.List.{All}
+use Rattle.trace_outside.specs.Keeping.{KeepsFile}
 use Rattle.event_cursor.specs.Standing.{IsInOrder, most_left}
 use Rattle.time_merge.specs.LaneRows.{parts_of}
 use Rattle.lane_tests.proofs.GoneThrough.{Gone}
@@ -11,8 +12,7 @@ invariant-loop-i g l = record {
   in_order : All (IsInOrder l.layout) l.lanes;
   parts : parts_of l.lanes ≡ parts_of l.fn.lanes;
   gone : IfSome (g.F.File.bytes l.fn.file) (λ file. Gone l.layout file l.fn.lanes l.lanes l.keys.items);
-  bytes : g.F.File.bytes l.file ≡ g.F.File.bytes l.fn.file;
-  later : g.F.File.faults l.fn.file ≤ g.F.File.faults l.file;
+  keeps : KeepsFile g.F.File l.fn.file l.file;
 }
 
 abbrev pub decreases-loop-i : goal.decreases-loop-i

@@ -3,7 +3,7 @@ use Rattle.dat_options.specs.declared.fault.OpenFault.{OpenFault}
 use Rattle.dat_header.specs.ItemsAt.{word_in}
 use Rattle.dat_header.specs.Items.{version_word}
 use Rattle.dat_header.proofs.Words.{version_steps}
-use Rattle.dat_header.proofs.read.read_version.Goals as goal
+use Rattle.dat_header.proofs.opening.read_version.Goals as goal
 
 pub returns : goal.returns
 returns g c =

@@ -1,0 +1,5 @@
+use Rattle.time_merge.proofs.Readying.{state_ready}
+use Rattle.time_merge.proofs.ready.make_ready.Goals as goal
+
+pub returns-clause-ready : goal.returns-clause-ready
+returns-clause-ready g c = state_ready c.args.layout.now c.load.new.lane c.in_ok-load.field-0 c.in_ok-load.ensures.state
