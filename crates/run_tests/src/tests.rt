@@ -1,22 +1,22 @@
 // Whole runs over objects in memory: the words, the file's sub-buffers, and what must come of them.
 
-mod disk;
+mod differences;
 mod filters;
 mod gates;
 mod known;
 mod rounds;
 mod selftests;
 mod splits;
+mod sub_buffers;
 
 use dat_header::OpenFault;
-use disk::Disk;
 use known::{FUNCTION, SWITCH, Task, put_carried, put_function, put_switch, put_wide};
 use std::alloc::Global;
 use std::process::Abort;
 use std::test::Fail;
 use std::thread::Threads;
 use trace_base::Words;
-use trace_outside::{Folder, Gate, MemFolder, MemSink, NoGate};
+use trace_outside::{Folder, Gate, MemFault, MemFolder, MemSink, NoGate};
 use trace_run::{Status, run};
 
 /// A header without processors. The count of processors stands at its byte 83.
@@ -474,8 +474,8 @@ const NUMBERS: &[(Status, u8)] = &[
     (Status::NoMemory, 6),
 ];
 
-/// The first place at which a disk fails, and what was printed of the report of `ONE` then.
-const DISKS: &[(u64, Status, &str, &str)] = &[
+/// The byte at which reads fail, and what was printed of the report of `ONE` then.
+const FAILING: &[(u64, Status, &str, &str)] = &[
     (
         40,
         Status::ReadFault,
@@ -742,21 +742,22 @@ fn numbers_of_statuses(rt: HostRuntime) {
 
 fn fails_as<R: Alloc<A = Global> + Abort + Threads + Sync>(
     rt: &R,
-    from: u64,
+    byte: u64,
     expected: (Status, &str, &str),
 ) -> Result<(), Fail> {
     let alloc = rt.alloc();
     let words = words_of(alloc, &["report"])?;
-    let mut disk = Disk::new(alloc, bytes_of(alloc, &ONE)?, from, true);
-    ends_as(rt, &words, &mut disk, expected);
-    assert_eq!(rt; disk.created(), 0);
+    let mut folder = folder_of(alloc, &ONE)?;
+    folder.fail(MemFault::ReadAt(byte));
+    ends_as(rt, &words, &mut folder, expected);
+    assert_eq!(rt; folder.counts().created, 0);
     Ok(())
 }
 
 #[test]
-fn failing_disks(rt: HostRuntime) -> Result<(), Fail> {
-    for (from, status, out, err) in DISKS {
-        fails_as(&rt, *from, (*status, out, err))?;
+fn failing_reads(rt: HostRuntime) -> Result<(), Fail> {
+    for (byte, status, out, err) in FAILING {
+        fails_as(&rt, *byte, (*status, out, err))?;
     }
     Ok(())
 }

@@ -14,12 +14,11 @@ use Rattle.dat_header.specs.declared.header.Header.{Header}
 use Rattle.dat_header.specs.declared.header.Body.{Body}
 use Rattle.dat_header.specs.declared.header.Body.TheVariants.{Fly}
 use Rattle.report_print.specs.Given.{Given}
-use Rattle.report_print.specs.Line.{line}
 use Rattle.report_rounds.specs.Due.{due_bytes, ReadsDue as RoundsDue}
 use Rattle.trace_args.specs.Command.{ReportData}
 use Rattle.trace_run.specs.Context.{context_of}
 use Rattle.trace_run.specs.Input.{ReadsDue, behind_first, due_of, progress_at}
-use Rattle.trace_run.specs.Report.{Events, body_events, cpus_line, parts_events}
+use Rattle.trace_run.specs.Report.{Events, body_events, cpus_line, item_line, parts_events}
 use Rattle.trace_run.specs.Selection.{chosen, set_or_all}
 
 begins : (first rest : List ℕ) → starts_with nat_eq (first ++ rest) first ≡ true
@@ -50,22 +49,22 @@ module _ (words : ReportData) (header : Header) (parts : List Part) where
   -- the first line was written, and the rounds read what is due by the text behind it
   parts_read_of : (given : Given) (shown : List (ℕ × Part)) (bytes : List ℕ) (old mid now : Option (List ℕ)) (before reads : ℕ)
       → given ≡ context_of words header → shown ≡ chosen (set_or_all words.cpus) parts → Gained old mid (cpus_line header.cpus)
-      → RoundsDue (line given) header.layout bytes shown mid now before reads → ReadsDue (events bytes) 0 (progress_at old before) (progress_at now reads)
+      → RoundsDue (item_line given) header.layout bytes shown mid now before reads → ReadsDue (events bytes) 0 (progress_at old before) (progress_at now reads)
   parts_read_of given shown bytes old mid now before reads given_is shown_is first due =
       (cpus_line header.cpus ++ due.0, (gained_both old mid now (cpus_line header.cpus) due.0 first due.1.0, within))
     where
-      there : due_of (events bytes) (cpus_line header.cpus ++ due.0) ≡ due_bytes (line given) header.layout bytes shown due.0
+      there : due_of (events bytes) (cpus_line header.cpus ++ due.0) ≡ due_bytes (item_line given) header.layout bytes shown due.0
       there =
-          ap (due_bytes (line (context_of words header)) header.layout bytes (chosen (set_or_all words.cpus) parts)) (behind_line header.cpus due.0)
-          ∙ ap (λ (ps : List (ℕ × Part)). due_bytes (line (context_of words header)) header.layout bytes ps due.0) (sym shown_is)
-          ∙ ap (λ (by : Given). due_bytes (line by) header.layout bytes shown due.0) (sym given_is)
+          ap (due_bytes (item_line (context_of words header)) header.layout bytes (chosen (set_or_all words.cpus) parts)) (behind_line header.cpus due.0)
+          ∙ ap (λ (ps : List (ℕ × Part)). due_bytes (item_line (context_of words header)) header.layout bytes ps due.0) (sym shown_is)
+          ∙ ap (λ (by : Given). due_bytes (item_line by) header.layout bytes shown due.0) (sym given_is)
 
       within : reads ≤ raised before (0 + due_of (events bytes) (cpus_line header.cpus ++ due.0))
       within = subst (λ (n : ℕ). reads ≤ raised before (0 + n)) (sym there) (omega (arith, due.1.1))
 
   pub parts_read : (given : Given) (shown : List (ℕ × Part)) (told old mid now : Option (List ℕ)) (before reads : ℕ)
       → given ≡ context_of words header → shown ≡ chosen (set_or_all words.cpus) parts → Gained old mid (cpus_line header.cpus)
-      → IfSome told (λ bytes. RoundsDue (line given) header.layout bytes shown mid now before reads)
+      → IfSome told (λ bytes. RoundsDue (item_line given) header.layout bytes shown mid now before reads)
       → IfSome told (λ bytes. ReadsDue (events bytes) 0 (progress_at old before) (progress_at now reads))
   parts_read given shown None old mid now before reads given_is shown_is first due = tt
   parts_read given shown (Some bytes) old mid now before reads given_is shown_is first due = parts_read_of given shown bytes old mid now before reads given_is shown_is first due

@@ -8,63 +8,61 @@ use Rattle.trace_base.specs.declared.part.Part.{Part}
 use Rattle.trace_outside.specs.Writing.{Gained, GainedPrefix}
 use Rattle.trace_outside.proofs.Gains.{gained_both, prefix_behind}
 use Rattle.trace_outside.proofs.PendingLemmas.{prefix_longer}
+use Rattle.line_holes.specs.Holes.{filled_bytes, filled_lines, hole_time}
+use Rattle.line_holes.proofs.AlongLaws.{along_take}
 use Rattle.subpage.specs.Arrangement.{Keyed}
 use Rattle.subpage.specs.Cut.{cut_of, reached_of}
 use Rattle.time_merge.specs.declared.ending.End.{End}
 use Rattle.time_merge.specs.declared.ending.End.TheVariants as code
 use Rattle.report_rounds.specs.Reports.{IsReport, lines_text}
 use Rattle.report_print.specs.Given.{Given}
-use Rattle.report_print.specs.Line.{line}
 use Rattle.dat_header.specs.declared.header.Header.{Header}
 use Rattle.trace_args.specs.Command.{ReportData}
 use Rattle.trace_run.specs.declared.status.Status.TheVariants.{WriteFault}
 use Rattle.trace_run.specs.Context.{context_of}
 use Rattle.trace_run.specs.Meaning.{Meaning, ended, events_report, prints}
-use Rattle.trace_run.specs.Report.{cpus_line, entry_line, parts_events, report_pieces}
+use Rattle.trace_run.specs.Report.{cpus_line, entry_line, item_line, parts_events, report_pieces}
 use Rattle.trace_run.specs.Selection.{chosen, set_or_all}
 use Rattle.trace_run.specs.Split.{status_of}
 use Rattle.trace_run.specs.Text.{text}
 use Rattle.trace_run.proofs.Printed.{Writes, WritesFor}
 
-lines_are : (given : Given) (items : List Keyed) → lines_text (line given) items ≡ text (map (entry_line given) items)
-lines_are given [] = refl
-lines_are given (x ∷ xs) =
-    flat_map-cons (entry_line given) x xs ∙ ap (λ rest. entry_line given x ++ rest) (lines_are given xs)
-    ∙ sym (flat_map-cons (λ piece. piece) (entry_line given x) (map (entry_line given) xs))
+lines_are : (given : Given) (items : List Keyed) → lines_text (item_line given) items ≡ text (filled_lines None (map (entry_line given) items))
+lines_are given items = refl
 
 -- the report's text: the first line, and then those of the items
-report_text : (cpus : ℕ) (given : Given) (items : List Keyed) → cpus_line cpus ++ lines_text (line given) items ≡ text (report_pieces cpus given items)
+report_text : (cpus : ℕ) (given : Given) (items : List Keyed) → cpus_line cpus ++ lines_text (item_line given) items ≡ text (report_pieces cpus given items)
 report_text cpus given items =
     ap (λ rest. cpus_line cpus ++ rest) (lines_are given items)
-    ∙ sym (flat_map-cons (λ piece. piece) (cpus_line cpus) (map (entry_line given) items))
+    ∙ sym (flat_map-cons (λ piece. piece) (cpus_line cpus) (filled_lines None (map (entry_line given) items)))
 
 -- the first few of its pieces
 first_text : (cpus : ℕ) (given : Given) (items : List Keyed) (count : ℕ)
-    → cpus_line cpus ++ lines_text (line given) (take count items) ≡ text (take (suc count) (report_pieces cpus given items))
+    → cpus_line cpus ++ lines_text (item_line given) (take count items) ≡ text (take (suc count) (report_pieces cpus given items))
 first_text cpus given items count =
-    report_text cpus given (take count items) ∙ ap (λ (lines : List (List ℕ)). text (cpus_line cpus ∷ lines)) (sym (take-map (entry_line given) count items))
+    report_text cpus given (take count items) ∙ ap (λ (lines : List (List ℕ)). text (cpus_line cpus ∷ lines)) (sym (along_take hole_time filled_bytes count None (map (entry_line given) items) ∙ ap (filled_lines None) (take-map (entry_line given) count items)))
 
 module _ (cpus : ℕ) (given : Given) (layout : Layout) (bytes : List ℕ) (parts : List (ℕ × Part)) where
   abbrev items : List Keyed
   items = reached_of layout bytes parts
 
-  whole : (old mid now : Option (List ℕ)) → Gained old mid (cpus_line cpus) → Gained mid now (lines_text (line given) items) → Gained old now (text (report_pieces cpus given items))
+  whole : (old mid now : Option (List ℕ)) → Gained old mid (cpus_line cpus) → Gained mid now (lines_text (item_line given) items) → Gained old now (text (report_pieces cpus given items))
   whole old mid now first gained =
-      gained_both old mid now (cpus_line cpus) (lines_text (line given) items) first gained ∙ ap (append_known old) (report_text cpus given items)
+      gained_both old mid now (cpus_line cpus) (lines_text (item_line given) items) first gained ∙ ap (append_known old) (report_text cpus given items)
 
   -- by how the rounds behind the first line ended
-  report_written : (old mid now : Option (List ℕ)) (end : End) → Gained old mid (cpus_line cpus) → IsReport (line given) layout bytes parts mid now end
+  report_written : (old mid now : Option (List ℕ)) (end : End) → Gained old mid (cpus_line cpus) → IsReport (item_line given) layout bytes parts mid now end
       → Writes (prints (report_pieces cpus given items) (ended (cut_of layout bytes parts))) (status_of end) old now
   report_written old mid now code.Done first report = (sym (ap ended report.1), whole old mid now first report.0)
   report_written old mid now (code.Malformed cpu page) first report = (sym (ap ended report.1.1), whole old mid now first report.0)
   report_written old mid now code.Read first report = (
     suc report.0,
-    gained_both old mid now (cpus_line cpus) (lines_text (line given) (take report.0 items)) first report.1
+    gained_both old mid now (cpus_line cpus) (lines_text (item_line given) (take report.0 items)) first report.1
         ∙ ap (append_known old) (first_text cpus given items report.0),
   )
   report_written old mid now code.Write first report =
-      prefix_behind old mid now (cpus_line cpus) (lines_text (line given) items) [] (text (report_pieces cpus given items))
-      (sym (report_text cpus given items) ∙ ap (λ rest. cpus_line cpus ++ rest) (sym (append-nil (lines_text (line given) items))))
+      prefix_behind old mid now (cpus_line cpus) (lines_text (item_line given) items) [] (text (report_pieces cpus given items))
+      (sym (report_text cpus given items) ∙ ap (λ rest. cpus_line cpus ++ rest) (sym (append-nil (lines_text (item_line given) items))))
       first report
 
 module _ (words : ReportData) (header : Header) (parts : List Part) where
@@ -73,7 +71,7 @@ module _ (words : ReportData) (header : Header) (parts : List Part) where
 
   pub parts_written : (told : Option (List ℕ)) (shown : List (ℕ × Part)) (given : Given) (old mid now : Option (List ℕ)) (end : End)
       → given ≡ context_of words header → shown ≡ chosen (set_or_all words.cpus) parts → Gained old mid (cpus_line header.cpus)
-      → IfSome told (λ bytes. IsReport (line given) header.layout bytes shown mid now end) → WritesFor means told (status_of end) old now
+      → IfSome told (λ bytes. IsReport (item_line given) header.layout bytes shown mid now end) → WritesFor means told (status_of end) old now
   parts_written None shown given old mid now end given_is shown_is first report = tt
   parts_written (Some bytes) shown given old mid now end given_is shown_is first report =
       subst (λ (ps : List (ℕ × Part)). Writes (prints (report_pieces header.cpus (context_of words header) (reached_of header.layout bytes ps)) (ended (cut_of header.layout bytes ps))) (status_of end) old now) shown_is
@@ -85,4 +83,4 @@ module _ (words : ReportData) (header : Header) (parts : List Part) where
   parts_unbegun (Some bytes) old now first =
       let items = reached_of header.layout bytes (chosen (set_or_all words.cpus) parts) in
       subst (λ (all : List ℕ). GainedPrefix old now all) (report_text header.cpus (context_of words header) items)
-      (prefix_longer old now (cpus_line header.cpus) (lines_text (line (context_of words header)) items) first)
+      (prefix_longer old now (cpus_line header.cpus) (lines_text (item_line (context_of words header)) items) first)

@@ -11,7 +11,7 @@ use Rattle.event_cursor.specs.Standing.{IsInOrder}
 use Rattle.time_merge.specs.LaneRows.{parts_of}
 use Rattle.time_merge.proofs.Starting.{fresh_in_order}
 use Rattle.report_print.specs.Given.{Given}
-use Rattle.report_print.specs.Line.{line}
+use Rattle.trace_run.specs.Report.{item_line}
 use Rattle.report_rounds.specs.Between.{HasRoom, IsAtStart}
 use Rattle.report_rounds.proofs.OpenLanes.{IsOpen, all_room, all_start}
 use Rattle.trace_run.specs.Lanes.{IsUnused}
@@ -61,7 +61,7 @@ pub unused_start : (layout : Layout) (room : ℕ) (lanes : List Lane) → All (I
 unused_start layout room lanes all = all_start layout layout.page room lanes refl (unused_open layout.page room lanes all)
 
 -- each has room for any line of a report
-pub unused_room : (given : Given) (len room : ℕ) (lanes : List Lane) → All (IsUnused len room) lanes → 65537 ≤ room → All (HasRoom (line given)) lanes
+pub unused_room : (given : Given) (len room : ℕ) (lanes : List Lane) → All (IsUnused len room) lanes → 65537 ≤ room → All (HasRoom (item_line given)) lanes
 unused_room given len room lanes all wide =
-    All-weaker (λ (lane : Lane). lane.region.room ≡ room) (HasRoom (line given)) (λ a is cpu item. omega (arith, line_short given cpu item, is, wide)) lanes
+    All-weaker (λ (lane : Lane). lane.region.room ≡ room) (HasRoom (item_line given)) (λ a is cpu item. omega (arith, line_short given cpu item, is, wide)) lanes
     (all_room len room lanes (unused_open len room lanes all))

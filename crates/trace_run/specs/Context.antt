@@ -29,6 +29,7 @@ show_of words layout = record {
   order = layout.order;
   long = layout.commit_size;
   full = words.full;
+  diff = words.diff;
   latency = words.latency;
   raw = words.raw;
   no_hard = words.no_hard;

@@ -11,7 +11,6 @@ use Rattle.dat_header.specs.declared.header.Header.{Header}
 use Rattle.dat_header.specs.declared.header.Body.{Body}
 use Rattle.dat_header.specs.declared.header.Body.TheVariants.{Latency, Fly}
 use Rattle.dat_header.specs.Header.{header_of}
-use Rattle.report_print.specs.Line.{line}
 use Rattle.report_rounds.specs.Due.{due_bytes}
 use Rattle.trace_run.specs.declared.list.Listed.{Listed}
 use Rattle.trace_run.specs.declared.status.Status.{Status}
@@ -21,7 +20,7 @@ use Rattle.trace_run.specs.Job.{FileCommand, Report, Dump, Split, Job, OnFile, S
 use Rattle.trace_run.specs.Lists.{listed_in}
 use Rattle.trace_run.specs.Meaning.{input_of}
 use Rattle.trace_run.specs.Outside.{Outside}
-use Rattle.trace_run.specs.Report.{Events, cpus_line, listed_events}
+use Rattle.trace_run.specs.Report.{Events, cpus_line, item_line, listed_events}
 use Rattle.trace_run.specs.Selection.{chosen, set_or_all}
 use Rattle.trace_run.specs.Split.{taken_of}
 
@@ -96,7 +95,7 @@ behind_first cpus written =
 -- the bytes of the sub-buffers that are due once a report of events wrote this
 abbrev pub due_of : Events → List ℕ → ℕ
 due_of events written =
-    due_bytes (line events.given) events.header.layout events.bytes events.parts (behind_first events.header.cpus written)
+    due_bytes (item_line events.given) events.header.layout events.bytes events.parts (behind_first events.header.cpus written)
 
 -- a text was written, and no more than so many bytes and those that are due by it were read
 abbrev pub ReadsDue : Events → ℕ → Progress → Progress → Type 0

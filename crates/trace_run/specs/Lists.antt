@@ -10,12 +10,12 @@ use Rattle.trace_run.specs.declared.list.Listed.{Listed}
 use Rattle.trace_run.specs.declared.list.Listed.TheVariants.{Names, Formats, Symbols, Printk}
 
 -- the list that words ask for, if they ask for one
-abbrev pub listed_in : Listing → Option Listed
-listed_in listing.Nothing = None
-listed_in listing.Names = Some Names
-listed_in listing.Formats = Some Formats
-listed_in listing.Symbols = Some Symbols
-listed_in listing.Printk = Some Printk
+abbrev pub listed_in : Option Listing → Option Listed
+listed_in None = None
+listed_in (Some listing.Names) = Some Names
+listed_in (Some listing.Formats) = Some Formats
+listed_in (Some listing.Symbols) = Some Symbols
+listed_in (Some listing.Printk) = Some Printk
 
 abbrev pub list_text : List EventFormat → Maps → Listed → List ℕ
 list_text formats symbols Names = names_list formats

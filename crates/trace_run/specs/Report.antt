@@ -6,9 +6,11 @@ use Rattle.trace_base.specs.declared.part.Part.{Part}
 use Rattle.dat_header.specs.declared.header.Header.{Header}
 use Rattle.dat_header.specs.declared.header.Body.{Body}
 use Rattle.dat_header.specs.declared.header.Body.TheVariants.{Latency, Fly}
+use Rattle.line_holes.specs.Holes.{LineText, filled_lines, line_text}
+use Rattle.subpage.specs.ItemData.{ItemData}
 use Rattle.subpage.specs.Arrangement.{Keyed}
 use Rattle.report_print.specs.Given.{Given}
-use Rattle.report_print.specs.Line.{line}
+use Rattle.report_print.specs.Line.{hole, line}
 use Rattle.trace_args.specs.Command.{ReportData}
 use Rattle.trace_run.specs.Context.{context_of}
 use Rattle.trace_run.specs.declared.list.Listed.{Listed}
@@ -19,13 +21,18 @@ use Rattle.trace_run.specs.Text.{text}
 abbrev pub cpus_line : ℕ → List ℕ
 cpus_line cpus = text (codes "cpus=" ∷ decimal cpus ∷ codes "\n" ∷ [])
 
--- the line of an item in its place
-abbrev pub entry_line : Given → Keyed → List ℕ
-entry_line given keyed = line given keyed.cpu keyed.item
+-- the line of an item, with its hole
+abbrev pub item_line : Given → ℕ → ItemData → LineText
+item_line given cpu item = line_text (line given cpu item) (hole given cpu item)
 
--- the pieces of a report of these items: a line for each behind the first line
+-- the line of an item in its place
+abbrev pub entry_line : Given → Keyed → LineText
+entry_line given keyed = item_line given keyed.cpu keyed.item
+
+-- the pieces of a report of these items: behind the first line one for each, its line filled from the last one before it
+-- that has a hole
 abbrev pub report_pieces : ℕ → Given → List Keyed → List (List ℕ)
-report_pieces cpus given items = cpus_line cpus ∷ map (entry_line given) items
+report_pieces cpus given items = cpus_line cpus ∷ filled_lines None (map (entry_line given) items)
 
 -- A report of events: what its lines stand on, the parts that it shows with their processors, and the file's header and
 -- bytes.

@@ -5,7 +5,6 @@ use Rattle.std.specs.Prelude.{None, ℕ, false, List, []}
 use Rattle.std.specs.List.{enumerate_from}
 use Rattle.subpage.specs.Arrangement.{Keyed, arranged}
 use Rattle.trace_args.specs.Command.{ReportData, SelfData}
-use Rattle.word_values.specs.declared.listing.Listing.TheVariants.{Nothing}
 use Rattle.trace_gen.specs.Generated.{lists_of}
 use Rattle.trace_gen.specs.GeneratedHeader.{header_but_parts}
 use Rattle.trace_gen.specs.Summary.{summary_line}
@@ -19,12 +18,13 @@ plain_report = record {
   input = [];
   filters = [];
   full = false;
+  diff = false;
   latency = false;
   raw = false;
   raw_events = [];
   no_hard = false;
   no_soft = false;
-  list = Nothing;
+  list = None;
   cpus = None;
   workers = 1;
 }

@@ -70,6 +70,7 @@ fn show_by(alloc: Global, words: &ReportWords<'_>, layout: &Layout) -> Result<Sh
         order: layout.order,
         long: layout.commit_size,
         full: words.full,
+        diff: words.diff,
         latency: words.latency,
         raw: words.raw,
         no_hard: words.no_hard,

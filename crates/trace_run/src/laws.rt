@@ -1,17 +1,20 @@
 // Laws of this crate's definitions. Each is the contract of a function that does nothing.
 
-ghost use Rattle.std.specs.Prelude.{Ok, ◌≡◌, ◌≤◌, ◌^◌, List, Option, ℕ, length};
+ghost use Rattle.std.specs.Prelude.{Ok, ◌≡◌, ◌≤◌, ◌^◌, ◌∷◌, List, Option, map, ℕ, length};
 ghost use Rattle.trace_base.specs.declared.part.Part.{Part};
 ghost use Rattle.dat_options.specs.Place.{AreBytes};
 ghost use Rattle.dat_header.specs.declared.header.Body.{Body};
 ghost use Rattle.dat_header.specs.declared.header.Header.{Header};
 ghost use Rattle.dat_header.specs.Header.{header_of};
 ghost use Rattle.dat_header.specs.Written.{without_instances};
-ghost use Rattle.subpage.specs.Arrangement.{CpusRise};
+ghost use Rattle.line_holes.specs.Places.{AreFilled};
+ghost use Rattle.subpage.specs.Arrangement.{CpusRise, Keyed};
+ghost use Rattle.report_print.specs.Given.{Given};
 ghost use Rattle.trace_args.specs.Command.{SplitData};
 ghost use Rattle.split_tool.specs.NewFiles.{ReadBack};
 ghost use Rattle.trace_run.specs.Job.{Split};
 ghost use Rattle.trace_run.specs.Meaning.{input_means};
+ghost use Rattle.trace_run.specs.Report.{cpus_line, entry_line, report_pieces};
 ghost use Rattle.trace_run.specs.Selection.{Selection, chosen};
 ghost use Rattle.trace_run.specs.Split.{split_items, taken_of};
 
@@ -29,4 +32,11 @@ pub fn split_files_read_back()
     ensures { (words : SplitData) (header : Header) (bytes : List ℕ)
         → AreBytes bytes → header_of bytes ≡ Ok header → length bytes ≤ 2 ^ 39
         → ReadBack (without_instances header) (split_items words header bytes) (input_means (Split words) bytes).files }
+{}
+
+/// The pieces of a report are its first line and the lines of its items, each filled by the time of the last item before it whose
+/// line has a hole; and no other pieces are.
+pub fn differences_by_places()
+    ensures { (cpus : ℕ) (given : Given) (items : List Keyed) (lines : List (List ℕ))
+        → AreFilled (map (entry_line given) items) lines → cpus_line cpus ∷ lines ≡ report_pieces cpus given items }
 {}

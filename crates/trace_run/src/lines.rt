@@ -2,8 +2,7 @@
 
 ghost use Rattle.std.specs.Prelude.{◌≡◌};
 ghost use Rattle.trace_outside.specs.Pending.{PutsText, on_way};
-ghost use Rattle.report_print.specs.Line as spec;
-ghost use Rattle.trace_run.specs.Report.{cpus_line};
+ghost use Rattle.trace_run.specs.Report.{cpus_line, item_line};
 
 use cpu_workers::Form;
 use itoa::Buffer;
@@ -30,9 +29,9 @@ pub(crate) struct ItemLines {
 }
 
 impl Form for ItemLines {
-    ghost text = { λ lines cpu item. spec.line lines.context cpu item };
+    ghost text = { λ lines cpu item. item_line lines.context cpu item };
 
-    fn line(&self, cpu: u32, item: &Item<'_>, into: &mut Tail<'_>) -> u32 {
+    fn line(&self, cpu: u32, item: &Item<'_>, into: &mut Tail<'_>) -> (u32, Option<(u32, u64)>) {
         line(&self.context, cpu, item, into)
     }
 }

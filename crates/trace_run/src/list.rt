@@ -29,15 +29,15 @@ pub(crate) enum Listed {
 }
 
 /// The list that words ask for, if they ask for one.
-pub(crate) fn listed_in(list: Listing) -> Option<Listed>
+pub(crate) fn listed_in(list: Option<Listing>) -> Option<Listed>
     ensures { result ≡ listed_in list }
 {
     match list {
-        Listing::Nothing => None,
-        Listing::Names => Some(Listed::Names),
-        Listing::Formats => Some(Listed::Formats),
-        Listing::Symbols => Some(Listed::Symbols),
-        Listing::Printk => Some(Listed::Printk),
+        None => None,
+        Some(Listing::Names) => Some(Listed::Names),
+        Some(Listing::Formats) => Some(Listed::Formats),
+        Some(Listing::Symbols) => Some(Listed::Symbols),
+        Some(Listing::Printk) => Some(Listed::Printk),
     }
 }
 

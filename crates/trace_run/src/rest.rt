@@ -2,6 +2,7 @@
 
 ghost use Rattle.std.specs.Prelude.{◌≡◌, ◌≤◌, ◌<◌, ◌+◌, ◌-◌, length, IsErrOf};
 ghost use Rattle.trace_outside.specs.Causes.{Rose, raised};
+ghost use Rattle.trace_outside.specs.Keeping.{KeepsFile, KeepsSink};
 ghost use Rattle.trace_run.specs.Rest.{Copies};
 
 use trace_outside::{Failed, File, Sink, read_all, write_all};
@@ -28,10 +29,8 @@ pub(crate) fn copy_rest<F: File, O: Sink>(
     ensures read { IsErrOf result CopyFault.Read → Rose (F.faults file.old) (F.faults file.new) }
     ensures write { IsErrOf result CopyFault.Write → Rose (O.faults out.old) (O.faults out.new) }
     ensures reads { F.reads file.new ≤ raised (F.reads file.old) (F.size file.old - at) }
-    ensures later { F.faults file.old ≤ F.faults file.new }
-    ensures later_out { O.faults out.old ≤ O.faults out.new }
-    ensures bytes { F.bytes file.new ≡ F.bytes file.old }
-    ensures size { F.size file.new ≡ F.size file.old }
+    ensures keeps_out { KeepsSink O.Sink out.old out.new }
+    ensures keeps { KeepsFile F.File file.old file.new }
 {
     let size = file.len();
     let mut place = at;
@@ -55,10 +54,8 @@ fn copy_piece<F: File, O: Sink>(
     ensures read { IsErrOf result CopyFault.Read → Rose (F.faults file.old) (F.faults file.new) }
     ensures write { IsErrOf result CopyFault.Write → Rose (O.faults out.old) (O.faults out.new) }
     ensures reads { F.reads file.new ≤ raised (F.reads file.old) (length piece.new) }
-    ensures later { F.faults file.old ≤ F.faults file.new }
-    ensures later_out { O.faults out.old ≤ O.faults out.new }
-    ensures bytes { F.bytes file.new ≡ F.bytes file.old }
-    ensures size { F.size file.new ≡ F.size file.old }
+    ensures keeps_out { KeepsSink O.Sink out.old out.new }
+    ensures keeps { KeepsFile F.File file.old file.new }
 {
     match read_all(file, at, piece) {
         Ok(()) => {}

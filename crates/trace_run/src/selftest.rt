@@ -18,7 +18,6 @@ use trace_args::{ReportWords, SelfWords};
 use trace_base::ByteText;
 use trace_gen::{generate, summary_line};
 use trace_outside::{Failed, Gate, MemSink, Sink, write_all};
-use word_values::Listing;
 
 /// Prints the line of a self-test. No file of a folder is opened.
 pub(crate) fn print_self_test<R: Threads + Sync, O: Sink, G: Gate>(
@@ -87,12 +86,13 @@ fn plain_words(alloc: Global, workers: u32) -> ReportWords<'static>
         input: "",
         filters: Vec::new(alloc),
         full: false,
+        diff: false,
         latency: false,
         raw: false,
         raw_events: Vec::new(alloc),
         no_hard: false,
         no_soft: false,
-        list: Listing::Nothing,
+        list: None,
         cpus: None,
         workers,
     }

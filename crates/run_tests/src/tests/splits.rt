@@ -1,16 +1,15 @@
 // Splits, whose new files are reported, and splits over folders that fail.
 
-use super::disk::Disk;
 use super::{
-    Carried, Input, MALFORMED_FIRST, MALFORMED_LATER, ONE, Page, Record, bytes_of, ends_as,
-    folder_of, outcome_of, words_of,
+    Carried, Input, MALFORMED_FIRST, MALFORMED_LATER, ONE, Page, Record, ends_as, folder_of,
+    outcome_of, words_of,
 };
 use dat_header::OpenFault;
 use std::alloc::Global;
 use std::process::Abort;
 use std::test::Fail;
 use std::thread::Threads;
-use trace_outside::{MemFolder, NoGate};
+use trace_outside::{MemFault, MemFolder, NoGate};
 use trace_run::Status;
 
 struct Row {
@@ -287,36 +286,44 @@ fn splits(rt: HostRuntime) -> Result<(), Fail> {
     Ok(())
 }
 
-/// The first place at which a disk fails to be read, whether files can be created there, and what comes of a split.
-const DISKS: &[(u64, bool, Status, &str)] = &[
+/// The fault of the folder, and what comes of a split.
+const FAULTS: &[(MemFault, Status, &str)] = &[
     (
-        4096,
-        true,
+        MemFault::ReadAt(4096),
         Status::ReadFault,
         "trace-cmd: trace.dat: read failed\n",
     ),
-    (8192, false, Status::WriteFault, "trace-cmd: write failed\n"),
-    (8192, true, Status::WriteFault, "trace-cmd: write failed\n"),
+    (
+        MemFault::Create(1),
+        Status::WriteFault,
+        "trace-cmd: write failed\n",
+    ),
+    (
+        MemFault::Finish(1),
+        Status::WriteFault,
+        "trace-cmd: write failed\n",
+    ),
 ];
 
 fn fails_as<R: Alloc<A = Global> + Abort + Threads + Sync>(
     rt: &R,
-    from: u64,
-    creates: bool,
+    fault: MemFault,
     status: Status,
     err: &str,
 ) -> Result<(), Fail> {
     let alloc = rt.alloc();
     let words = words_of(alloc, &["split"])?;
-    let mut disk = Disk::new(alloc, bytes_of(alloc, &ONE)?, from, creates);
-    ends_as(rt, &words, &mut disk, (status, "", err));
+    let mut folder = folder_of(alloc, &ONE)?;
+    folder.fail(fault);
+    ends_as(rt, &words, &mut folder, (status, "", err));
+    assert!(rt; folder.get("trace.dat.1").is_none());
     Ok(())
 }
 
 #[test]
 fn failing_splits(rt: HostRuntime) -> Result<(), Fail> {
-    for (from, creates, status, err) in DISKS {
-        fails_as(&rt, *from, *creates, *status, err)?;
+    for (fault, status, err) in FAULTS {
+        fails_as(&rt, *fault, *status, err)?;
     }
     Ok(())
 }

@@ -7,17 +7,17 @@ use Rattle.trace_run.proofs.command.run_on_file.Goals as goal
 
 pub run_on_header-requires-clause-read : goal.run_on_header-requires-clause-read
 run_on_header-requires-clause-read g c κs live =
-    subst (λ (told : Option (List ℕ)). ReadsHeader told (Ok c.in-Ok.header)) (sym c.read_header.ensures.bytes) c.in-Ok.ensures.answer
+    subst (λ (told : Option (List ℕ)). ReadsHeader told (Ok c.in-Ok.header)) (sym c.read_header.ensures.keeps.bytes) c.in-Ok.ensures.answer
 
 pub returns-in-Ok-clause-worked : goal.returns-in-Ok-clause-worked
 returns-in-Ok-clause-worked g c =
-    behind_header (command_view c.args.command.now) c.in-Ok.header _ _ _ _ c.run_on_header.result _ _ c.read_header.ensures.bytes c.in-Ok.ensures.answer
-    (λ rose. omega (arith, c.read_header.ensures.later, rose)) c.run_on_header.ensures.worked
+    behind_header (command_view c.args.command.now) c.in-Ok.header _ _ _ _ c.run_on_header.result _ _ c.read_header.ensures.keeps.bytes c.in-Ok.ensures.answer
+    (λ rose. omega (arith, c.read_header.ensures.keeps.later, rose)) c.run_on_header.ensures.worked
 
 pub returns-in-Ok-clause-reads : goal.returns-in-Ok-clause-reads
 returns-in-Ok-clause-reads g c =
-    let long = subst (λ (n : ℕ). IfSome (g.F.In.File.bytes c.args.file.now) (λ bytes. length bytes ≡ n)) (sym c.read_header.ensures.size) (g.met.F.In.File.size_is c.args.file.now) in
-    read_behind_header (command_view c.args.command.now) c.in-Ok.header _ _ _ _ c.run_on_header.result _ _ _ _ c.read_header.ensures.bytes long c.in-Ok.ensures.answer
+    let long = subst (λ (n : ℕ). IfSome (g.F.In.File.bytes c.args.file.now) (λ bytes. length bytes ≡ n)) (sym c.read_header.ensures.keeps.size) (g.met.F.In.File.size_is c.args.file.now) in
+    read_behind_header (command_view c.args.command.now) c.in-Ok.header _ _ _ _ c.run_on_header.result _ _ _ _ c.read_header.ensures.keeps.bytes long c.in-Ok.ensures.answer
     c.in-Ok.ensures.reads c.run_on_header.ensures.reads c.run_on_header.ensures.due
 
 pub returns-in-Err-Read-clause-worked : goal.returns-in-Err-Read-clause-worked

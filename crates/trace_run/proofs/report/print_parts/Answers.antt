@@ -4,6 +4,7 @@ use Rattle.trace_base.specs.declared.part.Part.{Part}
 use Rattle.trace_outside.specs.Causes.{Rose, raised}
 use Rattle.trace_args.specs.Command.{report_view}
 use Rattle.subpage.specs.Arrangement.{CpusRise}
+use Rattle.report_print.proofs.TimeEnds.{no_hole}
 use Rattle.trace_run.specs.Report.{parts_events}
 use Rattle.trace_run.specs.Meaning.{events_report}
 use Rattle.trace_run.specs.Outside.{sink_seen}
@@ -27,6 +28,9 @@ report_rounds-requires-clause-start g c κs live =
 pub report_rounds-requires-clause-room : goal.report_rounds-requires-clause-room
 report_rounds-requires-clause-room g c κs live =
     unused_room c.in-Ok.context _ _ _ (c.set_lanes.ensures.unused _ _ (new_unused _ _ _ _ c.lanes-lanes.ensures.value c.in-Ok-Ok.ensures.lanes)) (omega arith)
+
+pub report_rounds-requires-clause-shown : goal.report_rounds-requires-clause-shown
+report_rounds-requires-clause-shown g c κs live = λ cpu item none. no_hole c.in-Ok.context cpu item none
 
 pub report_rounds-requires-clause-rise : goal.report_rounds-requires-clause-rise
 report_rounds-requires-clause-rise g c κs live =

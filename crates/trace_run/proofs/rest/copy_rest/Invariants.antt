@@ -1,5 +1,6 @@
-use Rattle.std.proofs.Common.{◌≡◌, ◌≤◌, ◌-◌}
+use Rattle.std.proofs.Common.{◌≤◌, ◌-◌}
 use Rattle.trace_outside.specs.Causes.{raised}
+use Rattle.trace_outside.specs.Keeping.{KeepsFile, KeepsSink}
 use Rattle.trace_run.specs.Rest.{Copied}
 use Rattle.trace_run.proofs.rest.copy_rest.Given as goal
 
@@ -9,10 +10,8 @@ invariant-loop-place g l = record {
   below : l.place ≤ g.F.File.size l.initial.file;
   copied : Copied (g.F.File.bytes l.initial.file) l.at (l.place - l.at) (g.O.Sink.written l.initial.out) (g.O.Sink.written l.out);
   reads : g.F.File.reads l.file ≤ raised (g.F.File.reads l.initial.file) (l.place - l.at);
-  bytes : g.F.File.bytes l.file ≡ g.F.File.bytes l.initial.file;
-  size : g.F.File.size l.file ≡ g.F.File.size l.initial.file;
-  later : g.F.File.faults l.initial.file ≤ g.F.File.faults l.file;
-  later_out : g.O.Sink.faults l.initial.out ≤ g.O.Sink.faults l.out;
+  keeps : KeepsFile g.F.File l.initial.file l.file;
+  keeps_out : KeepsSink g.O.Sink l.initial.out l.out;
 }
 
 abbrev pub decreases-loop-place : goal.decreases-loop-place

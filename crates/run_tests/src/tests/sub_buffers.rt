@@ -1,0 +1,223 @@
+// Runs over files whose sub-buffers have several pages.
+
+use super::{HEADER, ends_as, put_common, put_head, words_of};
+use dat_header::OpenFault;
+use std::alloc::{AllocError, Global};
+use std::process::Abort;
+use std::test::Fail;
+use std::thread::Threads;
+use trace_outside::MemFolder;
+use trace_run::Status;
+
+/// A file of pages of 4,096 bytes and one processor.
+#[derive(Drop)]
+struct Trace {
+    /// How many bytes of data a sub-buffer has, as the header_page text says it. They stand behind 16 bytes.
+    data: u32,
+    /// How many sub-buffers stand in the file from its second page on: each has an event of 5,000 bytes of pid 7, the first at
+    /// one second, and each other one a second behind the last.
+    count: u64,
+    /// How many bytes the table says that they have.
+    size: u64,
+}
+
+struct Row {
+    words: &'static [&'static str],
+    trace: Trace,
+    status: Status,
+    out: &'static str,
+    err: &'static str,
+}
+
+const ROWS: &[Row] = &[
+    Row {
+        words: &["report"],
+        trace: Trace {
+            data: 8_176,
+            count: 1,
+            size: 8_192,
+        },
+        status: Status::Done,
+        out: "cpus=1\n           <...>-7     [000]     1.000000: [UNKNOWN EVENT 58]\n",
+        err: "",
+    },
+    Row {
+        words: &["report"],
+        trace: Trace {
+            data: 262_128,
+            count: 2,
+            size: 524_288,
+        },
+        status: Status::Done,
+        out: "cpus=1\n           <...>-7     [000]     1.000000: [UNKNOWN EVENT 58]\n           <...>-7     [000]     2.000000: [UNKNOWN EVENT 58]\n",
+        err: "",
+    },
+    // no power of two, and less than a page
+    Row {
+        words: &["report"],
+        trace: Trace {
+            data: 12_272,
+            count: 1,
+            size: 12_288,
+        },
+        status: Status::Refused(OpenFault::BadHeaderPage(38)),
+        out: "",
+        err: "trace-cmd: trace.dat: bad header_page at byte 38\n",
+    },
+    Row {
+        words: &["report"],
+        trace: Trace {
+            data: 2_032,
+            count: 1,
+            size: 8_192,
+        },
+        status: Status::Refused(OpenFault::BadHeaderPage(38)),
+        out: "",
+        err: "trace-cmd: trace.dat: bad header_page at byte 38\n",
+    },
+    // a part that ends within its first sub-buffer, and one that ends within its second
+    Row {
+        words: &["report"],
+        trace: Trace {
+            data: 8_176,
+            count: 1,
+            size: 4_096,
+        },
+        status: Status::Malformed { cpu: 0, page: 0 },
+        out: "cpus=1\n",
+        err: "trace-cmd: trace.dat: malformed sub-page 0 of processor 0\n",
+    },
+    Row {
+        words: &["report", "--workers", "3"],
+        trace: Trace {
+            data: 8_176,
+            count: 2,
+            size: 12_288,
+        },
+        status: Status::Malformed { cpu: 0, page: 1 },
+        out: "cpus=1\n           <...>-7     [000]     1.000000: [UNKNOWN EVENT 58]\n",
+        err: "trace-cmd: trace.dat: malformed sub-page 1 of processor 0\n",
+    },
+    Row {
+        words: &["dump", "--validate", "--flyrecord"],
+        trace: Trace {
+            data: 8_176,
+            count: 2,
+            size: 16_384,
+        },
+        status: Status::Done,
+        out: "[flyrecord 1]\ncpu 0 offset 4096 size 16384\nvalid\n",
+        err: "",
+    },
+];
+
+fn put_sub_buffer(file: &mut Vec<u8>, size: usize, seconds: u64) -> Result<(), Fail> {
+    let end = file.len().saturating_add(size);
+    file.extend_from_slice(&seconds.wrapping_mul(1_000_000_000).to_le_bytes())?;
+    file.extend_from_slice(&5_008u64.to_le_bytes())?;
+    put_head(file, 0, 0)?;
+    file.extend_from_slice(&5_004u32.to_le_bytes())?;
+    put_common(file, 58, 0, 0, 7)?;
+    file.resize(end, 0)?;
+    Ok(())
+}
+
+fn header_page(alloc: Global, data: u32) -> Result<String, AllocError> {
+    format!(in alloc;
+        "\tfield: u64 timestamp;\toffset:0;\tsize:8;\tsigned:0;
+\tfield: local_t commit;\toffset:8;\tsize:8;\tsigned:1;
+\tfield: int overwrite;\toffset:8;\tsize:1;\tsigned:1;
+\tfield: char data;\toffset:16;\tsize:{data};\tsigned:0;\n"
+    )
+}
+
+fn put_header(alloc: Global, trace: &Trace) -> Result<Vec<u8>, Fail> {
+    let header: &[u8] = HEADER;
+    let text = header_page(alloc, trace.data)?;
+    let mut file = header[..30].to_vec(alloc)?;
+    file.extend_from_slice(&(text.len() as u64).to_le_bytes())?;
+    file.extend_from_slice(text.as_bytes())?;
+    file.extend_from_slice(&header[38..83])?;
+    file.extend_from_slice(b"\x01\0\0\0flyrecord\0")?;
+    file.extend_from_slice(&4_096u64.to_le_bytes())?;
+    file.extend_from_slice(&trace.size.to_le_bytes())?;
+    file.resize(4_096, 0)?;
+    Ok(file)
+}
+
+/// A folder that has the file under the name trace.dat.
+fn folder_of(alloc: Global, trace: &Trace) -> Result<MemFolder, Fail> {
+    let mut file = put_header(alloc, trace)?;
+    for index in 0..trace.count {
+        let size = (trace.data as usize).saturating_add(16);
+        put_sub_buffer(&mut file, size, index.wrapping_add(1))?;
+    }
+    let mut folder = MemFolder::new(alloc);
+    folder.put("trace.dat", &file)?;
+    Ok(folder)
+}
+
+fn runs_as<R: Alloc<A = Global> + Abort + Threads + Sync>(rt: &R, row: &Row) -> Result<(), Fail> {
+    let alloc = rt.alloc();
+    let words = words_of(alloc, row.words)?;
+    let mut folder = folder_of(alloc, &row.trace)?;
+    ends_as(rt, &words, &mut folder, (row.status, row.out, row.err));
+    Ok(())
+}
+
+#[test]
+fn sub_buffers_of_several_pages(rt: HostRuntime) -> Result<(), Fail> {
+    for row in ROWS {
+        runs_as(&rt, row)?;
+    }
+    Ok(())
+}
+
+/// Each new file's name, how many bytes it has, its table, and its report.
+const FILES: &[(&str, usize, &str, &str)] = &[
+    (
+        "part.1",
+        69_632,
+        "[flyrecord 1]\ncpu 0 offset 4096 size 65536\n",
+        "cpus=1\n           <...>-7     [000]     1.000000: [UNKNOWN EVENT 58]\n",
+    ),
+    (
+        "part.2",
+        69_632,
+        "[flyrecord 1]\ncpu 0 offset 4096 size 65536\n",
+        "cpus=1\n           <...>-7     [000]     2.000000: [UNKNOWN EVENT 58]\n",
+    ),
+];
+
+fn is_file<R: Alloc<A = Global> + Abort + Threads + Sync>(
+    rt: &R,
+    folder: &mut MemFolder,
+    expected: &(&str, usize, &str, &str),
+) -> Result<(), Fail> {
+    let alloc = rt.alloc();
+    let (name, size, table, report) = *expected;
+    assert!(rt; folder.get(name).is_some_and(|bytes| bytes.len() == size));
+    let words = words_of(alloc, &["dump", "--flyrecord", name])?;
+    ends_as(rt, &words, folder, (Status::Done, table, ""));
+    let words = words_of(alloc, &["report", name])?;
+    ends_as(rt, &words, folder, (Status::Done, report, ""));
+    Ok(())
+}
+
+/// New files begin their data with a page, and have the input's sub-buffers.
+#[test]
+fn a_split_keeps_the_size_of_sub_buffers(rt: HostRuntime) -> Result<(), Fail> {
+    let alloc = rt.alloc();
+    let trace = Trace {
+        data: 65_520,
+        count: 2,
+        size: 131_072,
+    };
+    let mut folder = folder_of(alloc, &trace)?;
+    let words = words_of(alloc, &["split", "-e", "1", "-r", "-o", "part"])?;
+    ends_as(&rt, &words, &mut folder, (Status::Done, "", ""));
+    for file in FILES {
+        is_file(&rt, &mut folder, file)?;
+    }
+    Ok(())
+}
