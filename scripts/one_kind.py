@@ -95,4 +95,5 @@ def main():
         file.write((head + struct.pack("<QQ", offset, len(data))).ljust(offset, b"\0") + data)
 
 
-main()
+if __name__ == "__main__":
+    main()
