@@ -3,6 +3,7 @@
 ghost use Rattle.std.specs.Prelude.{◌≡◌, ◌+◌, ◌<◌, ◌≤◌, ◌++◌, length, slice_index, drop, IfOk, IfSome, IsTrue};
 ghost use Rattle.std.specs.Char.{is_ascii_hexdigit, digit_value};
 ghost use Rattle.fmt_lexer.specs.Bytes.{is_octal};
+ghost use Rattle.fmt_literal.specs.Pushed.{GainedFront};
 ghost use Rattle.fmt_literal.specs.Escape.{named, octal, hexadecimal_in, three_in, two_in, one_in, escape, item, meant};
 ghost use Rattle.fmt_literal.specs.Views.{item_view};
 
@@ -154,10 +155,11 @@ pub fn item(first: u8, behind: &[u8]) -> Spelled
 ///
 /// # Errors
 ///
-/// Want of memory alone; then some of it may have been put there.
-#[tactic(auto, using(crate::proofs::Meant::meant_turn, crate::proofs::Meant::meant_done))]
+/// Want of memory alone; then the first of it may have been put there, and nothing else has changed.
+#[tactic(auto, using(crate::proofs::Pushing::grows_first, crate::proofs::Pushing::grows_more))]
 pub fn push_meant(into: &mut Vec<u8>, bytes: &[u8]) -> Result<(), AllocError>
-    ensures { IfOk result (λ _. into.new.items ≡ into.old.items ++ meant 0 bytes.now) }
+    ensures whole { IfOk result (λ _. into.new.items ≡ into.old.items ++ meant 0 bytes.now) }
+    ensures front { GainedFront into.old.items into.new.items (meant 0 bytes.now) }
 {
     let mut rest = bytes;
     while let Some((first, behind)) = rest.split_first() {

@@ -1,6 +1,7 @@
 //! Letters and texts.
 
 ghost use Rattle.std.specs.Prelude.{◌≡◌, ◌++◌, ◌<◌, ◌≤◌, List, ℕ, IfOk, IfSome, IfNone};
+ghost use Rattle.fmt_literal.specs.Pushed.{GainedFront};
 ghost use Rattle.fmt_literal.specs.Quoted.{inside, text_of, letter_of, IsTextOf, IsLetterOf};
 
 use crate::escape::{item, push_meant};
@@ -44,10 +45,11 @@ pub fn letter(spelling: &[u8]) -> Option<u8>
 ///
 /// # Errors
 ///
-/// Want of memory alone; then some of the text may have been put there.
-#[tactic(auto, unfolding(crate::specs::Quoted::text_of))]
+/// Want of memory alone; then the first bytes of the text may have been put there. What was there still stands in front.
+#[tactic(auto, unfolding(crate::specs::Quoted::text_of), using(crate::proofs::Pushing::front_of_text))]
 pub fn push_text(into: &mut Vec<u8>, spelling: &[u8]) -> Result<(), AllocError>
-    ensures { IfOk result (λ _. into.new.items ≡ into.old.items ++ text_of spelling.now) }
+    ensures whole { IfOk result (λ _. into.new.items ≡ into.old.items ++ text_of spelling.now) }
+    ensures front { GainedFront into.old.items into.new.items (text_of spelling.now) }
 {
     push_meant(into, inside(spelling))
 }

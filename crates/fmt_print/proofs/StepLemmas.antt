@@ -11,15 +11,11 @@ use Rattle.waiting_text.proofs.Gathering.{joined_twice, nothing_joined}
 use Rattle.fmt_directives.specs.Directives.{IsWithin}
 use Rattle.fmt_directives.specs.declared.directive.Directive.{Directive}
 use Rattle.fmt_expr.specs.Tree.{Tree}
-use Rattle.fmt_print.specs.declared.printer.Printer.{Printer}
 use Rattle.fmt_print.specs.declared.step.Literal.{Literal}
 use Rattle.fmt_print.specs.declared.step.Shown.{Shown}
 use Rattle.fmt_print.specs.declared.step.Step.{Step}
-use Rattle.fmt_print.specs.ArgumentView.{trees}
 use Rattle.fmt_print.specs.Printed.{Source, printed}
-use Rattle.fmt_print.specs.Shows.{source, Prints}
 use Rattle.fmt_print.specs.Steps.{literal_directive, literal_text, shown_directive, directives_of, IsPlaced, printed_some, printed_step}
-use Rattle.fmt_print.proofs.Showing.{from_is, left_is, so_far_is}
 
 -- steps that were made of the first of some directives
 abbrev made : Option Literal → Shown → Step
@@ -56,23 +52,21 @@ module _ (s : Source) where
       ∙ ap (λ (l : List ℕ). literal_text s.text step.literal ++ l) (shown_first (shown_directive step.shown) ds args)
       ∙ sym (append_assoc (literal_text s.text step.literal) behind.0 (printed s ds behind.1))
 
-  pub printed_more : (r : Gathered) (p q : Printer) (t u : Tail) (steps : List Step) (i : ℕ) (d : Step) → i < length steps → source p ≡ s → Prints p t q u (printed_step (source p) (get_or steps i d) (trees p.args.now))
-      → joined (gathered p.waiting t) (printed s (flat_map directives_of (drop i steps)) (trees p.args.now)) ≡ r → joined (gathered q.waiting u) (printed s (flat_map directives_of (drop (i + 1) steps)) (trees q.args.now)) ≡ r
-  printed_more r p q t u steps i d lt from prints before =
-      let one : Source → List ℕ × List Tree = λ x. printed_step x (get_or steps i d) (trees p.args.now) in
-      let so_far = gathered p.waiting t in
+  pub printed_more : (r so_far next : Gathered) (steps : List Step) (i : ℕ) (d : Step) (args left : List Tree) → i < length steps → next ≡ joined so_far (printed_step s (get_or steps i d) args).0 → left ≡ (printed_step s (get_or steps i d) args).1
+      → joined so_far (printed s (flat_map directives_of (drop i steps)) args) ≡ r → joined next (printed s (flat_map directives_of (drop (i + 1) steps)) left) ≡ r
+  printed_more r so_far next steps i d args left lt shown rest before =
+      let one : List ℕ × List Tree = printed_step s (get_or steps i d) args in
       let behind = flat_map directives_of (drop (i + 1) steps) in
-      ap (λ (g : Gathered). joined g (printed s behind (trees q.args.now))) (so_far_is p q t u (one (source p)).0 (one (source p)).1 prints)
-      ∙ ap (λ (l : List Tree). joined (joined so_far (one (source p)).0) (printed s behind l)) (left_is p q t u (one (source p)).0 (one (source p)).1 prints)
-      ∙ joined_twice so_far (one (source p)).0 (printed s behind (one (source p)).1)
-      ∙ ap (λ (x : Source). joined so_far ((one x).0 ++ printed s behind (one x).1)) from
-      ∙ ap (joined so_far) (sym (step_first (get_or steps i d) behind (trees p.args.now)))
-      ∙ ap (λ (es : List Step). joined so_far (printed s (flat_map directives_of es) (trees p.args.now))) (sym (drop_more steps i d lt))
+      ap (λ (g : Gathered). joined g (printed s behind left)) shown
+      ∙ ap (λ (l : List Tree). joined (joined so_far one.0) (printed s behind l)) rest
+      ∙ joined_twice so_far one.0 (printed s behind one.1)
+      ∙ ap (joined so_far) (sym (step_first (get_or steps i d) behind args))
+      ∙ ap (λ (es : List Step). joined so_far (printed s (flat_map directives_of es) args)) (sym (drop_more steps i d lt))
       ∙ before
 
-  pub printed_all : (r : Gathered) (p : Printer) (t : Tail) (steps : List Step) (i : ℕ) → length steps ≤ i → joined (gathered p.waiting t) (printed s (flat_map directives_of (drop i steps)) (trees p.args.now)) ≡ r → gathered p.waiting t ≡ r
-  printed_all r p t steps i le before =
-      nothing_joined p.waiting t ∙ ap (λ (es : List Step). joined (gathered p.waiting t) (printed s (flat_map directives_of es) (trees p.args.now))) (sym (drop_all i steps le)) ∙ before
+  pub printed_all : (r : Gathered) (waiting : List ℕ) (t : Tail) (steps : List Step) (i : ℕ) (args : List Tree) → length steps ≤ i → joined (gathered waiting t) (printed s (flat_map directives_of (drop i steps)) args) ≡ r → gathered waiting t ≡ r
+  printed_all r waiting t steps i args le before =
+      nothing_joined waiting t ∙ ap (λ (es : List Step). joined (gathered waiting t) (printed s (flat_map directives_of es) args)) (sym (drop_all i steps le)) ∙ before
 
 -- what holds of each directive holds of those of each step
 both_of : (P : Directive → Type 0) (a b : Option Directive) (ds : List Directive) → All P ((option_to_list a ++ option_to_list b) ++ ds) → (IfSome a P × IfSome b P) × All P ds

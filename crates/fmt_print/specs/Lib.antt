@@ -11,3 +11,4 @@ pub mod Steps
 pub mod Flows
 pub mod Contents
 pub mod Shows
+pub mod Sources

@@ -16,17 +16,34 @@ ghost use Rattle.fmt_print.specs.Addresses.{four_bytes, six_bytes, number_addres
 ghost use Rattle.fmt_print.specs.ArgumentView.{argument_tree, trees};
 ghost use Rattle.fmt_print.specs.Arguments.{taken, by};
 ghost use Rattle.fmt_print.specs.Printed.{bits_of, is_signed, number_text};
+ghost use Rattle.fmt_print.specs.Shows.{Shows};
+ghost use Rattle.fmt_print.specs.Steps.{plain_spec};
 ghost use Rattle.fmt_print.specs.Strings.{string_text};
+ghost use Rattle.fmt_directives.specs.declared.directive.Length.TheVariants as len;
 
-use crate::arguments::{Conversion, taken};
-use crate::flow::Flow;
-use crate::printer::Printer;
+use crate::argument::Argument;
+use crate::arguments::{first_of, taken};
+use crate::plan::PrintPlan;
+use crate::printer::{Flow, address, alone, cut, flowing, laid};
 use fmt_directives::{Base, Length, PointerForm, Spec};
 use fmt_eval::{Num, bytes, cast_bits, put_piece, put_text};
 use fmt_expr::{Expr, Kind};
 use fmt_forms::{Form, put_integer, written};
 use itoa::Buffer;
+use symbols::Symbols;
 use trace_base::{Rec, Tail, bytes_of, long_text_len, until_nul};
+use waiting_text::Waiting;
+
+/// The form of a conversion without a flag, a width and a precision.
+static PLAIN: Form = Form {
+    left: false,
+    zero: false,
+    plus: false,
+    space: false,
+    alternate: false,
+    width: 0,
+    precision: None,
+};
 
 /// What a conversion shows of its argument.
 #[derive(Clone, Copy)]
@@ -103,192 +120,334 @@ pub fn put_decimals(between: &[u8], bytes: &[u8], into: &mut Tail<'_>)
     }
 }
 
+/// Shows an integer in its width, with the marks and zeros that it asks for.
+#[inline(never)]
+fn formed(
+    base: Base,
+    form: &Form,
+    negative: bool,
+    n: u64,
+    waiting: &mut Waiting,
+    into: &mut Tail<'_>,
+)
+    ensures { Shows waiting.old into.old waiting.new into.new (integer_text base form.now negative n) }
+{
+    waiting.put_into(into);
+    put_integer(base, form, negative, n, into);
+}
+
+/// Shows a number that was cut to its length. Most are decimal and shown as they are.
+#[inline(always)]
+#[tactic(auto, using(fmt_forms::proofs::PlainLemmas::plain_signed, fmt_forms::proofs::PlainLemmas::plain_unsigned))]
+fn integer(base: Base, form: &Form, shown: Num, waiting: &mut Waiting, into: &mut Tail<'_>)
+    ensures { Shows waiting.old into.old waiting.new into.new (integer_text base form.now (int_lt (num_view shown).exact (pos 0)) (unsigned_abs (num_view shown).exact)) }
+{
+    let bare = form.width == 0 && form.precision.is_none();
+    let negative = shown.is_negative();
+    let n = shown.magnitude();
+    match base {
+        Base::Signed if bare && !form.plus && !form.space => waiting.decimal(negative, n, into),
+        Base::Unsigned if bare => waiting.decimal(false, n, into),
+        _ => formed(base, form, negative, n, waiting, into),
+    }
+}
+
+/// What is printed from.
+#[derive(Clone, Copy)]
+pub struct Printer<'a> {
+    pub plan: &'a PrintPlan,
+    pub rec: &'a Rec<'a>,
+    pub symbols: &'a Symbols,
+}
+
 impl<'a> Printer<'a> {
     ghost use Rattle.fmt_print.specs.Contents.{content_text};
-    ghost use Rattle.fmt_print.specs.Shows.{Shows, Prints, source};
-
-    /// Shows a decimal integer as it is.
-    #[inline(always)]
-    fn decimal(&mut self, negative: bool, n: u64, into: &mut Tail<'_>)
-        ensures { Shows self.old into.old self.new into.new (minus negative ++ decimal n) }
-    {
-        self.waiting.decimal(negative, n, into);
-    }
-
-    /// Shows an integer in its width, with the marks and zeros that it asks for.
-    fn formed(&mut self, base: Base, form: Form, negative: bool, n: u64, into: &mut Tail<'_>)
-        ensures { Shows self.old into.old self.new into.new (integer_text base form negative n) }
-    {
-        self.waiting.put_into(into);
-        put_integer(base, &form, negative, n, into);
-    }
-
-    /// Shows a number that was cut to its length. Most are decimal and shown as they are.
-    #[inline(always)]
-    #[tactic(auto, using(fmt_forms::proofs::PlainLemmas::plain_signed, fmt_forms::proofs::PlainLemmas::plain_unsigned))]
-    fn integer(&mut self, base: Base, form: Form, shown: Num, into: &mut Tail<'_>)
-        ensures { Shows self.old into.old self.new into.new (integer_text base form (int_lt (num_view shown).exact (pos 0)) (unsigned_abs (num_view shown).exact)) }
-    {
-        let bare = form.width == 0 && form.precision.is_none();
-        let negative = shown.is_negative();
-        let n = shown.magnitude();
-        match base {
-            Base::Signed if bare && !form.plus && !form.space => self.decimal(negative, n, into),
-            Base::Unsigned if bare => self.decimal(false, n, into),
-            _ => self.formed(base, form, negative, n, into),
-        }
-    }
+    ghost use Rattle.fmt_print.specs.Shows.{Shows};
+    ghost use Rattle.fmt_print.specs.Sources.{source};
 
     /// Shows a number of any length.
     #[inline(never)]
-    fn any_number(&mut self, base: Base, length: Length, of: Conversion<'_>, into: &mut Tail<'_>)
-        ensures { Shows self.old into.old self.new into.new (number_text (given self.old.rec.now) (source self.old).long length base of.entry.form (argument_tree of.entry.argument.now)) }
+    fn any_number(
+        &self,
+        base: Base,
+        length: Length,
+        form: &Form,
+        argument: &Argument,
+        waiting: &mut Waiting,
+        into: &mut Tail<'_>,
+    )
+        ensures { Shows waiting.old into.old waiting.new into.new (number_text (given self.now.rec.now) (source self.now).long length base form.now (argument_tree argument.now)) }
     {
         let bits = bits_of(length, self.plan.long());
-        let shown = cast_bits(bits, is_signed(base), of.argument.number(self.rec));
-        self.integer(base, of.form, shown, into);
+        let shown = cast_bits(bits, is_signed(base), argument.number(self.rec));
+        integer(base, form, shown, waiting, into);
     }
 
     /// Shows a number. Most are ints that are read from four bytes.
     #[inline(always)]
-    fn number(&mut self, base: Base, length: Length, of: Conversion<'_>, into: &mut Tail<'_>)
-        ensures { Shows self.old into.old self.new into.new (number_text (given self.old.rec.now) (source self.old).long length base of.entry.form (argument_tree of.entry.argument.now)) }
+    fn number(
+        &self,
+        base: Base,
+        length: Length,
+        form: &Form,
+        argument: &Argument,
+        waiting: &mut Waiting,
+        into: &mut Tail<'_>,
+    )
+        ensures { Shows waiting.old into.old waiting.new into.new (number_text (given self.now.rec.now) (source self.now).long length base form.now (argument_tree argument.now)) }
     {
-        match of.argument.half(self.rec) {
+        match argument.half(self.rec) {
             Some(half) if length == Length::Usual => {
-                self.integer(base, of.form, cast_bits(32, is_signed(base), half), into);
+                let shown = cast_bits(32, is_signed(base), half);
+                integer(base, form, shown, waiting, into);
             }
-            _ => self.any_number(base, length, of, into),
+            _ => self.any_number(base, length, form, argument, waiting, into),
         }
     }
 
-    /// Shows what `s` shows of any argument: of a number the printk format at that address, or else the number; of others
-    /// the text up to its first NUL.
+    /// Shows what `s` shows of any argument.
     #[inline(always)]
     #[tactic(auto, using(crate::proofs::Contents::string_of_number, crate::proofs::Contents::string_of_text, crate::proofs::Contents::string_of_bytes))]
-    fn any_text(&mut self, of: Conversion<'_>, into: &mut Tail<'_>)
-        ensures { Shows self.old into.old self.new into.new (string_text (given self.old.rec.now) self.old.symbols.now of.entry.form (argument_tree of.entry.argument.now)) }
+    fn any_text(&self, form: &Form, argument: &Argument, waiting: &mut Waiting, into: &mut Tail<'_>)
+        ensures { Shows waiting.old into.old waiting.new into.new (string_text (given self.now.rec.now) self.now.symbols.now form.now (argument_tree argument.now)) }
     {
         let rec = self.rec;
-        let symbols = self.symbols;
-        match of.argument.kind {
+        match argument.kind {
             Kind::Number => {
-                let address = of.argument.address(rec);
-                match symbols.printk_at(address) {
-                    Some(text) => self.cut(of.form, text, into),
-                    None => self.address(of.form, of.form.precision, address, into),
+                let n = argument.address(rec);
+                match self.symbols.printk_at(n) {
+                    Some(text) => cut(form, text, waiting, into),
+                    None => address(form, form.precision, n, waiting, into),
                 }
             }
             Kind::Text => {
-                let tree = of.argument.source(rec);
+                let tree = argument.source(rec);
                 match text_at_once(tree, rec) {
-                    Some(text) => self.cut(of.form, until_nul(text), into),
-                    None => self.flow(of.form, Flow::Text(tree, of.form.precision), into),
+                    Some(text) => cut(form, until_nul(text), waiting, into),
+                    None => flowing(form, Flow::Text(tree, form.precision), rec, waiting, into),
                 }
             }
-            Kind::Bytes => self.cut(of.form, until_nul(bytes(&of.argument.tree, rec)), into),
+            Kind::Bytes => cut(form, until_nul(bytes(&argument.tree, rec)), waiting, into),
         }
     }
 
     /// Shows what `s` shows of an argument. Most stand at a known place, and are shown as they are.
     #[inline(always)]
     #[tactic(auto, using(crate::proofs::Contents::placed_text))]
-    fn text(&mut self, of: Conversion<'_>, into: &mut Tail<'_>)
-        ensures { Shows self.old into.old self.new into.new (string_text (given self.old.rec.now) self.old.symbols.now of.entry.form (argument_tree of.entry.argument.now)) }
+    fn text(&self, form: &Form, argument: &Argument, waiting: &mut Waiting, into: &mut Tail<'_>)
+        ensures { Shows waiting.old into.old waiting.new into.new (string_text (given self.now.rec.now) self.now.symbols.now form.now (argument_tree argument.now)) }
     {
-        let bare = of.form.width == 0 && of.form.precision.is_none();
-        match of.argument.placed_text(self.rec) {
-            Some(text) if bare && text.len() >= 16 => self.front(text, long_text_len(text), into),
-            _ => self.any_text(of, into),
+        let bare = form.width == 0 && form.precision.is_none();
+        match argument.placed_text(self.rec) {
+            Some(text) if bare && text.len() >= 16 => {
+                waiting.front(text, long_text_len(text), into);
+            }
+            _ => self.any_text(form, argument, waiting, into),
         }
     }
 
     /// Shows what `p` shows of a number: the address, or the symbol that stands there.
     #[inline(always)]
     #[tactic(auto, using(fmt_forms::proofs::LaidLemmas::padded_alone))]
-    fn number_address(&mut self, show: PointerForm, form: Form, n: u64, into: &mut Tail<'_>)
-        ensures { Shows self.old into.old self.new into.new (padded form.left form.width (number_address show n self.old.symbols.now)) }
+    fn number_address(
+        &self,
+        show: PointerForm,
+        form: &Form,
+        n: u64,
+        waiting: &mut Waiting,
+        into: &mut Tail<'_>,
+    )
+        ensures { Shows waiting.old into.old waiting.new into.new (padded form.now.left form.now.width (number_address show n self.now.symbols.now)) }
     {
-        let symbols = self.symbols;
         match show {
-            PointerForm::Name => match symbols.name_at(n) {
-                Some((name, _)) => self.laid(form, name, b"", b"", into),
-                None => self.address(form, None, n, into),
+            PointerForm::Name => match self.symbols.name_at(n) {
+                Some((name, _)) => alone(form, name, waiting, into),
+                None => address(form, None, n, waiting, into),
             },
-            PointerForm::NameOffset => match symbols.name_at(n) {
+            PointerForm::NameOffset => match self.symbols.name_at(n) {
                 Some((name, behind)) => {
                     let mut buffer = [0; 64];
                     let digits = written(behind, false, false, &mut buffer);
-                    self.laid(form, name, b"+0x", digits, into);
+                    laid(form, name, b"+0x", digits, waiting, into);
                 }
-                None => self.address(form, None, n, into),
+                None => address(form, None, n, waiting, into),
             },
             PointerForm::Plain | PointerForm::Ip4 | PointerForm::Mac => {
-                self.address(form, None, n, into);
+                address(form, None, n, waiting, into);
             }
         }
     }
 
     /// Shows what `p` shows of bytes: the address of the network that they begin with, and else 0.
-    fn bytes_address(&mut self, show: PointerForm, form: Form, bytes: &[u8], into: &mut Tail<'_>)
-        ensures { Shows self.old into.old self.new into.new (padded form.left form.width (bytes_address show bytes.now)) }
+    fn bytes_address(
+        &self,
+        show: PointerForm,
+        form: &Form,
+        bytes: &[u8],
+        waiting: &mut Waiting,
+        into: &mut Tail<'_>,
+    )
+        ensures { Shows waiting.old into.old waiting.new into.new (padded form.now.left form.now.width (bytes_address show bytes.now)) }
     {
         match show {
-            PointerForm::Ip4 => self.flow(form, Flow::Ip4(bytes), into),
-            PointerForm::Mac => self.flow(form, Flow::Mac(bytes), into),
+            PointerForm::Ip4 => flowing(form, Flow::Ip4(bytes), self.rec, waiting, into),
+            PointerForm::Mac => flowing(form, Flow::Mac(bytes), self.rec, waiting, into),
             PointerForm::Plain | PointerForm::Name | PointerForm::NameOffset => {
-                self.address(form, None, 0, into);
+                address(form, None, 0, waiting, into);
             }
         }
     }
 
-    /// Shows what `p` shows of an argument. Of a text six bytes are enough.
+    /// Shows what `p` shows of a text, of which six bytes are enough.
+    #[inline(never)]
+    #[tactic(auto, using(crate::proofs::TextLemmas::first_six), unfolding(trace_base::specs::Kept::put))]
+    fn text_address(
+        &self,
+        show: PointerForm,
+        form: &Form,
+        tree: &Expr,
+        waiting: &mut Waiting,
+        into: &mut Tail<'_>,
+    )
+        ensures { Shows waiting.old into.old waiting.new into.new (padded form.now.left form.now.width (bytes_address show (text_of (given self.now.rec.now) (tree_of tree.now)))) }
+    {
+        let mut room = [0; 6];
+        let mut tail = Tail::new(&mut room);
+        put_text(tree, self.rec, &mut tail);
+        self.bytes_address(show, form, tail.kept(), waiting, into);
+    }
+
+    /// Shows what `p` shows of an argument.
     #[inline(always)]
-    #[tactic(auto, using(crate::proofs::Contents::address_of_number, crate::proofs::Contents::address_of_text, crate::proofs::Contents::address_of_bytes, crate::proofs::TextLemmas::first_six), unfolding(trace_base::specs::Kept::put))]
-    fn pointer(&mut self, show: PointerForm, of: Conversion<'_>, into: &mut Tail<'_>)
-        ensures { Shows self.old into.old self.new into.new (pointer_text show (given self.old.rec.now) self.old.symbols.now of.entry.form (argument_tree of.entry.argument.now)) }
+    #[tactic(auto, using(crate::proofs::Contents::address_of_number, crate::proofs::Contents::address_of_text, crate::proofs::Contents::address_of_bytes))]
+    fn pointer(
+        &self,
+        show: PointerForm,
+        form: &Form,
+        argument: &Argument,
+        waiting: &mut Waiting,
+        into: &mut Tail<'_>,
+    )
+        ensures { Shows waiting.old into.old waiting.new into.new (pointer_text show (given self.now.rec.now) self.now.symbols.now form.now (argument_tree argument.now)) }
     {
         let rec = self.rec;
-        match of.argument.kind {
-            Kind::Number => self.number_address(show, of.form, of.argument.address(rec), into),
-            Kind::Text => {
-                let mut room = [0; 6];
-                let mut tail = Tail::new(&mut room);
-                put_text(&of.argument.tree, rec, &mut tail);
-                self.bytes_address(show, of.form, tail.kept(), into);
+        match argument.kind {
+            Kind::Number => {
+                self.number_address(show, form, argument.address(rec), waiting, into);
             }
-            Kind::Bytes => self.bytes_address(show, of.form, bytes(&of.argument.tree, rec), into),
+            Kind::Text => self.text_address(show, form, &argument.tree, waiting, into),
+            Kind::Bytes => {
+                let bytes = bytes(&argument.tree, rec);
+                self.bytes_address(show, form, bytes, waiting, into);
+            }
         }
     }
 
     /// Shows what a conversion shows of its argument.
-    #[inline(always)]
-    #[tactic(auto, using(fmt_forms::proofs::LaidLemmas::padded_alone))]
-    fn content(&mut self, what: Content, of: Conversion<'_>, into: &mut Tail<'_>)
-        ensures { Shows self.old into.old self.new into.new (content_text (source self.old) what of.entry.form (argument_tree of.entry.argument.now)) }
+    fn content(
+        &self,
+        what: Content,
+        form: &Form,
+        argument: &Argument,
+        waiting: &mut Waiting,
+        into: &mut Tail<'_>,
+    )
+        ensures { Shows waiting.old into.old waiting.new into.new (content_text (source self.now) what form.now (argument_tree argument.now)) }
     {
         match what {
-            Content::Number(base, length) => self.number(base, length, of, into),
-            Content::Letter => {
-                let byte = (of.argument.address(self.rec) % 256) as u8;
-                self.laid(of.form, &[byte], b"", b"", into);
+            Content::Number(base, length) => {
+                self.number(base, length, form, argument, waiting, into);
             }
-            Content::Text => self.text(of, into),
-            Content::Pointer(show) => self.pointer(show, of, into),
+            Content::Letter => {
+                let byte = (argument.address(self.rec) % 256) as u8;
+                alone(form, &[byte], waiting, into);
+            }
+            Content::Text => self.text(form, argument, waiting, into),
+            Content::Pointer(show) => self.pointer(show, form, argument, waiting, into),
         }
     }
 
-    /// Takes the arguments of a conversion, and shows it.
-    #[inline(always)]
-    pub fn conversion(&mut self, what: Content, spec: Spec, into: &mut Tail<'_>)
-        ensures { Prints self.old into.old self.new into.new (by (content_text (source self.old) what) (taken (given self.old.rec.now) spec (trees self.old.args.now))) }
+    /// Shows a conversion. Gives the arguments behind those that it takes.
+    pub fn conversion<'b>(
+        &self,
+        what: Content,
+        spec: Spec,
+        args: &'b [Argument],
+        waiting: &mut Waiting,
+        into: &mut Tail<'_>,
+    ) -> &'b [Argument]
+        ensures shown { Shows waiting.old into.old waiting.new into.new (by (content_text (source self.now) what) (taken (given self.now.rec.now) spec (trees args.now))).0 }
+        ensures rest { trees result.now ≡ (by (content_text (source self.now) what) (taken (given self.now.rec.now) spec (trees args.now))).1 }
     {
-        match taken(self.rec, spec, self.args) {
+        match taken(self.rec, spec, args) {
             Some(of) => {
-                self.args = of.rest;
-                self.content(what, of, into);
+                self.content(what, &of.form, of.argument, waiting, into);
+                of.rest
             }
-            None => self.args = &[],
+            None => &[],
+        }
+    }
+
+    /// Shows a plain conversion of a number. Gives the arguments behind its own. The form is known when this is compiled.
+    #[inline(always)]
+    pub fn plain_number<'b>(
+        &self,
+        base: Base,
+        length: Length,
+        args: &'b [Argument],
+        waiting: &mut Waiting,
+        into: &mut Tail<'_>,
+    ) -> &'b [Argument]
+        ensures shown { Shows waiting.old into.old waiting.new into.new (by (number_text (given self.now.rec.now) (source self.now).long length base) (taken (given self.now.rec.now) (plain_spec length) (trees args.now))).0 }
+        ensures rest { trees result.now ≡ (by (number_text (given self.now.rec.now) (source self.now).long length base) (taken (given self.now.rec.now) (plain_spec length) (trees args.now))).1 }
+    {
+        match first_of(args) {
+            Some((argument, rest)) => {
+                self.number(base, length, &PLAIN, argument, waiting, into);
+                rest
+            }
+            None => &[],
+        }
+    }
+
+    /// Shows a plain conversion `s`. Gives the arguments behind its own.
+    #[inline(always)]
+    pub fn plain_text<'b>(
+        &self,
+        args: &'b [Argument],
+        waiting: &mut Waiting,
+        into: &mut Tail<'_>,
+    ) -> &'b [Argument]
+        ensures shown { Shows waiting.old into.old waiting.new into.new (by (string_text (given self.now.rec.now) self.now.symbols.now) (taken (given self.now.rec.now) (plain_spec len.Usual) (trees args.now))).0 }
+        ensures rest { trees result.now ≡ (by (string_text (given self.now.rec.now) self.now.symbols.now) (taken (given self.now.rec.now) (plain_spec len.Usual) (trees args.now))).1 }
+    {
+        match first_of(args) {
+            Some((argument, rest)) => {
+                self.text(&PLAIN, argument, waiting, into);
+                rest
+            }
+            None => &[],
+        }
+    }
+
+    /// Shows a plain conversion `p`. Gives the arguments behind its own.
+    #[inline(always)]
+    pub fn plain_pointer<'b>(
+        &self,
+        show: PointerForm,
+        args: &'b [Argument],
+        waiting: &mut Waiting,
+        into: &mut Tail<'_>,
+    ) -> &'b [Argument]
+        ensures shown { Shows waiting.old into.old waiting.new into.new (by (pointer_text show (given self.now.rec.now) self.now.symbols.now) (taken (given self.now.rec.now) (plain_spec len.Usual) (trees args.now))).0 }
+        ensures rest { trees result.now ≡ (by (pointer_text show (given self.now.rec.now) self.now.symbols.now) (taken (given self.now.rec.now) (plain_spec len.Usual) (trees args.now))).1 }
+    {
+        match first_of(args) {
+            Some((argument, rest)) => {
+                self.pointer(show, &PLAIN, argument, waiting, into);
+                rest
+            }
+            None => &[],
         }
     }
 }

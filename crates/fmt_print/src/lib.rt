@@ -4,7 +4,6 @@
 mod argument;
 mod arguments;
 mod conversions;
-mod flow;
 mod plan;
 mod printer;
 mod printing;

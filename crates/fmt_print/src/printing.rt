@@ -3,7 +3,6 @@
 ghost use Rattle.std.specs.Prelude.{◌≡◌, length, IfSome};
 ghost use Rattle.trace_base.specs.Kept.{put_held};
 ghost use Rattle.trace_base.specs.TailView.{held, lent};
-ghost use Rattle.waiting_text.specs.Gathered.{gathered, joined};
 ghost use Rattle.fmt_directives.specs.Directives.{IsWithin};
 ghost use Rattle.fmt_eval.specs.Values.{given};
 ghost use Rattle.fmt_print.specs.ArgumentView.{trees};
@@ -11,120 +10,131 @@ ghost use Rattle.fmt_print.specs.PlanView.{plan_view};
 ghost use Rattle.fmt_print.specs.Printed.{printed_one, printed, print_text};
 ghost use Rattle.fmt_print.specs.Steps.{literal_directive, literal_text, shown_directive, printed_some, printed_step, IsPlaced};
 
-use crate::conversions::Content;
+use crate::argument::Argument;
+use crate::conversions::{Content, Printer};
 use crate::plan::PrintPlan;
-use crate::printer::Printer;
-use crate::step::{Literal, Shown, Step, plain_spec};
-use fmt_directives::{Base, Directive, Length};
+use crate::step::{Literal, Shown, Step};
+use fmt_directives::{Base, Directive};
 use symbols::Symbols;
 use trace_base::{Rec, Tail};
 use waiting_text::Waiting;
 
 impl<'a> Printer<'a> {
-    ghost use Rattle.fmt_print.specs.Shows.{Shows, Prints, source};
+    ghost use Rattle.fmt_print.specs.Shows.{Shows};
+    ghost use Rattle.fmt_print.specs.Sources.{source};
 
-    /// Shows a directive.
+    /// Shows a directive. Gives the arguments behind those that it takes.
     #[inline(never)]
-    fn directive(&mut self, directive: &Directive, into: &mut Tail<'_>)
-        requires { IsWithin (length (source self.old).text) directive.now }
-        ensures { Prints self.old into.old self.new into.new (printed_one (source self.old) directive.now (trees self.old.args.now)) }
+    fn directive<'b>(
+        &self,
+        directive: &Directive,
+        args: &'b [Argument],
+        waiting: &mut Waiting,
+        into: &mut Tail<'_>,
+    ) -> &'b [Argument]
+        requires { IsWithin (length (source self.now).text) directive.now }
+        ensures shown { Shows waiting.old into.old waiting.new into.new (printed_one (source self.now) directive.now (trees args.now)).0 }
+        ensures rest { trees result.now ≡ (printed_one (source self.now) directive.now (trees args.now)).1 }
     {
         match *directive {
-            Directive::Literal { start, end } => self.literal(Some(Literal { start, end }), into),
-            Directive::Number { spec, base } => {
-                self.conversion(Content::Number(base, spec.length), spec, into);
+            Directive::Literal { start, end } => {
+                self.literal(Some(Literal { start, end }), waiting, into);
+                args
             }
-            Directive::Letter { spec } => self.conversion(Content::Letter, spec, into),
-            Directive::Text { spec } => self.conversion(Content::Text, spec, into),
+            Directive::Number { spec, base } => {
+                let what = Content::Number(base, spec.length);
+                self.conversion(what, spec, args, waiting, into)
+            }
+            Directive::Letter { spec } => {
+                self.conversion(Content::Letter, spec, args, waiting, into)
+            }
+            Directive::Text { spec } => self.conversion(Content::Text, spec, args, waiting, into),
             Directive::Pointer { spec, form } => {
-                self.conversion(Content::Pointer(form), spec, into);
+                self.conversion(Content::Pointer(form), spec, args, waiting, into)
             }
         }
     }
 
-    /// Shows what stands behind a literal. The form of a plain conversion is known when this is compiled.
+    /// Shows what stands behind a literal. Gives the arguments behind those that it takes.
     #[inline(always)]
-    #[tactic(auto, using(crate::proofs::Showing::shows_nothing))]
-    fn shown(&mut self, shown: &Shown, into: &mut Tail<'_>)
-        requires { IfSome (shown_directive shown.now) (IsWithin (length (source self.old).text)) }
-        ensures { Prints self.old into.old self.new into.new (printed_some (source self.old) (shown_directive shown.now) (trees self.old.args.now)) }
+    #[tactic(auto, using(waiting_text::proofs::Gathering::nothing_joined))]
+    fn shown<'b>(
+        &self,
+        shown: &Shown,
+        args: &'b [Argument],
+        waiting: &mut Waiting,
+        into: &mut Tail<'_>,
+    ) -> &'b [Argument]
+        requires { IfSome (shown_directive shown.now) (IsWithin (length (source self.now).text)) }
+        ensures shown { Shows waiting.old into.old waiting.new into.new (printed_some (source self.now) (shown_directive shown.now) (trees args.now)).0 }
+        ensures rest { trees result.now ≡ (printed_some (source self.now) (shown_directive shown.now) (trees args.now)).1 }
     {
-        let usual = Length::Usual;
-        match *shown {
-            Shown::Nothing => {}
+        match shown {
+            Shown::Nothing => args,
             Shown::Signed { length } => {
-                self.conversion(
-                    Content::Number(Base::Signed, length),
-                    plain_spec(length),
-                    into,
-                );
+                self.plain_number(Base::Signed, *length, args, waiting, into)
             }
             Shown::Unsigned { length } => {
-                self.conversion(
-                    Content::Number(Base::Unsigned, length),
-                    plain_spec(length),
-                    into,
-                );
+                self.plain_number(Base::Unsigned, *length, args, waiting, into)
             }
-            Shown::Text => self.conversion(Content::Text, plain_spec(usual), into),
-            Shown::Pointer { form } => {
-                self.conversion(Content::Pointer(form), plain_spec(usual), into);
-            }
-            Shown::Other { directive } => self.directive(&directive, into),
+            Shown::Text => self.plain_text(args, waiting, into),
+            Shown::Pointer { form } => self.plain_pointer(*form, args, waiting, into),
+            Shown::Other { directive } => self.directive(directive, args, waiting, into),
         }
     }
 
     /// Shows the literal that a step begins with, if there is one.
     #[inline(always)]
-    #[tactic(auto, using(crate::proofs::Showing::shows_nothing))]
-    fn literal(&mut self, literal: Option<Literal>, into: &mut Tail<'_>)
-        requires { IfSome (literal_directive literal) (IsWithin (length (source self.old).text)) }
-        ensures { Shows self.old into.old self.new into.new (literal_text (source self.old).text literal) }
+    #[tactic(auto, using(crate::proofs::StepLemmas::literal_room, crate::proofs::StepLemmas::literal_front, waiting_text::proofs::Gathering::nothing_joined))]
+    fn literal(&self, literal: Option<Literal>, waiting: &mut Waiting, into: &mut Tail<'_>)
+        requires { IfSome (literal_directive literal) (IsWithin (length (source self.now).text)) }
+        ensures { Shows waiting.old into.old waiting.new into.new (literal_text (source self.now).text literal) }
     {
         match literal {
             Some(Literal { start, end }) => {
-                let plan = self.plan;
-                let text = &plan.padded()[start as usize..];
-                self.front(text, (end - start) as usize, into);
+                let text = &self.plan.padded()[start as usize..];
+                waiting.front(text, (end - start) as usize, into);
             }
             None => {}
         }
     }
 
-    /// Shows a step.
+    /// Shows a step. Gives the arguments behind those that it takes.
     #[inline(always)]
-    fn step(&mut self, step: &Step, into: &mut Tail<'_>)
-        requires { IsPlaced (length (source self.old).text) step.now }
-        ensures { Prints self.old into.old self.new into.new (printed_step (source self.old) step.now (trees self.old.args.now)) }
+    fn step<'b>(
+        &self,
+        step: &Step,
+        args: &'b [Argument],
+        waiting: &mut Waiting,
+        into: &mut Tail<'_>,
+    ) -> &'b [Argument]
+        requires { IsPlaced (length (source self.now).text) step.now }
+        ensures shown { Shows waiting.old into.old waiting.new into.new (printed_step (source self.now) step.now (trees args.now)).0 }
+        ensures rest { trees result.now ≡ (printed_step (source self.now) step.now (trees args.now)).1 }
     {
-        self.literal(step.literal, into);
-        self.shown(&step.shown, into);
+        self.literal(step.literal, waiting, into);
+        self.shown(&step.shown, args, waiting, into)
     }
 
     /// Shows the plan's steps, one after another.
-    fn steps(&mut self, into: &mut Tail<'_>)
-        ensures { gathered self.new.waiting into.new ≡ joined (gathered self.old.waiting into.old) (printed (source self.old) (plan_view self.old.plan.now).directives (trees self.old.args.now)) }
+    fn steps(&self, args: &[Argument], waiting: &mut Waiting, into: &mut Tail<'_>)
+        ensures { Shows waiting.old into.old waiting.new into.new (printed (source self.now) (plan_view self.now.plan.now).directives (trees args.now)) }
     {
-        let plan = self.plan;
-        let steps = plan.steps();
+        let steps = self.plan.steps();
+        let mut left = args;
         for step in steps {
-            self.step(step, into);
+            left = self.step(step, left, waiting, into);
         }
     }
 }
 
 /// Puts the text that a plan prints of a record.
-pub fn print<'a>(plan: &'a PrintPlan, rec: &'a Rec<'a>, symbols: &'a Symbols, into: &mut Tail<'_>)
+pub fn print(plan: &PrintPlan, rec: &Rec<'_>, symbols: &Symbols, into: &mut Tail<'_>)
     ensures same_slice { lent into.new ≡ lent into.old }
     ensures value { held into.new ≡ put_held (held into.old) (print_text (plan_view plan.now) (given rec.now) symbols.now) }
 {
-    let mut printer = Printer {
-        plan,
-        rec,
-        symbols,
-        args: plan.folded(),
-        waiting: Waiting::new(),
-    };
-    printer.steps(into);
-    printer.waiting.put_into(into);
+    let printer = Printer { plan, rec, symbols };
+    let mut waiting = Waiting::new();
+    printer.steps(plan.folded(), &mut waiting, into);
+    waiting.put_into(into);
 }

@@ -40,23 +40,6 @@ pub struct Step {
     pub shown: Shown,
 }
 
-/// A conversion without a flag, a width and a precision.
-#[inline(always)]
-pub fn plain_spec(length: Length) -> Spec
-    ensures { result ≡ plain_spec length }
-{
-    Spec {
-        left: false,
-        zero: false,
-        plus: false,
-        space: false,
-        alternate: false,
-        width: Amount::Absent,
-        precision: Amount::Absent,
-        length,
-    }
-}
-
 fn is_plain(spec: Spec) -> bool
     ensures { result ≡ true → spec ≡ plain_spec spec.length }
 {

@@ -120,7 +120,6 @@ impl Waiting {
     }
 
     // Adds a text.
-    #[inline(always)]
     fn text(&mut self, text: &[u8])
         requires { length self.old + length text.now ≤ 192 }
         ensures { self.new ≡ self.old ++ text.now }

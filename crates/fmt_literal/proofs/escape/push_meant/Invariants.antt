@@ -1,10 +1,11 @@
-use Rattle.std.proofs.Common.{◌≡◌, ◌++◌, length}
+use Rattle.std.proofs.Common.{length}
 use Rattle.fmt_literal.specs.Escape.{meant}
+use Rattle.fmt_literal.proofs.Pushing.{Grows}
 use Rattle.fmt_literal.proofs.escape.push_meant.Given as goal
 
--- What was put there, with what the bytes behind stand for, is what all of them stand for.
+-- The first of what the bytes stand for was put behind the text, and what the bytes behind stand for is left.
 abbrev pub invariant-loop-first : goal.invariant-loop-first
-invariant-loop-first l = l.into.items ++ meant 0 l.rest ≡ l.fn.into.items ++ meant 0 l.fn.bytes
+invariant-loop-first l = Grows l.fn.into.items l.into.items (meant 0 l.rest) (meant 0 l.fn.bytes)
 
 abbrev pub decreases-loop-first : goal.decreases-loop-first
 decreases-loop-first l = length l.rest
