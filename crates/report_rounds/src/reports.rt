@@ -1,4 +1,4 @@
-ghost use Rattle.std.specs.Prelude.{◌≡◌, ◌≤◌, [], All, IfSome, sum_by};
+ghost use Rattle.std.specs.Prelude.{◌≡◌, ◌≤◌, [], All, IfSome, length, sum_by};
 ghost use Rattle.trace_base.specs.Layout.{IsLayout};
 ghost use Rattle.trace_outside.specs.Causes.{Rose, raised};
 ghost use Rattle.trace_outside.specs.Keeping.{KeepsFile, KeepsSink};
@@ -10,6 +10,7 @@ ghost use Rattle.report_rounds.specs.Reports.{IsReport};
 
 use crate::turns::turn;
 use cpu_workers::Form;
+use least_tree::LeastTree;
 use page_pool::Lane;
 use std::thread::Threads;
 use time_merge::End;
@@ -21,7 +22,8 @@ use trace_outside::{File, Gate, Pending, Sink};
 ///
 /// The lanes stand before their first items and keep no line, each region has room for any line, and nothing waits in
 /// `pending`. Lines are formed on at most `workers` threads, with the same bytes for any number of them. After `Read` the
-/// lines of the first few reached items are written, after `Write` a prefix of the text. It takes no memory.
+/// lines of the first few reached items are written, after `Write` a prefix of the text. `heads` is a tree with a slot for
+/// each lane, whatever is in it. It takes no memory.
 ///
 /// No more bytes are read than the parts of the processors have, and none ahead of what is written: of the lines before
 /// a sub-buffer that is read no more than a region keeps were not written yet.
@@ -33,6 +35,7 @@ pub fn report_rounds<R: Threads + Sync, F: File, L: Form, G: Gate, O: Sink>(
     lanes: &mut [Lane],
     workers: u32,
     gate: &G,
+    heads: &mut LeastTree,
     pending: &mut Pending,
     out: &mut O,
 ) -> End
@@ -42,6 +45,7 @@ pub fn report_rounds<R: Threads + Sync, F: File, L: Form, G: Gate, O: Sink>(
     requires room { All (HasRoom (L.text form.now)) lanes.old }
     requires shown { HidesNoHole (L.text form.now) }
     requires rise { CpusRise (parts_of lanes.old) }
+    requires heads { length heads.old ≡ length lanes.old }
     requires empty { pending.old ≡ [] }
     ensures report { IfSome (F.bytes file.old) (λ bytes. IsReport (L.text form.now) layout.now bytes (parts_of lanes.old)
         (O.written out.old) (O.written out.new) result) }
@@ -57,7 +61,7 @@ pub fn report_rounds<R: Threads + Sync, F: File, L: Form, G: Gate, O: Sink>(
     let mut last = None;
     loop {
         if let Some(end) = turn(
-            rt, form, layout, file, lanes, workers, gate, &mut last, pending, out,
+            rt, form, layout, file, lanes, workers, gate, heads, &mut last, pending, out,
         ) {
             return end;
         }

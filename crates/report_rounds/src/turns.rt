@@ -1,4 +1,4 @@
-ghost use Rattle.std.specs.Prelude.{◌≡◌, ◌-◌, ◌<◌, ◌≤◌, [], All, IfNone, IfSome, Some};
+ghost use Rattle.std.specs.Prelude.{◌≡◌, ◌-◌, ◌<◌, ◌≤◌, [], length, All, IfNone, IfSome, Some};
 ghost use Rattle.trace_base.specs.Layout.{IsLayout};
 ghost use Rattle.trace_outside.specs.Causes.{Rose, raised};
 ghost use Rattle.trace_outside.specs.Keeping.{KeepsFile, KeepsSink};
@@ -11,6 +11,7 @@ ghost use Rattle.report_rounds.specs.Turns.{HasLoaded, IsTurned};
 
 use crate::ends::end_at;
 use cpu_workers::{Form, format_lanes};
+use least_tree::LeastTree;
 use page_pool::Lane;
 use round_print::print_round;
 use std::thread::Threads;
@@ -28,6 +29,7 @@ pub(crate) fn turn<R: Threads + Sync, F: File, L: Form, G: Gate, O: Sink>(
     lanes: &mut [Lane],
     workers: u32,
     gate: &G,
+    heads: &mut LeastTree,
     last: &mut Option<u64>,
     pending: &mut Pending,
     out: &mut O,
@@ -36,9 +38,11 @@ pub(crate) fn turn<R: Threads + Sync, F: File, L: Form, G: Gate, O: Sink>(
     requires workers { (1 ≤ workers) × (workers ≤ 64) }
     requires between { All (IsBetween (L.text form.now) layout.now) lanes.old }
     requires rise { CpusRise (parts_of lanes.old) }
+    requires heads { length heads.old ≡ length lanes.old }
     requires empty { pending.old ≡ [] }
     ensures between { IfNone result (All (IsBetween (L.text form.now) layout.now) lanes.new) }
     ensures parts { IfNone result (parts_of lanes.new ≡ parts_of lanes.old) }
+    ensures heads { length heads.new ≡ length heads.old }
     ensures empty { IfNone result (pending.new ≡ []) }
     // Items were used up or lines were printed.
     ensures less { IfNone result (all_work layout.now lanes.new < all_work layout.now lanes.old) }
@@ -62,7 +66,7 @@ pub(crate) fn turn<R: Threads + Sync, F: File, L: Form, G: Gate, O: Sink>(
     };
     format_lanes(rt, form, layout, lanes, workers, gate);
     let known = horizon(lanes);
-    match print_round(&known, lanes, last, pending, out) {
+    match print_round(&known, lanes, heads, last, pending, out) {
         Ok(()) => end_at(known, lanes),
         Err(_) => Some(End::Write),
     }

@@ -73,6 +73,14 @@ first_key (line ∷ lines) = Some (Some line.key)
 abbrev pub head_due : Horizon → Lane → Option (Option ℕ)
 head_due h lane = first_key (due_of h lane)
 
+-- the key of the first line that a lane keeps, if it keeps one
+abbrev pub first_of : List Line → Option (Option ℕ)
+first_of [] = None
+first_of (line ∷ lines) = Some (Some line.key)
+
+abbrev pub head_kept : Lane → Option (Option ℕ)
+head_kept lane = first_of lane.region.kept
+
 abbrev pub line_key : Line → ℕ
 line_key line = line.key
 

@@ -8,7 +8,8 @@ ghost use Rattle.round_print.specs.Prints.{KeysRise, filled_text, first_line, la
 ghost use Rattle.round_print.specs.Rounds.{Gains, IsLineDropped, IsPrinted};
 
 use crate::filling::put_filled;
-use crate::heads::{drop_line, least_due};
+use crate::heads::{drop_line, head_kept, least_due, take_heads};
+use least_tree::LeastTree;
 use page_pool::Lane;
 use time_merge::Horizon;
 use trace_outside::{Failed, Pending, Sink};
@@ -40,15 +41,18 @@ fn print_first<O: Sink>(
 fn put_round<O: Sink>(
     horizon: &Horizon,
     lanes: &mut [Lane],
+    heads: &mut LeastTree,
     last: &mut Option<u64>,
     pending: &mut Pending,
     out: &mut O,
 ) -> Result<(), Failed>
     requires rise { CpusRise (parts_of lanes.old) }
     requires rises { All KeysRise lanes.old }
+    requires heads { length heads.old ≡ length lanes.old }
     ensures puts { Puts (filled_text last.old (printed horizon.now lanes.old)) (O.written out.old) pending.old
         (O.written out.new) pending.new result }
     ensures last { IfOk result (λ _. last.new ≡ last_of last.old (printed horizon.now lanes.old)) }
+    ensures heads { length heads.new ≡ length heads.old }
     ensures name { O.name out.new ≡ O.name out.old }
     ensures cause { HasCause (O.faults out.old) (O.faults out.new) result }
     ensures lanes { IfOk result (λ _. (i : ℕ) (d : Lane) → i < length lanes.old
@@ -57,11 +61,13 @@ fn put_round<O: Sink>(
     ensures rise { IfOk result (λ _. CpusRise (parts_of lanes.new)) }
     ensures rises { IfOk result (λ _. All KeysRise lanes.new) }
 {
-    while let Some(i) = least_due(horizon, lanes) {
+    take_heads(lanes, heads);
+    while let Some(i) = least_due(horizon, lanes, heads) {
         match print_first(&mut lanes[i], last, pending, out) {
             Ok(()) => {}
             Err(failed) => return Err(failed),
         }
+        heads.set(i, head_kept(&lanes[i]));
     }
     Ok(())
 }
@@ -71,23 +77,27 @@ fn put_round<O: Sink>(
 /// line with a hole. A region that keeps no line any more has all its bytes free.
 ///
 /// The lines go through `pending`, in which nothing waits before or behind: all of them are written when the call returns,
-/// in pieces as large as it has room for. After `Failed` the sink has a prefix of their text, and the lanes, which are
+/// in pieces as large as it has room for. `heads` is a tree with a slot for each lane, whatever is in it: the next line costs
+/// a step for each doubling of their number. After `Failed` the sink has a prefix of their text, and the lanes, which are
 /// still those of their processors, keep no longer what was put: they are not to be used again.
 pub fn print_round<O: Sink>(
     horizon: &Horizon,
     lanes: &mut [Lane],
+    heads: &mut LeastTree,
     last: &mut Option<u64>,
     pending: &mut Pending,
     out: &mut O,
 ) -> Result<(), Failed>
     requires rise { CpusRise (parts_of lanes.old) }
     requires rises { All KeysRise lanes.old }
+    requires heads { length heads.old ≡ length lanes.old }
     requires empty { pending.old ≡ [] }
     ensures written { Gains (O.written out.old) (O.written out.new)
         (filled_text last.old (printed horizon.now lanes.old)) result }
     ensures last { IfOk result (λ _. last.new ≡ last_of last.old (printed horizon.now lanes.old)) }
     ensures name { O.name out.new ≡ O.name out.old }
     ensures cause { HasCause (O.faults out.old) (O.faults out.new) result }
+    ensures heads { length heads.new ≡ length heads.old }
     ensures empty { IfOk result (λ _. pending.new ≡ []) }
     ensures lanes { IfOk result (λ _. (i : ℕ) (d : Lane) → i < length lanes.old
         → IsPrinted horizon.now (slice_index_or lanes.old i d) (slice_index_or lanes.new i d)) }
@@ -95,7 +105,7 @@ pub fn print_round<O: Sink>(
     ensures rise { IfOk result (λ _. CpusRise (parts_of lanes.new)) }
     ensures rises { IfOk result (λ _. All KeysRise lanes.new) }
 {
-    match put_round(horizon, lanes, last, pending, out) {
+    match put_round(horizon, lanes, heads, last, pending, out) {
         Ok(()) => pending.flush(out),
         Err(failed) => Err(failed),
     }

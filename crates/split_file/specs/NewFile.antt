@@ -1,25 +1,18 @@
 -- A new file of a split: its bytes, and what is read from it.
 -- Source: trace-cmd.dat.v6(5), flyrecord: the processors' data stand behind the header, from a multiple of the page size on.
-use Rattle.std.specs.Prelude.{◌≡◌, ℕ, ◌+◌, ◌-◌, ◌*◌, ◌%◌, ◌^◌, List, [], ◌∷◌, ◌++◌, map, length, replicate, Ok, None}
-use Rattle.std.specs.Int.{div_ceil}
+use Rattle.std.specs.Prelude.{◌≡◌, ℕ, ◌+◌, ◌-◌, List, [], ◌∷◌, ◌++◌, map, length, Ok, None}
 use Rattle.std.specs.List.{All}
 use Rattle.trace_base.specs.declared.part.Part.{Part}
 use Rattle.dat_header.specs.declared.header.Header.{Header}
 use Rattle.dat_header.specs.Header.{header_of}
 use Rattle.dat_header.specs.Spelling.{HasHeader}
+use Rattle.dat_header.specs.Tables.{blank}
 use Rattle.dat_header.specs.Written.{header_text, written}
+use Rattle.new_files.specs.Padding.{up_to_page}
 use Rattle.subpage.specs.ItemData.{ItemData}
 use Rattle.subpage.specs.Processor.{list_of, bad_of}
 use Rattle.page_write.specs.Record.{zeros}
 use Rattle.page_write.specs.Placed.{parts_from, data_of}
-
--- the first multiple of a page that is not before a place
-abbrev pub up_to_page : ℕ → ℕ → ℕ
-up_to_page page place = div_ceil place page * page
-
--- a table of this many processors before their parts are known
-abbrev pub blank : ℕ → List Part
-blank cpus = replicate cpus (record { offset = 0; size = 0 })
 
 -- the place of the first sub-buffer: a header is as long whatever its table says
 unfoldable pub front_len : Header → ℕ
@@ -36,10 +29,6 @@ table_of header lists = parts_from header.layout (front_len header) lists
 -- the very bytes
 unfoldable pub file_text : Header → List (List ItemData) → List ℕ
 file_text header lists = front_text header (table_of header lists) ++ data_of header.layout lists
-
--- a part as a table tells it: its numbers modulo 2^64
-abbrev pub in_table : Part → Part
-in_table part = record { offset = part.offset % 2 ^ 64; size = part.size % 2 ^ 64 }
 
 -- The parts stand one behind another from the first place up to the second.
 abbrev pub StandInRow : ℕ → List Part → ℕ → Type 0

@@ -1,28 +1,15 @@
 // What stands in front of a new file's sub-buffers.
 
-ghost use Rattle.std.specs.Prelude.{◌≡◌, ◌+◌, ◌-◌, ◌<◌, ◌%◌, ◌^◌, ℕ, length, OnErr, OnOk};
+ghost use Rattle.std.specs.Prelude.{◌≡◌, ◌%◌, ◌^◌, length, OnErr, OnOk};
 ghost use Rattle.trace_outside.specs.Causes.{HasCause};
 ghost use Rattle.trace_outside.specs.Writing.{Gained, GainedPrefix};
-ghost use Rattle.dat_header.specs.Allowed.{IsHeader, IsPageSize};
-ghost use Rattle.page_write.specs.Record.{zeros};
-ghost use Rattle.split_file.specs.NewFile.{front_len, front_text, up_to_page};
+ghost use Rattle.dat_header.specs.Allowed.{IsHeader};
+ghost use Rattle.split_file.specs.NewFile.{front_len, front_text};
 
 use dat_header::{Header, header_len, write_header};
+use new_files::{gap, write_zeros};
 use trace_base::Part;
-use trace_outside::{Failed, Sink, write_all};
-
-/// Zero bytes, of which several such pieces are written where a page is larger.
-const ZEROS: [u8; 4096] = [0; 4096];
-
-// How many bytes are missing from a place, told modulo 2^64, up to a multiple of the page size.
-fn gap(page: u32, place: u64) -> u32
-    requires { IsPageSize page }
-    ensures gap { (whole : ℕ) → place ≡ whole % 2 ^ 64 → up_to_page page whole ≡ whole + result }
-    ensures most { result < page }
-{
-    let over = (place % u64::from(page)) as u32;
-    if over == 0 { 0 } else { page - over }
-}
+use trace_outside::{Failed, Sink};
 
 /// The place of the first sub-buffer: the first multiple of the page size behind the header. It is told modulo 2^64.
 pub fn data_place(header: &Header) -> u64
@@ -31,20 +18,6 @@ pub fn data_place(header: &Header) -> u64
 {
     let len = header_len(header);
     len.wrapping_add(u64::from(gap(header.page, len)))
-}
-
-fn write_zeros<O: Sink>(count: u32, out: &mut O) -> Result<(), Failed>
-    ensures gained { OnOk result (Gained (O.written out.old) (O.written out.new) (zeros count)) }
-    ensures prefix { OnErr result (GainedPrefix (O.written out.old) (O.written out.new) (zeros count)) }
-    ensures name { O.name out.new ≡ O.name out.old }
-    ensures cause { HasCause (O.faults out.old) (O.faults out.new) result }
-{
-    let rest = (count % 4096) as usize;
-    write_all(out, &ZEROS[..rest])?;
-    for _ in 0..count / 4096 {
-        write_all(out, &ZEROS)?;
-    }
-    Ok(())
 }
 
 /// Writes the header with a table of these parts, and zero bytes up to the first sub-buffer.

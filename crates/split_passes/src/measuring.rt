@@ -14,9 +14,10 @@ ghost use Rattle.split_passes.specs.declared.tally.Tally.{Tally};
 use crate::choice::{Choice, choose};
 use crate::tally::Tally;
 use event_cursor::step;
+use least_tree::LeastTree;
 use page_pool::Lane;
 use split_pieces::Gauge;
-use time_merge::{Next, next_lane};
+use time_merge::{Next, next_lane_by};
 use trace_base::Layout;
 use trace_outside::{Failed, File};
 use word_values::Moment;
@@ -45,13 +46,16 @@ pub fn measure<F: File>(
     stop: Option<Moment>,
     gauge: &mut Gauge,
     tallies: &mut [Tally],
+    nexts: &mut LeastTree,
 ) -> Result<PieceEnd, Failed>
     requires allowed { IsLayout layout.now }
     requires in_order { All (IsInOrder layout.now) lanes.old }
     requires rise { CpusRise (parts_of lanes.old) }
     requires long { length tallies.old ≡ length lanes.old }
+    requires slots { length nexts.old ≡ length lanes.old }
     ensures in_order { All (IsInOrder layout.now) lanes.new }
     ensures parts { parts_of lanes.new ≡ parts_of lanes.old }
+    ensures slots { length nexts.new ≡ length nexts.old }
     ensures long { length tallies.new ≡ length lanes.new }
     ensures measured { IfOk result (λ end. IfSome (F.bytes file.old) (λ bytes. All (Stands layout.now bytes) lanes.old
         → Tallied layout.now lanes.old [] tallies.old
@@ -71,10 +75,14 @@ pub fn measure<F: File>(
     ensures cause { HasCause (F.faults file.old) (F.faults file.new) result }
     ensures keeps { KeepsFile F.File file.old file.new }
 {
+    let mut used = None;
     loop {
-        match next_lane(layout, file, lanes)? {
+        match next_lane_by(layout, file, lanes, nexts, used)? {
             Next::Lane(i) => match choose(layout, &lanes[i], stop, gauge, &mut tallies[i]) {
-                Choice::Takes => step(layout, &mut lanes[i]),
+                Choice::Takes => {
+                    step(layout, &mut lanes[i]);
+                    used = Some(i);
+                }
                 Choice::Past => return Ok(PieceEnd::Past),
                 Choice::Full => return Ok(PieceEnd::Full),
             },

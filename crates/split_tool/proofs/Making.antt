@@ -51,7 +51,7 @@ use Rattle.split_tool.specs.Measured.{taken_of}
 use Rattle.split_tool.specs.NewFiles.{Creates, files_from, new_files, end_by, IsSplit}
 use Rattle.split_tool.specs.Rules.{rules_of}
 use Rattle.split_tool.specs.Started.{Started}
-use Rattle.split_tool.specs.Stored.{NewFile, FilesStored}
+use Rattle.new_files.specs.Stored.{NewFile, FilesStored}
 use Rattle.split_tool.proofs.Beginning.{started_lists, started_bad}
 use Rattle.split_tool.proofs.FewItems.{Few, few_keyed, few_reached, filter_few}
 use Rattle.split_tool.proofs.FileAfterFile.{goes_on, ends as no_files, fewer_left, some_length}

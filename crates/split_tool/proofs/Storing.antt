@@ -8,9 +8,8 @@ use Rattle.trace_outside.specs.declared.counts.Counts.{Counts}
 use Rattle.trace_outside.specs.Causes.{Rose, raised}
 use Rattle.trace_outside.specs.Folders.{KeepsOthers}
 use Rattle.time_merge.specs.declared.ending.End.{End}
-use Rattle.split_tool.specs.Made.{IsUnmade}
 use Rattle.split_tool.specs.NewFiles.{LeavesUnfinished, end_by}
-use Rattle.split_tool.specs.Stored.{KeepsCounts, NewFile, Stored, FilesStored, IsNextOpen, FirstFilesStored}
+use Rattle.new_files.specs.Stored.{KeepsCounts, IsUnmade, NewFile, Stored, FilesStored, IsNextOpen, FirstFilesStored}
 
 -- files that stand in the folder by now, and those that are to come
 pub record Stage (news more : List NewFile) (files : NamedFiles) (now : Option NamedFiles) : Type 0 where

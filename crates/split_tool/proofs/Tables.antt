@@ -18,7 +18,7 @@ use Rattle.split_pieces.specs.Cuts.{items_of_cpu}
 use Rattle.split_passes.specs.AllAgain.{owns}
 use Rattle.split_passes.specs.Tallies.{IsTally}
 use Rattle.split_passes.specs.declared.tally.Tally.{Tally}
-use Rattle.split_file.specs.NewFile.{in_table}
+use Rattle.dat_header.specs.Tables.{in_table}
 use Rattle.split_tool.specs.Counted.{lists_of, AreCounted}
 use Rattle.split_tool.proofs.Owning.{IsNotLane, each_as, each_at, above, tail_rises}
 use Rattle.split_tool.proofs.OneByOne.{each_from}

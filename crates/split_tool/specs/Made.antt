@@ -1,12 +1,10 @@
 -- One new file on its way.
-use Rattle.std.specs.Prelude.{◌≡◌, ℕ, true, false, ◌&&◌, ◌⊎◌, List, ◌++◌, map, IfSome, Option, Result, Some, Ok, Err}
+use Rattle.std.specs.Prelude.{◌≡◌, ℕ, true, false, ◌&&◌, ◌⊎◌, List, ◌++◌, map, IfSome, Option, Result, Some, None, Ok, Err}
 use Rattle.std.specs.List.{All}
 use Rattle.std.specs.FinMap.{insert}
 use Rattle.trace_base.specs.declared.layout.Layout.{Layout}
 use Rattle.trace_base.specs.declared.part.Part.{Part}
-use Rattle.trace_outside.specs.Causes.{Rose}
 use Rattle.trace_outside.specs.Names.{NamedFiles}
-use Rattle.trace_outside.specs.Folders.{KeepsOthers}
 use Rattle.trace_outside.specs.Writing.{Gained}
 use Rattle.dat_header.specs.declared.header.Header.{Header}
 use Rattle.subpage.specs.ItemData.{ItemData}
@@ -21,7 +19,9 @@ use Rattle.split_pieces.specs.declared.rules.Rules.{Rules}
 use Rattle.split_pieces.specs.Pieces.{is_some_left, joined_lists, behind_file}
 use Rattle.split_passes.specs.AllAgain.{AreFronts, owns}
 use Rattle.split_passes.specs.declared.tally.Tally.{Tally}
-use Rattle.split_file.specs.NewFile.{file_text, front_text, in_table, table_of}
+use Rattle.dat_header.specs.Tables.{in_table}
+use Rattle.new_files.specs.Stored.{IsUnmade}
+use Rattle.split_file.specs.NewFile.{file_text, front_text, table_of}
 use Rattle.split_tool.specs.declared.lists.Ends.{Ends}
 use Rattle.split_tool.specs.Counted.{lists_of}
 use Rattle.split_tool.specs.Lists.{lists_left, bad_left}
@@ -63,11 +63,6 @@ IsWritten header file table lists before now old new code.Write = Unit {0}
 pub record Made (header : Header) (file : List ℕ) (rules : Rules) (name : List ℕ) (first now : List Lane) (old new : Option NamedFiles) (ends : Ends) : Type 0 where
   pub left : FileLeft header.layout file rules first now ends
   pub stored : IfSome old (λ files. new ≡ Some (insert files name (next_text header file rules first)))
-
--- A fault of writing: the map is as it was. Only where the count of files that could not be finished rose, nothing is said of
--- this one name.
-abbrev pub IsUnmade : ℕ → ℕ → List ℕ → Option NamedFiles → Option NamedFiles → Type 0
-IsUnmade unfinished now_unfinished name old new = (new ≡ old) ⊎ (Rose unfinished now_unfinished × KeepsOthers old new name)
 
 abbrev pub IsMade : Header → List ℕ → Rules → List ℕ → List Lane → List Lane → ℕ → ℕ → Option NamedFiles → Option NamedFiles → Result Ends End → Type 0
 IsMade header file rules name first now unfinished now_unfinished old new (Ok ends) = Made header file rules name first now old new ends

@@ -15,7 +15,7 @@ use Rattle.split_file.specs.Names.{file_name}
 use Rattle.split_file.specs.NewFile.{ReadsBack, file_text}
 use Rattle.split_tool.specs.Counted.{lists_of}
 use Rattle.split_tool.specs.Rules.{rules_of}
-use Rattle.split_tool.specs.Stored.{NewFile, FilesStored, FirstFilesStored}
+use Rattle.new_files.specs.Stored.{NewFile, FilesStored, FirstFilesStored}
 
 -- the files of these items, numbered from n on; their tables tell numbers modulo 2^64
 abbrev pub files_from : Header → List ℕ → ℕ → List (List Keyed) → List NewFile

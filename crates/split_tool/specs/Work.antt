@@ -7,5 +7,7 @@ use Rattle.split_tool.specs.declared.work.SplitWork.{SplitWork}
 pub record IsWorkFor (header : Header) (lanes : ℕ) (work : SplitWork) : Type 0 where
   pub fronts : length work.fronts.items ≡ lanes
   pub tallies : length work.tallies.items ≡ lanes
+  pub nexts : length work.nexts ≡ lanes
+  pub next : length work.next ≡ 1
   pub table : length work.table.items ≡ header.cpus
   pub page : length work.page.items ≡ header.layout.page

@@ -14,7 +14,7 @@ ghost use Rattle.split_file.specs.Names.{file_name};
 ghost use Rattle.split_tool.specs.Made.{IsMade, IsWritten, Prepared};
 ghost use Rattle.split_tool.specs.NewFiles.{LeavesUnfinished};
 ghost use Rattle.split_tool.specs.Reads.{Spent, to_read};
-ghost use Rattle.split_tool.specs.Stored.{KeepsCounts};
+ghost use Rattle.new_files.specs.Stored.{KeepsCounts};
 ghost use Rattle.split_tool.specs.Work.{IsWorkFor};
 
 use crate::lists::{Ends, measure_lists};
@@ -61,7 +61,15 @@ fn measure_file<F: File>(
     make_all_ready(layout, file, lanes)?;
     note_fronts(lanes, work.fronts.as_mut_slice());
     clear(work.tallies.as_mut_slice());
-    let ends = measure_lists(layout, file, lanes, rules, work.tallies.as_mut_slice())?;
+    let ends = measure_lists(
+        layout,
+        file,
+        lanes,
+        rules,
+        work.tallies.as_mut_slice(),
+        &mut work.nexts,
+        &mut work.next,
+    )?;
     let at = data_place(plan.header);
     fill_table(
         layout,

@@ -17,6 +17,7 @@ ghost use Rattle.split_passes.specs.Tallies.{IsTally};
 ghost use Rattle.split_passes.specs.declared.tally.Tally.{Tally};
 ghost use Rattle.split_tool.specs.Measured.{FileMeasured, ListMeasured, bad_of_end, is_full};
 
+use least_tree::LeastTree;
 use page_pool::Lane;
 use split_passes::{PieceEnd, Tally, measure};
 use split_pieces::{Gauge, Rules};
@@ -98,14 +99,17 @@ fn measure_list<F: File>(
     lanes: &mut [Lane],
     rules: &Rules,
     tallies: &mut [Tally],
+    nexts: &mut LeastTree,
     before: Ends,
 ) -> Result<Ends, Failed>
     requires allowed { IsLayout layout.now }
     requires in_order { All (IsInOrder layout.now) lanes.old }
     requires rise { CpusRise (parts_of lanes.old) }
+    requires slots { length nexts.old ≡ length lanes.old }
     requires long { length tallies.old ≡ length lanes.old }
     ensures in_order { All (IsInOrder layout.now) lanes.new }
     ensures parts { parts_of lanes.new ≡ parts_of lanes.old }
+    ensures slots { length nexts.new ≡ length nexts.old }
     ensures long { length tallies.new ≡ length lanes.new }
     ensures told { IfOk result (λ ends. IfSome (F.bytes file.old) (λ bytes. All (Stands layout.now bytes) lanes.old
         → Tallied layout.now lanes.old [] tallies.old
@@ -126,7 +130,7 @@ fn measure_list<F: File>(
     ensures keeps { KeepsFile F.File file.old file.new }
 {
     let mut gauge = Gauge::new(rules.unit);
-    let end = measure(layout, file, lanes, rules.stop, &mut gauge, tallies)?;
+    let end = measure(layout, file, lanes, rules.stop, &mut gauge, tallies, nexts)?;
     let closed = is_closed(rules.repeat, &gauge);
     Ok(before.and(end, closed))
 }
@@ -141,13 +145,19 @@ pub(crate) fn measure_lists<F: File>(
     lanes: &mut [Lane],
     rules: &Rules,
     tallies: &mut [Tally],
+    nexts: &mut LeastTree,
+    next: &mut LeastTree,
 ) -> Result<Ends, Failed>
     requires allowed { IsLayout layout.now }
     requires in_order { All (IsInOrder layout.now) lanes.old }
     requires rise { CpusRise (parts_of lanes.old) }
+    requires slots { length nexts.old ≡ length lanes.old }
+    requires slot { length next.old ≡ 1 }
     requires long { length tallies.old ≡ length lanes.old }
     ensures in_order { All (IsInOrder layout.now) lanes.new }
     ensures parts { parts_of lanes.new ≡ parts_of lanes.old }
+    ensures slots { length nexts.new ≡ length nexts.old }
+    ensures slot { length next.new ≡ 1 }
     ensures long { length tallies.new ≡ length lanes.new }
     ensures told { IfOk result (λ ends. IfSome (F.bytes file.old) (λ bytes. All (Stands layout.now bytes) lanes.old
         → ((i : ℕ) (t : Tally) → i < length tallies.old → IsTally layout.now (slice_index_or tallies.old i t) [])
@@ -168,7 +178,7 @@ pub(crate) fn measure_lists<F: File>(
     ensures keeps { KeepsFile F.File file.old file.new }
 {
     if !rules.is_apart() {
-        return measure_list(layout, file, lanes, rules, tallies, Ends::none());
+        return measure_list(layout, file, lanes, rules, tallies, nexts, Ends::none());
     }
     let mut ends = Ends::none();
     for i in 0..lanes.len() {
@@ -178,6 +188,7 @@ pub(crate) fn measure_lists<F: File>(
             &mut lanes[i..i + 1],
             rules,
             &mut tallies[i..i + 1],
+            next,
             ends,
         )?;
     }

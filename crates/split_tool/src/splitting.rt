@@ -9,7 +9,7 @@ ghost use Rattle.event_cursor.specs.Standing.{IsInOrder};
 ghost use Rattle.time_merge.specs.LaneRows.{parts_of};
 ghost use Rattle.split_pieces.specs.Pieces.{IsUnit};
 ghost use Rattle.trace_args.specs.Command.{split_view};
-ghost use Rattle.split_tool.specs.Stored.{KeepsCounts};
+ghost use Rattle.new_files.specs.Stored.{KeepsCounts};
 ghost use Rattle.split_tool.specs.NewFiles.{Creates, IsSplit, LeavesUnfinished, end_by, end_of, new_files};
 ghost use Rattle.split_tool.specs.Work.{IsWorkFor};
 
@@ -90,7 +90,14 @@ pub fn split<F: File, D: Folder>(
     // A file's length is a number of 64 bits, so there are fewer items than 128 bits count.
     let _size = file.len();
     let rules = rules_of(plan.words);
-    let Ok(()) = pass_start(&plan.header.layout, file, lanes, &rules) else {
+    let Ok(()) = pass_start(
+        &plan.header.layout,
+        file,
+        lanes,
+        &rules,
+        &mut work.nexts,
+        &mut work.next,
+    ) else {
         return End::Read;
     };
     for number in 1..u128::MAX {

@@ -15,9 +15,10 @@ ghost use Rattle.split_pieces.specs.Moments.{is_before};
 ghost use Rattle.split_tool.specs.Started.{ListStarted, Started};
 
 use event_cursor::{head_key, step};
+use least_tree::LeastTree;
 use page_pool::Lane;
 use split_pieces::{Rules, is_before};
-use time_merge::{Next, next_lane};
+use time_merge::{Next, next_lane_by};
 use trace_base::Layout;
 use trace_outside::{Failed, File};
 use word_values::Moment;
@@ -39,12 +40,15 @@ fn pass_list<F: File>(
     file: &mut F,
     lanes: &mut [Lane],
     start: Moment,
+    nexts: &mut LeastTree,
 ) -> Result<(), Failed>
     requires allowed { IsLayout layout.now }
     requires in_order { All (IsInOrder layout.now) lanes.old }
     requires rise { CpusRise (parts_of lanes.old) }
+    requires slots { length nexts.old ≡ length lanes.old }
     ensures in_order { All (IsInOrder layout.now) lanes.new }
     ensures parts { parts_of lanes.new ≡ parts_of lanes.old }
+    ensures slots { length nexts.new ≡ length nexts.old }
     ensures told { OnOk result (IfSome (F.bytes file.old) (λ bytes. All (Stands layout.now bytes) lanes.old
         → ListStarted layout.now bytes (Some start) lanes.old lanes.new)) }
     ensures advance { (i : ℕ) (d : Lane) → i < length lanes.old
@@ -58,13 +62,15 @@ fn pass_list<F: File>(
     ensures cause { HasCause (F.faults file.old) (F.faults file.new) result }
     ensures keeps { KeepsFile F.File file.old file.new }
 {
+    let mut used = None;
     loop {
-        match next_lane(layout, file, lanes)? {
+        match next_lane_by(layout, file, lanes, nexts, used)? {
             Next::Lane(i) => {
                 if !stands_before(layout, &lanes[i], start) {
                     return Ok(());
                 }
                 step(layout, &mut lanes[i]);
+                used = Some(i);
             }
             Next::Done => return Ok(()),
             Next::Malformed { .. } => return Ok(()),
@@ -81,12 +87,18 @@ pub(crate) fn pass_start<F: File>(
     file: &mut F,
     lanes: &mut [Lane],
     rules: &Rules,
+    nexts: &mut LeastTree,
+    next: &mut LeastTree,
 ) -> Result<(), Failed>
     requires allowed { IsLayout layout.now }
     requires in_order { All (IsInOrder layout.now) lanes.old }
     requires rise { CpusRise (parts_of lanes.old) }
+    requires slots { length nexts.old ≡ length lanes.old }
+    requires slot { length next.old ≡ 1 }
     ensures in_order { All (IsInOrder layout.now) lanes.new }
     ensures parts { parts_of lanes.new ≡ parts_of lanes.old }
+    ensures slots { length nexts.new ≡ length nexts.old }
+    ensures slot { length next.new ≡ 1 }
     ensures told { OnOk result (IfSome (F.bytes file.old) (λ bytes. All (Stands layout.now bytes) lanes.old
         → Started layout.now bytes rules.now lanes.old lanes.new)) }
     ensures advance { (i : ℕ) (d : Lane) → i < length lanes.old
@@ -104,10 +116,10 @@ pub(crate) fn pass_start<F: File>(
         return Ok(());
     };
     if !rules.is_apart() {
-        return pass_list(layout, file, lanes, start);
+        return pass_list(layout, file, lanes, start, nexts);
     }
     for i in 0..lanes.len() {
-        pass_list(layout, file, &mut lanes[i..i + 1], start)?;
+        pass_list(layout, file, &mut lanes[i..i + 1], start, next)?;
     }
     Ok(())
 }

@@ -5,7 +5,7 @@ ghost use Rattle.subpage.specs.Arrangement.{CpusRise, Keyed};
 ghost use Rattle.page_pool.specs.declared.lane.Lane.{Lane};
 ghost use Rattle.page_write.specs.Placed.{parts_from};
 ghost use Rattle.time_merge.specs.LaneRows.{parts_of};
-ghost use Rattle.split_file.specs.NewFile.{in_table};
+ghost use Rattle.dat_header.specs.Tables.{in_table};
 ghost use Rattle.split_tool.specs.Counted.{AreCounted, lists_of};
 
 use page_pool::Lane;

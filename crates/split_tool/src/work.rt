@@ -3,15 +3,19 @@ ghost use Rattle.split_tool.specs.Work.{IsWorkFor};
 
 use dat_header::Header;
 use event_cursor::Place;
+use least_tree::LeastTree;
 use split_passes::Tally;
 use std::alloc::{AllocError, Global};
 use trace_base::Part;
 
-/// What a split is lent: the places and numbers of its lanes, a table and one sub-buffer.
+/// What a split is lent: the places and numbers of its lanes, trees of what comes next of all and of one, a table and one
+/// sub-buffer.
 #[derive(Drop)]
 pub struct SplitWork {
     pub(crate) fronts: Vec<Place>,
     pub(crate) tallies: Vec<Tally>,
+    pub(crate) nexts: LeastTree,
+    pub(crate) next: LeastTree,
     pub(crate) table: Vec<Part>,
     pub(crate) page: Vec<u8>,
 }
@@ -34,6 +38,8 @@ impl SplitWork {
         Ok(SplitWork {
             fronts,
             tallies,
+            nexts: LeastTree::new(alloc, lanes)?,
+            next: LeastTree::new(alloc, 1)?,
             table: vec![in alloc; Part { offset: 0, size: 0 }; header.cpus as usize]?,
             page: vec![in alloc; 0; header.layout.page as usize]?,
         })

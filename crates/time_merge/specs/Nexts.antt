@@ -1,5 +1,6 @@
 -- Which lane is next.
-use Rattle.std.specs.Prelude.{◌≡◌, ℕ, ◌+◌, ◌<◌, List, [], ◌∷◌, ◌++◌, length, slice_set, slice_index_or, Option, Some, None}
+use Rattle.std.specs.Prelude.{◌≡◌, ◌≢◌, ℕ, ◌+◌, ◌<◌, List, [], ◌∷◌, ◌++◌, length, slice_set, slice_index_or, Option, Some, None}
+pub use Rattle.least_tree.specs.Least.{IsLeastOf, IsLeastAt}
 use Rattle.trace_base.specs.declared.layout.Layout.{Layout}
 use Rattle.subpage.specs.Arrangement.{Keyed}
 use Rattle.page_pool.specs.declared.lane.Lane.{Lane}
@@ -10,24 +11,11 @@ use Rattle.event_cursor.specs.Standing.{held_left, keyed_held}
 use Rattle.time_merge.specs.declared.next_lanes.Next.{Next}
 use Rattle.time_merge.specs.declared.next_lanes.Next.TheVariants as code
 use Rattle.time_merge.specs.Rows.{Each, rank, NotBefore, least_cut}
-use Rattle.time_merge.specs.LaneRows.{rows_of, to_come}
-
--- The least of what comes next, and the first of several such.
-pub record IsLeastOf (nexts : List (Option (Option ℕ))) (i : ℕ) (here : Option ℕ) : Type 0 where
-  pub before : List (Option (Option ℕ))
-  pub after : List (Option (Option ℕ))
-  pub split : nexts ≡ before ++ Some here ∷ after
-  pub place : length before ≡ i
-  pub sooner : Each (NotBefore (rank here + 1)) before
-  pub later : Each (NotBefore (rank here)) after
+use Rattle.time_merge.specs.LaneRows.{IsReady, next_of, rows_of, to_come}
 
 abbrev pub IsBest : List (Option (Option ℕ)) → Option (ℕ × Option ℕ) → Type 0
 IsBest nexts None = Each (λ next. next ≡ None) nexts
 IsBest nexts (Some best) = IsLeastOf nexts best.0 best.1
-
-abbrev pub IsLeastAt : List (Option (Option ℕ)) → Option ℕ → Type 0
-IsLeastAt nexts None = Each (λ next. next ≡ None) nexts
-IsLeastAt nexts (Some i) = (here : Option ℕ) × IsLeastOf nexts i here
 
 -- Lane i holds the next of the reached items that are left: it is the lane's first, and once it is used the others are left.
 pub record IsNextLane (layout : Layout) (file : List ℕ) (lanes : List Lane) (i : ℕ) : Type 0 where
@@ -48,3 +36,15 @@ HoldsNext layout lanes (code.Lane i) =
     (i < length lanes) × ((d : Lane) → ((slice_index_or lanes i d).cursor.state ≡ Held) × (0 < length (held_left layout (slice_index_or lanes i d))))
 HoldsNext layout lanes code.Done = Unit {0}
 HoldsNext layout lanes (code.Malformed cpu page) = Unit {0}
+
+-- All lanes are ready and keys tell what comes next of them, but for one lane, of which an item was used.
+pub record IsInStepBut (layout : Layout) (lanes : List Lane) (keys : List (Option (Option ℕ))) (i : ℕ) : Type 0 where
+  pub inside : i < length lanes
+  pub ready : (j : ℕ) (d : Lane) → j < length lanes → j ≢ i → IsReady layout (slice_index_or lanes j d)
+  pub keys_are : (j : ℕ) (d : Lane) → j < length lanes → j ≢ i
+      → slice_index_or keys j None ≡ next_of layout (slice_index_or lanes j d)
+
+-- before the first item nothing is known of the keys
+abbrev pub IsInStep : Layout → List Lane → List (Option (Option ℕ)) → Option ℕ → Type 0
+IsInStep layout lanes keys None = Unit {0}
+IsInStep layout lanes keys (Some i) = IsInStepBut layout lanes keys i

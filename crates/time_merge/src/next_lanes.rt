@@ -29,7 +29,7 @@ pub enum Next {
 }
 
 /// What comes next of a ready lane: the key of its head, or that of the last item before its malformed sub-buffer.
-fn next_of(layout: &Layout, lane: &Lane) -> Option<Option<u64>>
+pub(crate) fn next_of(layout: &Layout, lane: &Lane) -> Option<Option<u64>>
     requires { IsInOrder layout.now lane.now }
     ensures { result ≡ next_of layout.now lane.now }
 {
@@ -60,7 +60,7 @@ fn least_of(layout: &Layout, lanes: &[Lane]) -> Option<usize>
 }
 
 /// Whether a lane stands before a malformed sub-buffer.
-fn is_malformed(lane: &Lane) -> bool
+pub(crate) fn is_malformed(lane: &Lane) -> bool
     ensures yes { IsTrue result → lane.now.cursor.state ≡ LaneState.Malformed }
     ensures never { result ≡ false → lane.now.cursor.state ≡ LaneState.Malformed → ⊥ }
 {

@@ -1,5 +1,6 @@
-use Rattle.std.proofs.Common.{◌∙◌, refl, arith}
+use Rattle.std.proofs.Common.{◌∙◌, refl, arith, sym}
 use Rattle.trace_outside.proofs.Keeping.{file_kept, file_still, sink_kept, sink_still}
+use Rattle.time_merge.proofs.Advancing.{same_length}
 use Rattle.report_rounds.proofs.DueReads.{due_told}
 use Rattle.report_rounds.proofs.Reading.{less_further, reads_all, reads_ended, reads_further}
 use Rattle.report_rounds.proofs.Reporting.{going_ended, going_on, going_start}
@@ -10,6 +11,7 @@ pub loop-end-init : goal.loop-end-init
 loop-end-init g c = record {
   between = start_between (g.L.Form.text c.args.form.now) c.args.layout.now c.args.lanes.now c.requires.start c.requires.room;
   parts = refl;
+  heads = refl;
   empty = c.requires.empty;
   going = going_start (g.L.Form.text c.args.form.now) c.args.layout.now (g.F.File.bytes c.args.file.now) c.args.lanes.now (g.O.Sink.written c.args.out.now) c.requires.start;
   reads = omega arith;
@@ -18,6 +20,9 @@ loop-end-init g c = record {
   keeps_out = sink_still _ _;
 }
 
+pub turn-requires-clause-heads : goal.turn-requires-clause-heads
+turn-requires-clause-heads g c κs live = c.loop-end.invariant.heads ∙ c.requires.heads ∙ sym (same_length c.loop-end.lanes c.args.lanes.now c.loop-end.invariant.parts)
+
 pub loop-end-preserved : goal.loop-end-preserved
 loop-end-preserved g c =
     let before = c.loop-end.invariant in
@@ -25,6 +30,7 @@ loop-end-preserved g c =
     record {
       between = more.between;
       parts = more.parts ∙ before.parts;
+      heads = c.turn.ensures.heads ∙ before.heads;
       empty = more.empty;
       going = going_on (g.L.Form.text c.args.form.now) c.args.layout.now (g.F.File.bytes c.args.file.now) (g.F.File.bytes c.loop-end.file) c.args.lanes.now c.loop-end.lanes c.turn.new.lanes c.loop-end.last c.turn.new.last
           (g.O.Sink.written c.args.out.now) (g.O.Sink.written c.loop-end.out) (g.O.Sink.written c.turn.new.out) before.keeps.bytes before.going more.stands more.turned;

@@ -1,4 +1,4 @@
-use Rattle.std.proofs.Common.{◌≡◌, ◌-◌, ◌≤◌, []}
+use Rattle.std.proofs.Common.{◌≡◌, ◌-◌, ◌≤◌, [], length}
 use Rattle.std.specs.List.{All}
 use Rattle.std.specs.Option.{IfSome}
 use Rattle.trace_outside.specs.Causes.{raised}
@@ -13,6 +13,7 @@ abbrev pub invariant-loop-end : goal.invariant-loop-end
 invariant-loop-end g l = record {
   between : All (IsBetween (g.L.Form.text l.form) l.layout) l.lanes;
   parts : parts_of l.lanes ≡ parts_of l.fn.lanes;
+  heads : length l.heads ≡ length l.fn.heads;
   empty : l.pending ≡ [];
   going : IfSome (g.F.File.bytes l.fn.file) (λ file. IsGoing (g.L.Form.text l.form) l.layout file l.fn.lanes l.lanes l.last (g.O.Sink.written l.fn.out) (g.O.Sink.written l.out));
   keeps_out : KeepsSink g.O.Sink l.fn.out l.out;

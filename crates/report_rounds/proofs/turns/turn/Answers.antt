@@ -1,9 +1,12 @@
-use Rattle.std.proofs.Common.{◌-◌, ◌≤◌, ℕ, subst, sym}
+use Rattle.std.proofs.Common.{◌-◌, ◌≤◌, ℕ, subst, sym, arith}
 use Rattle.trace_outside.specs.Causes.{raised}
 use Rattle.time_merge.specs.Reads.{all_unread}
 use Rattle.report_rounds.proofs.Reading.{unread_turned}
 use Rattle.report_rounds.proofs.Turning.{IsFormed, formed_rise, formed_rises, if_none, now_all, now_less, now_parts, now_stands_told, turned_told, failed_told}
 use Rattle.report_rounds.proofs.turns.turn.Goals as goal
+
+pub print_round-requires-clause-heads : goal.print_round-requires-clause-heads
+print_round-requires-clause-heads g c = omega (arith, c.requires.heads, c.make_all_ready.auto.lanes, c.format_lanes.ensures.count)
 
 pub print_round-requires-clause-rise : goal.print_round-requires-clause-rise
 print_round-requires-clause-rise g c =

@@ -1,15 +1,42 @@
-use Rattle.std.proofs.Common.{◌≡◌, ℕ, List, [], ◌++◌, get_or, sym, ap, subst, ◌∙◌, append_assoc, arith}
-use Rattle.std.proofs.lemmas.List.{append-nil}
+use Rattle.std.proofs.Common.{◌≡◌, ℕ, List, [], ◌++◌, get_or, set, map, length, Option, refl, sym, ap, subst, ◌∙◌, append_assoc, arith}
+use Rattle.std.proofs.lemmas.List.{append-nil, length-map, length-set, map-set, get_or-set_same}
 use Rattle.trace_outside.specs.Pending.{Holds}
 use Rattle.trace_outside.specs.Writing.{GainedPrefix}
 use Rattle.trace_outside.proofs.PendingLemmas.{prefix_longer}
+use Rattle.page_pool.specs.Keeping.{printing}
+use Rattle.page_pool.proofs.Keeping.{lane_still}
 use Rattle.time_merge.proofs.Readying.{set_parts}
 use Rattle.line_holes.specs.Holes.{filled_bytes}
-use Rattle.round_print.specs.Prints.{CpuLine, filled, last_of, printed, text_of, first_line}
+use Rattle.round_print.specs.Prints.{CpuLine, filled, head_kept, last_of, printed, text_of, first_line}
 use Rattle.round_print.specs.Rounds.{IsLineDropped}
 use Rattle.round_print.proofs.Printing.{print_none}
 use Rattle.round_print.proofs.PrintSteps.{IsStep, some_kept, is_step, printing_on, printed_all, dropped_at, text_on, last_on, starts_with, cut_text}
 use Rattle.round_print.proofs.rounds.put_round.Goals as goal
+
+pub loop-i-init : goal.loop-i-init
+loop-i-init g c = record {
+  text = (
+    [],
+    (
+      refl,
+      λ before text held.
+          let P : List ℕ → Type 0 = λ t. Holds before (g.O.Sink.written c.args.out.now) c.args.pending.now t in
+          subst P (sym (append-nil text)) held,
+    ),
+  );
+  last = refl;
+  name = refl;
+  later = omega arith;
+  parts = refl;
+  rise = c.requires.rise;
+  rises = c.requires.rises;
+  heads = c.take_heads.ensures;
+  slots = ap length c.take_heads.ensures ∙ length-map c.args.lanes.now head_kept ∙ sym c.requires.heads;
+  lanes = λ i d lt. record {
+    later = refl;
+    keeps = record { lane = lane_still printing (get_or c.args.lanes.now i d); room = refl; tidy = λ t. t; few = λ f. f };
+  };
+}
 
 pub print_first-requires : goal.print_first-requires
 print_first-requires g c = some_kept c.args.horizon.now c.loop-i.lanes c.in-Some.i c.index-lanes-i.result c.in-Some.ensures.inside c.index-lanes-i.is c.in-Some.ensures.least
@@ -28,6 +55,8 @@ loop-i-preserved g c =
     is_step c.args.horizon.now c.loop-i.lanes c.in-Some.i c.index-lanes-i.result c.print_first.new.lane c.in-Some.ensures.inside c.index-lanes-i.is c.in-Some.ensures.least c.loop-i.invariant.rise c.loop-i.invariant.rises dropped in
     let done : List ℕ = c.loop-i.invariant.text.0 in
     let line : List ℕ = filled_bytes c.loop-i.last (first_line (get_or c.loop-i.lanes c.in-Some.i c.index-lanes-i.result).region.kept) in
+    let key : c.head_kept.result ≡ head_kept c.print_first.new.lane =
+    c.head_kept.ensures ∙ ap head_kept (get_or-set_same c.loop-i.lanes c.in-Some.i c.print_first.new.lane c.index-lanes-i-in-Some.result c.in-Some.ensures.inside) in
     record {
       text = (
         done ++ line,
@@ -44,6 +73,9 @@ loop-i-preserved g c =
       parts = set_parts c.loop-i.lanes c.in-Some.i c.index-lanes-i.result c.print_first.new.lane c.in-Some.ensures.inside c.in-Ok.ensures.cpu c.in-Ok.ensures.part ∙ c.loop-i.invariant.parts;
       rise = step.rise;
       rises = step.rises;
+      heads = c.set.ensures ∙ ap (set c.loop-i.heads c.in-Some.i) key ∙ ap (λ (keys : List (Option (Option ℕ))). set keys c.in-Some.i (head_kept c.print_first.new.lane)) c.loop-i.invariant.heads
+          ∙ sym (map-set head_kept c.loop-i.lanes c.in-Some.i c.print_first.new.lane);
+      slots = ap length c.set.ensures ∙ length-set c.loop-i.heads c.in-Some.i c.head_kept.result ∙ c.loop-i.invariant.slots;
       lanes = printing_on c.args.horizon.now c.args.lanes.now c.loop-i.lanes c.in-Some.i c.index-lanes-i.result c.print_first.new.lane c.in-Some.ensures.inside c.index-lanes-i.is step dropped c.loop-i.auto.lanes c.loop-i.invariant.lanes;
     }
 

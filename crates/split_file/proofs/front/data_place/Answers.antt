@@ -3,8 +3,14 @@ use Rattle.std.proofs.Math.Nat.{mod-add-mod}
 use Rattle.std.proofs.lemmas.List.{length-replicate}
 use Rattle.trace_base.specs.declared.part.Part.{Part}
 use Rattle.dat_header.specs.Written.{header_text}
-use Rattle.split_file.specs.NewFile.{front_len, blank, up_to_page}
+use Rattle.dat_header.specs.Tables.{blank}
+use Rattle.new_files.specs.Padding.{up_to_page}
+use Rattle.split_file.specs.NewFile.{front_len}
+use Rattle.split_file.proofs.Placing.{is_page}
 use Rattle.split_file.proofs.front.data_place.Goals as goal
+
+pub gap-requires : goal.gap-requires
+gap-requires c = is_page c.args.header.now.page c.requires.page
 
 pub returns : goal.returns
 unfolding front_len

@@ -5,9 +5,12 @@ use Rattle.trace_outside.proofs.Gains.{gained_both, gained_nothing, on_err, pref
 use Rattle.dat_header.specs.Written.{header_text}
 use Rattle.page_write.specs.Record.{zeros}
 use Rattle.split_file.specs.NewFile.{front_len, front_text}
-use Rattle.split_file.proofs.Placing.{front_of}
+use Rattle.split_file.proofs.Placing.{front_of, is_page}
 use Rattle.split_file.proofs.Wholes.{when_err, when_ok}
 use Rattle.split_file.proofs.front.write_front.Goals as goal
+
+pub gap-requires : goal.gap-requires
+gap-requires g c = is_page c.args.header.now.page c.requires.allowed.page
 
 pub returns-clause-gained : goal.returns-clause-gained
 unfolding front_text

@@ -7,6 +7,7 @@ use Rattle.page_pool.specs.declared.lane.Lane.{Lane}
 use Rattle.event_cursor.specs.Standing.{IsInOrder, Stands, most_left}
 use Rattle.time_merge.specs.Advancing.{Advances, IsOver}
 use Rattle.time_merge.specs.LaneRows.{parts_of}
+use Rattle.time_merge.specs.Nexts.{IsInStep}
 use Rattle.time_merge.specs.Reads.{all_unread}
 use Rattle.split_passes.specs.Measures.{Tallied}
 use Rattle.split_passes.specs.declared.tally.Tally.{Tally}
@@ -18,6 +19,8 @@ invariant-loop-i g l = record {
   in_order : All (IsInOrder l.layout) l.lanes;
   parts : parts_of l.lanes ≡ parts_of l.fn.lanes;
   long : length l.tallies ≡ length l.lanes;
+  in_step : IsInStep l.layout l.lanes l.nexts l.used;
+  slots : length l.nexts ≡ length l.fn.nexts;
   runs : IfSome (g.F.File.bytes l.fn.file) (λ file. All (Stands l.layout file) l.fn.lanes → Tallied l.layout l.fn.lanes [] l.fn.tallies
       → Runs l.layout file l.stop l.fn.gauge l.gauge l.fn.lanes l.lanes l.tallies);
   advance : (j : ℕ) (d : Lane) → j < length l.fn.lanes → Advances (get_or l.fn.lanes j d) (get_or l.lanes j d);

@@ -27,6 +27,7 @@ loop-i-init g c = record {
   in_order = c.requires.in_order;
   parts = refl;
   long = c.requires.long;
+  slot = c.requires.slot;
   measured = told_all _ (g.F.File.bytes c.args.file.now) (λ file s none. measured_none c.args.layout.now file c.args.rules.now c.args.lanes.now c.args.tallies.now c.none-ends.result c.none-ends.ensures.more c.none-ends.ensures.bad);
   ready = AllWithin-none (IsReady c.args.layout.now) c.args.lanes.now 0;
   advance = λ j d lt. advances_not (get_or c.args.lanes.now j d);
@@ -43,6 +44,11 @@ returns-in_err-ends-clause-in_order g c =
 pub returns-in_err-ends-clause-parts : goal.returns-in_err-ends-clause-parts
 returns-in_err-ends-clause-parts g c = map_put _ c.loop-i.i _ c.loop-i.lanes c.measure_list-in-loop-i.new.lanes c.measure_list-in-loop-i.ensures.parts ∙ c.loop-i.invariant.parts
 
+pub measure_list-requires-in-loop-i-clause-slots : goal.measure_list-requires-in-loop-i-clause-slots
+measure_list-requires-in-loop-i-clause-slots g c =
+    let lt : c.loop-i.i < length c.loop-i.lanes = search rules in
+    c.loop-i.invariant.slot ∙ sym (one_in_mid c.loop-i.i c.loop-i.lanes lt)
+
 pub loop-i-preserved : goal.loop-i-preserved
 loop-i-preserved g c =
     let l = c.args.layout.now in
@@ -56,6 +62,7 @@ loop-i-preserved g c =
       parts = parts ∙ c.loop-i.invariant.parts;
       long = same_len_mid i (i + 1 - i) c.loop-i.tallies c.measure_list-in-loop-i.new.tallies (c.measure_list-in-loop-i.ensures.long ∙ one ∙ sym (one_in_mid i c.loop-i.tallies lt2))
           ∙ c.loop-i.invariant.long ∙ sym (same_length _ c.loop-i.lanes parts);
+      slot = c.measure_list-in-loop-i.ensures.slots ∙ c.loop-i.invariant.slot;
       measured = told_again _ _ _ (g.F.File.bytes c.args.file.now) (g.F.File.bytes c.loop-i.file) c.loop-i.invariant.keeps.bytes (λ file p m s none.
           let q = p s none in
           measured_more l file c.args.rules.now i c.args.lanes.now c.loop-i.lanes c.measure_list-in-loop-i.new.lanes c.args.tallies.now c.loop-i.tallies c.measure_list-in-loop-i.new.tallies c.loop-i.ends c.in_ok-ends.ends lt lt2

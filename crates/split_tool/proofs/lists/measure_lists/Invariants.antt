@@ -18,6 +18,7 @@ invariant-loop-i g l = record {
   in_order : All (IsInOrder l.layout) l.lanes;
   parts : parts_of l.lanes ≡ parts_of l.fn.lanes;
   long : length l.tallies ≡ length l.lanes;
+  slot : length l.next ≡ 1;
   measured : IfSome (g.F.File.bytes l.fn.file) (λ file. All (Stands l.layout file) l.fn.lanes
       → ((i : ℕ) (t : Tally) → i < length l.fn.tallies → IsTally l.layout (get_or l.fn.tallies i t) [])
       → MeasuredTo l.layout file l.rules l.i l.fn.lanes l.lanes l.fn.tallies l.tallies l.ends);

@@ -1,4 +1,4 @@
-use Rattle.std.proofs.Common.{◌<◌, ◌^◌, refl, arith, rules, sym, subst, ◌∙◌}
+use Rattle.std.proofs.Common.{◌≡◌, ◌<◌, ◌^◌, length, refl, arith, rules, sym, subst, ◌∙◌}
 use Rattle.trace_outside.proofs.Keeping.{file_kept}
 use Rattle.subpage.specs.Arrangement.{CpusRise}
 use Rattle.dat_header.proofs.Headers.{header_layout}
@@ -10,7 +10,6 @@ use Rattle.split_pieces.specs.Pieces.{IsUnit}
 use Rattle.split_tool.specs.NewFiles.{new_files}
 use Rattle.time_merge.proofs.Advancing.{same_length}
 use Rattle.split_tool.specs.Rules.{rules_of}
-use Rattle.split_tool.specs.Work.{IsWorkFor}
 use Rattle.time_merge.specs.LaneRows.{parts_of}
 use Rattle.split_tool.proofs.Budget.{passed_spent, same_spent, spent_all, spent_more, spent_stops, start_less}
 use Rattle.split_tool.proofs.Making.{created_last, created_stops, progress_none, progress_more, progress_last, progress_stops, same_cpus, fresh_stand}
@@ -27,10 +26,18 @@ returns-in_default-clause-told g c =
 pub loop-number-init : goal.loop-number-init
 loop-number-init g c =
     let size : g.F.File.size c.args.file.now < 2 ^ 64 = omega arith in
+    let long : length c.pass_start.new.lanes ≡ length c.args.lanes.now = same_length c.pass_start.new.lanes c.args.lanes.now c.pass_start.ensures.parts in
     record {
       in_order = c.pass_start.ensures.in_order;
       parts = c.pass_start.ensures.parts;
-      work = subst (λ n. IsWorkFor c.args.plan.now.header.now n c.args.work.now) (sym (same_length c.pass_start.new.lanes c.args.lanes.now c.pass_start.ensures.parts)) c.requires.work;
+      work = record {
+        fronts = c.requires.work.fronts ∙ sym long;
+        tallies = c.requires.work.tallies ∙ sym long;
+        nexts = c.pass_start.ensures.slots ∙ c.requires.work.nexts ∙ sym long;
+        next = c.pass_start.ensures.slot;
+        table = c.requires.work.table;
+        page = c.requires.work.page;
+      };
       progress = told_both _ _ _ (g.F.File.bytes c.args.file.now) (λ file long started.
           progress_none c.args.plan.now.header.now (split_view c.args.plan.now.words.now) c.rules_of-rules.result file c.args.lanes.now c.pass_start.new.lanes (g.D.Folder.files c.args.folder.now) c.requires.allowed c.rules_of-rules.ensures c.requires.rise c.requires.cpus
           c.requires.fresh c.pass_start.ensures.parts (omega (arith, long, size)) (started (fresh_stand c.args.plan.now.header.now.layout file c.args.lanes.now c.requires.fresh)))

@@ -10,7 +10,7 @@ use Rattle.split_pieces.specs.Cuts.{bad_reached}
 use Rattle.split_tool.specs.NewFiles.{new_files}
 use Rattle.split_tool.specs.Reads.{Spent, to_read}
 use Rattle.split_tool.specs.Rules.{rules_of}
-use Rattle.split_tool.specs.Stored.{KeepsCounts}
+use Rattle.new_files.specs.Stored.{KeepsCounts}
 use Rattle.split_tool.specs.Work.{IsWorkFor}
 use Rattle.split_tool.proofs.Making.{Progress}
 use Rattle.split_tool.proofs.splitting.split.Given as goal

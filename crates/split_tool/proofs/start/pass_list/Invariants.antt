@@ -7,6 +7,7 @@ use Rattle.page_pool.specs.declared.lane.Lane.{Lane}
 use Rattle.event_cursor.specs.Standing.{IsInOrder, Stands, most_left}
 use Rattle.time_merge.specs.Advancing.{Advances}
 use Rattle.time_merge.specs.LaneRows.{parts_of}
+use Rattle.time_merge.specs.Nexts.{IsInStep}
 use Rattle.time_merge.specs.Reads.{all_unread}
 use Rattle.split_tool.proofs.Passing.{Passing}
 use Rattle.split_tool.proofs.start.pass_list.Given as goal
@@ -15,6 +16,8 @@ abbrev pub invariant-loop-i : goal.invariant-loop-i
 invariant-loop-i g l = record {
   in_order : All (IsInOrder l.layout) l.lanes;
   parts : parts_of l.lanes ≡ parts_of l.fn.lanes;
+  in_step : IsInStep l.layout l.lanes l.nexts l.used;
+  slots : length l.nexts ≡ length l.fn.nexts;
   passing : IfSome (g.F.File.bytes l.fn.file) (λ file. All (Stands l.layout file) l.fn.lanes → Passing l.layout file (Some l.start) l.fn.lanes l.lanes);
   advance : (j : ℕ) (d : Lane) → j < length l.fn.lanes → Advances (get_or l.fn.lanes j d) (get_or l.lanes j d);
   reads : g.F.File.reads l.file

@@ -12,6 +12,11 @@ use Rattle.split_tool.proofs.start.pass_start.Goals as goal
 pub returns-in_err-pass_list-clause-parts : goal.returns-in_err-pass_list-clause-parts
 returns-in_err-pass_list-clause-parts g c = map_put _ c.loop-i.i _ c.loop-i.lanes c.pass_list-in-loop-i.new.lanes c.pass_list-in-loop-i.ensures.parts ∙ c.loop-i.invariant.parts
 
+pub pass_list-requires-in-loop-i-clause-slots : goal.pass_list-requires-in-loop-i-clause-slots
+pass_list-requires-in-loop-i-clause-slots g c =
+    let lt : c.loop-i.i < length c.loop-i.lanes = search rules in
+    c.loop-i.invariant.slot ∙ sym (one_in_mid c.loop-i.i c.loop-i.lanes lt)
+
 pub loop-i-preserved : goal.loop-i-preserved
 loop-i-preserved g c =
     let l = c.args.layout.now in
@@ -20,6 +25,7 @@ loop-i-preserved g c =
     record {
       in_order = all_put (IsInOrder l) c.loop-i.i _ c.loop-i.lanes c.pass_list-in-loop-i.new.lanes c.loop-i.invariant.in_order c.pass_list-in-loop-i.ensures.in_order;
       parts = map_put _ c.loop-i.i _ c.loop-i.lanes c.pass_list-in-loop-i.new.lanes c.pass_list-in-loop-i.ensures.parts ∙ c.loop-i.invariant.parts;
+      slot = c.pass_list-in-loop-i.ensures.slots ∙ c.loop-i.invariant.slot;
       started = told_again _ _ _ (g.F.File.bytes c.args.file.now) (g.F.File.bytes c.loop-i.file) c.loop-i.invariant.keeps.bytes (λ file s one stands.
           let s = s stands in
           started_more l file (Some c.in-Some.start) c.loop-i.i c.args.lanes.now c.loop-i.lanes c.pass_list-in-loop-i.new.lanes lt c.pass_list-in-loop-i.ensures.parts

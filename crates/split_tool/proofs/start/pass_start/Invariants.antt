@@ -15,6 +15,7 @@ abbrev pub invariant-loop-i : goal.invariant-loop-i
 invariant-loop-i g l = record {
   in_order : All (IsInOrder l.layout) l.lanes;
   parts : parts_of l.lanes ≡ parts_of l.fn.lanes;
+  slot : length l.next ≡ 1;
   started : IfSome (g.F.File.bytes l.fn.file) (λ file. All (Stands l.layout file) l.fn.lanes → StartedTo l.layout file (Some l.start) l.i l.fn.lanes l.lanes);
   advance : (j : ℕ) (d : Lane) → j < length l.fn.lanes → Advances (get_or l.fn.lanes j d) (get_or l.lanes j d);
   reads : g.F.File.reads l.file

@@ -1,0 +1,66 @@
+ghost use Rattle.std.specs.Prelude.{◌≡◌};
+ghost use Rattle.call_pairs.specs.Calls.{entry_call, exit_call};
+
+use crate::seen::GraphEvent;
+use line_columns::Common;
+
+/// What is told of an entry, an exit or a loss. It has 64 bytes: `leaf` stands beside `depth`, since fields keep their order.
+#[derive(Clone, Copy, Debug, PartialEq, Eq)]
+pub enum Call {
+    /// An entry.
+    Entry {
+        cpu: u32,
+        time: u64,
+        common: Common,
+        depth: u32,
+        func: u64,
+        /// The call's duration in nanoseconds, where it is a leaf: its thread did nothing up to its exit.
+        leaf: Option<u64>,
+    },
+    /// An exit.
+    Exit {
+        cpu: u32,
+        time: u64,
+        common: Common,
+        depth: u32,
+        /// Whether its call is a leaf.
+        leaf: bool,
+        func: u64,
+        /// The call's duration in nanoseconds, where the exit belongs to an entry.
+        span: Option<u64>,
+    },
+    /// Events of this processor were lost, so many where that is known.
+    Loss {
+        cpu: u32,
+        count: Option<u64>,
+    },
+}
+
+/// What is told of an entry.
+pub(crate) fn entry_call(entry: &GraphEvent, leaf: Option<u64>) -> Call
+    ensures { result ≡ entry_call entry.now leaf }
+{
+    Call::Entry {
+        cpu: entry.cpu,
+        time: entry.time,
+        common: entry.common,
+        depth: entry.depth,
+        func: entry.func,
+        leaf,
+    }
+}
+
+/// What is told of an exit.
+pub(crate) fn exit_call(exit: &GraphEvent, span: Option<u64>, leaf: bool) -> Call
+    ensures { result ≡ exit_call exit.now span leaf }
+{
+    Call::Exit {
+        cpu: exit.cpu,
+        time: exit.time,
+        common: exit.common,
+        depth: exit.depth,
+        func: exit.func,
+        span,
+        leaf,
+    }
+}

@@ -1,0 +1,3 @@
+pub mod CallText
+pub mod Roles
+pub mod Gathered

@@ -1,0 +1,61 @@
+ghost use Rattle.std.specs.Prelude.{◌≡◌, ◌%◌, ◌^◌};
+ghost use Rattle.std.specs.Int.{cast_unsigned, w128};
+ghost use Rattle.trace_base.specs.Fields.{has_sign};
+ghost use Rattle.graph_report.specs.Roles.{place_of, number_at};
+
+use trace_base::{Field, FieldKind, Order, sized, unsigned_at};
+
+/// Where a number stands in an event.
+#[derive(Clone, Copy, Debug, PartialEq, Eq)]
+pub struct Place {
+    /// Its offset in the event, in bytes.
+    pub offset: u32,
+    /// Its length in bytes.
+    pub size: u32,
+    /// Whether it has a sign.
+    pub signed: bool,
+}
+
+fn has_sign(kind: FieldKind) -> bool
+    ensures { result ≡ has_sign kind }
+{
+    match kind {
+        FieldKind::Number => true,
+        FieldKind::Text | FieldKind::Bytes | FieldKind::Pointer => false,
+    }
+}
+
+impl Place {
+    /// Where a field's number stands.
+    pub(crate) fn of(field: &Field) -> Place
+        ensures { result ≡ place_of field.now }
+    {
+        Place {
+            offset: field.offset,
+            size: field.size,
+            signed: has_sign(field.kind) && field.signed,
+        }
+    }
+
+    /// The exact number, and 0 where one of its bytes is missing.
+    pub(crate) fn number(self, order: Order, payload: &[u8]) -> i128
+        ensures { result ≡ number_at order payload.now self }
+    {
+        let number = unsigned_at(order, payload, self.offset as usize, self.size);
+        sized(self.signed, self.size, number)
+    }
+
+    /// The number modulo 2^64.
+    pub(crate) fn low_64(self, order: Order, payload: &[u8]) -> u64
+        ensures { result ≡ cast_unsigned w128 (number_at order payload.now self) % 2 ^ 64 }
+    {
+        (self.number(order, payload).cast_unsigned() & 0xffff_ffff_ffff_ffff) as u64
+    }
+
+    /// The number modulo 2^32.
+    pub(crate) fn low_32(self, order: Order, payload: &[u8]) -> u32
+        ensures { result ≡ cast_unsigned w128 (number_at order payload.now self) % 2 ^ 32 }
+    {
+        (self.number(order, payload).cast_unsigned() & 0xffff_ffff) as u32
+    }
+}

@@ -1,0 +1,4 @@
+mod lines;
+mod pairs;
+mod sub_buffers;
+mod traces;

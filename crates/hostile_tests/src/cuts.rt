@@ -1,0 +1,124 @@
+// A trace of two processors cut behind each of its bytes.
+
+use super::runs::{answers, prints, run_line};
+use dat_header::OpenFault;
+use std::alloc::{Alloc, Global};
+use std::process::Abort;
+use std::test::Fail;
+use std::thread::Threads;
+use trace_run::Status;
+use trace_samples::switch_file;
+
+/// The length of its header, by a script that writes the same file without this one.
+const HEADER: usize = 2218;
+
+const REPORT: &[u8] = b"cpus=2
+            bash-1234  [000]     1.000000: sched_switch:         prev_comm=bash prev_pid=1234 prev_prio=120 prev_state=S ==> next_comm=swapper/0 next_pid=0 next_prio=120
+          <idle>-0     [001]     1.000002: sched_switch:         prev_comm=swapper/1 prev_pid=0 prev_prio=120 prev_state=R ==> next_comm=kworker/0:1 next_pid=42 next_prio=120
+     kworker/0:1-42    [001]     1.000250: function:              schedule <-- do_idle
+";
+
+// The first so many bytes end inside the header: nothing is read of them.
+fn is_early<R: Alloc<A = Global> + Abort + Threads + Sync>(
+    rt: &R,
+    file: &[u8],
+    len: usize,
+) -> Result<(), Fail> {
+    let (front, _) = file.split_at_checked(len).unwrap_or((&[], &[]));
+    let status = Status::Refused(OpenFault::Truncated(len as u64));
+    let early = format!(in rt.alloc(); "trace-cmd: trace.dat: file ends early at byte {len}\n")?;
+    for line in ["report", "dump --validate"] {
+        answers(rt, line, front, status, b"", early.as_bytes())?;
+    }
+    Ok(())
+}
+
+/// How a report of the first so many bytes, with the whole header, ends.
+fn status_of(len: usize) -> Status {
+    if len < 20_480 {
+        Status::Malformed { cpu: 0, page: 0 }
+    } else if len < 24_576 {
+        Status::Malformed { cpu: 1, page: 0 }
+    } else {
+        Status::Done
+    }
+}
+
+// Its output and message.
+fn told(status: Status) -> (&'static [u8], &'static [u8]) {
+    match status {
+        Status::Malformed { cpu: 0, .. } => (
+            b"cpus=2\n",
+            b"trace-cmd: trace.dat: malformed sub-page 0 of processor 0\n",
+        ),
+        Status::Malformed { .. } => (
+            b"cpus=2\n",
+            b"trace-cmd: trace.dat: malformed sub-page 0 of processor 1\n",
+        ),
+        _ => (REPORT, b""),
+    }
+}
+
+// The first so many bytes have the whole header: it is valid, and the report ends where a sub-buffer is not there.
+fn is_reported<R: Alloc<A = Global> + Abort + Threads + Sync>(
+    rt: &R,
+    file: &[u8],
+    len: usize,
+) -> Result<(), Fail> {
+    let (front, _) = file.split_at_checked(len).unwrap_or((&[], &[]));
+    assert_eq!(rt; front.len(), len);
+    let status = status_of(len);
+    let (out, err) = told(status);
+    answers(rt, "report", front, status, out, err)?;
+    prints(rt, "dump --validate", front, b"valid\n")
+}
+
+#[test]
+fn each_cut_of_a_header(rt: HostRuntime) -> Result<(), Fail> {
+    let file = switch_file(rt.alloc())?;
+    for len in 0..HEADER {
+        is_early(&rt, &file, len)?;
+    }
+    Ok(())
+}
+
+#[test]
+fn cuts_behind_a_header(rt: HostRuntime) -> Result<(), Fail> {
+    let file = switch_file(rt.alloc())?;
+    assert_eq!(rt; file.len(), 24_576);
+    for more in 0..=64_usize {
+        is_reported(&rt, &file, HEADER + more)?;
+    }
+    for len in [16_384, 20_479, 20_480, 24_575, 24_576] {
+        is_reported(&rt, &file, len)?;
+    }
+    Ok(())
+}
+
+// A split of a cut trace makes what stands before the cut.
+fn is_split<R: Alloc<A = Global> + Abort + Threads + Sync>(
+    rt: &R,
+    file: &[u8],
+    len: usize,
+) -> Result<(), Fail> {
+    let (front, _) = file.split_at_checked(len).unwrap_or((&[], &[]));
+    let status = if len < HEADER {
+        Status::Refused(OpenFault::Truncated(len as u64))
+    } else {
+        status_of(len)
+    };
+    let ran = run_line(rt, "split -o p", front)?;
+    assert!(rt; ran.status == status, "{len}");
+    assert_eq!(rt; ran.folder.get("p.1").is_some(), len >= HEADER, "{len}");
+    assert!(rt; ran.folder.get("p.2").is_none(), "{len}");
+    Ok(())
+}
+
+#[test]
+fn splits_of_cut_traces(rt: HostRuntime) -> Result<(), Fail> {
+    let file = switch_file(rt.alloc())?;
+    for len in [0, 1, 2217, 2218, 20_479, 20_480, 24_575, 24_576] {
+        is_split(&rt, &file, len)?;
+    }
+    Ok(())
+}

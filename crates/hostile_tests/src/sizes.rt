@@ -1,0 +1,170 @@
+// Sizes and numbers of 2^32 - 1 and 2^64 - 1 in each place of a header that has one. None takes memory that the file does not
+// cover: what is told here is the answer.
+
+use super::runs::answers;
+use dat_header::OpenFault::{BadPageSize, TooManyCpus, Truncated};
+use std::alloc::{AllocError, Global};
+use std::test::Fail;
+use trace_run::Status;
+use trace_run::Status::{Done, Malformed, Refused};
+use trace_samples::TraceFile;
+
+// A header of one processor without texts. Its sizes stand at 30 (header_page), 51 (header_event), 59 (ftrace formats), 63
+// (systems), 67 (kallsyms), 71 (printk formats) and 75 (command lines), the number of processors at 83, the last word at 87,
+// and the table at 97.
+const HEADER: usize = 113;
+
+// One event of pid 1,234 at one second.
+const ONE: &[u8] = b"\0\xca\x9a;\0\0\0\0\x0c\0\0\0\0\0\0\0\x02\0\0\0:\0\0\0\xd2\x04\0\0";
+
+/// What stands at a place of the header instead. Each asks for more than the file has.
+const EARLY: &[(usize, &[u8])] = &[
+    (30, b"\xff\xff\xff\xff"),
+    (30, b"\xff\xff\xff\xff\xff\xff\xff\xff"),
+    (51, b"\xff\xff\xff\xff"),
+    (51, b"\xff\xff\xff\xff\xff\xff\xff\xff"),
+    // the number of ftrace formats, of which the third has the number of processors in its size, and sizes of one
+    (59, b"\xff\xff\xff\xff"),
+    (59, b"\x01\0\0\0\xff\xff\xff\xff"),
+    (59, b"\x01\0\0\0\xff\xff\xff\xff\xff\xff\xff\xff"),
+    // the number of systems, that of a system's events, sizes of one event's format, and a name without an end
+    (63, b"\xff\xff\xff\xff"),
+    (63, b"\x01\0\0\0s\0\xff\xff\xff\xff"),
+    (63, b"\x01\0\0\0s\0\x01\0\0\0\xff\xff\xff\xff"),
+    (
+        63,
+        b"\x01\0\0\0s\0\x01\0\0\0\xff\xff\xff\xff\xff\xff\xff\xff",
+    ),
+    (
+        63,
+        b"\x01\0\0\0ssssssssssssssssssssssssssssssssssssssssssssss",
+    ),
+    (67, b"\xff\xff\xff\xff"),
+    (71, b"\xff\xff\xff\xff"),
+    (75, b"\xff\xff\xff\xff"),
+    (75, b"\xff\xff\xff\xff\xff\xff\xff\xff"),
+    (87, b"options  \0\x01\0\xff\xff\xff\xff"),
+];
+
+/// What stands at a place of the header instead, how much of the file there is, the words, and the answer.
+const OTHERS: &[(usize, &[u8], usize, &str, Status, &[u8], &[u8])] = &[
+    (
+        14,
+        b"\xff\xff\xff\xff",
+        HEADER,
+        "report",
+        Refused(BadPageSize(14)),
+        b"",
+        b"trace-cmd: trace.dat: bad page size at byte 14\n",
+    ),
+    (
+        83,
+        b"\xff\xff\xff\xff",
+        HEADER,
+        "report",
+        Refused(TooManyCpus(83)),
+        b"",
+        b"trace-cmd: trace.dat: too many processors at byte 83\n",
+    ),
+    // parts that begin past the file, or past all files, and parts that end there
+    (
+        97,
+        b"\xff\xff\xff\xff",
+        8192,
+        "report",
+        Malformed { cpu: 0, page: 0 },
+        b"cpus=1\n",
+        b"trace-cmd: trace.dat: malformed sub-page 0 of processor 0\n",
+    ),
+    (
+        97,
+        b"\xff\xff\xff\xff\xff\xff\xff\xff",
+        8192,
+        "report",
+        Malformed { cpu: 0, page: 0 },
+        b"cpus=1\n",
+        b"trace-cmd: trace.dat: malformed sub-page 0 of processor 0\n",
+    ),
+    (
+        97,
+        b"\0\xf0\xff\xff\xff\xff\xff\xff",
+        8192,
+        "report",
+        Malformed { cpu: 0, page: 0 },
+        b"cpus=1\n",
+        b"trace-cmd: trace.dat: malformed sub-page 0 of processor 0\n",
+    ),
+    (
+        105,
+        b"\xff\xff\xff\xff",
+        8192,
+        "report",
+        Malformed { cpu: 0, page: 1 },
+        b"cpus=1\n           <...>-1234  [000]     1.000000: [UNKNOWN EVENT 58]\n",
+        b"trace-cmd: trace.dat: malformed sub-page 1 of processor 0\n",
+    ),
+    (
+        105,
+        b"\xff\xff\xff\xff\xff\xff\xff\xff",
+        8192,
+        "report",
+        Malformed { cpu: 0, page: 1 },
+        b"cpus=1\n           <...>-1234  [000]     1.000000: [UNKNOWN EVENT 58]\n",
+        b"trace-cmd: trace.dat: malformed sub-page 1 of processor 0\n",
+    ),
+    (
+        105,
+        b"\xff\xff\xff\xff\xff\xff\xff\xff",
+        8192,
+        "split -o p",
+        Malformed { cpu: 0, page: 1 },
+        b"",
+        b"trace-cmd: trace.dat: malformed sub-page 1 of processor 0\n",
+    ),
+    (
+        97,
+        b"\xff\xff\xff\xff\xff\xff\xff\xff\xff\xff\xff\xff\xff\xff\xff\xff",
+        HEADER,
+        "dump --flyrecord --validate",
+        Done,
+        b"[flyrecord 1]\ncpu 0 offset 18446744073709551615 size 18446744073709551615\nvalid\n",
+        b"",
+    ),
+];
+
+// The first bytes of the file, with these at a place of its header.
+fn patched(alloc: Global, place: usize, bytes: &[u8], len: usize) -> Result<Vec<u8>, AllocError> {
+    let mut trace = TraceFile::new(alloc);
+    trace.add_processor(ONE)?;
+    let mut file = trace.bytes(alloc)?;
+    file.truncate(len);
+    for (i, byte) in bytes.iter().enumerate() {
+        if let Some(old) = file.get_mut(place.saturating_add(i)) {
+            *old = *byte;
+        }
+    }
+    Ok(file)
+}
+
+#[test]
+fn sizes_past_the_end(rt: HostRuntime) -> Result<(), Fail> {
+    let status = Refused(Truncated(HEADER as u64));
+    let err = b"trace-cmd: trace.dat: file ends early at byte 113\n";
+    for (place, bytes) in EARLY {
+        let file = patched(rt.alloc(), *place, bytes, HEADER)?;
+        assert_eq!(rt; file.len(), HEADER, "{place}");
+        for line in ["report", "dump", "split -o p"] {
+            answers(&rt, line, &file, status, b"", err)?;
+        }
+    }
+    Ok(())
+}
+
+#[test]
+fn other_numbers_past_their_ranges(rt: HostRuntime) -> Result<(), Fail> {
+    for (place, bytes, len, line, status, out, err) in OTHERS {
+        let file = patched(rt.alloc(), *place, bytes, *len)?;
+        answers(&rt, line, &file, *status, out, err)?;
+    }
+    Ok(())
+}

@@ -1,0 +1,266 @@
+// Command lines and filters of a megabyte.
+
+use super::long::{Long, text_of};
+use super::runs::{answers, run_words};
+use std::alloc::Global;
+use std::test::Fail;
+use trace_base::Words;
+use trace_run::Status;
+use trace_samples::TraceFile;
+
+/// An event of id 7 and pid 1 at a microsecond.
+const EVENT: &[u8] = b"\xe8\x03\0\0\0\0\0\0\x0c\0\0\0\0\0\0\0\x02\0\0\0\x07\0\0\0\x01\0\0\0";
+
+const FORMAT: &[u8] =
+    b"name: sum\nID: 7\nformat:\n\tfield:int a;\toffset:4;\tsize:4;\tsigned:1;\n\nprint fmt: \"x\"\n";
+
+const SHOWN: &str = "cpus=1\n           <...>-1     [000]     0.000001: sum:                  x\n";
+
+const RAW: &str = "cpus=1\n           <...>-1     [000]     0.000001: sum:                  a=1\n";
+
+fn file_of(alloc: Global) -> Result<Vec<u8>, Fail> {
+    let mut trace = TraceFile::new(alloc);
+    trace.add_ftrace(FORMAT)?;
+    trace.add_processor(EVENT)?;
+    Ok(trace.bytes(alloc)?)
+}
+
+/// Filters behind `report -F`, what is printed, and the place at which the filter goes wrong, if it does.
+const FILTERS: &[(Long, &str, &str)] = &[
+    // the 65th bracket, behind a blank on each side of the colon; and the 65th prefix
+    (
+        Long {
+            begin: "sched : ",
+            part: "(",
+            count: 65,
+            end: "",
+        },
+        "",
+        "trace-cmd: word 3: bad filter at byte 72\n",
+    ),
+    (
+        Long {
+            begin: "a:",
+            part: "!",
+            count: 100_000,
+            end: "1",
+        },
+        "",
+        "trace-cmd: word 3: bad filter at byte 66\n",
+    ),
+    (
+        Long {
+            begin: "sum:",
+            part: "!",
+            count: 64,
+            end: "a",
+        },
+        SHOWN,
+        "",
+    ),
+    // a megabyte of conditions, of events, of blanks, and of digits
+    (
+        Long {
+            begin: "sum:",
+            part: "CPU == 9 || ",
+            count: 87_400,
+            end: "a == 1",
+        },
+        SHOWN,
+        "",
+    ),
+    (
+        Long {
+            begin: "sum:a",
+            part: " + 1",
+            count: 262_144,
+            end: " == 262145",
+        },
+        SHOWN,
+        "",
+    ),
+    (
+        Long {
+            begin: "",
+            part: "none,",
+            count: 209_716,
+            end: "sum",
+        },
+        SHOWN,
+        "",
+    ),
+    (
+        Long {
+            begin: "sum:",
+            part: " ",
+            count: 1_048_576,
+            end: "a",
+        },
+        SHOWN,
+        "",
+    ),
+    (
+        Long {
+            begin: "sum:",
+            part: "0",
+            count: 1_048_576,
+            end: "1",
+        },
+        SHOWN,
+        "",
+    ),
+    (
+        Long {
+            begin: "sum:",
+            part: "9",
+            count: 1_048_576,
+            end: "",
+        },
+        "",
+        "trace-cmd: word 3: bad filter at byte 4\n",
+    ),
+    (
+        Long {
+            begin: "sum:",
+            part: "a||",
+            count: 349_525,
+            end: "",
+        },
+        "",
+        "trace-cmd: word 3: bad filter at byte 1048579\n",
+    ),
+];
+
+#[test]
+fn filters_of_a_megabyte(rt: HostRuntime) -> Result<(), Fail> {
+    let alloc = rt.alloc();
+    let file = file_of(alloc)?;
+    for (long, out, err) in FILTERS {
+        let filter = text_of(alloc, long)?;
+        let mut words = Words::new(alloc);
+        words.push("report")?;
+        words.push("-F")?;
+        words.push(filter.as_str())?;
+        let status = if err.is_empty() {
+            Status::Done
+        } else {
+            Status::Usage
+        };
+        let ran = run_words(&rt, &words, &file)?;
+        assert!(rt;
+            ran.status == status && ran.err.bytes() == err.as_bytes(),
+            "{err}"
+        );
+        assert!(rt; ran.out.bytes() == out.as_bytes(), "{err}");
+    }
+    Ok(())
+}
+
+/// Lines that begin so, have words again and again, and end so; the status, the output and the message.
+const LINES: &[(Long, Status, &str, &str)] = &[
+    (
+        Long {
+            begin: "report",
+            part: " -r no",
+            count: 20_000,
+            end: "",
+        },
+        Status::Done,
+        SHOWN,
+        "",
+    ),
+    (
+        Long {
+            begin: "report",
+            part: " -r no",
+            count: 20_000,
+            end: " -r sum",
+        },
+        Status::Done,
+        RAW,
+        "",
+    ),
+    (
+        Long {
+            begin: "report",
+            part: " -t",
+            count: 349_526,
+            end: " -x",
+        },
+        Status::Usage,
+        "",
+        "trace-cmd: word 349528: unknown word\n",
+    ),
+    (
+        Long {
+            begin: "report",
+            part: " -F no",
+            count: 20_000,
+            end: " -F sum",
+        },
+        Status::Done,
+        SHOWN,
+        "",
+    ),
+    (
+        Long {
+            begin: "report trace.dat",
+            part: " a",
+            count: 524_288,
+            end: "",
+        },
+        Status::Usage,
+        "",
+        "trace-cmd: word 3: given twice\n",
+    ),
+    (
+        Long {
+            begin: "report --cpu 0",
+            part: ",0",
+            count: 524_288,
+            end: "",
+        },
+        Status::Done,
+        SHOWN,
+        "",
+    ),
+    (
+        Long {
+            begin: "dump",
+            part: " --validate",
+            count: 95_326,
+            end: "",
+        },
+        Status::Done,
+        "valid\n",
+        "",
+    ),
+    (
+        Long {
+            begin: "x",
+            part: "x",
+            count: 1_048_576,
+            end: "",
+        },
+        Status::Usage,
+        "",
+        "trace-cmd: word 1: unknown word\n",
+    ),
+];
+
+#[test]
+fn command_lines_of_a_megabyte(rt: HostRuntime) -> Result<(), Fail> {
+    let file = file_of(rt.alloc())?;
+    for (long, status, out, err) in LINES {
+        let line = text_of(rt.alloc(), long)?;
+        answers(
+            &rt,
+            line.as_str(),
+            &file,
+            *status,
+            out.as_bytes(),
+            err.as_bytes(),
+        )?;
+    }
+    Ok(())
+}

@@ -1,0 +1,103 @@
+ghost use Rattle.std.specs.Prelude.{◌≡◌, ℕ, ◌+◌, ◌*◌, ◌/◌, ◌<◌, ◌≤◌, length, take, replicate, slice_set, Option, None, IfOk, IfSome, if◌then◌else◌};
+ghost use Rattle.least_tree.specs.Least.{rank, IsLeastAt};
+ghost use Rattle.least_tree.specs.Nodes.{AllBut, HasLeaves, IsSettled, mark_of, most, node, nothing};
+
+use std::alloc::{AllocError, Global};
+use std::marker::Model;
+
+/// A number that all slots stand below.
+const MOST: u128 = 4_294_967_296;
+
+/// The mark of a slot with nothing, behind those of all keys.
+const NOTHING: u128 = 18_446_744_073_709_551_617 * 4_294_967_296;
+
+/// Slots with keys, and which of them has the least. A contract sees it as the list of the keys.
+#[derive(Drop)]
+pub struct LeastTree {
+    keys: Vec<Option<Option<u64>>>,
+    // The marks of slots stand behind as many others. That at place p is the lesser of those at 2 p and 2 p + 1, so that
+    // the least of all stands at place 1.
+    nodes: Vec<u128>,
+}
+
+impl Model for LeastTree {
+    ghost use Rattle.std.specs.Prelude.{ℕ, List, Option};
+    ghost use Rattle.least_tree.specs.Nodes.{IsTree, keys_in};
+
+    ghost Value = { List (Option (Option ℕ)) };
+
+    ghost view = { keys_in };
+
+    ghost invariant = { IsTree };
+}
+
+/// A slot's place among all: lesser keys stand before, and slots of one key in their order.
+fn mark_of(slot: usize, key: Option<Option<u64>>) -> u128
+    requires { slot < most }
+    ensures value { result ≡ mark_of slot key }
+    ensures small { IfSome key (λ next. rank next < nothing) }
+{
+    match key {
+        None => NOTHING,
+        Some(None) => slot as u128,
+        Some(Some(key)) => (u128::from(key) + 1) * MOST + slot as u128,
+    }
+}
+
+/// Settles the nodes above a place.
+fn settle(nodes: &mut [u128], slots: usize, place: usize)
+    requires size { length nodes.old ≡ 2 * slots }
+    requires small { slots ≤ most }
+    requires inside { (slots ≤ place) × (place < 2 * slots) }
+    requires but { AllBut slots nodes.old (place / 2) }
+    ensures settled { (q : ℕ) → 1 ≤ q → q < slots → IsSettled nodes.new q }
+    ensures leaves { (i : ℕ) → slots ≤ i → node nodes.new i ≡ node nodes.old i }
+    ensures size { length nodes.new ≡ length nodes.old }
+{
+    let mut at = place / 2;
+    while at > 0 {
+        nodes[at] = nodes[2 * at].min(nodes[2 * at + 1]);
+        at /= 2;
+    }
+}
+
+impl LeastTree {
+    /// So many slots, with nothing in them.
+    pub fn new(alloc: Global, slots: u32) -> Result<LeastTree, AllocError>
+        ensures { IfOk result (λ tree. tree ≡ replicate slots None) }
+    {
+        let keys = vec![in alloc; None; slots as usize]?;
+        let nodes = vec![in alloc; NOTHING; 2 * slots as usize]?;
+        Ok(LeastTree { keys, nodes })
+    }
+
+    /// Gives a slot another key, or nothing. Where it has that already it takes no steps.
+    pub fn set(&mut self, slot: usize, key: Option<Option<u64>>)
+        requires { slot < length self.old }
+        ensures { self.new ≡ slice_set self.old slot key }
+    {
+        if self.keys[slot] == key {
+            return;
+        }
+        let slots = self.keys.len();
+        self.keys[slot] = key;
+        self.nodes[slots + slot] = mark_of(slot, key);
+        settle(self.nodes.as_mut_slice(), slots, slots + slot);
+    }
+
+    /// The slot with the least key, and the first of several such. `None` exactly where no slot has one.
+    pub fn least(&self) -> Option<usize>
+        ensures least { IsLeastAt self.now result }
+        ensures inside { IfSome result (λ i. i < length self.now) }
+    {
+        if self.nodes.is_empty() {
+            return None;
+        }
+        let first = self.nodes[1];
+        if first == NOTHING {
+            None
+        } else {
+            Some((first % MOST) as usize)
+        }
+    }
+}

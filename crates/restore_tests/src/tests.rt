@@ -1,0 +1,6 @@
+//! Restored files, read back.
+
+mod faults;
+mod rows;
+mod shelf;
+mod told;

@@ -1,0 +1,202 @@
+// Restorings as rows: the files that there are, and in one text what comes of them.
+
+ghost use Rattle.std.specs.Prelude.{◌≤◌, length};
+
+use super::shelf::{Fails, Shelf};
+use dat_header::{Body, OpenFault, read_header};
+use restore_tool::{Answer, Names, Source, restore_named};
+use std::alloc::Global;
+use std::test::Fail;
+use trace_base::{ByteText, Part};
+use trace_outside::MemFile;
+
+/// A header of 83 bytes without formats and names, up to the number of processors. Its byte 12 tells the byte order, and its bytes
+/// 14 to 17 the page size; all other numbers are 0.
+const HEADER: &[u8; 83] =
+    b"\x17\x08\x44tracing6\0\0\x08\0\x10\0\0header_page\0\0\0\0\0\0\0\0\0header_event\0\0\0\0\0\0\0\0\0\
+\0\0\0\0\0\0\0\0\0\0\0\0\0\0\0\0\0\0\0\0\0\0\0\0";
+
+/// One event of pid 1,234 at one second: the time, the commit field, and the event's word and fields.
+const EVENT: &[u8; 28] =
+    b"\x00\xca\x9a\x3b\0\0\0\0\x0c\0\0\0\0\0\0\0\x02\0\0\0\x3a\0\0\0\xd2\x04\0\0";
+
+/// A partial file.
+#[derive(Clone, Copy)]
+pub(super) enum Partial {
+    Missing,
+    /// The first so many bytes of the header.
+    Cut(usize),
+    /// The header in the other byte order.
+    Big,
+    /// The header of pages of 64 KiB.
+    Wide,
+    /// The header with so many command lines' bytes and something behind them.
+    Longer(u8),
+}
+
+/// A data file.
+#[derive(Clone, Copy)]
+pub(super) enum Data {
+    Missing,
+    /// So many zero bytes.
+    Zeros(usize),
+    /// A sub-buffer of 4,096 bytes with one event.
+    Event,
+    /// So many bytes that go up from 0.
+    Rising(usize),
+}
+
+#[derive(Clone, Copy)]
+pub(super) struct Row {
+    pub(super) partial: Partial,
+    pub(super) files: &'static [(&'static str, Data)],
+    pub(super) output: &'static str,
+    /// The answer, and behind it the new file: its length and its parts.
+    pub(super) told: &'static str,
+}
+
+fn partial_bytes(alloc: Global, partial: Partial) -> Result<Option<Vec<u8>>, Fail> {
+    let mut bytes = HEADER.to_vec(alloc)?;
+    match partial {
+        Partial::Missing => return Ok(None),
+        Partial::Cut(count) => bytes.truncate(count),
+        Partial::Big => {
+            bytes[12] = 1;
+            bytes[15] = 0;
+            bytes[16] = 16;
+        }
+        Partial::Wide => {
+            bytes[15] = 0;
+            bytes[16] = 1;
+        }
+        Partial::Longer(count) => {
+            bytes[75] = count;
+            bytes.resize(200, 7)?;
+        }
+    }
+    Ok(Some(bytes))
+}
+
+fn data_bytes(alloc: Global, data: Data) -> Result<Option<Vec<u8>>, Fail> {
+    let mut bytes = Vec::new(alloc);
+    match data {
+        Data::Missing => return Ok(None),
+        Data::Zeros(count) => bytes.resize(count, 0)?,
+        Data::Event => {
+            bytes.extend_from_slice(EVENT)?;
+            bytes.resize(4096, 0)?;
+        }
+        Data::Rising(count) => {
+            for place in 0..count {
+                bytes.push((place % 251) as u8)?;
+            }
+        }
+    }
+    Ok(Some(bytes))
+}
+
+fn put_answer(text: &mut String, answer: Answer) -> Result<(), Fail> {
+    match answer {
+        Answer::Done => text.push_str("done")?,
+        Answer::Refused(OpenFault::Truncated(place)) => write!(text, "truncated {place}")?,
+        Answer::Refused(_) => text.push_str("refused")?,
+        Answer::Read(Source::Partial) => text.push_str("read partial")?,
+        Answer::Read(Source::File(file)) => write!(text, "read {file}")?,
+        Answer::Write => text.push_str("write")?,
+        Answer::NoMemory => text.push_str("no memory")?,
+    }
+    Ok(())
+}
+
+// Whether a part of the bytes is just the data file.
+fn is_given(bytes: &[u8], part: Part, given: &[u8]) -> bool {
+    let Some((_, rest)) = bytes.split_at_checked(part.offset as usize) else {
+        return false;
+    };
+    match rest.split_at_checked(part.size as usize) {
+        Some((own, _)) => own == given,
+        None => false,
+    }
+}
+
+// A part, and a mark where it is not the data file.
+fn put_part(
+    alloc: Global,
+    text: &mut String,
+    bytes: &[u8],
+    part: Part,
+    data: Data,
+) -> Result<(), Fail> {
+    let (offset, size) = (part.offset, part.size);
+    write!(text, " {offset}+{size}")?;
+    let given = data_bytes(alloc, data)?;
+    if let Some(given) = given {
+        if !is_given(bytes, part, &given) {
+            text.push_str("!")?;
+        }
+    }
+    Ok(())
+}
+
+// The new file, by the header that is read from it.
+fn put_file(
+    alloc: Global,
+    text: &mut String,
+    bytes: &[u8],
+    files: &[(&str, Data)],
+) -> Result<(), Fail> {
+    let len = bytes.len();
+    write!(text, " {len}")?;
+    let mut file = MemFile::new(ByteText::copy(alloc, bytes)?);
+    let Ok(header) = read_header(alloc, &mut file) else {
+        text.push_str(" no header")?;
+        return Ok(());
+    };
+    if let Body::Fly(parts) = &header.body {
+        for (part, (_, data)) in parts.as_slice().iter().zip(files) {
+            put_part(alloc, text, bytes, *part, *data)?;
+        }
+    }
+    Ok(())
+}
+
+fn shelf_of(alloc: Global, row: &Row, fails: Fails, most: usize) -> Result<Shelf, Fail> {
+    let mut shelf = Shelf::new(alloc, fails, most);
+    if let Some(bytes) = partial_bytes(alloc, row.partial)? {
+        shelf.put("p.dat", &bytes);
+    }
+    for (name, data) in row.files {
+        if let Some(bytes) = data_bytes(alloc, *data)? {
+            shelf.put(name, &bytes);
+        }
+    }
+    Ok(shelf)
+}
+
+/// What comes of a row, and behind it the files that are open still, if any.
+pub(super) fn text_of(alloc: Global, row: &Row, fails: Fails, most: usize) -> Result<String, Fail> {
+    let mut shelf = shelf_of(alloc, row, fails, most)?;
+    let mut names = Vec::new(alloc);
+    for (name, _) in row.files {
+        names.push(*name)?;
+    }
+    let mut text = String::new(alloc);
+    if names.len() > 256 {
+        return Ok(text);
+    }
+    let names = Names {
+        partial: "p.dat",
+        files: names.as_slice(),
+        output: row.output,
+    };
+    let answer = restore_named(alloc, &names, &mut shelf);
+    put_answer(&mut text, answer)?;
+    if let Some(bytes) = shelf.get(row.output) {
+        put_file(alloc, &mut text, bytes, row.files)?;
+    }
+    let counts = shelf.counts();
+    if counts.opened != counts.closed {
+        text.push_str(" open")?;
+    }
+    Ok(text)
+}

@@ -1,0 +1,17 @@
+use Rattle.std.proofs.Common.{◌≡◌, map, length, vec_capacity}
+use Rattle.std.specs.List.{All}
+use Rattle.restore_tool.specs.Copying.{seen}
+use Rattle.restore_tool.specs.Open.{AreFilesOf, IsUnused, OpensMany}
+use Rattle.restore_tool.proofs.OpenFiles.{NoneMissed}
+use Rattle.restore_tool.proofs.frame.open_files.Given as goal
+
+abbrev pub invariant-loop-name : goal.invariant-loop-name
+invariant-loop-name g l = record {
+  count : length l.files.items ≡ l.name-index;
+  room : vec_capacity l.files ≡ vec_capacity l.fn.files;
+  told : AreFilesOf (g.F.Folder.files l.fn.folder) (map (λ name. name.now) l.names) (map (seen g.F.In.File.bytes g.F.In.File.size g.F.In.File.faults g.F.In.File.reads) l.files.items);
+  unused : All IsUnused (map (seen g.F.In.File.bytes g.F.In.File.size g.F.In.File.faults g.F.In.File.reads) l.files.items);
+  counts : OpensMany (g.F.Folder.counts l.fn.folder) (g.F.Folder.counts l.folder) (length l.files.items);
+  missed : NoneMissed (g.F.Folder.files l.fn.folder) (map (λ name. name.now) l.names) (g.F.Folder.counts l.fn.folder).misses (g.F.Folder.counts l.folder).misses;
+  files : g.F.Folder.files l.folder ≡ g.F.Folder.files l.fn.folder;
+}

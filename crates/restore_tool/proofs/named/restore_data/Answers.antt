@@ -1,0 +1,68 @@
+use Rattle.std.proofs.Common.{◌≡◌, ◌∙◌, ◌⊎◌, ℕ, List, length, map, refl, sym, ap, subst, arith}
+use Rattle.std.proofs.lemmas.List.{length-map, take_at}
+use Rattle.trace_outside.specs.Causes.{Rose}
+use Rattle.trace_outside.specs.Names.{NamedFiles}
+use Rattle.restore_tool.specs.declared.named.Source.TheVariants.{Partial}
+use Rattle.restore_tool.specs.Answers.{Causes, SomeFaulty}
+use Rattle.restore_tool.specs.Copying.{seen}
+use Rattle.restore_tool.specs.Meaning.{names_view, texts_of, with_texts}
+use Rattle.restore_tool.specs.Open.{AreFilesOf, AreThere}
+use Rattle.restore_tool.proofs.Answered.{created_by, data_causes, data_done, kept_by, unheld_done, unread_done}
+use Rattle.restore_tool.proofs.Unread.{misses_kept, none_missed}
+use Rattle.restore_tool.proofs.named.restore_data.Goals as goal
+
+pub returns-in_default-clause-done : goal.returns-in_default-clause-done
+returns-in_default-clause-done g c =
+    let counts = g.D.Folder.counts c.args.folder.now in
+    unheld_done (λ (named : NamedFiles). with_texts c.args.header c.args.names.now.output.now (texts_of named (names_view c.args.names.now).files)) c.args.names.now.output.now counts counts
+    (g.D.Folder.files c.args.folder.now) (g.D.Folder.files c.args.folder.now) refl
+
+pub returns-in_default-clause-misses : goal.returns-in_default-clause-misses
+returns-in_default-clause-misses g c =
+    none_missed (λ (named : NamedFiles). AreThere named (names_view c.args.names.now).files) (g.D.Folder.files c.args.folder.now) (g.D.Folder.counts c.args.folder.now).misses
+
+pub returns-in-Err-clause-done : goal.returns-in-Err-clause-done
+returns-in-Err-clause-done g c =
+    unread_done (λ (named : NamedFiles). with_texts c.args.header c.args.names.now.output.now (texts_of named (names_view c.args.names.now).files)) c.args.names.now.output.now
+    (g.D.Folder.counts c.args.folder.now) (g.D.Folder.counts c.open_files.new.folder) (g.D.Folder.files c.args.folder.now) (g.D.Folder.files c.open_files.new.folder) Partial
+    c.open_files.ensures.files c.open_files.ensures.counts.created
+
+pub returns-clause-done : goal.returns-clause-done
+returns-clause-done g c =
+    let f = seen g.D.In.File.bytes g.D.In.File.size g.D.In.File.faults g.D.In.File.reads in
+    let names = (names_view c.args.names.now).files in
+    let slice = c.as_mut_slice.result.now in
+    let old = g.D.Folder.files c.args.folder.now in
+    data_done c.args.header c.in-Ok-Ok-Ok.header _ c.args.names.now.output.now names (map f slice) (g.D.Folder.counts c.args.folder.now) (g.D.Folder.counts c.open_files.new.folder) (g.D.Folder.counts c.restore-end.new.folder)
+    old (g.D.Folder.files c.open_files.new.folder) (g.D.Folder.files c.restore-end.new.folder) c.restore-end.result c.answer_of.result
+    c.in-Ok-Ok-Ok.ensures.header (omega (arith, c.requires.few, length-map c.args.names.now.files.now (λ name. name.now)))
+    (omega (arith, length-map slice f, ap length c.as_mut_slice.ensures.value, c.in-Ok.ensures.all, length-map c.args.names.now.files.now (λ name. name.now)))
+    (subst (λ (xs : List g.row.D-In.Denot). AreFilesOf old names (map f xs)) (sym c.as_mut_slice.ensures.value) c.open_files.ensures.told)
+    c.open_files.ensures.files c.open_files.ensures.counts.unfinished c.open_files.ensures.counts.created c.answer_of.ensures c.restore-end.ensures.leaves c.restore-end.ensures.created
+
+pub returns-clause-causes : goal.returns-clause-causes
+returns-clause-causes g c =
+    let f = seen g.D.In.File.bytes g.D.In.File.size g.D.In.File.faults g.D.In.File.reads in
+    let slice = c.as_mut_slice.result.now in
+    let now = c.restore-end.new.files in
+    let start = g.D.Folder.counts c.args.folder.now in
+    let last = g.D.Folder.counts c.restore-end.new.folder in
+    let long : length now ≡ c.open_files.new.files.len = omega (arith, c.as_mut_slice.ensures.len, c.restore-end.auto.files) in
+    subst (λ (xs : List g.row.D-In.Denot). Causes c.answer_of.result (Rose start.reading last.reading ⊎ SomeFaulty (map f xs)) (Rose start.writing last.writing)) (sym (take_at now _ c.open_files.new.files.len long))
+    (data_causes (map f slice) (map f now) start (g.D.Folder.counts c.open_files.new.folder) last c.restore-end.result c.answer_of.result c.answer_of.ensures
+    (omega (arith, length-map slice f, length-map now f, c.restore-end.auto.files)) c.open_files.ensures.counts.writing c.restore-end.ensures.cause)
+
+pub returns-clause-kept : goal.returns-clause-kept
+returns-clause-kept g c =
+    let f = seen g.D.In.File.bytes g.D.In.File.size g.D.In.File.faults g.D.In.File.reads in
+    kept_by c.in-Ok-Ok-Ok.header (map f c.as_mut_slice.result.now) c.args.names.now.output.now (g.D.Folder.counts c.open_files.new.folder) (g.D.Folder.counts c.restore-end.new.folder)
+    (g.D.Folder.files c.args.folder.now) (g.D.Folder.files c.open_files.new.folder) (g.D.Folder.files c.restore-end.new.folder) c.restore-end.result c.answer_of.result
+    c.answer_of.ensures c.open_files.ensures.files c.restore-end.ensures.leaves
+
+pub returns-clause-created : goal.returns-clause-created
+returns-clause-created g c = created_by c.restore-end.result c.answer_of.result _ _ _ c.answer_of.ensures c.open_files.ensures.counts.created c.restore-end.ensures.created
+
+pub returns-clause-misses : goal.returns-clause-misses
+returns-clause-misses g c =
+    misses_kept (λ (named : NamedFiles). AreThere named (names_view c.args.names.now).files) (g.D.Folder.files c.args.folder.now) (g.D.Folder.counts c.args.folder.now).misses
+    (g.D.Folder.counts c.open_files.new.folder).misses (g.D.Folder.counts c.restore-end.new.folder).misses c.restore-end.ensures.counts.misses c.open_files.ensures.misses

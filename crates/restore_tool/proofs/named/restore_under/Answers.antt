@@ -1,0 +1,57 @@
+use Rattle.std.proofs.Common.{refl, sym, ap, map, length, ◌≡◌, ◌≤◌, arith}
+use Rattle.std.proofs.lemmas.List.{length-map}
+use Rattle.trace_outside.specs.Causes.{Rose}
+use Rattle.trace_outside.specs.Names.{NamedFiles}
+use Rattle.restore_tool.specs.Answers.{ClosesAll}
+use Rattle.restore_tool.specs.Copying.{seen}
+use Rattle.restore_tool.specs.Meaning.{names_view, texts_of, with_texts}
+use Rattle.restore_tool.specs.Open.{AreThere}
+use Rattle.restore_tool.proofs.Answered.{all_closed, all_closed_counts, causes_more, closed_rose, created_then, kept_around, unheld_done}
+use Rattle.restore_tool.proofs.Unread.{closes_nothing, misses_kept, none_missed}
+use Rattle.restore_tool.proofs.named.restore_under.Goals as goal
+
+pub returns-in_default-clause-done : goal.returns-in_default-clause-done
+returns-in_default-clause-done g c =
+    let counts = g.D.Folder.counts c.args.folder.now in
+    unheld_done (λ (named : NamedFiles). with_texts c.args.header c.args.names.now.output.now (texts_of named (names_view c.args.names.now).files)) c.args.names.now.output.now counts counts
+    (g.D.Folder.files c.args.folder.now) (g.D.Folder.files c.args.folder.now) refl
+
+pub returns-in_default-clause-misses : goal.returns-in_default-clause-misses
+returns-in_default-clause-misses g c = none_missed (λ (named : NamedFiles). AreThere named (names_view c.args.names.now).files) (g.D.Folder.files c.args.folder.now) (g.D.Folder.counts c.args.folder.now).misses
+
+pub returns-in_default-clause-counts : goal.returns-in_default-clause-counts
+returns-in_default-clause-counts g c = closes_nothing _ (g.D.Folder.counts c.args.folder.now)
+
+pub returns-clause-done : goal.returns-clause-done
+returns-clause-done g c =
+    let closes = c.close_files.ensures.counts in
+    all_closed (λ (named : NamedFiles). with_texts c.args.header c.args.names.now.output.now (texts_of named (names_view c.args.names.now).files)) c.args.names.now.output.now
+    (g.D.Folder.counts c.args.folder.now) (g.D.Folder.counts c.restore_data-answer.new.folder) (g.D.Folder.counts c.close_files.new.folder) (g.D.Folder.files c.args.folder.now) (g.D.Folder.files c.restore_data-answer.new.folder) (g.D.Folder.files c.close_files.new.folder)
+    c.restore_data-answer.result closes.unfinished closes.created c.close_files.ensures.files c.restore_data-answer.ensures.done
+
+pub returns-clause-causes : goal.returns-clause-causes
+returns-clause-causes g c =
+    let files = map (seen g.D.In.File.bytes g.D.In.File.size g.D.In.File.faults g.D.In.File.reads) c.restore_data-answer.new.files.items in
+    let start = g.D.Folder.counts c.args.folder.now in
+    let mid = g.D.Folder.counts c.restore_data-answer.new.folder in
+    let now = g.D.Folder.counts c.close_files.new.folder in
+    let closes = c.close_files.ensures.counts in
+    causes_more c.restore_data-answer.result _ (Rose start.reading now.reading) _ (Rose start.writing now.writing)
+    (λ cause. closed_rose files start mid now c.restore_data-answer.ensures.counts.reading closes cause) (λ rose. omega (arith, rose, closes.writing)) c.restore_data-answer.ensures.causes
+
+pub returns-clause-created : goal.returns-clause-created
+returns-clause-created g c = created_then c.restore_data-answer.result _ _ _ c.close_files.ensures.counts.created c.restore_data-answer.ensures.created
+
+pub returns-clause-counts : goal.returns-clause-counts
+returns-clause-counts g c =
+    let items = c.restore_data-answer.new.files.items in
+    let f = seen g.D.In.File.bytes g.D.In.File.size g.D.In.File.faults g.D.In.File.reads in
+    all_closed_counts (length items) _ (map f items) _ _ _ (sym (length-map items f)) c.restore_data-answer.ensures.inside c.restore_data-answer.ensures.counts c.close_files.ensures.counts
+
+pub returns-clause-kept : goal.returns-clause-kept
+returns-clause-kept g c = kept_around c.restore_data-answer.result _ (g.D.Folder.files c.args.folder.now) (g.D.Folder.files c.restore_data-answer.new.folder) _ refl c.close_files.ensures.files c.restore_data-answer.ensures.kept
+
+pub returns-clause-misses : goal.returns-clause-misses
+returns-clause-misses g c =
+    misses_kept (λ (named : NamedFiles). AreThere named (names_view c.args.names.now).files) (g.D.Folder.files c.args.folder.now) (g.D.Folder.counts c.args.folder.now).misses
+    (g.D.Folder.counts c.restore_data-answer.new.folder).misses (g.D.Folder.counts c.close_files.new.folder).misses c.close_files.ensures.counts.misses c.restore_data-answer.ensures.misses

@@ -1,0 +1,52 @@
+-- Data files that are copied to a sink, one behind another.
+use Rattle.std.specs.Prelude.{Option, Result, ◌≡◌, ◌<◌, ◌≤◌, OnOk, ℕ, List, [], ◌++◌, length, unwrap_or, IfSome, IsSome, slice_index_or}
+use Rattle.std.specs.List.{All}
+use Rattle.trace_outside.specs.Causes.{Rose, raised}
+use Rattle.trace_outside.specs.Writing.{Gained}
+use Rattle.restore_tool.specs.declared.copying.RestoreEnd.{RestoreEnd}
+use Rattle.restore_tool.specs.declared.copying.RestoreEnd.TheVariants as code
+
+-- a file at one moment
+pub record FileSeen : Type 0 where
+  pub told : Option (List ℕ)
+  pub size : ℕ
+  pub faults : ℕ
+  pub reads : ℕ
+
+abbrev pub seen : {F : Type 0} → (F → Option (List ℕ)) → (F → ℕ) → (F → ℕ) → (F → ℕ) → F → FileSeen
+seen bytes size faults reads file = record { told = bytes file; size = size file; faults = faults file; reads = reads file }
+
+-- the bytes of a file that tells them
+abbrev pub text_of : FileSeen → List ℕ
+text_of file = unwrap_or file.told []
+
+-- all of them tell their bytes
+abbrev pub AllTold : List FileSeen → Type 0
+AllTold files = All (λ file. IsSome file.told) files
+
+-- the same file, whose count of faults did not fall, and of which at most each byte was read once
+pub record Keeps (before now : FileSeen) : Type 0 where
+  pub told : now.told ≡ before.told
+  pub size : now.size ≡ before.size
+  pub faults : before.faults ≤ now.faults
+  pub reads : now.reads ≤ raised before.reads before.size
+
+abbrev pub AllKeep : List FileSeen → List FileSeen → Type 0
+AllKeep before now = (i : ℕ) (d : FileSeen) → i < length before → Keeps (slice_index_or before i d) (slice_index_or now i d)
+
+-- a piece and the whole file behind it were written
+abbrev pub IsOneCopied : {T E : Type 0} → List ℕ → FileSeen → Option (List ℕ) → Option (List ℕ) → Result T E → Type 0
+IsOneCopied front file old new result = OnOk result (IfSome file.told (λ bytes. Gained old new (front ++ bytes)))
+
+-- Done: all of the text was written. After a fault nothing is said of what was.
+abbrev pub CopiesAll : List ℕ → Option (List ℕ) → Option (List ℕ) → RestoreEnd → Type 0
+CopiesAll text old new code.Done = Gained old new text
+CopiesAll text old new (code.Read file) = Unit {0}
+CopiesAll text old new code.Write = Unit {0}
+
+-- a fault is told only where its count rose: that of this very file, or of what is written
+abbrev pub IsCaused : RestoreEnd → List FileSeen → List FileSeen → ℕ → ℕ → Type 0
+IsCaused code.Done before now faults faults_now = Unit {0}
+IsCaused (code.Read file) before now faults faults_now =
+    (file < length before) × ((d : FileSeen) → Rose (slice_index_or before file d).faults (slice_index_or now file d).faults)
+IsCaused code.Write before now faults faults_now = Rose faults faults_now

@@ -1,0 +1,45 @@
+-- Files that are open at once: what opening and closing them does to a folder.
+use Rattle.std.specs.Prelude.{Option, ◌≡◌, ◌≤◌, ◌<◌, ℕ, List, length, slice_index_or, sum_by, IsSome}
+use Rattle.std.specs.List.{All}
+use Rattle.std.specs.FinMap.{get}
+use Rattle.trace_outside.specs.declared.counts.Counts.{Counts}
+use Rattle.trace_outside.specs.Names.{NamedFiles}
+use Rattle.trace_outside.specs.Causes.{Rose, raised}
+use Rattle.trace_outside.specs.Folders.{IsFileOf}
+use Rattle.restore_tool.specs.Copying.{FileSeen}
+
+-- just opened
+pub record IsUnused (file : FileSeen) : Type 0 where
+  pub faults : file.faults ≡ 0
+  pub reads : file.reads ≡ 0
+
+-- the files of names, in their order
+abbrev pub AreFilesOf : Option NamedFiles → List (List ℕ) → List FileSeen → Type 0
+AreFilesOf told names files = (i : ℕ) (d : List ℕ) (e : FileSeen) → i < length files → IsFileOf told (slice_index_or names i d) (slice_index_or files i e).told
+
+-- a file stands under each name
+abbrev pub AreThere : NamedFiles → List (List ℕ) → Type 0
+AreThere named names = All (λ name. IsSome (get named name)) names
+
+-- so many files were opened, and nothing else was counted but faults and names that are missing
+pub record OpensMany (before now : Counts) (count : ℕ) : Type 0 where
+  pub reading : before.reading ≤ now.reading
+  pub writing : before.writing ≤ now.writing
+  pub misses : before.misses ≤ now.misses
+  pub opened : now.opened ≡ raised before.opened count
+  pub closed : now.closed ≡ before.closed
+  pub created : now.created ≡ before.created
+  pub unfinished : now.unfinished ≡ before.unfinished
+  pub bytes : now.bytes ≡ before.bytes
+
+-- these files were closed: their faults and the bytes read from them are counted
+pub record ClosesMany (files : List FileSeen) (before now : Counts) : Type 0 where
+  pub reading : before.reading ≤ now.reading
+  pub writing : before.writing ≤ now.writing
+  pub faulty : (i : ℕ) (d : FileSeen) → i < length files → 0 < (slice_index_or files i d).faults → Rose before.reading now.reading
+  pub misses : now.misses ≡ before.misses
+  pub opened : now.opened ≡ before.opened
+  pub closed : now.closed ≡ raised before.closed (length files)
+  pub created : now.created ≡ before.created
+  pub unfinished : now.unfinished ≡ before.unfinished
+  pub bytes : now.bytes ≡ raised before.bytes (sum_by (λ file. file.reads) files)

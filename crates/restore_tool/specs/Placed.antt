@@ -1,0 +1,11 @@
+-- Parts that tell where data files will stand.
+use Rattle.std.specs.Prelude.{◌≡◌, ◌%◌, ◌^◌, ℕ, List, length, map}
+use Rattle.trace_base.specs.declared.part.Part.{Part}
+use Rattle.dat_header.specs.Tables.{in_table}
+use Rattle.restore_tool.specs.Copying.{AllTold, FileSeen, text_of}
+use Rattle.restore_tool.specs.Restored.{parts_behind}
+
+-- the parts of these files behind a place that is told modulo 2^64, where the files tell their bytes
+abbrev pub ArePlaced : ℕ → ℕ → List FileSeen → List Part → Type 0
+ArePlaced page place files parts =
+    (whole : ℕ) → place ≡ whole % 2 ^ 64 → AllTold files → parts ≡ map in_table (parts_behind page whole (map length (map text_of files)))

@@ -1,0 +1,77 @@
+// Data files copied to a sink, one behind another, each from the next multiple of the page on.
+
+ghost use Rattle.std.specs.Prelude.{◌≡◌, ◌≤◌, ◌<◌, ◌%◌, ◌^◌, ℕ, length, map, IsErrOf};
+ghost use Rattle.trace_outside.specs.Causes.{Rose};
+ghost use Rattle.new_files.specs.Padding.{IsPage, zeros};
+ghost use Rattle.restore_tool.specs.Copying.{AllKeep, AllTold, CopiesAll, IsCaused, IsOneCopied, Keeps, seen, text_of};
+ghost use Rattle.restore_tool.specs.Restored.{data_behind};
+
+use new_files::{CopyFault, copy_rest, gap, write_zeros};
+use trace_outside::{Failed, File, Sink};
+
+/// How a restoring ends.
+#[derive(Clone, Copy, Debug, PartialEq, Eq)]
+pub enum RestoreEnd {
+    /// The file is finished.
+    Done,
+    /// A read of this data file failed, counted from 0.
+    Read { file: u32 },
+    /// The file could not be created, written or finished.
+    Write,
+}
+
+/// Writes zero bytes and the whole of a data file behind them.
+fn copy_file<F: File, O: Sink>(
+    missing: u32,
+    file: &mut F,
+    buffer: &mut [u8],
+    out: &mut O,
+) -> Result<(), CopyFault>
+    requires room { 0 < length buffer.old }
+    ensures gained { IsOneCopied (zeros missing) (seen F.bytes F.size F.faults F.reads file.old) (O.written out.old) (O.written out.new) result }
+    ensures keeps { Keeps (seen F.bytes F.size F.faults F.reads file.old) (seen F.bytes F.size F.faults F.reads file.new) }
+    ensures read { IsErrOf result CopyFault.Read → Rose (F.faults file.old) (F.faults file.new) }
+    ensures write { IsErrOf result CopyFault.Write → Rose (O.faults out.old) (O.faults out.new) }
+    ensures later_out { O.faults out.old ≤ O.faults out.new }
+    ensures name { O.name out.new ≡ O.name out.old }
+{
+    match write_zeros(missing, out) {
+        Ok(()) => copy_rest(file, 0, buffer, out),
+        Err(Failed) => Err(CopyFault::Write),
+    }
+}
+
+/// Copies the data files to a sink that has so many bytes of the new file, told modulo 2^64: zero bytes up to the next multiple
+/// of the page and then the file's bytes, one file behind another.
+pub(crate) fn copy_files<F: File, O: Sink>(
+    page: u32,
+    place: u64,
+    files: &mut [F],
+    buffer: &mut [u8],
+    out: &mut O,
+) -> RestoreEnd
+    requires page { IsPage page }
+    requires few { length files.old ≤ 256 }
+    requires room { 0 < length buffer.old }
+    ensures copies { (whole : ℕ) → place ≡ whole % 2 ^ 64 → AllTold (map (seen F.bytes F.size F.faults F.reads) files.old)
+        → CopiesAll (data_behind page whole (map text_of (map (seen F.bytes F.size F.faults F.reads) files.old))) (O.written out.old) (O.written out.new) result }
+    ensures keep { AllKeep (map (seen F.bytes F.size F.faults F.reads) files.old) (map (seen F.bytes F.size F.faults F.reads) files.new) }
+    ensures cause { IsCaused result (map (seen F.bytes F.size F.faults F.reads) files.old) (map (seen F.bytes F.size F.faults F.reads) files.new)
+        (O.faults out.old) (O.faults out.new) }
+    ensures later_out { O.faults out.old ≤ O.faults out.new }
+    ensures name { O.name out.new ≡ O.name out.old }
+{
+    let mut place = place;
+    for i in 0..files.len() {
+        let missing = gap(page, place);
+        match copy_file(missing, &mut files[i], buffer, out) {
+            Ok(()) => {}
+            Err(CopyFault::Read) => return RestoreEnd::Read { file: i as u32 },
+            Err(CopyFault::Write) => return RestoreEnd::Write,
+        }
+        place = place
+            .wrapping_add(u64::from(missing))
+            .wrapping_add(files[i].len());
+    }
+    RestoreEnd::Done
+}

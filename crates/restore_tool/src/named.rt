@@ -1,0 +1,199 @@
+// A restoring by names: files are opened in order before anything is created, stay open, and are closed on every way out.
+
+ghost use Rattle.std.specs.Prelude.{◌≡◌, ◌≢◌, ◌+◌, ◌≤◌, ◌⊎◌, [], IfSome, length, map, vec_capacity};
+ghost use Rattle.trace_outside.specs.Causes.{Rose, raised};
+ghost use Rattle.dat_header.specs.Allowed.{IsHeader};
+ghost use Rattle.dat_header.specs.Partial.{partial_of};
+ghost use Rattle.restore_tool.specs.Answers.{Causes, ClosesAll, Created, KeepsFiles, LeavesOpen, SomeFaulty, answer_of, unread_of};
+ghost use Rattle.restore_tool.specs.Copying.{seen};
+ghost use Rattle.restore_tool.specs.Meaning.{IsDone, missing, names_view, task_of, texts_of, with_header, with_texts};
+ghost use Rattle.restore_tool.specs.Open.{AreThere};
+
+use crate::copying::RestoreEnd;
+use crate::frame::{close_files, open_files};
+use crate::processors::{blank_parts, for_processors};
+use crate::restoring::restore;
+use dat_header::{Header, OpenFault, read_partial};
+use std::alloc::Global;
+use trace_outside::{Failed, Folder};
+
+/// How many bytes of a data file are copied at once.
+const BUFFER: usize = 65_536;
+
+/// The names that a restoring is given.
+#[derive(Clone, Copy)]
+pub struct Names<'a> {
+    /// The partial file, which has the descriptions.
+    pub partial: &'a str,
+    /// The data files, in order of processors.
+    pub files: &'a [&'a str],
+    /// The new file.
+    pub output: &'a str,
+}
+
+/// One of the files that are read.
+#[derive(Clone, Copy, Debug, PartialEq, Eq)]
+pub enum Source {
+    /// The partial file.
+    Partial,
+    /// The data file of this place, counted from 0.
+    File(u32),
+}
+
+/// What came of a restoring.
+#[derive(Clone, Copy, Debug, PartialEq, Eq)]
+pub enum Answer {
+    /// The file is finished.
+    Done,
+    /// The partial file has no header, and what is wrong with it; never `Read` or `Memory`.
+    Refused(OpenFault),
+    /// This file could not be opened, or a read of it failed.
+    Read(Source),
+    /// The new file could not be created, written or finished.
+    Write,
+    /// There was no memory, and nothing was created.
+    NoMemory,
+}
+
+// What came of the work on the new file.
+fn answer_of(end: RestoreEnd) -> Answer
+    ensures { result ≡ answer_of end }
+{
+    match end {
+        RestoreEnd::Done => Answer::Done,
+        RestoreEnd::Read { file } => Answer::Read(Source::File(file)),
+        RestoreEnd::Write => Answer::Write,
+    }
+}
+
+// Opens the data files behind one another and makes the new file of them. The files stay open.
+fn restore_data<D: Folder>(
+    alloc: Global,
+    names: &Names<'_>,
+    header: Header,
+    files: &mut Vec<D::In>,
+    folder: &mut D,
+) -> Answer
+    requires few { length names.now.files.now ≤ 256 }
+    requires allowed { IsHeader header }
+    requires none { files.old.items ≡ [] }
+    requires room { length names.now.files.now ≤ vec_capacity files.old }
+    ensures done { IfSome (D.files folder.old) (λ named. IsDone (with_texts header names.now.output.now (texts_of named (names_view names.now).files)) names.now.output.now
+        (D.counts folder.old) (D.counts folder.new) named (D.files folder.new) result) }
+    ensures causes { Causes result (Rose (D.counts folder.old).reading (D.counts folder.new).reading ⊎ SomeFaulty (map (seen D.In.bytes D.In.size D.In.faults D.In.reads) files.new.items))
+        (Rose (D.counts folder.old).writing (D.counts folder.new).writing) }
+    ensures kept { KeepsFiles result (D.files folder.old) (D.files folder.new) }
+    ensures created { Created result (D.counts folder.old).created (D.counts folder.new).created }
+    ensures misses { IfSome (D.files folder.old) (λ named. AreThere named (names_view names.now).files → (D.counts folder.new).misses ≡ (D.counts folder.old).misses) }
+    ensures inside { length files.new.items ≤ length names.now.files.now }
+    ensures counts { LeavesOpen (length files.new.items) (D.counts folder.old) (D.counts folder.new) }
+{
+    let cpus = names.files.len() as u32;
+    let (Ok(header), Ok(mut parts), Ok(mut buffer)) = (
+        for_processors(alloc, header, cpus),
+        blank_parts(alloc, cpus),
+        vec![in alloc; 0u8; BUFFER],
+    ) else {
+        return Answer::NoMemory;
+    };
+    match open_files(names.files, files, folder) {
+        Ok(()) => {}
+        Err(Failed) => return Answer::Read(Source::File(files.len() as u32)),
+    }
+    let end = restore(
+        &header,
+        files.as_mut_slice(),
+        parts.as_mut_slice(),
+        buffer.as_mut_slice(),
+        names.output,
+        folder,
+    );
+    answer_of(end)
+}
+
+// Makes the new file under this header, and closes the data files.
+fn restore_under<D: Folder>(
+    alloc: Global,
+    names: &Names<'_>,
+    header: Header,
+    folder: &mut D,
+) -> Answer
+    requires few { length names.now.files.now ≤ 256 }
+    requires allowed { IsHeader header }
+    ensures done { IfSome (D.files folder.old) (λ named. IsDone (with_texts header names.now.output.now (texts_of named (names_view names.now).files)) names.now.output.now
+        (D.counts folder.old) (D.counts folder.new) named (D.files folder.new) result) }
+    ensures causes { Causes result (Rose (D.counts folder.old).reading (D.counts folder.new).reading) (Rose (D.counts folder.old).writing (D.counts folder.new).writing) }
+    ensures kept { KeepsFiles result (D.files folder.old) (D.files folder.new) }
+    ensures created { Created result (D.counts folder.old).created (D.counts folder.new).created }
+    ensures misses { IfSome (D.files folder.old) (λ named. AreThere named (names_view names.now).files → (D.counts folder.new).misses ≡ (D.counts folder.old).misses) }
+    ensures counts { ClosesAll (length names.now.files.now) (D.counts folder.old) (D.counts folder.new) }
+{
+    let Ok(mut files) = Vec::with_capacity(alloc, names.files.len()) else {
+        return Answer::NoMemory;
+    };
+    let answer = restore_data::<D>(alloc, names, header, &mut files, folder);
+    close_files(files, folder);
+    answer
+}
+
+// Reads the header of the partial file, which was just opened, and makes the new file under it.
+fn restore_from<D: Folder>(
+    alloc: Global,
+    names: &Names<'_>,
+    partial: &mut D::In,
+    folder: &mut D,
+) -> Answer
+    requires few { length names.now.files.now ≤ 256 }
+    ensures done { IfSome (D.files folder.old) (λ named. IfSome (D.In.bytes partial.old) (λ bytes. IsDone (with_header named (names_view names.now) (partial_of bytes)) names.now.output.now
+        (D.counts folder.old) (D.counts folder.new) named (D.files folder.new) result)) }
+    ensures causes { Causes result (Rose (D.counts folder.old).reading (D.counts folder.new).reading ⊎ Rose (D.In.faults partial.old) (D.In.faults partial.new))
+        (Rose (D.counts folder.old).writing (D.counts folder.new).writing) }
+    ensures later { D.In.faults partial.old ≤ D.In.faults partial.new }
+    ensures kept { KeepsFiles result (D.files folder.old) (D.files folder.new) }
+    ensures created { Created result (D.counts folder.old).created (D.counts folder.new).created }
+    ensures misses { IfSome (D.files folder.old) (λ named. IfSome (D.In.bytes partial.old) (λ bytes. with_header named (names_view names.now) (partial_of bytes) ≢ missing
+        → (D.counts folder.new).misses ≡ (D.counts folder.old).misses)) }
+    ensures counts { ClosesAll (length names.now.files.now) (D.counts folder.old) (D.counts folder.new) }
+{
+    match read_partial(alloc, partial) {
+        Ok(header) => restore_under(alloc, names, header, folder),
+        Err(fault) => unread_of(fault),
+    }
+}
+
+// What comes of a partial file whose header could not be read.
+fn unread_of(fault: OpenFault) -> Answer
+    ensures { result ≡ unread_of fault }
+{
+    match fault {
+        OpenFault::Read => Answer::Read(Source::Partial),
+        OpenFault::Memory => Answer::NoMemory,
+        fault => Answer::Refused(fault),
+    }
+}
+
+/// Makes a trace file of a partial file and of the data files of its processors, all told by their names in a folder
+/// (trace-cmd-restore(1)).
+///
+/// The partial file is opened first and then the data files, in order, before anything is created; all stay open until the end,
+/// so that the new file may have the name of one of them, and all are closed then. The first file that is missing or has no
+/// header decides. After a fault every name is as it was, unless finishing the new file failed.
+pub fn restore_named<D: Folder>(alloc: Global, names: &Names<'_>, folder: &mut D) -> Answer
+    requires few { length names.now.files.now ≤ 256 }
+    ensures done { IfSome (D.files folder.old) (λ named. IsDone (task_of named (names_view names.now)) names.now.output.now
+        (D.counts folder.old) (D.counts folder.new) named (D.files folder.new) result) }
+    ensures causes { Causes result (Rose (D.counts folder.old).reading (D.counts folder.new).reading) (Rose (D.counts folder.old).writing (D.counts folder.new).writing) }
+    ensures kept { KeepsFiles result (D.files folder.old) (D.files folder.new) }
+    ensures created { Created result (D.counts folder.old).created (D.counts folder.new).created }
+    ensures misses { IfSome (D.files folder.old) (λ named. task_of named (names_view names.now) ≢ missing → (D.counts folder.new).misses ≡ (D.counts folder.old).misses) }
+    ensures counts { ClosesAll (length names.now.files.now + 1) (D.counts folder.old) (D.counts folder.new) }
+{
+    match folder.open_file(names.partial) {
+        Err(Failed) => Answer::Read(Source::Partial),
+        Ok(mut partial) => {
+            let answer = restore_from(alloc, names, &mut partial, folder);
+            folder.close_file(partial);
+            answer
+        }
+    }
+}

@@ -1,0 +1,8 @@
+pub mod GatherSteps
+pub mod Skips
+pub mod Reading
+pub mod RolePlaces
+pub mod Putting
+pub mod NoNewline
+pub mod ThreePuts
+pub mod UnusedLanes

@@ -1,0 +1,26 @@
+use Rattle.std.proofs.Common.{◌≡◌, ◌-◌, ◌≤◌, sum_by}
+use Rattle.std.specs.Option.{IfSome}
+use Rattle.std.specs.List.{All}
+use Rattle.trace_outside.specs.Causes.{raised}
+use Rattle.event_cursor.specs.Standing.{IsInOrder, most_left}
+use Rattle.time_merge.specs.LaneRows.{parts_of}
+use Rattle.time_merge.specs.Reads.{all_unread}
+use Rattle.wakeup_lat.proofs.GatherSteps.{Gathers}
+use Rattle.wakeup_lat.proofs.gathering.gather_by.Given as goal
+
+abbrev pub invariant-loop-wakeups : goal.invariant-loop-wakeups
+invariant-loop-wakeups g l = record {
+  in_order : All (IsInOrder l.layout) l.lanes;
+  parts : parts_of l.lanes ≡ parts_of l.fn.lanes;
+  gathers : IfSome (g.F.File.bytes l.fn.file) (λ file. Gathers l.context l.layout file l.fn.lanes l.lanes l.wakeups);
+  reads : g.F.File.reads l.file
+      ≤ raised (g.F.File.reads l.fn.file)
+      (all_unread l.layout (g.F.File.size l.fn.file) l.fn.lanes - all_unread l.layout (g.F.File.size l.fn.file) l.lanes);
+  unread : all_unread l.layout (g.F.File.size l.fn.file) l.lanes ≤ all_unread l.layout (g.F.File.size l.fn.file) l.fn.lanes;
+  bytes : g.F.File.bytes l.file ≡ g.F.File.bytes l.fn.file;
+  size : g.F.File.size l.file ≡ g.F.File.size l.fn.file;
+  later : g.F.File.faults l.fn.file ≤ g.F.File.faults l.file;
+}
+
+abbrev pub decreases-loop-wakeups : goal.decreases-loop-wakeups
+decreases-loop-wakeups g l = sum_by (most_left l.layout) l.lanes

@@ -1,0 +1,15 @@
+use Rattle.std.proofs.Common.{◌<◌, length, arith, ◌∙◌}
+use Rattle.std.proofs.lemmas.List.{length-set}
+use Rattle.wakeup_lat.proofs.UnusedLanes.{one_set, still_unused}
+use Rattle.wakeup_lat.proofs.lanes.set_lanes.Goals as goal
+
+pub loop-i-preserved : goal.loop-i-preserved
+loop-i-preserved c =
+    let so_far = c.loop-i.invariant in
+    let within : c.loop-i.i < length c.args.parts.now = omega arith in
+    let inside : c.loop-i.i < length c.loop-i.lanes = omega (arith, so_far.same) in
+    record {
+      same = length-set c.loop-i.lanes c.loop-i.i c.set_lane.new.lane ∙ so_far.same;
+      parts = one_set c.loop-i.lanes c.args.parts.now c.loop-i.i c.set_lane.new.lane _ inside within c.set_lane.ensures.part.0 c.set_lane.ensures.part.1 so_far.parts;
+      unused = λ len all. still_unused len c.loop-i.lanes c.loop-i.i _ c.set_lane.new.lane inside c.set_lane.ensures.cursor c.set_lane.ensures.page (so_far.unused len all);
+    }

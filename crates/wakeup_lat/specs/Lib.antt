@@ -1,0 +1,4 @@
+pub mod Lanes
+pub mod Roles
+pub mod Skipping
+pub mod Section

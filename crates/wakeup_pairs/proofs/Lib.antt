@@ -1,0 +1,5 @@
+pub mod Places
+pub mod Partners
+pub mod Passing
+pub mod Maps
+pub mod Extremes

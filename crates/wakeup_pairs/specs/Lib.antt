@@ -1,0 +1,4 @@
+pub mod Pairs
+pub mod Gathered
+pub mod GatheredCode
+pub mod Figures
