@@ -1,5 +1,5 @@
 -- The command that settings ask for.
--- Source: trace-cmd-report(1), trace-cmd-split(1) and trace-cmd-dump(1), `OPTIONS`.
+-- Source: trace-cmd-report(1), trace-cmd-split(1), trace-cmd-dump(1) and trace-cmd-restore(1), `OPTIONS`.
 use Rattle.std.specs.Prelude.{ℕ, Bool, true, false, ◌&&◌, ◌||◌, not, List, [], ◌∷◌, map, Option, option_map, unwrap_or, codes}
 use Rattle.std.specs.List.{list_any, find, cons_option}
 use Rattle.std.specs.Option.{option_and_then, option_map_or, option_or}
@@ -21,7 +21,7 @@ use Rattle.trace_args.specs.declared.tool.Tool.{Tool}
 use Rattle.trace_args.specs.declared.tool.Tool.TheVariants as tool
 use Rattle.trace_args.specs.declared.option.FlagOption.TheVariants as flag
 use Rattle.trace_args.specs.declared.option.ValuedOption.TheVariants as valued
-use Rattle.trace_args.specs.Command.{CommandData, Report, Dump, SelfTest, Split, ReportData, DumpData, SelfData, SplitData, FilterData}
+use Rattle.trace_args.specs.Command.{CommandData, Report, Dump, SelfTest, Split, Restore, ReportData, DumpData, SelfData, SplitData, RestoreData, FilterData}
 use Rattle.trace_args.specs.Setting.{Text, Setting}
 use Rattle.trace_args.specs.Given.{sets, value_for, value_of, value_at, texts_of, is_set}
 
@@ -61,7 +61,9 @@ report_of settings =
       raw_events = texts_of valued.RawEvent settings;
       no_hard = is_set flag.NoHard settings;
       no_soft = is_set flag.NoSoft settings;
+      calls = is_set flag.Calls settings;
       list = listing_of settings;
+      wakeups = is_set flag.Wakeups settings;
       cpus = cpus_of settings;
       workers = workers_of settings;
     }
@@ -140,8 +142,17 @@ split_of settings =
       stop = bound_of 1 settings;
     }
 
+-- the name of the new file
+abbrev pub output_of : List Setting → List ℕ
+output_of settings = option_map_or (λ text. text.bytes) (value_of valued.Output settings) (codes "trace.dat")
+
+abbrev pub restore_of : List Setting → RestoreData
+restore_of settings =
+    record { input = input_of settings; output = output_of settings; files = texts_of valued.DataFile settings }
+
 abbrev pub command_of : Tool → List Setting → CommandData
 command_of tool.Report settings = Report (report_of settings)
 command_of tool.Dump settings = Dump (dump_of settings)
 command_of tool.SelfTest settings = SelfTest (self_of settings)
 command_of tool.Split settings = Split (split_of settings)
+command_of tool.Restore settings = Restore (restore_of settings)

@@ -10,6 +10,7 @@ use Rattle.trace_args.specs.declared.command.FilterWord.{FilterWord}
 use Rattle.trace_args.specs.declared.command.DumpWords.{DumpWords}
 use Rattle.trace_args.specs.declared.command.SelfWords.{SelfWords}
 use Rattle.trace_args.specs.declared.command.SplitWords.{SplitWords}
+use Rattle.trace_args.specs.declared.command.RestoreWords.{RestoreWords}
 
 -- a filter, the number of the word that holds it, and whether it hides
 pub record FilterData : Type 0 where
@@ -27,7 +28,9 @@ pub record ReportData : Type 0 where
   pub raw_events : List (List ℕ)
   pub no_hard : Bool
   pub no_soft : Bool
+  pub calls : Bool
   pub list : Option Listing
+  pub wakeups : Bool
   pub cpus : Option (List Bool)
   pub workers : ℕ
 
@@ -50,11 +53,17 @@ pub record SplitData : Type 0 where
   pub start : Option Moment
   pub stop : Option Moment
 
+pub record RestoreData : Type 0 where
+  pub input : List ℕ
+  pub output : List ℕ
+  pub files : List (List ℕ)
+
 pub data CommandData : Type 0 where
   Report : ReportData → CommandData
   Dump : DumpData → CommandData
   SelfTest : SelfData → CommandData
   Split : SplitData → CommandData
+  Restore : RestoreData → CommandData
 
 abbrev pub filter_view : FilterWord → FilterData
 filter_view w = record { word = w.word; hide = w.hide; text = w.text.now }
@@ -71,7 +80,9 @@ report_view w =
       raw_events = map (λ name. name.now) w.raw_events.items;
       no_hard = w.no_hard;
       no_soft = w.no_soft;
+      calls = w.calls;
       list = w.list;
+      wakeups = w.wakeups;
       cpus = w.cpus;
       workers = w.workers;
     }
@@ -95,9 +106,14 @@ split_view w =
       stop = w.stop;
     }
 
+abbrev pub restore_view : RestoreWords → RestoreData
+restore_view w =
+    record { input = w.input.now; output = w.output.now; files = map (λ name. name.now) w.files.items }
+
 -- a command's words as plain data
 abbrev pub command_view : Command → CommandData
 command_view (code.Report w) = Report (report_view w)
 command_view (code.Dump w) = Dump (dump_view w)
 command_view (code.SelfTest w) = SelfTest (self_view w)
 command_view (code.Split w) = Split (split_view w)
+command_view (code.Restore w) = Restore (restore_view w)

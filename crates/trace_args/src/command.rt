@@ -1,8 +1,9 @@
 ghost use Rattle.std.specs.Prelude.{◌≡◌, IfOk, MatchResult};
 ghost use Rattle.std.specs.List.{list_any};
 ghost use Rattle.word_values.specs.Sections.{sections};
-ghost use Rattle.trace_args.specs.Asked.{base_of, bound_of, command_of, cpu_of, cpus_of, dump_of, events_of, input_of, is_printed, listing_of, names_any, names_section, piece_by, report_of, seed_of, self_of, split_of, unit_of, workers_of};
-ghost use Rattle.trace_args.specs.Command.{command_view, dump_view, report_view, self_view, split_view};
+ghost use Rattle.trace_args.specs.Asked.{base_of, bound_of, command_of, cpu_of, cpus_of, dump_of, events_of, input_of, is_printed, listing_of, names_any, names_section, output_of, piece_by, report_of, restore_of, seed_of, self_of, split_of, unit_of, workers_of};
+ghost use Rattle.trace_args.specs.Command.{command_view, dump_view, report_view, restore_view, self_view, split_view};
+ghost use Rattle.trace_args.specs.Given.{is_set};
 ghost use Rattle.trace_args.specs.Views.{given_view};
 
 use crate::fault::{WordFault, WordKind};
@@ -26,6 +27,8 @@ pub enum Command<'a> {
     SelfTest(SelfWords),
     /// Cut a file into pieces.
     Split(SplitWords<'a>),
+    /// Make a file of a partial one and of data files.
+    Restore(RestoreWords<'a>),
 }
 
 /// The words of `report` (trace-cmd-report(1)).
@@ -49,8 +52,12 @@ pub struct ReportWords<'a> {
     pub no_hard: bool,
     /// `-S`: events in a soft interrupt are hidden.
     pub no_soft: bool,
+    /// `--calls`: the function graph's calls are printed in place of the events.
+    pub calls: bool,
     /// The list that is printed in place of the events, where one is.
     pub list: Option<Listing>,
+    /// `-w`: how long woken tasks waited is printed behind the events.
+    pub wakeups: bool,
     /// `--cpu`: the processors that are printed, where not all are.
     pub cpus: Option<CpuSet>,
     /// `--workers`: how many threads work, from 1 to 64.
@@ -109,6 +116,17 @@ pub struct SplitWords<'a> {
     pub stop: Option<Moment>,
 }
 
+/// The words of `restore` (trace-cmd-restore(1)).
+#[derive(Drop)]
+pub struct RestoreWords<'a> {
+    /// `-i`: the name of the partial file.
+    pub input: &'a str,
+    /// `-o`: the name of the new file.
+    pub output: &'a str,
+    /// The names of the data files, in order of processors: from 1 to 256.
+    pub files: Vec<&'a str>,
+}
+
 impl<'a> Command<'a> {
     // The command that the settings ask for.
     pub(crate) fn asked(
@@ -128,6 +146,10 @@ impl<'a> Command<'a> {
             Tool::Dump => Ok(Command::Dump(DumpWords::asked(given))),
             Tool::SelfTest => Ok(Command::SelfTest(SelfWords::asked(given))),
             Tool::Split => Ok(Command::Split(SplitWords::asked(given))),
+            Tool::Restore => match RestoreWords::asked(alloc, given) {
+                Ok(words) => Ok(Command::Restore(words)),
+                Err(_) => Err(WordKind::Memory.at(1)),
+            },
         }
     }
 }
@@ -148,7 +170,9 @@ impl<'a> ReportWords<'a> {
             raw_events,
             no_hard: given.is_set(FlagOption::NoHard),
             no_soft: given.is_set(FlagOption::NoSoft),
+            calls: given.is_set(FlagOption::Calls),
             list: listing(given),
+            wakeups: given.is_set(FlagOption::Wakeups),
             cpus: cpus(given),
             workers: workers(given),
         })
@@ -205,6 +229,29 @@ impl<'a> SplitWords<'a> {
             start: bound(given, 0),
             stop: bound(given, 1),
         }
+    }
+}
+
+impl<'a> RestoreWords<'a> {
+    fn asked(alloc: Global, given: &Given<'a>) -> Result<RestoreWords<'a>, AllocError>
+        ensures { IfOk result (λ words. restore_view words ≡ restore_of (given_view given.now)) }
+    {
+        let files = given.texts(alloc, ValuedOption::DataFile)?;
+        Ok(RestoreWords {
+            input: input(given),
+            output: output(given),
+            files,
+        })
+    }
+}
+
+// The name of the new file.
+fn output<'a>(given: &Given<'a>) -> &'a str
+    ensures { result.now ≡ output_of (given_view given.now) }
+{
+    match given.value(ValuedOption::Output) {
+        Some(value) => value.text,
+        None => "trace.dat",
     }
 }
 

@@ -16,10 +16,8 @@ use Rattle.dat_header.specs.declared.header.Body.TheVariants.{Fly}
 use Rattle.report_print.specs.Given.{Given}
 use Rattle.report_rounds.specs.Due.{due_bytes, ReadsDue as RoundsDue}
 use Rattle.trace_args.specs.Command.{ReportData}
-use Rattle.trace_run.specs.Context.{context_of}
 use Rattle.trace_run.specs.Input.{ReadsDue, behind_first, due_of, progress_at}
-use Rattle.trace_run.specs.Report.{Events, body_events, cpus_line, item_line, parts_events}
-use Rattle.trace_run.specs.Selection.{chosen, set_or_all}
+use Rattle.trace_run.specs.Report.{Events, body_events, cpus_line, events_on, item_line, parts_events, unless_calls}
 
 begins : (first rest : List ℕ) → starts_with nat_eq (first ++ rest) first ≡ true
 begins first rest = ap (pointwise nat_eq first) (take_at first rest (length first) refl) ∙ nat_list_eq_equiv.refl first
@@ -29,9 +27,9 @@ behind_line cpus rest =
     ap (λ (whole : Bool). if whole then drop (length (cpus_line cpus)) (cpus_line cpus ++ rest) else []) (begins (cpus_line cpus) rest)
     ∙ drop-append_seam (cpus_line cpus) rest
 
-module _ (words : ReportData) (header : Header) (parts : List Part) where
+module _ (given : Given) (shown : List (ℕ × Part)) (header : Header) where
   abbrev events : List ℕ → Events
-  events bytes = parts_events words header parts bytes
+  events bytes = events_on given shown header bytes
 
   -- nothing was read
   unread_told : (told : Option (List ℕ)) (old now : Option (List ℕ)) (reads : ℕ) (written : List ℕ) → Gained old now written
@@ -47,32 +45,27 @@ module _ (words : ReportData) (header : Header) (parts : List Part) where
   parts_unbegun_unread told old now reads first = unread_told told old now reads _ first.1
 
   -- the first line was written, and the rounds read what is due by the text behind it
-  parts_read_of : (given : Given) (shown : List (ℕ × Part)) (bytes : List ℕ) (old mid now : Option (List ℕ)) (before reads : ℕ)
-      → given ≡ context_of words header → shown ≡ chosen (set_or_all words.cpus) parts → Gained old mid (cpus_line header.cpus)
+  parts_read_of : (bytes : List ℕ) (old mid now : Option (List ℕ)) (before reads : ℕ) → Gained old mid (cpus_line header.cpus)
       → RoundsDue (item_line given) header.layout bytes shown mid now before reads → ReadsDue (events bytes) 0 (progress_at old before) (progress_at now reads)
-  parts_read_of given shown bytes old mid now before reads given_is shown_is first due =
+  parts_read_of bytes old mid now before reads first due =
       (cpus_line header.cpus ++ due.0, (gained_both old mid now (cpus_line header.cpus) due.0 first due.1.0, within))
     where
       there : due_of (events bytes) (cpus_line header.cpus ++ due.0) ≡ due_bytes (item_line given) header.layout bytes shown due.0
-      there =
-          ap (due_bytes (item_line (context_of words header)) header.layout bytes (chosen (set_or_all words.cpus) parts)) (behind_line header.cpus due.0)
-          ∙ ap (λ (ps : List (ℕ × Part)). due_bytes (item_line (context_of words header)) header.layout bytes ps due.0) (sym shown_is)
-          ∙ ap (λ (by : Given). due_bytes (item_line by) header.layout bytes shown due.0) (sym given_is)
+      there = ap (due_bytes (item_line given) header.layout bytes shown) (behind_line header.cpus due.0)
 
       within : reads ≤ raised before (0 + due_of (events bytes) (cpus_line header.cpus ++ due.0))
       within = subst (λ (n : ℕ). reads ≤ raised before (0 + n)) (sym there) (omega (arith, due.1.1))
 
-  pub parts_read : (given : Given) (shown : List (ℕ × Part)) (told old mid now : Option (List ℕ)) (before reads : ℕ)
-      → given ≡ context_of words header → shown ≡ chosen (set_or_all words.cpus) parts → Gained old mid (cpus_line header.cpus)
+  pub parts_read : (told old mid now : Option (List ℕ)) (before reads : ℕ) → Gained old mid (cpus_line header.cpus)
       → IfSome told (λ bytes. RoundsDue (item_line given) header.layout bytes shown mid now before reads)
       → IfSome told (λ bytes. ReadsDue (events bytes) 0 (progress_at old before) (progress_at now reads))
-  parts_read given shown None old mid now before reads given_is shown_is first due = tt
-  parts_read given shown (Some bytes) old mid now before reads given_is shown_is first due = parts_read_of given shown bytes old mid now before reads given_is shown_is first due
+  parts_read None old mid now before reads first due = tt
+  parts_read (Some bytes) old mid now before reads first due = parts_read_of bytes old mid now before reads first due
 
 module _ (words : ReportData) (header : Header) where
   pub body_read : (slice own : List Part) (told old now : Option (List ℕ)) (before reads : ℕ) → header.body ≡ Fly own → slice ≡ own
-      → IfSome told (λ bytes. ReadsDue (parts_events words header slice bytes) 0 (progress_at old before) (progress_at now reads))
+      → IfSome told (λ bytes. IfSome (unless_calls words.calls words.wakeups (parts_events words header slice bytes)) (λ events. ReadsDue events 0 (progress_at old before) (progress_at now reads)))
       → IfSome told (λ bytes. IfSome (body_events words header header.body bytes) (λ events. ReadsDue events 0 (progress_at old before) (progress_at now reads)))
   body_read slice own told old now before reads body same due =
       subst (λ (b : Body). IfSome told (λ bytes. IfSome (body_events words header b bytes) (λ events. ReadsDue events 0 (progress_at old before) (progress_at now reads)))) (sym body)
-      (subst (λ (ps : List Part). IfSome told (λ bytes. ReadsDue (parts_events words header ps bytes) 0 (progress_at old before) (progress_at now reads))) same due)
+      (subst (λ (ps : List Part). IfSome told (λ bytes. IfSome (unless_calls words.calls words.wakeups (parts_events words header ps bytes)) (λ events. ReadsDue events 0 (progress_at old before) (progress_at now reads)))) same due)

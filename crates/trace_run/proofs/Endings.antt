@@ -9,7 +9,7 @@ use Rattle.trace_outside.proofs.Gains.{gained_nothing}
 use Rattle.trace_outside.specs.Folders.{IsFileOf, misses_after}
 use Rattle.trace_outside.specs.Writing.{Gained, GainedPrefix}
 use Rattle.std.specs.Prelude.{◌⊎◌, is_none, if◌then◌else◌}
-use Rattle.split_tool.specs.Stored.{NewFile, Stored, FilesStored, FirstFilesStored, IsNextOpen, KeepsCounts}
+use Rattle.new_files.specs.Stored.{NewFile, Stored, FilesStored, FirstFilesStored, IsNextOpen, KeepsCounts}
 use Rattle.dat_options.specs.declared.fault.OpenFault.{OpenFault}
 use Rattle.dat_options.specs.declared.fault.OpenFault.TheVariants.{NotTrace, Compressed, OtherVersion, BadEndian, BadLong, BadPageSize, BadHeaderPage, BadSection, Truncated, TooManyCpus, Read, Memory}
 use Rattle.dat_options.specs.Answer.{AnswersUnlessFaulty}
@@ -19,7 +19,7 @@ use Rattle.trace_run.specs.declared.status.Status.{Status}
 use Rattle.trace_run.specs.declared.status.Status.TheVariants.{Done, Usage, Refused, Malformed, ReadFault, WriteFault, NoMemory}
 use Rattle.trace_run.specs.declared.usage.UsageFault.{UsageFault}
 use Rattle.trace_run.specs.Ending.{Ended, Ends, Finished, IsCaused, IsComplete, IsUnasked, LeavesAll, Prints, Untouched, Unwritten}
-use Rattle.trace_run.specs.Job.{FileCommand, Report, Dump, Split, Job, OnFile, SelfTest}
+use Rattle.trace_run.specs.Job.{FileCommand, Report, Dump, Split, Job, OnFile, SelfTest, Restore}
 use Rattle.trace_run.specs.Meaning.{Meaning, Target, on_nothing, on_out, on_folder, only, header_means, file_means, input_means, command_means, command_meaning, meaning_read, input_of, target_of, target_read}
 use Rattle.trace_run.specs.Outside.{FolderSeen, Outside, SinkSeen, beside}
 use Rattle.trace_run.specs.Ran.{KeepsOff, MissesNothingElse, Ran, Unread}
@@ -394,6 +394,7 @@ ran_unread read before =
     keeps_off : (r : Result Job UsageFault) → KeepsOff r NoMemory before before
     keeps_off (Ok (OnFile command)) = λ is. cc
     keeps_off (Ok (SelfTest words)) = ((λ is. cc), refl)
+    keeps_off (Ok (Restore words)) = ((λ is. cc), refl)
     keeps_off (Err fault) = (inr refl, refl)
 
 -- the input could not be opened

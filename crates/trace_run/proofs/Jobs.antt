@@ -2,9 +2,9 @@
 use Rattle.std.proofs.Common.{◌≡◌, ℕ, List, Result, Ok, Err, ap}
 use Rattle.trace_args.specs.declared.fault.WordFault.{WordFault}
 use Rattle.trace_args.specs.Command as asked
-use Rattle.trace_args.specs.Command.{CommandData, ReportData, DumpData, SelfData, SplitData}
+use Rattle.trace_args.specs.Command.{CommandData, ReportData, DumpData, SelfData, SplitData, RestoreData}
 use Rattle.trace_args.specs.Reading.{reading}
-use Rattle.trace_run.specs.Job.{OnFile, SelfTest, Report, Dump, Split, job_of, job_read}
+use Rattle.trace_run.specs.Job.{OnFile, SelfTest, Restore, Report, Dump, Split, job_of, job_read}
 
 job_is : (words : List (List ℕ)) (read : Result CommandData WordFault) → reading words ≡ read → job_of words ≡ job_read read
 unfolding job_of
@@ -21,6 +21,9 @@ self_test_asked words test is = job_is words (Ok (asked.SelfTest test)) is
 
 pub split_asked : (words : List (List ℕ)) (split : SplitData) → reading words ≡ Ok (asked.Split split) → job_of words ≡ Ok (OnFile (Split split))
 split_asked words split is = job_is words (Ok (asked.Split split)) is
+
+pub restore_asked : (words : List (List ℕ)) (restore : RestoreData) → reading words ≡ Ok (asked.Restore restore) → job_of words ≡ Ok (Restore restore)
+restore_asked words restore is = job_is words (Ok (asked.Restore restore)) is
 
 pub none_asked : (words : List (List ℕ)) (wrong : WordFault) → reading words ≡ Err wrong → job_of words ≡ Err wrong
 none_asked words wrong is = job_is words (Err wrong) is

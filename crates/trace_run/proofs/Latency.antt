@@ -8,7 +8,7 @@ use Rattle.trace_outside.proofs.Gains.{gained_both, prefix_behind}
 use Rattle.trace_outside.proofs.PendingLemmas.{prefix_longer}
 use Rattle.trace_run.specs.Meaning.{latency_report}
 use Rattle.trace_run.specs.Report.{cpus_line}
-use Rattle.trace_run.proofs.Printed.{WritesFor}
+use Rattle.trace_run.specs.Output.{WritesFor}
 use Rattle.trace_run.specs.Text.{text}
 use Rattle.trace_run.specs.declared.status.Status.TheVariants.{Done, ReadFault, WriteFault}
 

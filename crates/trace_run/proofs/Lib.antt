@@ -1,11 +1,13 @@
 pub mod LineLength
 pub mod Formats
 pub mod Said
-pub mod Copying
 pub mod Printing
 pub mod Latency
 pub mod PartsPrinted
+pub mod CallsPrinted
+pub mod CallsShown
 pub mod Printed
+pub mod Waits
 pub mod Reports
 pub mod Chosen
 pub mod Endings
@@ -23,3 +25,5 @@ pub mod Workers
 pub mod Usages
 pub mod Shared
 pub mod DueReading
+pub mod Restorings
+pub mod RestoreWords

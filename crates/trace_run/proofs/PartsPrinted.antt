@@ -17,15 +17,12 @@ use Rattle.time_merge.specs.declared.ending.End.TheVariants as code
 use Rattle.report_rounds.specs.Reports.{IsReport, lines_text}
 use Rattle.report_print.specs.Given.{Given}
 use Rattle.dat_header.specs.declared.header.Header.{Header}
-use Rattle.trace_args.specs.Command.{ReportData}
 use Rattle.trace_run.specs.declared.status.Status.TheVariants.{WriteFault}
-use Rattle.trace_run.specs.Context.{context_of}
 use Rattle.trace_run.specs.Meaning.{Meaning, ended, events_report, prints}
-use Rattle.trace_run.specs.Report.{cpus_line, entry_line, item_line, parts_events, report_pieces}
-use Rattle.trace_run.specs.Selection.{chosen, set_or_all}
+use Rattle.trace_run.specs.Report.{cpus_line, entry_line, events_on, item_line, report_pieces}
 use Rattle.trace_run.specs.Split.{status_of}
 use Rattle.trace_run.specs.Text.{text}
-use Rattle.trace_run.proofs.Printed.{Writes, WritesFor}
+use Rattle.trace_run.specs.Output.{Writes, WritesFor}
 
 lines_are : (given : Given) (items : List Keyed) → lines_text (item_line given) items ≡ text (filled_lines None (map (entry_line given) items))
 lines_are given items = refl
@@ -65,22 +62,18 @@ module _ (cpus : ℕ) (given : Given) (layout : Layout) (bytes : List ℕ) (part
       (sym (report_text cpus given items) ∙ ap (λ rest. cpus_line cpus ++ rest) (sym (append-nil (lines_text (item_line given) items))))
       first report
 
-module _ (words : ReportData) (header : Header) (parts : List Part) where
+module _ (given : Given) (shown : List (ℕ × Part)) (header : Header) where
   abbrev means : List ℕ → Meaning
-  means bytes = events_report (parts_events words header parts bytes)
+  means bytes = events_report (events_on given shown header bytes)
 
-  pub parts_written : (told : Option (List ℕ)) (shown : List (ℕ × Part)) (given : Given) (old mid now : Option (List ℕ)) (end : End)
-      → given ≡ context_of words header → shown ≡ chosen (set_or_all words.cpus) parts → Gained old mid (cpus_line header.cpus)
+  pub parts_written : (told : Option (List ℕ)) (old mid now : Option (List ℕ)) (end : End) → Gained old mid (cpus_line header.cpus)
       → IfSome told (λ bytes. IsReport (item_line given) header.layout bytes shown mid now end) → WritesFor means told (status_of end) old now
-  parts_written None shown given old mid now end given_is shown_is first report = tt
-  parts_written (Some bytes) shown given old mid now end given_is shown_is first report =
-      subst (λ (ps : List (ℕ × Part)). Writes (prints (report_pieces header.cpus (context_of words header) (reached_of header.layout bytes ps)) (ended (cut_of header.layout bytes ps))) (status_of end) old now) shown_is
-      (subst (λ (by : Given). Writes (prints (report_pieces header.cpus by (reached_of header.layout bytes shown)) (ended (cut_of header.layout bytes shown))) (status_of end) old now) given_is
-      (report_written header.cpus given header.layout bytes shown old mid now end first report))
+  parts_written None old mid now end first report = tt
+  parts_written (Some bytes) old mid now end first report = report_written header.cpus given header.layout bytes shown old mid now end first report
 
   pub parts_unbegun : (told : Option (List ℕ)) (old now : Option (List ℕ)) → GainedPrefix old now (cpus_line header.cpus) → WritesFor means told WriteFault old now
   parts_unbegun None old now first = tt
   parts_unbegun (Some bytes) old now first =
-      let items = reached_of header.layout bytes (chosen (set_or_all words.cpus) parts) in
-      subst (λ (all : List ℕ). GainedPrefix old now all) (report_text header.cpus (context_of words header) items)
-      (prefix_longer old now (cpus_line header.cpus) (lines_text (item_line (context_of words header)) items) first)
+      let items = reached_of header.layout bytes shown in
+      subst (λ (all : List ℕ). GainedPrefix old now all) (report_text header.cpus given items)
+      (prefix_longer old now (cpus_line header.cpus) (lines_text (item_line given) items) first)

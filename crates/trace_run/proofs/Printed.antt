@@ -4,7 +4,7 @@ use Rattle.std.proofs.lemmas.List.{append-nil}
 use Rattle.std.specs.Option.{option_map}
 use Rattle.trace_outside.specs.Causes.{Rose}
 use Rattle.trace_outside.specs.Writing.{Gained, GainedPrefix}
-use Rattle.split_tool.specs.Stored.{NewFile, FilesStored}
+use Rattle.new_files.specs.Stored.{NewFile, FilesStored}
 use Rattle.time_merge.specs.declared.ending.End.{End}
 use Rattle.time_merge.specs.declared.ending.End.TheVariants as end
 use Rattle.trace_run.specs.declared.status.Status.{Status}
@@ -12,28 +12,10 @@ use Rattle.trace_run.specs.declared.status.Status.TheVariants.{Done, Usage, Refu
 use Rattle.trace_run.specs.Ending.{Ends, IsCaused, LeavesAll, Prints}
 use Rattle.trace_run.specs.Meaning.{Meaning, on_out, prints}
 use Rattle.trace_run.specs.Outside.{FolderSeen, Outside, SinkSeen, beside}
+use Rattle.trace_run.specs.Output.{Shows, Writes, WritesFor}
 use Rattle.trace_run.specs.Split.{status_of}
 use Rattle.trace_run.specs.Text.{text}
 use Rattle.trace_run.proofs.Endings.{stored_none, stored_first_none}
-
--- what stands on the output where memory was there
-abbrev pub Writes : Meaning → Status → Option (List ℕ) → Option (List ℕ) → Type 0
-Writes m ReadFault old now = (count : ℕ) × Gained old now (text (take count m.pieces))
-Writes m WriteFault old now = GainedPrefix old now (text m.pieces)
-Writes m status old now = (status ≡ m.status) × Gained old now (text m.pieces)
-
-abbrev pub WritesFor : (List ℕ → Meaning) → Option (List ℕ) → Status → Option (List ℕ) → Option (List ℕ) → Type 0
-WritesFor means told status old now = IfSome told (λ bytes. Writes (means bytes) status old now)
-
--- why the answer is a fault, and that it is none that leaves all as it was
-abbrev pub Shows : Type 0 → Status → SinkSeen → SinkSeen → Type 0
-Shows unread Done before now = Unit {0}
-Shows unread (Malformed cpu page) before now = Unit {0}
-Shows unread ReadFault before now = unread
-Shows unread WriteFault before now = Rose before.faults now.faults
-Shows unread Usage before now = ⊥
-Shows unread (Refused fault) before now = ⊥
-Shows unread NoMemory before now = ⊥
 
 module _ (unread : Type 0) (folder : FolderSeen) (before now : SinkSeen) where
   abbrev was : Outside

@@ -23,10 +23,10 @@ module _ (words : ReportData) (header : Header) (told : Option (List ℕ)) where
   events_printed unread status before now none prints =
       subst (λ (list : Option Listed). Prints unread (option_map (report_by list words header) told) status before now) (sym none) prints
 
-  pub events_share : (size before now : ℕ) → listed_in words.list ≡ None → now ≤ raised before (body_share words.cpus header.end size header.body)
+  pub events_share : (size before now : ℕ) → listed_in words.list ≡ None → now ≤ raised before (body_share words.wakeups words.cpus header.end size header.body)
       → now ≤ raised before (share (Report words) header size)
   events_share size before now none reads =
-      subst (λ (list : Option Listed). now ≤ raised before (report_share list words.cpus header.end size header.body)) (sym none) reads
+      subst (λ (list : Option Listed). now ≤ raised before (report_share list words.wakeups words.cpus header.end size header.body)) (sym none) reads
 
   pub events_due : (due : Events → Type 0) → listed_in words.list ≡ None → IfSome told (λ bytes. IfSome (body_events words header header.body bytes) due)
       → IfSome told (λ bytes. IfSome (events_of (Report words) header bytes) due)

@@ -4,14 +4,14 @@ use Rattle.trace_outside.specs.Causes.{HasCause}
 use Rattle.trace_outside.specs.Writing.{Gained, GainedPrefix}
 use Rattle.trace_outside.proofs.Gains.{prefix_whole}
 use Rattle.trace_run.specs.declared.usage.UsageFault.{UsageFault}
-use Rattle.trace_run.specs.Job.{Job}
+use Rattle.trace_run.specs.Job.{Job, OnFile, SelfTest, Restore}
 use Rattle.trace_run.specs.declared.status.Status.TheVariants.{Usage, NoMemory}
 use Rattle.trace_run.specs.declared.status.Status.{Status}
 use Rattle.std.proofs.lemmas.List.{append-nil}
 use Rattle.std.specs.Prelude.{codes}
 use Rattle.trace_run.specs.Text.{text}
-use Rattle.trace_run.specs.Meaning.{job_input}
-use Rattle.trace_run.specs.Messages.{Says, line_read, message, usage_line}
+use Rattle.trace_run.specs.Meaning.{input_of}
+use Rattle.trace_run.specs.Messages.{IsLineRead, IsNameOf, Says, message, usage_line}
 
 pub says_of : {T E : Type 0} (result : Result T E) (line : List ℕ) (before now : Option (List ℕ)) (faults_before faults_now : ℕ)
     → OnOk result (Gained before now line) → OnErr result (GainedPrefix before now line) → HasCause faults_before faults_now result
@@ -22,22 +22,19 @@ says_of (Err error) line before now faults_before faults_now gained prefix cause
     record { prefix = prefix; whole = λ calm. absurd (calm cause.failed) }
 
 -- want of memory says the same, whatever the words are
-pub wanting : (read : Result Job UsageFault) → line_read read NoMemory ≡ message [] NoMemory
-wanting (Ok job) = refl
+pub wanting : (read : Result Job UsageFault) → IsLineRead read NoMemory (message [] NoMemory)
+wanting (Ok (OnFile command)) = (input_of command, refl, refl)
+wanting (Ok (SelfTest words)) = ([], refl, refl)
+wanting (Ok (Restore words)) = (words.input, refl, refl)
 wanting (Err fault) = refl
 
 -- what is said of words without a reading
-pub usage_said : (fault : UsageFault) (read : Result Job UsageFault) (before now : Option (List ℕ)) (faults_before faults_now : ℕ) → read ≡ Err fault
-    → Says (usage_line fault) before now faults_before faults_now → Says (line_read read Usage) before now faults_before faults_now
-usage_said fault read before now faults_before faults_now is says =
-    subst (λ (reading : Result Job UsageFault). Says (line_read reading Usage) before now faults_before faults_now) (sym is) says
+pub usage_said : (fault : UsageFault) (read : Result Job UsageFault) → read ≡ Err fault → IsLineRead read Usage (usage_line fault)
+usage_said fault read is = subst (λ (reading : Result Job UsageFault). IsLineRead reading Usage (usage_line fault)) (sym is) refl
 
--- what is said of a job's input
-pub job_said : (job : Job) (read : Result Job UsageFault) (input : List ℕ) (status : Status) (before now : Option (List ℕ)) (faults_before faults_now : ℕ)
-    → read ≡ Ok job → input ≡ job_input job → Says (message input status) before now faults_before faults_now → Says (line_read read status) before now faults_before faults_now
-job_said job read input status before now faults_before faults_now is named says =
-    subst (λ (reading : Result Job UsageFault). Says (line_read reading status) before now faults_before faults_now) (sym is)
-    (subst (λ (name : List ℕ). Says (message name status) before now faults_before faults_now) named says)
+-- what is said of a job, by the file that it names
+pub job_said : (job : Job) (read : Result Job UsageFault) (name : List ℕ) (status : Status) → read ≡ Ok job → IsNameOf job status name → IsLineRead read status (message name status)
+job_said job read name status is named = subst (λ (reading : Result Job UsageFault). IsLineRead reading status (message name status)) (sym is) (name, named, refl)
 
 -- a text that was pushed in four pieces
 pub four_pushed : (none first second third fourth a b c d page cpu : List ℕ) → none ≡ [] → first ≡ none ++ a → second ≡ first ++ b → third ≡ second ++ c → fourth ≡ third ++ d

@@ -139,6 +139,7 @@ by_tool tool.Split last settings words clean late is =
 by_tool tool.Report last settings words clean late is = cc
 by_tool tool.Dump last settings words clean late is = cc
 by_tool tool.SelfTest last settings words clean late is = cc
+by_tool tool.Restore last settings words clean late is = cc
 
 pub split_allowed : (given : List (List ℕ)) (words : SplitData) → Reads given (Split words) → IsAllowedSplit words
 split_allowed given words reads = by_tool reads.tool (length given) reads.settings words reads.clean reads.whole reads.command_is

@@ -10,7 +10,7 @@ use Rattle.dat_header.specs.Written.{without_instances}
 use Rattle.time_merge.specs.declared.ending.End.{End}
 use Rattle.time_merge.specs.declared.ending.End.TheVariants as end
 use Rattle.split_tool.specs.NewFiles.{Creates, IsSplit, end_of, new_files}
-use Rattle.split_tool.specs.Stored.{NewFile}
+use Rattle.new_files.specs.Stored.{NewFile}
 use Rattle.trace_run.specs.Ending.{Ends, IsCaused, LeavesAll, MakesFiles}
 use Rattle.trace_run.specs.Meaning.{on_folder, split_by}
 use Rattle.trace_run.specs.Outside.{FolderSeen, SinkSeen, beside}

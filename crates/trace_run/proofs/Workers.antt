@@ -31,6 +31,7 @@ report_by_tool tool.Report settings words is =
 report_by_tool tool.Dump settings words is = cc
 report_by_tool tool.SelfTest settings words is = cc
 report_by_tool tool.Split settings words is = cc
+report_by_tool tool.Restore settings words is = cc
 
 pub report_workers : (given : List (List ℕ)) (words : ReportData) → Reads given (Report words) → IsWorkers words.workers
 report_workers given words reads = report_by_tool reads.tool reads.settings words reads.command_is
@@ -42,6 +43,7 @@ self_by_tool tool.SelfTest settings words is =
 self_by_tool tool.Report settings words is = cc
 self_by_tool tool.Dump settings words is = cc
 self_by_tool tool.Split settings words is = cc
+self_by_tool tool.Restore settings words is = cc
 
 pub self_test_workers : (given : List (List ℕ)) (words : SelfData) → Reads given (SelfTest words) → IsWorkers words.workers
 self_test_workers given words reads = self_by_tool reads.tool reads.settings words reads.command_is

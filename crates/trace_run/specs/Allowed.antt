@@ -1,10 +1,11 @@
 -- What the words of a job that has a reading keep: the number of a split's unit is at least 1, the names of its new files
--- begin with no more bytes than words allow, and from 1 to 64 threads form the lines of a report.
--- Source: trace-cmd-split(1); the limits of 4,096 bytes and of 64 threads are this project's own.
+-- begin with no more bytes than words allow, from 1 to 64 threads form the lines of a report, and a
+-- restore has at most 256 data files.
+-- Source: trace-cmd-split(1); the limits of 4,096 bytes, of 64 threads and of 256 data files are this project's own.
 use Rattle.std.specs.Prelude.{◌≤◌, ℕ, length}
 use Rattle.split_pieces.specs.Pieces.{IsUnit}
 use Rattle.trace_args.specs.Command.{SplitData}
-use Rattle.trace_run.specs.Job.{FileCommand, Report, Dump, Split, Job, OnFile, SelfTest}
+use Rattle.trace_run.specs.Job.{FileCommand, Report, Dump, Split, Job, OnFile, SelfTest, Restore}
 
 pub record IsAllowedSplit (words : SplitData) : Type 0 where
   pub unit : IsUnit words.unit
@@ -22,3 +23,4 @@ IsAllowed (Split words) = IsAllowedSplit words
 abbrev pub IsAllowedJob : Job → Type 0
 IsAllowedJob (OnFile command) = IsAllowed command
 IsAllowedJob (SelfTest words) = IsWorkers words.workers
+IsAllowedJob (Restore words) = length words.files ≤ 256

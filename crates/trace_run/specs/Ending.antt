@@ -4,7 +4,7 @@ use Rattle.std.specs.Prelude.{Option, ◌≡◌, ◌⊎◌, ℕ, ◌≤◌, leng
 use Rattle.trace_outside.specs.Causes.{Rose, raised}
 use Rattle.trace_outside.specs.Writing.{Gained, GainedPrefix}
 use Rattle.dat_header.specs.Header.{IsRefusal}
-use Rattle.split_tool.specs.Stored.{FilesStored, FirstFilesStored}
+use Rattle.new_files.specs.Stored.{FilesStored, FirstFilesStored}
 use Rattle.trace_run.specs.declared.status.Status.{Status}
 use Rattle.trace_run.specs.declared.status.Status.TheVariants.{Done, Usage, Refused, ReadFault, WriteFault, NoMemory}
 use Rattle.trace_run.specs.Meaning.{Meaning, Target, on_nothing, on_out, on_folder}

@@ -1,8 +1,9 @@
 -- What a run works on, and how much of it is read.
-use Rattle.std.specs.Prelude.{Option, None, Some, Result, Ok, Err, ◌+◌, ◌-◌, ◌*◌, ◌≤◌, ℕ, Bool, List, [], drop, length, sum_by, nat_eq, if◌then◌else◌, IfSome}
+use Rattle.std.specs.Prelude.{Option, None, Some, Result, Ok, Err, ◌+◌, ◌-◌, ◌*◌, ◌≤◌, ℕ, Bool, true, false, List, [], drop, length, sum_by, nat_eq, if◌then◌else◌, IfSome}
 use Rattle.std.specs.FinMap.{get}
 use Rattle.std.specs.List.{starts_with}
 use Rattle.std.specs.Option.{option_and_then}
+use Rattle.trace_base.specs.declared.part.Part.{Part}
 use Rattle.trace_outside.specs.Names.{NamedFiles}
 use Rattle.trace_outside.specs.Causes.{raised}
 use Rattle.trace_outside.specs.Writing.{Gained}
@@ -16,7 +17,7 @@ use Rattle.trace_run.specs.declared.list.Listed.{Listed}
 use Rattle.trace_run.specs.declared.status.Status.{Status}
 use Rattle.trace_run.specs.declared.status.Status.TheVariants.{Done, Malformed, WriteFault}
 use Rattle.trace_run.specs.declared.usage.UsageFault.{UsageFault}
-use Rattle.trace_run.specs.Job.{FileCommand, Report, Dump, Split, Job, OnFile, SelfTest}
+use Rattle.trace_run.specs.Job.{FileCommand, Report, Dump, Split, Job, OnFile, SelfTest, Restore}
 use Rattle.trace_run.specs.Lists.{listed_in}
 use Rattle.trace_run.specs.Meaning.{input_of}
 use Rattle.trace_run.specs.Outside.{Outside}
@@ -48,20 +49,26 @@ input_told command told = option_and_then (input_in command) told
 abbrev pub input_of_run : Result Job UsageFault → Option NamedFiles → Option Input
 input_of_run (Ok (OnFile command)) told = option_and_then (λ files. input_told command (get files (input_of command))) told
 input_of_run (Ok (SelfTest words)) told = None
+input_of_run (Ok (Restore words)) told = None
 input_of_run (Err fault) told = None
 
 -- HOW MUCH A COMMAND NEEDS
 
--- how many bytes behind the header a report of events needs: the parts of the chosen processors, or the rest of a latency
--- file
-abbrev pub body_share : Option (List Bool) → ℕ → ℕ → Body → ℕ
-body_share cpus end size Latency = size - end
-body_share cpus end size (Fly parts) = sum_by (λ part. part.1.size) (chosen (set_or_all cpus) parts)
+-- how many bytes behind the header a report of events needs: the parts of the chosen processors, and these twice where the
+-- latencies are gathered before
+abbrev pub parts_share : Bool → List (ℕ × Part) → ℕ
+parts_share false parts = sum_by (λ part. part.1.size) parts
+parts_share true parts = 2 * sum_by (λ part. part.1.size) parts
+
+-- or the rest of a latency file
+abbrev pub body_share : Bool → Option (List Bool) → ℕ → ℕ → Body → ℕ
+body_share wakeups cpus end size Latency = size - end
+body_share wakeups cpus end size (Fly parts) = parts_share wakeups (chosen (set_or_all cpus) parts)
 
 -- a list needs none
-abbrev pub report_share : Option Listed → Option (List Bool) → ℕ → ℕ → Body → ℕ
-report_share None cpus end size body = body_share cpus end size body
-report_share (Some list) cpus end size body = 0
+abbrev pub report_share : Option Listed → Bool → Option (List Bool) → ℕ → ℕ → Body → ℕ
+report_share None wakeups cpus end size body = body_share wakeups cpus end size body
+report_share (Some list) wakeups cpus end size body = 0
 
 -- a split reads the parts of the processors that it takes at most three times: to measure its pieces, and to pack of each
 -- sub-buffer the piece that ends in it and the one that begins there
@@ -70,7 +77,7 @@ split_share one body = 3 * sum_by (λ part. part.1.size) (taken_of one body)
 
 -- how many bytes behind the header a command needs, of a file of this size
 abbrev pub share : FileCommand → Header → ℕ → ℕ
-share (Report words) header size = report_share (listed_in words.list) words.cpus header.end size header.body
+share (Report words) header size = report_share (listed_in words.list) words.wakeups words.cpus header.end size header.body
 share (Dump words) header size = 0
 share (Split words) header size = split_share words.cpu header.body
 

@@ -4,7 +4,7 @@ use Rattle.std.specs.Prelude.{Result, Ok, Err, ◌≡◌, ◌≢◌, List, ℕ, 
 use Rattle.trace_args.specs.declared.fault.WordFault.{WordFault}
 use Rattle.trace_args.specs.declared.fault.WordKind.TheVariants as kind
 use Rattle.trace_args.specs.Command as asked
-use Rattle.trace_args.specs.Command.{CommandData, ReportData, DumpData, SelfData, SplitData, report_view, dump_view, self_view, split_view}
+use Rattle.trace_args.specs.Command.{CommandData, ReportData, DumpData, SelfData, SplitData, RestoreData, report_view, dump_view, self_view, split_view, restore_view}
 use Rattle.trace_args.specs.Reading.{reading}
 use Rattle.trace_run.specs.declared.job.FileCommand.{FileCommand as CodeCommand}
 use Rattle.trace_run.specs.declared.job.FileCommand.TheVariants as code_command
@@ -20,6 +20,7 @@ pub data FileCommand : Type 0 where
 pub data Job : Type 0 where
   OnFile : FileCommand → Job
   SelfTest : SelfData → Job
+  Restore : RestoreData → Job
 
 -- the job that a reading asks for
 abbrev pub job_read : Result CommandData WordFault → Result Job WordFault
@@ -27,6 +28,7 @@ job_read (Ok (asked.Report report)) = Ok (OnFile (Report report))
 job_read (Ok (asked.Dump dump)) = Ok (OnFile (Dump dump))
 job_read (Ok (asked.Split split)) = Ok (OnFile (Split split))
 job_read (Ok (asked.SelfTest words)) = Ok (SelfTest words)
+job_read (Ok (asked.Restore words)) = Ok (Restore words)
 job_read (Err wrong) = Err wrong
 
 -- the job that words ask for, or their first fault
@@ -41,6 +43,7 @@ command_view (code_command.Split split) = Split (split_view split)
 abbrev pub job_view : CodeJob → Job
 job_view (code_job.OnFile command) = OnFile (command_view command)
 job_view (code_job.SelfTest words) = SelfTest (self_view words)
+job_view (code_job.Restore words) = Restore (restore_view words)
 
 -- an answer is the job; the only other is that there was no memory
 abbrev pub IsJob : List (List ℕ) → Result CodeJob WordFault → Type 0

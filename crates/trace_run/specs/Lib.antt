@@ -3,6 +3,8 @@ pub mod Selection
 pub mod Context
 pub mod Lists
 pub mod Report
+pub mod Calls
+pub mod Restore
 pub mod Job
 pub mod Allowed
 pub mod Split
@@ -13,10 +15,10 @@ pub mod Selftest
 pub mod Meaning
 pub mod Outside
 pub mod Ending
+pub mod Output
 pub mod Work
 pub mod Input
 pub mod Ran
 pub mod Messages
 pub mod StatusNumber
 pub mod Answers
-pub mod Rest

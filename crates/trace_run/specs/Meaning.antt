@@ -1,8 +1,9 @@
 -- What a run means, from its words and the files alone.
-use Rattle.std.specs.Prelude.{Option, Result, Ok, Err, None, Some, ℕ, List, [], ◌∷◌, map, drop}
+use Rattle.std.specs.Prelude.{Option, Result, Ok, Err, None, Some, ℕ, Bool, true, false, List, [], ◌∷◌, ◌++◌, map, drop}
 use Rattle.std.specs.FinMap.{get}
 use Rattle.std.specs.Option.{option_map}
 use Rattle.trace_outside.specs.Names.{NamedFiles}
+use Rattle.trace_base.specs.declared.part.Part.{Part}
 use Rattle.dat_options.specs.declared.fault.OpenFault.{OpenFault}
 use Rattle.dat_header.specs.declared.header.Header.{Header}
 use Rattle.dat_header.specs.declared.header.Body.{Body}
@@ -13,16 +14,18 @@ use Rattle.trace_run.specs.declared.status.Status.{Status}
 use Rattle.trace_run.specs.declared.status.Status.TheVariants.{Done, Usage, Refused, Malformed, ReadFault}
 use Rattle.trace_run.specs.declared.usage.UsageFault.{UsageFault}
 use Rattle.trace_run.specs.Usage.{asked}
-use Rattle.trace_args.specs.Command.{ReportData, DumpData, SelfData, SplitData}
+use Rattle.trace_args.specs.Command.{ReportData, DumpData, SelfData, SplitData, RestoreData}
 use Rattle.trace_run.specs.declared.list.Listed.{Listed}
 use Rattle.trace_run.specs.Context.{formats_of, symbols_of}
 use Rattle.trace_run.specs.Lists.{list_text, listed_in}
-use Rattle.trace_run.specs.Job.{FileCommand, Report, Dump, Split, Job, OnFile, SelfTest}
-use Rattle.trace_run.specs.Report.{Events, cpus_line, parts_events, report_pieces}
+use Rattle.trace_run.specs.Job.{FileCommand, Report, Dump, Split, Job, OnFile, SelfTest, Restore}
+use Rattle.graph_report.specs.Gathered.{reached_calls}
+use Rattle.trace_run.specs.Report.{Events, call_pieces, cpus_line, parts_events, report_pieces, waits_section}
 use Rattle.trace_run.specs.Selftest.{self_test_line}
 use Rattle.trace_run.specs.Split.{split_end, split_files, status_of}
 use Rattle.dump_tool.specs.Dump.{dump_text}
-use Rattle.split_tool.specs.Stored.{NewFile}
+use Rattle.new_files.specs.Stored.{NewFile}
+use Rattle.restore_tool.specs.Meaning.{NamesData, Task, missing, refused, made, task_of}
 
 -- what a command writes to, whose fault a fault of writing is; words without a reading write to nothing
 pub data Target : Type 0 where
@@ -55,14 +58,37 @@ events_report events =
     prints (report_pieces events.header.cpus events.given (reached_of events.header.layout events.bytes events.parts))
     (ended (cut_of events.header.layout events.bytes events.parts))
 
+-- the same and a piece behind it
+abbrev pub with_piece : Meaning → List ℕ → Meaning
+with_piece m piece = prints (m.pieces ++ piece ∷ []) m.status
+
+-- with the latencies behind it, where they are asked for
+abbrev pub shown_report : Bool → Events → Meaning
+shown_report false events = events_report events
+shown_report true events = with_piece (events_report events) (waits_section events)
+
+abbrev pub parts_report : ReportData → Header → List Part → List ℕ → Meaning
+parts_report words header parts bytes = shown_report words.wakeups (parts_events words header parts bytes)
+
+-- the report of calls: the lines of those of the reached items
+abbrev pub calls_report : Events → Meaning
+calls_report events =
+    prints (call_pieces events.header.cpus events.given (reached_calls events.given events.header.layout events.bytes events.parts))
+    (ended (cut_of events.header.layout events.bytes events.parts))
+
+-- calls in place of the events, where they are asked for
+abbrev pub report_as : Bool → Bool → Events → Meaning
+report_as true wakeups events = calls_report events
+report_as false wakeups events = shown_report wakeups events
+
 -- the report of a latency file: the rest of its bytes
 abbrev pub latency_report : ℕ → ℕ → List ℕ → Meaning
 latency_report cpus end bytes = prints (cpus_line cpus ∷ map (λ byte. byte ∷ []) (drop end bytes)) Done
 
--- the report of the events
+-- the report of the events, or of the calls among them
 abbrev pub body_report : ReportData → Header → Body → List ℕ → Meaning
 body_report words header Latency bytes = latency_report header.cpus header.end bytes
-body_report words header (Fly parts) bytes = events_report (parts_events words header parts bytes)
+body_report words header (Fly parts) bytes = report_as words.calls words.wakeups (parts_events words header parts bytes)
 
 -- a list, in place of the events
 abbrev pub list_report : Header → Listed → Meaning
@@ -88,6 +114,18 @@ split_by words header bytes = record {
 -- the line of a self-test
 abbrev pub self_test : SelfData → Meaning
 self_test words = prints (self_test_line words ∷ []) Done
+
+-- nothing is printed: one file is made, unless a file is missing or the partial one has no header
+abbrev pub task_means : Task → Meaning
+task_means missing = only ReadFault
+task_means (refused fault) = only (Refused fault)
+task_means (made file) = record { pieces = []; status = Done; files = file ∷ [] }
+
+abbrev pub names_of : RestoreData → NamesData
+names_of words = record { partial = words.input; files = words.files; output = words.output }
+
+abbrev pub restore_meaning : RestoreData → NamedFiles → Meaning
+restore_meaning words files = task_means (task_of files (names_of words))
 
 -- what a command writes to
 abbrev pub target_of : FileCommand → Target
@@ -127,20 +165,23 @@ command_meaning command files = command_means command (get files (input_of comma
 abbrev pub job_target : Job → Target
 job_target (OnFile command) = target_of command
 job_target (SelfTest words) = on_out
+job_target (Restore words) = on_folder
 
--- the name of a job's input, of which a self-test has none
+-- the name of a job's input, of which a self-test has none, and which is the partial file of a restore
 abbrev pub job_input : Job → List ℕ
 job_input (OnFile command) = input_of command
 job_input (SelfTest words) = []
+job_input (Restore words) = words.input
 
 abbrev pub target_read : Result Job UsageFault → Target
 target_read (Ok job) = job_target job
 target_read (Err fault) = on_nothing
 
--- What a run means, by what its words ask for. Only a command on a file needs a folder that tells its files.
+-- What a run means, by what its words ask for. A command on a file and a restore need a folder that tells its files.
 abbrev pub meaning_read : Result Job UsageFault → Option NamedFiles → Option Meaning
 meaning_read (Ok (OnFile command)) told = option_map (command_meaning command) told
 meaning_read (Ok (SelfTest words)) told = Some (self_test words)
+meaning_read (Ok (Restore words)) told = option_map (restore_meaning words) told
 meaning_read (Err fault) told = Some (only Usage)
 
 abbrev pub meaning : List (List ℕ) → Option NamedFiles → Option Meaning

@@ -1,5 +1,5 @@
 -- The one line that a run says of an answer that is not Done.
-use Rattle.std.specs.Prelude.{Option, Result, Ok, Err, ℕ, List, [], ◌∷◌, codes}
+use Rattle.std.specs.Prelude.{◌≡◌, Contains, Option, Result, Ok, Err, ℕ, List, [], ◌∷◌, codes}
 use Rattle.std.specs.Fmt.{decimal}
 use Rattle.dat_options.specs.declared.fault.OpenFault.{OpenFault}
 use Rattle.dat_options.specs.declared.fault.OpenFault.TheVariants.{NotTrace, Compressed, OtherVersion, BadEndian, BadLong, BadPageSize, BadHeaderPage, BadSection, Truncated, TooManyCpus, Read, Memory}
@@ -12,7 +12,7 @@ use Rattle.trace_run.specs.declared.usage.UsageFault.{UsageFault}
 use Rattle.trace_run.specs.declared.usage.UsageFault.TheVariants.{Word, Filter}
 use Rattle.trace_run.specs.Usage.{asked}
 use Rattle.trace_args.specs.KindText.{kind_text}
-use Rattle.trace_run.specs.Job.{Job}
+use Rattle.trace_run.specs.Job.{Job, OnFile, SelfTest, Restore}
 use Rattle.trace_run.specs.Meaning.{job_input}
 
 abbrev pub fault_text : OpenFault → List ℕ
@@ -66,17 +66,29 @@ message input ReadFault = text (codes "trace-cmd: " ∷ input ∷ codes ": read 
 message input WriteFault = codes "trace-cmd: write failed\n"
 message input NoMemory = codes "trace-cmd: out of memory\n"
 
+-- the file that a message names: the input, of which a self-test has none, and where a restore could not read, one of the files
+-- that it reads
+abbrev pub IsNameOf : Job → Status → List ℕ → Type 0
+IsNameOf (Restore words) ReadFault name = Contains (words.input ∷ words.files) name
+IsNameOf job status name = name ≡ job_input job
+
 -- the line for this reading and this answer
-abbrev pub line_read : Result Job UsageFault → Status → List ℕ
-line_read (Ok job) status = message (job_input job) status
-line_read (Err fault) Usage = usage_line fault
-line_read (Err fault) status = message [] status
+abbrev pub IsLineRead : Result Job UsageFault → Status → List ℕ → Type 0
+IsLineRead (Ok job) status line = (name : List ℕ) × IsNameOf job status name × (line ≡ message name status)
+IsLineRead (Err fault) Usage line = line ≡ usage_line fault
+IsLineRead (Err fault) status line = line ≡ message [] status
 
 -- the line for these words and this answer
-abbrev pub line_of : List (List ℕ) → Status → List ℕ
-line_of words status = line_read (asked words) status
+abbrev pub IsLineOf : List (List ℕ) → Status → List ℕ → Type 0
+IsLineOf words status line = IsLineRead (asked words) status line
 
 -- the sink gained the line, or a prefix of it where its own count of faults rose
 pub record Says (line : List ℕ) (before now : Option (List ℕ)) (faults_before faults_now : ℕ) : Type 0 where
   pub prefix : GainedPrefix before now line
   pub whole : ¬ (Rose faults_before faults_now) → Gained before now line
+
+-- the line for these words and this answer was said
+pub record SaysOf (words : List (List ℕ)) (status : Status) (before now : Option (List ℕ)) (faults_before faults_now : ℕ) : Type 0 where
+  pub line : List ℕ
+  pub is : IsLineOf words status line
+  pub says : Says line before now faults_before faults_now

@@ -1,5 +1,5 @@
 -- All that is said of a run over a folder and an output, by what its words ask for.
-use Rattle.std.specs.Prelude.{Result, Ok, Err, ◌≡◌, ◌≢◌, ◌⊎◌, ◌+◌, ◌-◌, ◌^◌, ◌<◌, ◌≤◌, IfSome}
+use Rattle.std.specs.Prelude.{Result, Ok, Err, ℕ, length, ◌≡◌, ◌≢◌, ◌⊎◌, ◌+◌, ◌-◌, ◌^◌, ◌<◌, ◌≤◌, IfSome}
 use Rattle.trace_outside.specs.declared.counts.Counts.{Counts}
 use Rattle.trace_outside.specs.Causes.{Rose, raised}
 use Rattle.trace_run.specs.declared.status.Status.{Status}
@@ -7,14 +7,15 @@ use Rattle.trace_run.specs.declared.status.Status.TheVariants.{Usage, ReadFault,
 use Rattle.trace_run.specs.declared.usage.UsageFault.{UsageFault}
 use Rattle.trace_run.specs.Ending.{Ended, IsComplete}
 use Rattle.trace_run.specs.Input.{ReadsInput, input_of_run, progress}
-use Rattle.trace_run.specs.Job.{Job, OnFile, SelfTest}
+use Rattle.trace_run.specs.Job.{Job, OnFile, SelfTest, Restore}
 use Rattle.trace_run.specs.Meaning.{Meaning, meaning_read, target_read}
 use Rattle.trace_run.specs.Outside.{Outside}
 
--- That a read failed shows in the folder's count. Only a command on a file reads any.
+-- That a read failed shows in the folder's count. A self-test reads no file.
 abbrev pub Unread : Result Job UsageFault → Outside → Outside → Type 0
 Unread (Ok (OnFile command)) before now = Rose before.folder.counts.reading now.folder.counts.reading
 Unread (Ok (SelfTest words)) before now = ⊥
+Unread (Ok (Restore words)) before now = Rose before.folder.counts.reading now.folder.counts.reading
 Unread (Err fault) before now = ⊥
 
 -- Usage is answered just where the words or a filter of theirs have no reading, unless there is no memory to read them.
@@ -22,6 +23,7 @@ Unread (Err fault) before now = ⊥
 abbrev pub KeepsOff : Result Job UsageFault → Status → Outside → Outside → Type 0
 KeepsOff (Ok (OnFile command)) status before now = status ≢ Usage
 KeepsOff (Ok (SelfTest words)) status before now = (status ≢ Usage) × (now.folder ≡ before.folder)
+KeepsOff (Ok (Restore words)) status before now = (status ≢ Usage) × (now.out ≡ before.out)
 KeepsOff (Err fault) status before now = ((status ≡ Usage) ⊎ (status ≡ NoMemory)) × (now ≡ before)
 
 -- a name that is missing is asked for only where the meaning is a fault of reading
@@ -32,11 +34,18 @@ MissesNothingElse m before now = m.status ≢ ReadFault → now.misses ≡ befor
 abbrev pub ClosesAll : Counts → Counts → Type 0
 ClosesAll before now = now.opened < 2 ^ 64 - 1 → now.closed < 2 ^ 64 - 1 → now.opened + before.closed ≡ now.closed + before.opened
 
+-- how many files a run opens at most: the input, or all that a restore reads
+abbrev pub most_opened : Result Job UsageFault → ℕ
+most_opened (Ok (OnFile command)) = 1
+most_opened (Ok (SelfTest words)) = 0
+most_opened (Ok (Restore words)) = length words.files + 1
+most_opened (Err fault) = 0
+
 pub record Ran (read : Result Job UsageFault) (status : Status) (before now : Outside) : Type 0 where
   pub ended : Ended (target_read read) (Unread read before now) (meaning_read read before.folder.files) status before now
   pub complete : IfSome (meaning_read read before.folder.files) (λ m. IsComplete (target_read read) (Unread read before now) m status before now)
   pub usage : KeepsOff read status before now
   pub misses : IfSome (meaning_read read before.folder.files) (λ m. MissesNothingElse m before.folder.counts now.folder.counts)
   pub closes : ClosesAll before.folder.counts now.folder.counts
-  pub opens : now.folder.counts.opened ≤ raised before.folder.counts.opened 1
+  pub opens : now.folder.counts.opened ≤ raised before.folder.counts.opened (most_opened read)
   pub reads : ReadsInput (input_of_run read before.folder.files) status (progress before) (progress now)

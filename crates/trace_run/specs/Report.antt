@@ -1,6 +1,6 @@
--- A report of events: its first line, and a line for each item.
+-- A report of events: its first line, a line for each item, and behind them how long woken tasks waited.
 -- Source: trace-cmd-report(1).
-use Rattle.std.specs.Prelude.{Option, None, Some, ℕ, List, [], ◌∷◌, map, codes}
+use Rattle.std.specs.Prelude.{Option, None, Some, ℕ, Bool, true, false, List, [], ◌∷◌, map, codes}
 use Rattle.std.specs.Fmt.{decimal}
 use Rattle.trace_base.specs.declared.part.Part.{Part}
 use Rattle.dat_header.specs.declared.header.Header.{Header}
@@ -9,9 +9,15 @@ use Rattle.dat_header.specs.declared.header.Body.TheVariants.{Latency, Fly}
 use Rattle.line_holes.specs.Holes.{LineText, filled_lines, line_text}
 use Rattle.subpage.specs.ItemData.{ItemData}
 use Rattle.subpage.specs.Arrangement.{Keyed}
+use Rattle.subpage.specs.Cut.{reached_of}
 use Rattle.report_print.specs.Given.{Given}
 use Rattle.report_print.specs.Line.{hole, line}
+use Rattle.call_pairs.specs.declared.call.Call.{Call}
+use Rattle.graph_report.specs.CallText.{call_line}
 use Rattle.trace_args.specs.Command.{ReportData}
+use Rattle.wakeup_pairs.specs.Gathered.{gathered}
+use Rattle.wakeup_lat.specs.Roles.{all_seen}
+use Rattle.wakeup_lat.specs.Section.{section}
 use Rattle.trace_run.specs.Context.{context_of}
 use Rattle.trace_run.specs.declared.list.Listed.{Listed}
 use Rattle.trace_run.specs.Selection.{chosen, set_or_all}
@@ -24,6 +30,10 @@ cpus_line cpus = text (codes "cpus=" ∷ decimal cpus ∷ codes "\n" ∷ [])
 -- the line of an item, with its hole
 abbrev pub item_line : Given → ℕ → ItemData → LineText
 item_line given cpu item = line_text (line given cpu item) (hole given cpu item)
+
+-- a report's first line and the lines of calls
+abbrev pub call_pieces : ℕ → Given → List Call → List (List ℕ)
+call_pieces cpus given calls = cpus_line cpus ∷ map (call_line given) calls
 
 -- the line of an item in its place
 abbrev pub entry_line : Given → Keyed → LineText
@@ -42,14 +52,38 @@ pub record Events : Type 0 where
   pub header : Header
   pub bytes : List ℕ
 
+abbrev pub events_on : Given → List (ℕ × Part) → Header → List ℕ → Events
+events_on given parts header bytes = record { given = given; parts = parts; header = header; bytes = bytes }
+
 abbrev pub parts_events : ReportData → Header → List Part → List ℕ → Events
 parts_events words header parts bytes =
-    record { given = context_of words header; parts = chosen (set_or_all words.cpus) parts; header = header; bytes = bytes }
+    events_on (context_of words header) (chosen (set_or_all words.cpus) parts) header bytes
+
+-- the items that it shows lines of
+abbrev pub reached_items : Events → List Keyed
+reached_items events = reached_of events.header.layout events.bytes events.parts
+
+-- how long woken tasks waited, by what is seen of these items, shown or not
+abbrev pub waits_section : Events → List ℕ
+waits_section events = section events.given (gathered (all_seen events.given (reached_items events))).pairs
+
+-- Events of which no more is read than their lines need: where the latencies are asked for, all of it is read before.
+abbrev pub lines_alone : Bool → Events → Option Events
+lines_alone false events = Some events
+lines_alone true events = None
+
+abbrev pub parts_due : ReportData → Header → List Part → List ℕ → Option Events
+parts_due words header parts bytes = lines_alone words.wakeups (parts_events words header parts bytes)
+
+-- events of which no calls are shown
+abbrev pub unless_calls : Bool → Bool → Events → Option Events
+unless_calls true wakeups events = None
+unless_calls false wakeups events = lines_alone wakeups events
 
 -- a latency file has none
 abbrev pub body_events : ReportData → Header → Body → List ℕ → Option Events
 body_events words header Latency bytes = None
-body_events words header (Fly parts) bytes = Some (parts_events words header parts bytes)
+body_events words header (Fly parts) bytes = unless_calls words.calls words.wakeups (parts_events words header parts bytes)
 
 -- nor has a list
 abbrev pub listed_events : Option Listed → ReportData → Header → List ℕ → Option Events

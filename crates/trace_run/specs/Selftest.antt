@@ -24,7 +24,9 @@ plain_report = record {
   raw_events = [];
   no_hard = false;
   no_soft = false;
+  calls = false;
   list = None;
+  wakeups = false;
   cpus = None;
   workers = 1;
 }

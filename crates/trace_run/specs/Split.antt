@@ -13,7 +13,7 @@ use Rattle.split_pieces.specs.Cuts.{file_items}
 use Rattle.subpage.specs.Arrangement.{Keyed}
 use Rattle.split_tool.specs.Rules.{rules_of}
 use Rattle.split_tool.specs.NewFiles.{new_files, end_of}
-use Rattle.split_tool.specs.Stored.{NewFile}
+use Rattle.new_files.specs.Stored.{NewFile}
 use Rattle.trace_run.specs.Selection.{chosen, one_or_all}
 use Rattle.trace_run.specs.declared.status.Status.{Status}
 use Rattle.trace_run.specs.declared.status.Status.TheVariants.{Done, Malformed, ReadFault, WriteFault}

@@ -7,7 +7,7 @@ use Rattle.trace_args.specs.declared.fault.WordFault.{WordFault}
 use Rattle.filter_lang.specs.Filter as lang
 use Rattle.filter_lang.specs.Reading as filter_text
 use Rattle.filter_truth.specs.Selection.{UseData}
-use Rattle.trace_run.specs.Job.{FileCommand, Report, Dump, Split, Job, OnFile, SelfTest, job_of}
+use Rattle.trace_run.specs.Job.{FileCommand, Report, Dump, Split, Job, OnFile, SelfTest, Restore, job_of}
 use Rattle.trace_run.specs.declared.usage.UsageFault.{UsageFault}
 use Rattle.trace_run.specs.declared.usage.UsageFault.TheVariants.{Word, Filter}
 
@@ -38,6 +38,7 @@ command_filters (Split words) = []
 abbrev pub job_filters : Job → List FilterData
 job_filters (OnFile command) = command_filters command
 job_filters (SelfTest words) = []
+job_filters (Restore words) = []
 
 -- the filters of some words, where all have a reading
 unfoldable pub uses_in : List FilterData → List UseData

@@ -1,6 +1,6 @@
 -- What the part of a run did that has an open file.
 use Rattle.std.specs.Prelude.{Option}
-use Rattle.split_tool.specs.Stored.{KeepsCounts}
+use Rattle.new_files.specs.Stored.{KeepsCounts}
 use Rattle.trace_run.specs.declared.status.Status.{Status}
 use Rattle.trace_run.specs.Ending.{Ended}
 use Rattle.trace_run.specs.Job.{FileCommand}

@@ -11,7 +11,8 @@ ghost use Rattle.trace_run.specs.Allowed.{IsAllowed, IsAllowedJob};
 ghost use Rattle.trace_run.specs.Input.{ReadsDue, ReadsInput, events_of, input_told, progress_at, share};
 ghost use Rattle.trace_run.specs.Job.{OnFile, command_view, job_view};
 ghost use Rattle.trace_run.specs.Meaning as spec;
-ghost use Rattle.trace_run.specs.Meaning.{header_means, input_means, job_input};
+ghost use Rattle.trace_run.specs.Meaning.{header_means, input_means};
+ghost use Rattle.trace_run.specs.Messages.{IsNameOf};
 ghost use Rattle.trace_run.specs.Outside.{beside, folder_seen, sink_seen};
 ghost use Rattle.trace_run.specs.Ran.{Ran};
 ghost use Rattle.trace_run.specs.Usage.{command_filters, job_filters, uses_in};
@@ -21,6 +22,7 @@ ghost use Rattle.filter_truth.specs.SelectionView.{use_of};
 use crate::dump::print_dump;
 use crate::job::{FileCommand, Job};
 use crate::report::print_report;
+use crate::restore::restore_files;
 use crate::selftest::print_self_test;
 use crate::split::cut_file;
 use crate::status::Status;
@@ -30,14 +32,11 @@ use std::alloc::Global;
 use std::thread::Threads;
 use trace_outside::{Failed, Folder, Gate, Sink};
 
-/// The name of a job's input.
-pub(crate) fn job_input<'a>(job: &Job<'a>) -> &'a str
-    ensures { result.now ≡ job_input (job_view job.now) }
-{
-    match job {
-        Job::OnFile(command) => input_of(command),
-        Job::SelfTest(_) => "",
-    }
+/// How a job ended, and the file that its message names.
+#[derive(Clone, Copy)]
+pub(crate) struct Outcome<'a> {
+    pub(crate) status: Status,
+    pub(crate) file: &'a str,
 }
 
 // The name of a command's input.
@@ -52,24 +51,36 @@ fn input_of<'a>(command: &FileCommand<'a>) -> &'a str
 }
 
 /// Does one job on the files of the folder. The filters are those of its words.
-pub(crate) fn run_job<R: Threads + Sync, F: Folder, O: Sink, G: Gate>(
+pub(crate) fn run_job<'a, R: Threads + Sync, F: Folder, O: Sink, G: Gate>(
     rt: &R,
     alloc: Global,
-    job: &Job<'_>,
+    job: &Job<'a>,
     filters: Vec<FilterUse>,
     folder: &mut F,
     out: &mut O,
     gate: &G,
-) -> Status
+) -> Outcome<'a>
     requires allowed { IsAllowedJob (job_view job.now) }
     requires filters { uses_in (job_filters (job_view job.now)) ≡ map use_of filters.items }
-    ensures { Ran (Ok (job_view job.now)) result
+    ensures ran { Ran (Ok (job_view job.now)) result.status
         (beside (folder_seen F.files F.counts folder.old) (sink_seen O.written O.faults out.old))
         (beside (folder_seen F.files F.counts folder.new) (sink_seen O.written O.faults out.new)) }
+    ensures named { IsNameOf (job_view job.now) result.status result.file.now }
 {
     match job {
-        Job::OnFile(command) => run_command(rt, alloc, command, filters, folder, out, gate),
-        Job::SelfTest(words) => print_self_test(rt, alloc, words, out, gate),
+        Job::OnFile(command) => {
+            let status = run_command(rt, alloc, command, filters, folder, out, gate);
+            let file = input_of(command);
+            Outcome { status, file }
+        }
+        Job::SelfTest(words) => {
+            let status = print_self_test(rt, alloc, words, out, gate);
+            Outcome { status, file: "" }
+        }
+        Job::Restore(words) => {
+            let (status, file) = restore_files(alloc, words, folder);
+            Outcome { status, file }
+        }
     }
 }
 

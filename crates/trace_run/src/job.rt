@@ -5,7 +5,9 @@ ghost use Rattle.trace_run.specs.Allowed.{IsAllowedJob};
 ghost use Rattle.trace_run.specs.Job.{IsJob, job_view};
 
 use std::alloc::Global;
-use trace_args::{Command, DumpWords, ReportWords, SelfWords, SplitWords, WordFault, read_words};
+use trace_args::{
+    Command, DumpWords, ReportWords, RestoreWords, SelfWords, SplitWords, WordFault, read_words,
+};
 use trace_base::Words;
 
 /// A command on one file.
@@ -22,13 +24,15 @@ pub(crate) enum Job<'a> {
     OnFile(FileCommand<'a>),
     /// A self-test, which works on no file.
     SelfTest(SelfWords),
+    /// A restore, which works on a partial file and on data files.
+    Restore(RestoreWords<'a>),
 }
 
 /// Reads the words into the job that they ask for.
 ///
 /// # Errors
 /// The words' first fault. Only `WordKind::Memory`, at word 1, may stand in place of any answer.
-#[tactic(auto, using(crate::proofs::Jobs::report_asked, crate::proofs::Jobs::dump_asked, crate::proofs::Jobs::self_test_asked, crate::proofs::Jobs::split_asked, crate::proofs::Jobs::none_asked))]
+#[tactic(auto, using(crate::proofs::Jobs::report_asked, crate::proofs::Jobs::dump_asked, crate::proofs::Jobs::self_test_asked, crate::proofs::Jobs::split_asked, crate::proofs::Jobs::restore_asked, crate::proofs::Jobs::none_asked))]
 pub(crate) fn read_job<'a>(alloc: Global, words: &'a Words) -> Result<Job<'a>, WordFault>
     ensures job { IsJob words.now result }
     ensures allowed { IfOk result (λ job. IsAllowedJob (job_view job)) }
@@ -38,6 +42,7 @@ pub(crate) fn read_job<'a>(alloc: Global, words: &'a Words) -> Result<Job<'a>, W
         Ok(Command::Dump(dump)) => Ok(Job::OnFile(FileCommand::Dump(dump))),
         Ok(Command::Split(split)) => Ok(Job::OnFile(FileCommand::Split(split))),
         Ok(Command::SelfTest(words)) => Ok(Job::SelfTest(words)),
+        Ok(Command::Restore(words)) => Ok(Job::Restore(words)),
         Err(fault) => Err(fault),
     }
 }

@@ -1,9 +1,11 @@
 //! The program's top call: words and files in, lines, a message and a status out.
 #![tactic(auto)]
 
+mod calls;
 mod command;
 mod context;
 mod dump;
+mod events;
 mod job;
 mod lanes;
 mod laws;
@@ -11,7 +13,7 @@ mod lines;
 mod list;
 mod messages;
 mod report;
-mod rest;
+mod restore;
 mod selection;
 mod selftest;
 mod split;

@@ -92,7 +92,9 @@ fn plain_words(alloc: Global, workers: u32) -> ReportWords<'static>
         raw_events: Vec::new(alloc),
         no_hard: false,
         no_soft: false,
+        calls: false,
         list: None,
+        wakeups: false,
         cpus: None,
         workers,
     }

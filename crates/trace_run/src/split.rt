@@ -6,7 +6,7 @@ ghost use Rattle.trace_outside.specs.Causes.{Rose, raised};
 ghost use Rattle.dat_header.specs.Allowed.{IsHeader};
 ghost use Rattle.dat_header.specs.Header.{ReadsHeader};
 ghost use Rattle.trace_args.specs.Command.{split_view};
-ghost use Rattle.split_tool.specs.Stored.{KeepsCounts};
+ghost use Rattle.new_files.specs.Stored.{KeepsCounts};
 ghost use Rattle.trace_run.specs.Allowed.{IsAllowedSplit};
 ghost use Rattle.trace_run.specs.Ending.{MakesFiles};
 ghost use Rattle.trace_run.specs.Input.{split_share};

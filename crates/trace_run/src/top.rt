@@ -1,9 +1,9 @@
 ghost use Rattle.trace_run.specs.Usage.{asked};
-ghost use Rattle.trace_run.specs.Messages.{line_of, Says};
+ghost use Rattle.trace_run.specs.Messages.{SaysOf};
 ghost use Rattle.trace_run.specs.Outside.{beside, folder_seen, sink_seen};
 ghost use Rattle.trace_run.specs.Ran.{Ran};
 
-use crate::command::{job_input, run_job};
+use crate::command::run_job;
 use crate::messages::{say, say_usage};
 use crate::status::Status;
 use crate::usage::{AskFault, ask};
@@ -32,13 +32,13 @@ pub fn run<R: Threads + Sync, F: Folder, O: Sink, E: Sink, G: Gate>(
     ensures ran { Ran (asked words.now) result
         (beside (folder_seen F.files F.counts folder.old) (sink_seen O.written O.faults out.old))
         (beside (folder_seen F.files F.counts folder.new) (sink_seen O.written O.faults out.new)) }
-    ensures says { Says (line_of words.now result) (E.written err.old) (E.written err.new) (E.faults err.old) (E.faults err.new) }
+    ensures says { SaysOf words.now result (E.written err.old) (E.written err.new) (E.faults err.old) (E.faults err.new) }
 {
     match ask(alloc, words) {
         Ok((job, filters)) => {
-            let status = run_job(rt, alloc, &job, filters, folder, out, gate);
-            say(job_input(&job), status, err);
-            status
+            let outcome = run_job(rt, alloc, &job, filters, folder, out, gate);
+            say(outcome.file, outcome.status, err);
+            outcome.status
         }
         Err(AskFault::Memory) => {
             say("", Status::NoMemory, err);

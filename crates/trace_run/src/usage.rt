@@ -73,7 +73,7 @@ fn filters_of<'a, 'b>(job: &'b Job<'a>) -> &'b [FilterWord<'a>]
 {
     match job {
         Job::OnFile(command) => command_filters(command),
-        Job::SelfTest(_) => &[],
+        Job::SelfTest(_) | Job::Restore(_) => &[],
     }
 }
 

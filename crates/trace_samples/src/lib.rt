@@ -1,5 +1,5 @@
 //! Sub-buffers and whole traces made in memory, for tests: a [`Page`] is a sub-buffer told in a line, whose bytes stand in
-//! [`layout`], and a [`Trace`] a file told by what it carries.
+//! [`layout`], and a [`TraceFile`] a file made section by section.
 #![tactic(auto)]
 
 mod layouts;
@@ -8,4 +8,4 @@ mod traces;
 
 pub use layouts::layout;
 pub use sub_buffers::{PAGE, Page, put_pages};
-pub use traces::{EMPTY, SWITCH, Trace, trace_file};
+pub use traces::{TraceFile, switch_file};

@@ -1,53 +1,147 @@
-// Whole trace files, told by what their headers carry and by the bytes of their processors' sub-buffers.
+// Whole trace files, made section by section from the texts of their headers and the bytes of their processors' sub-buffers.
 
 use std::alloc::{AllocError, Global};
 
 const PAGE: u64 = 4096;
 
-/// A trace file: little end first, longs of eight bytes, sub-buffers of 4,096 bytes, and a header_event text without bytes.
-#[derive(Clone, Copy)]
-pub struct Trace<'a> {
-    pub page_text: &'a [u8],
-    /// The texts of the ftrace formats.
-    pub ftrace: &'a [&'a [u8]],
-    /// The texts of the formats of the one system, `sched`, which is left out where there are none.
-    pub sched: &'a [&'a [u8]],
-    pub kallsyms: &'a [u8],
-    pub printk: &'a [u8],
-    pub command_lines: &'a [u8],
-    /// The section of options as it stands, if any.
-    pub options: &'a [u8],
-    /// What the sub-buffers of each processor begin with; zero bytes fill up the last of them.
-    pub processors: &'a [&'a [u8]],
-    /// Where the first sub-buffer stands at least.
-    pub data_at: u64,
+/// Texts, each behind its length.
+#[derive(Drop)]
+struct Texts {
+    count: u64,
+    bytes: Vec<u8>,
 }
 
-/// No texts, no options and no processors.
-pub const EMPTY: Trace<'static> = Trace {
-    page_text: b"",
-    ftrace: &[],
-    sched: &[],
-    kallsyms: b"",
-    printk: b"",
-    command_lines: b"",
-    options: b"",
-    processors: &[],
-    data_at: 0,
-};
+impl Texts {
+    fn new(alloc: Global) -> Texts {
+        Texts {
+            count: 0,
+            bytes: Vec::new(alloc),
+        }
+    }
 
-/// Two switches and a function of two processors, with formats, symbols and the names of two tasks.
-pub const SWITCH: Trace<'static> = Trace {
-    page_text: PAGE_TEXT,
-    ftrace: &[FUNCTION],
-    sched: &[SCHED_SWITCH],
-    kallsyms: b"ffffffff81000000 T schedule\nffffffff81000100 t do_idle\n",
-    printk: b"",
-    command_lines: b"1234 bash\n42 kworker/0:1\n",
-    options: b"options  \0\x01\0\x04\0\0\0\0\0\0\0\0\0",
-    processors: &[FIRST, SECOND],
-    data_at: 16_384,
-};
+    fn add(&mut self, text: &[u8]) -> Result<(), AllocError> {
+        self.count = self.count.saturating_add(1);
+        put_long(&mut self.bytes, text.len() as u64)?;
+        self.bytes.extend_from_slice(text)
+    }
+}
+
+/// A trace file in the making: little end first, longs of eight bytes, sub-buffers of 4,096 bytes, and a header_event text
+/// without bytes. What is not put in is empty.
+#[derive(Drop)]
+pub struct TraceFile {
+    pub page_text: Vec<u8>,
+    pub kallsyms: Vec<u8>,
+    pub printk: Vec<u8>,
+    pub command_lines: Vec<u8>,
+    /// The section of options as it stands, if any.
+    pub options: Vec<u8>,
+    /// Where the first sub-buffer stands at least.
+    pub data_at: u64,
+    ftrace: Texts,
+    sched: Texts,
+    sizes: Vec<u64>,
+    pages: Vec<u8>,
+}
+
+impl TraceFile {
+    /// One of no texts, no options and no processors.
+    pub fn new(alloc: Global) -> TraceFile {
+        TraceFile {
+            page_text: Vec::new(alloc),
+            kallsyms: Vec::new(alloc),
+            printk: Vec::new(alloc),
+            command_lines: Vec::new(alloc),
+            options: Vec::new(alloc),
+            data_at: 0,
+            ftrace: Texts::new(alloc),
+            sched: Texts::new(alloc),
+            sizes: Vec::new(alloc),
+            pages: Vec::new(alloc),
+        }
+    }
+
+    /// Adds the text of an ftrace format.
+    pub fn add_ftrace(&mut self, text: &[u8]) -> Result<(), AllocError> {
+        self.ftrace.add(text)
+    }
+
+    /// Adds the text of a format of the one system, `sched`, which is left out where there are none.
+    pub fn add_sched(&mut self, text: &[u8]) -> Result<(), AllocError> {
+        self.sched.add(text)
+    }
+
+    /// Adds a processor whose sub-buffers begin with these bytes; zero bytes fill up the last of them.
+    pub fn add_processor(&mut self, bytes: &[u8]) -> Result<(), AllocError> {
+        let size = whole_pages(bytes.len() as u64);
+        let end = (self.pages.len() as u64).saturating_add(size);
+        self.sizes.push(size)?;
+        self.pages.extend_from_slice(bytes)?;
+        self.pages.resize(end as usize, 0)
+    }
+
+    // The header up to the number of processors.
+    fn put_front(&self, file: &mut Vec<u8>) -> Result<(), AllocError> {
+        file.extend_from_slice(b"\x17\x08\x44tracing6\0\0\x08\0\x10\0\0header_page\0")?;
+        put_long(file, self.page_text.len() as u64)?;
+        file.extend_from_slice(&self.page_text)?;
+        file.extend_from_slice(b"header_event\0\0\0\0\0\0\0\0\0")?;
+        put_texts(file, &self.ftrace)?;
+        put_systems(file, &self.sched)?;
+        put_short_text(file, &self.kallsyms)?;
+        put_short_text(file, &self.printk)?;
+        put_long(file, self.command_lines.len() as u64)?;
+        file.extend_from_slice(&self.command_lines)
+    }
+
+    // The number of processors, the options, and the table of the processors' parts. Where the first of these begins.
+    fn put_table(&self, file: &mut Vec<u8>) -> Result<u64, AllocError> {
+        put_short(file, self.sizes.len() as u64)?;
+        file.extend_from_slice(&self.options)?;
+        file.extend_from_slice(b"flyrecord\0")?;
+        let table = (self.sizes.len() as u64).saturating_mul(16);
+        let header = (file.len() as u64).saturating_add(table);
+        let start = whole_pages(header).max(self.data_at);
+        let mut offset = start;
+        for size in &self.sizes {
+            put_long(file, offset)?;
+            put_long(file, *size)?;
+            offset = offset.saturating_add(*size);
+        }
+        Ok(start)
+    }
+
+    /// The bytes of the file.
+    pub fn bytes(&self, alloc: Global) -> Result<Vec<u8>, AllocError> {
+        let mut file = Vec::new(alloc);
+        self.put_front(&mut file)?;
+        let start = self.put_table(&mut file)?;
+        file.resize(start as usize, 0)?;
+        file.extend_from_slice(&self.pages)?;
+        Ok(file)
+    }
+}
+
+/// The file of two switches and a function of two processors, with formats, symbols and the names of two tasks.
+pub fn switch_file(alloc: Global) -> Result<Vec<u8>, AllocError> {
+    let mut trace = TraceFile::new(alloc);
+    trace.page_text.extend_from_slice(PAGE_TEXT)?;
+    trace.add_ftrace(FUNCTION)?;
+    trace.add_sched(SCHED_SWITCH)?;
+    trace.kallsyms.extend_from_slice(SYMBOLS)?;
+    trace.command_lines.extend_from_slice(TASKS)?;
+    trace.options.extend_from_slice(OPTIONS)?;
+    trace.add_processor(FIRST)?;
+    trace.add_processor(SECOND)?;
+    trace.data_at = 16_384;
+    trace.bytes(alloc)
+}
+
+const SYMBOLS: &[u8] = b"ffffffff81000000 T schedule\nffffffff81000100 t do_idle\n";
+
+const TASKS: &[u8] = b"1234 bash\n42 kworker/0:1\n";
+
+const OPTIONS: &[u8] = b"options  \0\x01\0\x04\0\0\0\0\0\0\0\0\0";
 
 const PAGE_TEXT: &[u8] = b"\tfield: u64 timestamp;\toffset:0;\tsize:8;\tsigned:0;
 \tfield: local_t commit;\toffset:8;\tsize:8;\tsigned:1;
@@ -109,69 +203,23 @@ fn put_long(file: &mut Vec<u8>, number: u64) -> Result<(), AllocError> {
     file.extend_from_slice(&number.to_le_bytes())
 }
 
-// Texts behind their number, each behind its length.
-fn put_texts(file: &mut Vec<u8>, texts: &[&[u8]]) -> Result<(), AllocError> {
-    put_short(file, texts.len() as u64)?;
-    for text in texts {
-        put_long(file, text.len() as u64)?;
-        file.extend_from_slice(text)?;
-    }
-    Ok(())
+// A text behind its length of four bytes.
+fn put_short_text(file: &mut Vec<u8>, text: &[u8]) -> Result<(), AllocError> {
+    put_short(file, text.len() as u64)?;
+    file.extend_from_slice(text)
 }
 
-fn put_systems(file: &mut Vec<u8>, sched: &[&[u8]]) -> Result<(), AllocError> {
-    if sched.is_empty() {
+// Texts behind their number.
+fn put_texts(file: &mut Vec<u8>, texts: &Texts) -> Result<(), AllocError> {
+    put_short(file, texts.count)?;
+    file.extend_from_slice(&texts.bytes)
+}
+
+fn put_systems(file: &mut Vec<u8>, sched: &Texts) -> Result<(), AllocError> {
+    if sched.count == 0 {
         return put_short(file, 0);
     }
     put_short(file, 1)?;
     file.extend_from_slice(b"sched\0")?;
     put_texts(file, sched)
-}
-
-// The header up to the number of processors.
-fn put_front(file: &mut Vec<u8>, trace: &Trace<'_>) -> Result<(), AllocError> {
-    file.extend_from_slice(b"\x17\x08\x44tracing6\0\0\x08\0\x10\0\0header_page\0")?;
-    put_long(file, trace.page_text.len() as u64)?;
-    file.extend_from_slice(trace.page_text)?;
-    file.extend_from_slice(b"header_event\0\0\0\0\0\0\0\0\0")?;
-    put_texts(file, trace.ftrace)?;
-    put_systems(file, trace.sched)?;
-    for text in [trace.kallsyms, trace.printk] {
-        put_short(file, text.len() as u64)?;
-        file.extend_from_slice(text)?;
-    }
-    put_long(file, trace.command_lines.len() as u64)?;
-    file.extend_from_slice(trace.command_lines)
-}
-
-// The number of processors, the options, and the table of the processors' parts.
-fn put_table(file: &mut Vec<u8>, trace: &Trace<'_>) -> Result<(), AllocError> {
-    put_short(file, trace.processors.len() as u64)?;
-    file.extend_from_slice(trace.options)?;
-    file.extend_from_slice(b"flyrecord\0")?;
-    let table = (trace.processors.len() as u64).saturating_mul(16);
-    let header = (file.len() as u64).saturating_add(table);
-    let mut offset = whole_pages(header).max(trace.data_at);
-    for bytes in trace.processors {
-        let size = whole_pages(bytes.len() as u64);
-        put_long(file, offset)?;
-        put_long(file, size)?;
-        offset = offset.saturating_add(size);
-    }
-    Ok(())
-}
-
-/// The file of a trace.
-pub fn trace_file(alloc: Global, trace: &Trace<'_>) -> Result<Vec<u8>, AllocError> {
-    let mut file = Vec::new(alloc);
-    put_front(&mut file, trace)?;
-    put_table(&mut file, trace)?;
-    let start = whole_pages(file.len() as u64).max(trace.data_at);
-    file.resize(start as usize, 0)?;
-    for bytes in trace.processors {
-        let end = (file.len() as u64).saturating_add(whole_pages(bytes.len() as u64));
-        file.extend_from_slice(bytes)?;
-        file.resize(end as usize, 0)?;
-    }
-    Ok(file)
 }

@@ -1,6 +1,7 @@
 use Rattle.std.proofs.Common.{rules}
-use Rattle.trace_args.specs.Command.{report_view, self_view, split_view}
-use Rattle.trace_run.proofs.Jobs.{split_asked}
+use Rattle.trace_args.specs.Command.{report_view, restore_view, self_view, split_view}
+use Rattle.trace_run.proofs.Jobs.{restore_asked, split_asked}
+use Rattle.trace_run.proofs.RestoreWords.{restore_few}
 use Rattle.trace_run.proofs.SplitWords.{split_allowed}
 use Rattle.trace_run.proofs.Workers.{report_workers, self_test_workers}
 use Rattle.trace_run.proofs.job.read_job.Goals as goal
@@ -16,3 +17,9 @@ returns-in-Ok-Split-clause-allowed c = split_allowed c.args.words.now (split_vie
 
 pub returns-in-Ok-Split-clause-job : goal.returns-in-Ok-Split-clause-job
 returns-in-Ok-Split-clause-job c = split_asked c.args.words.now (split_view c.in-Ok-Split.split) (search rules)
+
+pub returns-in-Ok-Restore-clause-allowed : goal.returns-in-Ok-Restore-clause-allowed
+returns-in-Ok-Restore-clause-allowed c = restore_few c.args.words.now (restore_view c.in-Ok-Restore.words) (search rules)
+
+pub returns-in-Ok-Restore-clause-job : goal.returns-in-Ok-Restore-clause-job
+returns-in-Ok-Restore-clause-job c = restore_asked c.args.words.now (restore_view c.in-Ok-Restore.words) (search rules)

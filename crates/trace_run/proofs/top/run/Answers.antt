@@ -1,9 +1,9 @@
-use Rattle.std.proofs.Common.{rules, subst, sym, Result}
+use Rattle.std.proofs.Common.{[], subst, sym, Result}
 use Rattle.trace_run.specs.declared.usage.AskFault.{AskFault}
 use Rattle.trace_run.specs.declared.usage.UsageFault.{UsageFault}
-use Rattle.trace_run.specs.declared.status.Status.TheVariants.{Usage}
+use Rattle.trace_run.specs.declared.status.Status.TheVariants.{NoMemory, Usage}
 use Rattle.trace_run.specs.Job.{Job}
-use Rattle.trace_run.specs.Messages.{Says, usage_line}
+use Rattle.trace_run.specs.Messages.{Says, message, usage_line}
 use Rattle.trace_run.specs.Outside.{beside, folder_seen, sink_seen}
 use Rattle.trace_run.specs.Ran.{Ran}
 use Rattle.trace_run.specs.Usage.{asked}
@@ -15,15 +15,16 @@ use Rattle.trace_run.proofs.top.run.Goals as goal
 pub returns-in-Ok : goal.returns-in-Ok
 returns-in-Ok g c =
     let read = c.in-Ok.ensures.job in
+    let outcome = c.run_job-outcome.result in
     let before = beside (folder_seen g.F.Folder.files g.F.Folder.counts c.args.folder.now) (sink_seen g.O.Sink.written g.O.Sink.faults c.args.out.now) in
-    let now = beside (folder_seen g.F.Folder.files g.F.Folder.counts c.run_job-status.new.folder) (sink_seen g.O.Sink.written g.O.Sink.faults c.run_job-status.new.out) in
+    let now = beside (folder_seen g.F.Folder.files g.F.Folder.counts c.run_job-outcome.new.folder) (sink_seen g.O.Sink.written g.O.Sink.faults c.run_job-outcome.new.out) in
     record {
-      ran = subst (λ (reading : Result Job UsageFault). Ran reading c.run_job-status.result before now) (sym read) c.run_job-status.ensures;
-      says = job_said _ _ _ c.run_job-status.result _ _ _ _ read c.job_input.ensures c.say.ensures;
+      ran = subst (λ (reading : Result Job UsageFault). Ran reading outcome.status before now) (sym read) c.run_job-outcome.ensures.ran;
+      says = record { line = message outcome.file.now outcome.status; is = job_said _ _ outcome.file.now outcome.status read c.run_job-outcome.ensures.named; says = c.say.ensures };
     }
 
 pub returns-in-Err-Memory-clause-says : goal.returns-in-Err-Memory-clause-says
-returns-in-Err-Memory-clause-says g c = rw (wanting (asked c.args.words.now)) (search rules)
+returns-in-Err-Memory-clause-says g c = record { line = message [] NoMemory; is = wanting (asked c.args.words.now); says = c.say-in-Err-Memory.ensures }
 
 pub returns-in-Err-Memory-clause-ran : goal.returns-in-Err-Memory-clause-ran
 returns-in-Err-Memory-clause-ran g c = ran_unread (asked c.args.words.now) _
@@ -35,6 +36,9 @@ returns-in-Err-Usage g c =
     let before = beside (folder_seen g.F.Folder.files g.F.Folder.counts c.args.folder.now) (sink_seen g.O.Sink.written g.O.Sink.faults c.args.out.now) in
     record {
       ran = subst (λ (reading : Result Job UsageFault). Ran reading Usage before before) (sym read) (ran_unasked fault before);
-      says = usage_said fault _ _ _ _ _ read
-          (subst (λ (f : UsageFault). Says (usage_line f) (g.E.Sink.written c.args.err.now) (g.E.Sink.written c.say_usage.new.err) (g.E.Sink.faults c.args.err.now) (g.E.Sink.faults c.say_usage.new.err)) c.in-Err-Usage.fault-is c.say_usage.ensures);
+      says = record {
+        line = usage_line fault;
+        is = usage_said fault (asked c.args.words.now) read;
+        says = subst (λ (f : UsageFault). Says (usage_line f) (g.E.Sink.written c.args.err.now) (g.E.Sink.written c.say_usage.new.err) (g.E.Sink.faults c.args.err.now) (g.E.Sink.faults c.say_usage.new.err)) c.in-Err-Usage.fault-is c.say_usage.ensures;
+      };
     }

@@ -1,5 +1,5 @@
 use Rattle.dump_tool.proofs.Putting.{gained_from_nothing, stopped_from_nothing, stopped_at_flush}
-use Rattle.trace_run.proofs.report.print_cpus.Goals as goal
+use Rattle.trace_run.proofs.events.print_cpus.Goals as goal
 
 pub returns-in_err-put_cpus-clause-prefix : goal.returns-in_err-put_cpus-clause-prefix
 returns-in_err-put_cpus-clause-prefix g c =

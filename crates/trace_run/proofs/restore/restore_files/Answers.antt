@@ -1,0 +1,24 @@
+use Rattle.std.proofs.Common.{Bor, List, ℕ, ◌+◌, Ok, map, subst, sym}
+use Rattle.std.proofs.lemmas.List.{length-map}
+use Rattle.restore_tool.specs.Answers.{ClosesAll}
+use Rattle.trace_args.specs.Command.{RestoreData}
+use Rattle.trace_run.specs.Job.{Restore}
+use Rattle.trace_run.specs.Outside.{SinkSeen, beside, folder_seen}
+use Rattle.trace_run.specs.Ran.{Ran}
+use Rattle.trace_run.proofs.Restorings.{restored_ran}
+use Rattle.trace_run.proofs.restore.restore_files.Goals as goal
+
+pub returns-clause-ran : goal.returns-clause-ran
+returns-clause-ran g c = λ out.
+    let did = c.restore_named-answer.ensures in
+    let words = c.args.words.now in
+    let files = c.as_slice.result.now in
+    let before = folder_seen g.F.Folder.files g.F.Folder.counts c.args.folder.now in
+    let now = folder_seen g.F.Folder.files g.F.Folder.counts c.restore_named-answer.new.folder in
+    subst (λ (files : List (Bor (List ℕ))). Ran (Ok (Restore (of words.input.now words.output.now files))) c.status_of.result (beside before out) (beside now out)) c.as_slice.ensures.value
+    (restored_ran (of words.input.now words.output.now files) c.restore_named-answer.result c.status_of.result out before now c.status_of.ensures
+    did.done did.causes did.kept did.created did.misses
+    (subst (λ (n : ℕ). ClosesAll (n + 1) (g.F.Folder.counts c.args.folder.now) (g.F.Folder.counts c.restore_named-answer.new.folder)) (sym (length-map files (λ name. name.now))) did.counts))
+  where
+    of : List ℕ → List ℕ → List (Bor (List ℕ)) → RestoreData
+    of input output files = record { input = input; output = output; files = map (λ name. name.now) files }

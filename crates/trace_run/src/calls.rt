@@ -1,0 +1,154 @@
+// The function graph, printed in place of the events.
+
+ghost use Rattle.std.specs.Option.{option_map};
+ghost use Rattle.std.specs.Prelude.{◌≡◌, ◌≤◌, [], Err, map, length, sum_by, IfOk, IfSome, OnOk, OnErr};
+ghost use Rattle.trace_base.specs.Layout.{IsLayout};
+ghost use Rattle.trace_outside.specs.Causes.{HasCause, Rose, raised};
+ghost use Rattle.trace_outside.specs.Pending.{PutsText, on_way};
+ghost use Rattle.trace_outside.specs.Writing.{Gained, GainedPrefix};
+ghost use Rattle.filter_truth.specs.SelectionView.{use_of};
+ghost use Rattle.subpage.specs.Arrangement.{CpusRise};
+ghost use Rattle.subpage.specs.Cut.{cut_of};
+ghost use Rattle.graph_report.specs.Gathered.{cut_place, reached_calls};
+ghost use Rattle.trace_args.specs.Command.{report_view};
+ghost use Rattle.trace_run.specs.Calls as spec;
+ghost use Rattle.trace_run.specs.Calls.{called_text};
+ghost use Rattle.trace_run.specs.Ending.{Prints};
+ghost use Rattle.trace_run.specs.Meaning.{calls_report};
+ghost use Rattle.trace_run.specs.Outside.{sink_seen};
+ghost use Rattle.trace_run.specs.Report.{parts_events};
+ghost use Rattle.trace_run.specs.Selection.{chosen, set_or_all};
+ghost use Rattle.trace_run.specs.Usage.{uses_in};
+
+use crate::context::context_of;
+use crate::lanes::set_lanes;
+use crate::lines::put_cpus;
+use crate::selection::Selection;
+use crate::status::Status;
+use call_pairs::Call;
+use dat_header::Header;
+use filter_truth::FilterUse;
+use graph_report::{Calls, CallsFault, gather_calls, put_calls};
+use page_pool::Pool;
+use report_print::Context;
+use std::alloc::{AllocError, Global};
+use trace_args::ReportWords;
+use trace_base::{Layout, Part};
+use trace_outside::{Failed, File, Pending, Sink};
+
+/// Prints the first line of a report, and behind it the calls of the reached items of these parts. All memory is taken and all
+/// calls are gathered before the first byte.
+pub(crate) fn print_calls<I: File, O: Sink>(
+    alloc: Global,
+    words: &ReportWords<'_>,
+    filters: Vec<FilterUse>,
+    header: &Header,
+    parts: &[Part],
+    file: &mut I,
+    out: &mut O,
+) -> Status
+    requires filters { uses_in (report_view words.now).filters ≡ map use_of filters.items }
+    requires allowed { IsLayout header.now.layout }
+    requires few { length parts.now ≤ 1024 }
+    ensures prints { Prints (Rose (I.faults file.old) (I.faults file.new))
+        (option_map (λ bytes. calls_report (parts_events (report_view words.now) header.now parts.now bytes)) (I.bytes file.old)) result
+        (sink_seen O.written O.faults out.old) (sink_seen O.written O.faults out.new) }
+    ensures reads { I.reads file.new
+        ≤ raised (I.reads file.old) (sum_by (λ part. part.1.size) (chosen (set_or_all words.now.cpus) parts.now)) }
+{
+    let Ok(context) = context_of(alloc, words, filters, header) else {
+        return Status::NoMemory;
+    };
+    let Ok(chosen) = Selection::set_or_all(&words.cpus).chosen(alloc, parts) else {
+        return Status::NoMemory;
+    };
+    let (Ok(mut buffer), Ok(mut pending)) = (line_buffer(alloc), Pending::new(alloc)) else {
+        return Status::NoMemory;
+    };
+    let calls = match gathered(alloc, &context, &header.layout, &chosen, file) {
+        Ok(calls) => calls,
+        Err(CallsFault::Read) => return Status::ReadFault,
+        Err(CallsFault::Memory) => return Status::NoMemory,
+    };
+    let list = calls.list.as_slice();
+    match put_whole(&context, header.cpus, list, &mut buffer, &mut pending, out) {
+        Ok(()) => status_at(calls.cut),
+        Err(Failed) => Status::WriteFault,
+    }
+}
+
+// Room for the longest line.
+fn line_buffer(alloc: Global) -> Result<Vec<u8>, AllocError>
+    ensures { IfOk result (λ buffer. length buffer.items ≡ 65537) }
+{
+    vec![in alloc; 0; 65_537]
+}
+
+// The calls of the reached items of these parts. The memory of the lanes is given back.
+fn gathered<I: File>(
+    alloc: Global,
+    context: &Context,
+    layout: &Layout,
+    chosen: &[(u32, Part)],
+    file: &mut I,
+) -> Result<Calls, CallsFault>
+    requires allowed { IsLayout layout.now }
+    requires few { length chosen.now ≤ 1024 }
+    requires rise { CpusRise chosen.now }
+    ensures list { IfSome (I.bytes file.old) (λ bytes. IfOk result (λ calls. calls.list.items ≡ reached_calls context.now layout.now bytes chosen.now)) }
+    ensures cut { IfSome (I.bytes file.old) (λ bytes. IfOk result (λ calls. calls.cut ≡ cut_place (cut_of layout.now bytes chosen.now))) }
+    ensures read { result ≡ Err CallsFault.Read → Rose (I.faults file.old) (I.faults file.new) }
+    ensures reads { I.reads file.new ≤ raised (I.reads file.old) (sum_by (λ part. part.1.size) chosen.now) }
+{
+    // No lines are kept.
+    let Ok(mut pool) = Pool::new(alloc, chosen.len() as u32, layout.page, 0) else {
+        return Err(CallsFault::Memory);
+    };
+    let lanes = pool.lanes();
+    set_lanes(lanes, chosen);
+    gather_calls(alloc, context, layout, file, lanes)
+}
+
+// Puts the first line and those of the calls, and writes all of it.
+fn put_whole<O: Sink>(
+    context: &Context,
+    cpus: u32,
+    calls: &[Call],
+    buffer: &mut [u8],
+    pending: &mut Pending,
+    out: &mut O,
+) -> Result<(), Failed>
+    requires empty { pending.old ≡ [] }
+    requires room { 65537 ≤ length buffer.old }
+    ensures gained { OnOk result (Gained (O.written out.old) (O.written out.new) (called_text cpus context.now calls.now)) }
+    ensures prefix { OnErr result (GainedPrefix (O.written out.old) (O.written out.new) (called_text cpus context.now calls.now)) }
+    ensures cause { HasCause (O.faults out.old) (O.faults out.new) result }
+{
+    put_all(context, cpus, calls, buffer, pending, out)?;
+    pending.flush(out)
+}
+
+fn put_all<O: Sink>(
+    context: &Context,
+    cpus: u32,
+    calls: &[Call],
+    buffer: &mut [u8],
+    pending: &mut Pending,
+    out: &mut O,
+) -> Result<(), Failed>
+    requires { 65537 ≤ length buffer.old }
+    ensures { PutsText (called_text cpus context.now calls.now) (on_way O.written O.name O.faults out.old pending.old) (on_way O.written O.name O.faults out.new pending.new) result }
+{
+    put_cpus(pending, out, cpus)?;
+    put_calls(context, calls, buffer, pending, out)
+}
+
+// The answer of a report whose items end before this sub-buffer, or before none.
+fn status_at(cut: Option<(u32, u64)>) -> Status
+    ensures { result ≡ spec.status_at cut }
+{
+    match cut {
+        None => Status::Done,
+        Some((cpu, page)) => Status::Malformed { cpu, page },
+    }
+}

@@ -1,0 +1,183 @@
+// A report of events: the lines of the items, and behind them how long woken tasks waited.
+
+ghost use Rattle.std.specs.Option.{option_map};
+ghost use Rattle.std.specs.Prelude.{◌≡◌, ◌≤◌, ◌*◌, [], length, sum_by, true, IfNone, IfOk, IfSome, OnOk, OnErr};
+ghost use Rattle.trace_base.specs.Layout.{IsLayout};
+ghost use Rattle.trace_outside.specs.Causes.{HasCause, Rose, raised};
+ghost use Rattle.trace_outside.specs.Writing.{Gained, GainedPrefix};
+ghost use Rattle.subpage.specs.Arrangement.{CpusRise};
+ghost use Rattle.wakeup_lat.specs.Section.{section};
+ghost use Rattle.trace_run.specs.Allowed.{IsWorkers};
+ghost use Rattle.trace_run.specs.Ending.{Prints};
+ghost use Rattle.trace_run.specs.Input.{ReadsDue, progress_at};
+ghost use Rattle.trace_run.specs.Meaning.{events_report, shown_report};
+ghost use Rattle.trace_run.specs.Outside.{sink_seen};
+ghost use Rattle.trace_run.specs.Output as spec;
+ghost use Rattle.trace_run.specs.Output.{Shows, WritesFor};
+ghost use Rattle.trace_run.specs.Report.{cpus_line, events_on};
+ghost use Rattle.trace_run.specs.Split as ends;
+
+use crate::lanes::{set_lanes, status_of};
+use crate::lines::{ItemLines, LINES_ROOM, put_cpus};
+use crate::status::Status;
+use dat_header::Header;
+use least_tree::LeastTree;
+use page_pool::Pool;
+use report_print::Context;
+use report_rounds::report_rounds;
+use std::alloc::{AllocError, Global};
+use std::thread::Threads;
+use time_merge::End;
+use trace_base::Part;
+use trace_outside::{Failed, File, Gate, Pending, Sink};
+use wakeup_lat::{GatherFault, gather, put_wakeups};
+use wakeup_pairs::Wakeups;
+
+/// Prints the first line, and behind it the lines of the processors' items in the order in which they happened. All memory
+/// is taken before; `None`: there was none, and nothing was done.
+pub(crate) fn print_lines<R: Threads + Sync, I: File, O: Sink, G: Gate>(
+    rt: &R,
+    alloc: Global,
+    form: &ItemLines,
+    workers: u32,
+    header: &Header,
+    chosen: &[(u32, Part)],
+    file: &mut I,
+    out: &mut O,
+    gate: &G,
+) -> Option<End>
+    requires workers { IsWorkers workers }
+    requires allowed { IsLayout header.now.layout }
+    requires few { length chosen.now ≤ 1024 }
+    requires rise { CpusRise chosen.now }
+    ensures writes { IfSome result (λ end. WritesFor (λ bytes. events_report (events_on form.now.context chosen.now header.now bytes))
+        (I.bytes file.old) (ends.status_of end) (O.written out.old) (O.written out.new)) }
+    ensures shows { IfSome result (λ end. Shows (Rose (I.faults file.old) (I.faults file.new)) (ends.status_of end)
+        (sink_seen O.written O.faults out.old) (sink_seen O.written O.faults out.new)) }
+    ensures untouched { IfNone result (sink_seen O.written O.faults out.new ≡ sink_seen O.written O.faults out.old) }
+    ensures out_later { O.faults out.old ≤ O.faults out.new }
+    ensures reads { I.reads file.new ≤ raised (I.reads file.old) (sum_by (λ part. part.1.size) chosen.now) }
+    ensures due { IfSome (I.bytes file.old) (λ bytes. ReadsDue (events_on form.now.context chosen.now header.now bytes) 0
+        (progress_at (O.written out.old) (I.reads file.old)) (progress_at (O.written out.new) (I.reads file.new))) }
+{
+    let count = chosen.len() as u32;
+    let (Ok(mut pool), Ok(mut heads), Ok(mut pending)) = (
+        Pool::new(alloc, count, header.layout.page, LINES_ROOM),
+        LeastTree::new(alloc, count),
+        Pending::new(alloc),
+    ) else {
+        return None;
+    };
+    let lanes = pool.lanes();
+    set_lanes(lanes, chosen);
+    match print_cpus(header.cpus, &mut pending, out) {
+        Ok(()) => {}
+        Err(Failed) => return Some(End::Write),
+    }
+    let layout = &header.layout;
+    Some(report_rounds(
+        rt,
+        form,
+        layout,
+        file,
+        lanes,
+        workers,
+        gate,
+        &mut heads,
+        &mut pending,
+        out,
+    ))
+}
+
+/// Prints the same, and behind it how long woken tasks waited. This is gathered before, in a pass of its own over the file,
+/// and all memory is taken before the first line.
+pub(crate) fn print_waits<R: Threads + Sync, I: File, O: Sink, G: Gate>(
+    rt: &R,
+    alloc: Global,
+    form: &ItemLines,
+    workers: u32,
+    header: &Header,
+    chosen: &[(u32, Part)],
+    file: &mut I,
+    out: &mut O,
+    gate: &G,
+) -> Status
+    requires workers { IsWorkers workers }
+    requires allowed { IsLayout header.now.layout }
+    requires few { length chosen.now ≤ 1024 }
+    requires rise { CpusRise chosen.now }
+    ensures prints { Prints (Rose (I.faults file.old) (I.faults file.new))
+        (option_map (λ bytes. shown_report true (events_on form.now.context chosen.now header.now bytes)) (I.bytes file.old)) result
+        (sink_seen O.written O.faults out.old) (sink_seen O.written O.faults out.new) }
+    ensures reads { I.reads file.new ≤ raised (I.reads file.old) (2 * sum_by (λ part. part.1.size) chosen.now) }
+{
+    let wakeups = match gather(alloc, &form.context, &header.layout, file, chosen) {
+        Ok(wakeups) => wakeups,
+        Err(GatherFault::Read) => return Status::ReadFault,
+        Err(GatherFault::Memory) => return Status::NoMemory,
+    };
+    let (Ok(mut buffer), Ok(mut pending)) = (line_buffer(alloc), Pending::new(alloc)) else {
+        return Status::NoMemory;
+    };
+    let Some(end) = print_lines(rt, alloc, form, workers, header, chosen, file, out, gate) else {
+        return Status::NoMemory;
+    };
+    if !is_whole(end) {
+        return status_of(end);
+    }
+    match print_section(&form.context, &wakeups, &mut buffer, &mut pending, out) {
+        Ok(()) => status_of(end),
+        Err(Failed) => Status::WriteFault,
+    }
+}
+
+// Room for the longest line.
+fn line_buffer(alloc: Global) -> Result<Vec<u8>, AllocError>
+    ensures { IfOk result (λ buffer. length buffer.items ≡ 65537) }
+{
+    vec![in alloc; 0; 65_537]
+}
+
+// Whether all lines were written.
+fn is_whole(end: End) -> bool
+    ensures { result ≡ spec.is_whole end }
+{
+    match end {
+        End::Done | End::Malformed { .. } => true,
+        End::Read | End::Write => false,
+    }
+}
+
+// Prints the section of the latencies. Nothing waits behind it.
+fn print_section<O: Sink>(
+    context: &Context,
+    wakeups: &Wakeups,
+    buffer: &mut [u8],
+    pending: &mut Pending,
+    out: &mut O,
+) -> Result<(), Failed>
+    requires long { 65537 ≤ length buffer.old }
+    requires empty { pending.old ≡ [] }
+    ensures gained { OnOk result (Gained (O.written out.old) (O.written out.new) (section context.now wakeups.now.pairs)) }
+    ensures prefix { OnErr result (GainedPrefix (O.written out.old) (O.written out.new) (section context.now wakeups.now.pairs)) }
+    ensures cause { HasCause (O.faults out.old) (O.faults out.new) result }
+{
+    put_wakeups(context, wakeups, buffer, pending, out)?;
+    pending.flush(out)
+}
+
+/// Prints the first line alone. Nothing waits behind it.
+pub(crate) fn print_cpus<O: Sink>(
+    cpus: u32,
+    pending: &mut Pending,
+    out: &mut O,
+) -> Result<(), Failed>
+    requires { pending.old ≡ [] }
+    ensures gained { OnOk result (Gained (O.written out.old) (O.written out.new) (cpus_line cpus)) }
+    ensures empty { OnOk result (pending.new ≡ []) }
+    ensures prefix { OnErr result (GainedPrefix (O.written out.old) (O.written out.new) (cpus_line cpus)) }
+    ensures cause { HasCause (O.faults out.old) (O.faults out.new) result }
+{
+    put_cpus(pending, out, cpus)?;
+    pending.flush(out)
+}

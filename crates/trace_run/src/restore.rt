@@ -1,0 +1,70 @@
+// A restore: the files are opened, and the new one is made of them.
+
+ghost use Rattle.std.specs.Prelude.{◌≡◌, Ok, ◌≤◌, length};
+ghost use Rattle.trace_args.specs.Command.{restore_view};
+ghost use Rattle.trace_run.specs.Job.{Restore};
+ghost use Rattle.trace_run.specs.Messages.{IsNameOf};
+ghost use Rattle.trace_run.specs.Outside.{SinkSeen, beside, folder_seen};
+ghost use Rattle.trace_run.specs.Ran.{Ran};
+ghost use Rattle.trace_run.specs.Restore.{status_of};
+
+use crate::status::Status;
+use restore_tool::{Answer, Names, Source, restore_named};
+use std::alloc::Global;
+use trace_args::RestoreWords;
+use trace_outside::Folder;
+
+/// Makes the new file, and tells which file the message names.
+pub(crate) fn restore_files<'a, F: Folder>(
+    alloc: Global,
+    words: &RestoreWords<'a>,
+    folder: &mut F,
+) -> (Status, &'a str)
+    requires few { length words.now.files.items ≤ 256 }
+    ensures ran { (out : SinkSeen) → Ran (Ok (Restore (restore_view words.now))) result.0
+        (beside (folder_seen F.files F.counts folder.old) out) (beside (folder_seen F.files F.counts folder.new) out) }
+    ensures named { IsNameOf (Restore (restore_view words.now)) result.0 result.1.now }
+{
+    let names = Names {
+        partial: words.input,
+        files: words.files.as_slice(),
+        output: words.output,
+    };
+    let answer = restore_named(alloc, &names, folder);
+    (status_of(answer), file_of(words, answer))
+}
+
+fn status_of(answer: Answer) -> Status
+    ensures { result ≡ status_of answer }
+{
+    match answer {
+        Answer::Done => Status::Done,
+        Answer::Refused(fault) => Status::Refused(fault),
+        Answer::Read(_) => Status::ReadFault,
+        Answer::Write => Status::WriteFault,
+        Answer::NoMemory => Status::NoMemory,
+    }
+}
+
+// The file that the message of an answer names.
+#[tactic(auto, using(crate::proofs::Restorings::input_named))]
+fn file_of<'a>(words: &RestoreWords<'a>, answer: Answer) -> &'a str
+    ensures { IsNameOf (Restore (restore_view words.now)) (status_of answer) result.now }
+{
+    match answer {
+        Answer::Read(Source::File(file)) => name_at(words, file as usize),
+        _ => words.input,
+    }
+}
+
+// The data file of this place.
+#[tactic(auto, using(crate::proofs::Restorings::input_named))]
+fn name_at<'a>(words: &RestoreWords<'a>, place: usize) -> &'a str
+    ensures { IsNameOf (Restore (restore_view words.now)) Status.ReadFault result.now }
+{
+    if place < words.files.len() {
+        words.files[place]
+    } else {
+        words.input
+    }
+}
