@@ -8,7 +8,14 @@ use std::test::Fail;
 use std::thread::Threads;
 use trace_outside::{MemFolder, MemSink};
 use trace_run::Status;
-use trace_samples::{SWITCH, trace_file};
+use trace_samples::switch_file;
+
+const WAITS: &[u8] = b"cpus=2
+            bash-1234  [000]     1.000000: sched_switch:         prev_comm=bash prev_pid=1234 prev_prio=120 prev_state=S ==> next_comm=swapper/0 next_pid=0 next_prio=120
+          <idle>-0     [001]     1.000002: sched_switch:         prev_comm=swapper/1 prev_pid=0 prev_prio=120 prev_state=R ==> next_comm=kworker/0:1 next_pid=42 next_prio=120
+     kworker/0:1-42    [001]     1.000250: function:              schedule <-- do_idle
+wakeups=0
+";
 
 const RAW: &[u8] = b"cpus=2
             bash-1234  [000]     1.000000: sched_switch:         prev_comm=bash prev_pid=1234 prev_prio=120 prev_state=1 next_comm=swapper/0 next_pid=0 next_prio=120
@@ -49,7 +56,7 @@ const NEW_FILE: usize = 12_288;
 
 // The objects of a run, or none where there is no memory for them.
 fn folder(alloc: Global) -> Option<MemFolder> {
-    let file = trace_file(alloc, &SWITCH).ok()?;
+    let file = switch_file(alloc).ok()?;
     folder_of(alloc, &file).ok()
 }
 
@@ -110,6 +117,11 @@ fn memory_of_a_report(rt: HostRuntime) {
 #[test]
 fn memory_of_a_report_on_threads(rt: HostRuntime) {
     ends(&rt, "report --workers 3", REPORT, 0);
+}
+
+#[test]
+fn memory_of_a_report_with_wake_ups(rt: HostRuntime) {
+    ends(&rt, "report -w", WAITS, 0);
 }
 
 #[test]

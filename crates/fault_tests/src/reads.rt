@@ -7,7 +7,7 @@ use std::test::Fail;
 use std::thread::Threads;
 use trace_outside::{MemFault, MemSink};
 use trace_run::Status;
-use trace_samples::{SWITCH, trace_file};
+use trace_samples::switch_file;
 
 const READ_FAILED: &[u8] = b"trace-cmd: trace.dat: read failed\n";
 
@@ -55,7 +55,7 @@ fn reports_before<R: Alloc<A = Global> + Abort + Threads + Sync>(
 
 #[test]
 fn each_byte_of_the_header_and_each_ninety_seventh(rt: HostRuntime) -> Result<(), Fail> {
-    let file = trace_file(rt.alloc(), &SWITCH)?;
+    let file = switch_file(rt.alloc())?;
     for byte in [0, 30, 16_384, 20_480, 24_575, 24_576, u64::MAX] {
         reports_before(&rt, &file, byte, u32::MAX)?;
     }
@@ -72,7 +72,7 @@ fn each_byte_of_the_header_and_each_ninety_seventh(rt: HostRuntime) -> Result<()
 #[test]
 fn a_file_that_cannot_be_opened(rt: HostRuntime) -> Result<(), Fail> {
     let alloc = rt.alloc();
-    let file = trace_file(alloc, &SWITCH)?;
+    let file = switch_file(alloc)?;
     for line in ["report", "report -E", "dump", "split -o p"] {
         let mut folder = folder_of(alloc, &file)?;
         folder.fail(MemFault::Open(1));
@@ -106,7 +106,7 @@ const HEADERS_ALONE: &[(&str, &str)] = &[
 #[test]
 fn headers_alone(rt: HostRuntime) -> Result<(), Fail> {
     let alloc = rt.alloc();
-    let file = trace_file(alloc, &SWITCH)?;
+    let file = switch_file(alloc)?;
     for (line, told) in HEADERS_ALONE {
         for byte in [16_384, 20_480] {
             let mut folder = folder_of(alloc, &file)?;

@@ -7,7 +7,7 @@ use std::test::Fail;
 use std::thread::Threads;
 use trace_outside::{MemFault, MemFolder, MemSink};
 use trace_run::Status;
-use trace_samples::{EMPTY, Trace, trace_file};
+use trace_samples::TraceFile;
 
 // Events of the pids 1 to 5 at the times 10 to 50.
 const FIVE: &[u8] =
@@ -33,11 +33,9 @@ const OLDER: &[u8] = b"an older file";
 
 // A folder with the trace, and with older files of the first two new names.
 fn folder(alloc: Global) -> Result<MemFolder, Fail> {
-    let trace = Trace {
-        processors: &[FIVE],
-        ..EMPTY
-    };
-    let mut folder = folder_of(alloc, &trace_file(alloc, &trace)?)?;
+    let mut trace = TraceFile::new(alloc);
+    trace.add_processor(FIVE)?;
+    let mut folder = folder_of(alloc, &trace.bytes(alloc)?)?;
     folder.put("part.1", OLDER)?;
     folder.put("part.2", OLDER)?;
     Ok(folder)

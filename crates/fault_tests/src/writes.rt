@@ -8,7 +8,7 @@ use std::test::Fail;
 use std::thread::Threads;
 use trace_outside::MemSink;
 use trace_run::Status;
-use trace_samples::{EMPTY, SWITCH, Trace, trace_file};
+use trace_samples::{TraceFile, switch_file};
 
 const WRITE_FAILED: &[u8] = b"trace-cmd: write failed\n";
 
@@ -66,7 +66,7 @@ const LINES: &[(&str, &[u8])] = &[
 
 #[test]
 fn each_write_of_an_output(rt: HostRuntime) -> Result<(), Fail> {
-    let file = trace_file(rt.alloc(), &SWITCH)?;
+    let file = switch_file(rt.alloc())?;
     for (line, told) in LINES {
         for most in [u32::MAX, 7, 1] {
             let mut is_done = false;
@@ -94,11 +94,9 @@ const MESSAGES: &[(&str, Status)] = &[
 #[test]
 fn a_message_that_cannot_be_written(rt: HostRuntime) -> Result<(), Fail> {
     let alloc = rt.alloc();
-    let trace = Trace {
-        kallsyms: b"1 T a\n2 T ",
-        ..EMPTY
-    };
-    let mut file = trace_file(alloc, &trace)?;
+    let mut trace = TraceFile::new(alloc);
+    trace.kallsyms.extend_from_slice(b"1 T a\n2 T ")?;
+    let mut file = trace.bytes(alloc)?;
     file.truncate(75);
     for (line, status) in MESSAGES {
         let mut folder = folder_of(alloc, &file)?;
@@ -117,7 +115,7 @@ fn a_message_that_cannot_be_written(rt: HostRuntime) -> Result<(), Fail> {
 #[test]
 fn a_byte_a_call(rt: HostRuntime) -> Result<(), Fail> {
     let alloc = rt.alloc();
-    let file = trace_file(alloc, &SWITCH)?;
+    let file = switch_file(alloc)?;
     for (line, told) in LINES {
         let mut folder = folder_of(alloc, &file)?;
         folder.short(1);

@@ -1,4 +1,4 @@
-use std::alloc::{Alloc, Global};
+use std::alloc::{Alloc, AllocError, Global};
 use std::io::{ErrorKind, Write};
 use std::process::Abort;
 use std::test::Fail;
@@ -25,10 +25,9 @@ fn comes_back<F: Folder>(rt: &impl Abort, folder: &mut F) -> Result<(), Failed> 
     };
     folder.close_file(file);
     read?;
-    assert_eq!(rt; into.as_slice(), b"e two".as_slice());
     let given_up = folder.create_file("never")?;
     folder.drop_file(given_up);
-    assert!(rt; !opens(folder, "never"));
+    assert!(rt; into == *b"e two" && !opens(folder, "never"));
     Ok(())
 }
 
@@ -48,9 +47,8 @@ fn in_memory(rt: HostRuntime) -> Result<(), Fail> {
     let mut folder = MemFolder::new(rt.alloc());
     folder.put("made", b"older")?;
     comes_back(&rt, &mut folder)?;
-    assert_eq!(rt; folder.get("made"), Some(b"one two".as_slice()));
-    assert_eq!(rt; folder.get("never"), None);
-    assert_eq!(rt; folder.wants(), 0);
+    let is_made = folder.get("made") == Some(b"one two".as_slice());
+    assert!(rt; is_made && folder.get("never").is_none() && folder.wants() == 0);
     Ok(())
 }
 
@@ -74,18 +72,34 @@ fn is_read<F: Folder>(folder: &mut F, name: &str) -> bool {
     is_read
 }
 
+const UNREAD: [&str; 6] = ["missing", "", ".", "taken", "a\0b", "missing/a"];
+
+const UNMADE: [&str; 3] = ["taken", "a\0b", "missing/a"];
+
+fn none_is_read<F: Folder>(folder: &mut F) -> bool {
+    for name in UNREAD {
+        if is_read(folder, name) {
+            return false;
+        }
+    }
+    true
+}
+
+fn none_is_made<F: Folder>(folder: &mut F) -> bool {
+    for name in UNMADE {
+        if makes(folder, name, b"x").is_ok() {
+            return false;
+        }
+    }
+    !opens(folder, "taken.part") && !opens(folder, "a")
+}
+
 // A folder is no file, and no file gets its name: the part that was written goes.
 #[test]
 fn what_the_system_refuses(rt: HostRuntime) -> Result<(), Fail> {
     let mut folder = RealFolder::new(rt.clone()?, rt.alloc());
     fs::create_dir(&rt, "taken")?;
-    for name in ["missing", "", ".", "taken", "a\0b", "missing/a"] {
-        assert!(rt; !is_read(&mut folder, name), "{name}");
-    }
-    for name in ["taken", "a\0b", "missing/a"] {
-        assert!(rt; makes(&mut folder, name, b"x").is_err(), "{name}");
-    }
-    assert!(rt; !opens(&mut folder, "taken.part") && !opens(&mut folder, "a"));
+    assert!(rt; none_is_read(&mut folder) && none_is_made(&mut folder));
     assert!(rt; makes(&mut folder, "taken/a", b"x").is_ok() && is_read(&mut folder, "taken/a"));
     Ok(())
 }
@@ -95,8 +109,7 @@ fn a_pipe_without_a_reader(rt: HostRuntime) -> Result<(), Fail> {
     let (reader, writer) = io::pipe(&rt)?;
     drop(reader);
     let mut out = RealSink::new(writer);
-    assert_eq!(rt; out.write(b""), Ok(0));
-    assert_eq!(rt; write_all(&mut out, b"x"), Err(Failed));
+    assert!(rt; out.write(b"") == Ok(0) && write_all(&mut out, b"x") == Err(Failed));
     Ok(())
 }
 
@@ -147,8 +160,8 @@ fn takes(
     };
     let mut out = RealSink::new(&mut writer);
     let written = write_all(&mut out, b"one two");
-    assert_eq!(rt; written.is_ok(), expected.len() == 7);
-    assert_eq!(rt; writer.taken.as_slice(), expected.as_bytes());
+    let is_whole = expected.len() == 7;
+    assert!(rt; written.is_ok() == is_whole && writer.taken.as_slice() == expected.as_bytes());
     Ok(())
 }
 
@@ -168,12 +181,10 @@ fn large_pieces(rt: HostRuntime) -> Result<(), Fail> {
     let large = vec![in alloc; b'x'; 100_000]?;
     write_all(&mut out, b"<")?;
     pending.put(&mut out, b"a")?;
-    assert_eq!(rt; out.bytes(), b"<".as_slice());
+    assert!(rt; out.bytes() == b"<".as_slice());
     pending.put_parts(&mut out, &[&large, b"b"])?;
     pending.flush(&mut out)?;
-    assert_eq!(rt; out.bytes().len(), 100_003);
-    assert_eq!(rt; out.bytes().last().copied(), Some(b'b'));
-    assert_eq!(rt; out.wants(), 0);
+    assert!(rt; out.bytes().len() == 100_003 && out.bytes().ends_with(b"b") && out.wants() == 0);
     Ok(())
 }
 
@@ -192,8 +203,7 @@ fn large_files_in_memory(rt: HostRuntime) -> Result<(), Fail> {
     let mut out = folder.create_file("copy")?;
     write_all(&mut out, text.as_bytes())?;
     folder.finish_file(out)?;
-    assert_eq!(rt; folder.get("copy"), Some(large.as_slice()));
-    assert_eq!(rt; folder.wants(), 0);
+    assert!(rt; folder.get("copy") == Some(large.as_slice()) && folder.wants() == 0);
     Ok(())
 }
 
@@ -219,14 +229,27 @@ static READS: [(u64, u64, usize, Option<usize>); 8] = [
     (0, 1, 8, Some(4)),
 ];
 
+fn reads_so(
+    alloc: Global,
+    byte: u64,
+    at: u64,
+    count: usize,
+    given: Option<usize>,
+) -> Result<bool, AllocError> {
+    let mut file = MemFile::new(ByteText::copy(alloc, b"abcde")?);
+    file.fail_at(byte);
+    let found = read_of(&mut file, at, count);
+    let read = given.unwrap_or(0) as u64;
+    Ok(found == given && file.reads() == read && file.faults() == u64::from(given.is_none()))
+}
+
 #[test]
 fn reads_fail_at_a_byte(rt: HostRuntime) -> Result<(), Fail> {
     for (byte, at, count, given) in &READS {
-        let mut file = MemFile::new(ByteText::copy(rt.alloc(), b"abcde")?);
-        file.fail_at(*byte);
-        assert!(rt; read_of(&mut file, *at, *count) == *given, "{byte}: {at}");
-        let read = given.unwrap_or(0) as u64;
-        assert!(rt; file.reads() == read && file.faults() == u64::from(given.is_none()));
+        assert!(rt;
+            reads_so(rt.alloc(), *byte, *at, *count, *given)?,
+            "{byte}: {at}"
+        );
     }
     Ok(())
 }
@@ -242,20 +265,26 @@ static WRITES: [(u64, u32, &str, u64, u64); 7] = [
     (9, 0, "ac", 3, 0),
 ];
 
+fn writes_so(alloc: Global, from: u64, most: u32, told: &str, writes: u64, faults: u64) -> bool {
+    let mut out = MemSink::new(alloc);
+    out.fail_from(from);
+    out.short(most);
+    let _ = out.write(b"ab");
+    let nothing = out.write(b"");
+    let _ = out.write(b"cde");
+    nothing == Ok(0)
+        && out.bytes() == told.as_bytes()
+        && out.writes() == writes
+        && out.faults() == faults
+        && out.wants() == 0
+}
+
 #[test]
-fn writes_fail_from_a_call_on(rt: HostRuntime) -> Result<(), Fail> {
+fn writes_fail_from_a_call_on(rt: HostRuntime) {
     for (from, most, told, writes, faults) in &WRITES {
-        let mut out = MemSink::new(rt.alloc());
-        out.fail_from(*from);
-        out.short(*most);
-        let _ = out.write(b"ab");
-        assert_eq!(rt; out.write(b""), Ok(0));
-        let _ = out.write(b"cde");
-        assert!(rt; out.bytes() == told.as_bytes(), "{from} {most}");
-        assert!(rt; out.writes() == *writes && out.faults() == *faults);
-        assert_eq!(rt; out.wants(), 0);
+        let is_so = writes_so(rt.alloc(), *from, *most, told, *writes, *faults);
+        assert!(rt; is_so, "{from} {most}");
     }
-    Ok(())
 }
 
 // Makes a file of these bytes, or gives it up where a write fails.
@@ -311,22 +340,33 @@ static FAULTS: [(MemFault, &str, u64, u64, u64); 12] = [
 ];
 
 // Each write takes a byte, so that a file is four of them.
+fn fails_so(
+    alloc: Global,
+    fault: MemFault,
+    told: &str,
+    (reading, writing, unfinished): (u64, u64, u64),
+) -> Result<bool, Fail> {
+    let mut folder = MemFolder::new(alloc);
+    folder.fail(MemFault::Open(1));
+    folder.fail(fault);
+    folder.short(1);
+    let mut marks = String::new(alloc);
+    put_marks(&mut marks, &mut folder)?;
+    let counts = folder.counts();
+    Ok(
+        marks.as_str() == told
+            && counts.reading == reading
+            && counts.writing == writing
+            && counts.unfinished == unfinished
+            && folder.wants() == 0,
+    )
+}
+
 #[test]
 fn a_call_of_a_folder_fails(rt: HostRuntime) -> Result<(), Fail> {
     for (fault, told, reading, writing, unfinished) in &FAULTS {
-        let mut folder = MemFolder::new(rt.alloc());
-        folder.fail(MemFault::Open(1));
-        folder.fail(*fault);
-        folder.short(1);
-        let mut marks = String::new(rt.alloc());
-        put_marks(&mut marks, &mut folder)?;
-        assert!(rt; marks.as_str() == *told, "{fault:?}: {marks}");
-        let counts = folder.counts();
-        assert!(rt;
-            counts.reading == *reading && counts.writing == *writing,
-            "{fault:?}"
-        );
-        assert!(rt; counts.unfinished == *unfinished && folder.wants() == 0);
+        let counts = (*reading, *writing, *unfinished);
+        assert!(rt; fails_so(rt.alloc(), *fault, told, counts)?, "{fault:?}");
     }
     Ok(())
 }

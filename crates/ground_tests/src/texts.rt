@@ -8,12 +8,20 @@ static BYTES: [u8; 8] = [1, 2, 3, 4, 5, 6, 7, 8];
 
 #[test]
 fn numbers_are_read(rt: HostRuntime) {
-    assert!(rt; read_u16(Order::Little, &BYTES) == 0x0201);
-    assert!(rt; read_u16(Order::Big, &BYTES) == 0x0102);
-    assert!(rt; read_u32(Order::Little, &BYTES) == 0x0403_0201);
-    assert!(rt; read_u32(Order::Big, &BYTES) == 0x0102_0304);
-    assert!(rt; read_u64(Order::Little, &BYTES) == 0x0807_0605_0403_0201);
-    assert!(rt; read_u64(Order::Big, &BYTES) == 0x0102_0304_0506_0708);
+    let two = (
+        read_u16(Order::Little, &BYTES),
+        read_u16(Order::Big, &BYTES),
+    );
+    let four = (
+        read_u32(Order::Little, &BYTES),
+        read_u32(Order::Big, &BYTES),
+    );
+    let eight = (
+        read_u64(Order::Little, &BYTES),
+        read_u64(Order::Big, &BYTES),
+    );
+    assert!(rt; two == (0x0201, 0x0102) && four == (0x0403_0201, 0x0102_0304));
+    assert!(rt; eight == (0x0807_0605_0403_0201, 0x0102_0304_0506_0708));
 }
 
 #[test]
@@ -24,9 +32,7 @@ fn numbers_are_put(rt: HostRuntime) {
     put_u32(Order::Little, 0x0403_0201, &mut four);
     let mut eight = [0; 8];
     put_u64(Order::Big, 0x0102_0304_0506_0708, &mut eight);
-    assert!(rt; two.as_slice() == &BYTES[..2]);
-    assert!(rt; four.as_slice() == &BYTES[..4]);
-    assert!(rt; eight == BYTES);
+    assert!(rt; two == [1, 2] && four == [1, 2, 3, 4] && eight == BYTES);
 }
 
 #[test]
@@ -34,10 +40,9 @@ fn texts_and_lists(rt: HostRuntime) -> Result<(), Fail> {
     let alloc = rt.alloc();
     let large = vec![in alloc; b'x'; 100_000]?;
     let text = ByteText::copy(alloc, &large)?;
-    assert_eq!(rt; text.as_bytes(), large.as_slice());
     let list = ListOf::from_vec(vec![in alloc; 3, 4]?);
-    assert_eq!(rt; list.as_slice(), [3, 4].as_slice());
-    assert_eq!(rt; list.into_vec().len(), 2);
+    assert!(rt; text.as_bytes() == large.as_slice() && list.as_slice() == [3, 4].as_slice());
+    assert!(rt; list.into_vec().len() == 2);
     Ok(())
 }
 
@@ -56,35 +61,33 @@ fn many_words(rt: HostRuntime) -> Result<(), Fail> {
     }
     words.push(long.as_str())?;
     assert!(rt; words.len() == 3_002);
-    assert_eq!(rt; words.word(3_000), "report");
-    assert_eq!(rt; words.word(3_001), long.as_str());
+    assert!(rt; words.word(3_000) == "report" && words.word(3_001) == long.as_str());
     Ok(())
 }
 
+const NULS: &[(&[u8], &[u8])] = &[
+    (b"", b""),
+    (b"bash", b"bash"),
+    (b"ab\x00c", b"ab"),
+    (b"bash\x00bash\x00bash\x00b", b"bash"),
+    (b"a name of 16 by.\x00", b"a name of 16 by."),
+    (
+        b"a name of more than sixteen\x00x",
+        b"a name of more than sixteen",
+    ),
+];
+
 #[test]
 fn texts_end_at_their_first_nul(rt: HostRuntime) {
-    let rows: [(&[u8], &[u8]); 6] = [
-        (b"", b""),
-        (b"bash", b"bash"),
-        (b"ab\x00c", b"ab"),
-        (b"bash\x00bash\x00bash\x00b", b"bash"),
-        (b"a name of 16 by.\x00", b"a name of 16 by."),
-        (
-            b"a name of more than sixteen\x00x",
-            b"a name of more than sixteen",
-        ),
-    ];
-    for (text, front) in rows {
-        assert_eq!(rt; until_nul(text), front);
+    for (text, front) in NULS {
+        assert!(rt; until_nul(text) == *front);
     }
 }
 
 #[test]
 fn bytes_and_times_as_they_are_printed(rt: HostRuntime) {
-    assert_eq!(rt; two_digits(0x0f), *b"0f");
-    assert_eq!(rt; two_digits(0xa0), *b"a0");
-    assert_eq!(rt; micros(1_499), 1);
-    assert_eq!(rt; micros(1_500), 2);
+    assert!(rt; two_digits(0x0f) == *b"0f" && two_digits(0xa0) == *b"a0");
+    assert!(rt; micros(1_499) == 1 && micros(1_500) == 2);
 }
 
 #[test]
@@ -101,8 +104,7 @@ fn fields_are_copied_and_found(rt: HostRuntime) -> Result<(), Fail> {
     };
     let fields = vec![in alloc; field.copy(alloc)?]?;
     let found = field_named(b"comm", &fields).ok_or("a field is found")?;
-    assert_eq!(rt; found.name.as_bytes(), b"comm".as_slice());
-    assert_eq!(rt; found.place, FieldPlace::RelLoc);
+    assert!(rt; found.name.as_bytes() == b"comm".as_slice() && found.place == FieldPlace::RelLoc);
     assert!(rt; field_named(b"com", &fields).is_none());
     Ok(())
 }

@@ -95,37 +95,51 @@ fn dumped(alloc: Global, header: &Header, sections: &[Section]) -> Result<Vec<u8
     Ok(out.bytes().to_vec(alloc)?)
 }
 
-#[test]
-fn dumps_print_their_sections(rt: HostRuntime) -> Result<(), Fail> {
-    let alloc = rt.alloc();
-    let header = header_of(alloc, PLAIN_FILE)?;
+fn prints(
+    rt: &impl Abort,
+    alloc: Global,
+    header: &Header,
+    sections: &[Section],
+    expected: &[u8],
+) -> Result<(), Fail> {
+    let dumped = dumped(alloc, header, sections)?;
+    assert!(rt; dumped.as_slice() == expected);
+    Ok(())
+}
+
+fn prints_plain(rt: &impl Abort, alloc: Global, header: &Header) -> Result<(), Fail> {
     for (sections, expected) in PLAIN {
-        assert_eq!(rt;
-            dumped(alloc, &header, sections)?.as_slice(),
-            expected.as_bytes()
-        );
+        prints(rt, alloc, header, sections, expected.as_bytes())?;
     }
-    let header = header_of(alloc, FULL_FILE)?;
+    Ok(())
+}
+
+fn prints_full(rt: &impl Abort, alloc: Global, header: &Header) -> Result<(), Fail> {
     for (section, expected) in FULL {
-        assert_eq!(rt;
-            dumped(alloc, &header, &[*section])?.as_slice(),
-            expected.as_bytes()
-        );
+        prints(rt, alloc, header, &[*section], expected.as_bytes())?;
     }
     Ok(())
 }
 
 #[test]
-fn all_sections_stand_in_their_order(rt: HostRuntime) -> Result<(), Fail> {
-    let alloc = rt.alloc();
-    let header = header_of(alloc, FULL_FILE)?;
+fn dumps_print_their_sections(rt: HostRuntime) -> Result<(), Fail> {
+    let header = header_of(rt.alloc(), PLAIN_FILE)?;
+    prints_plain(&rt, rt.alloc(), &header)
+}
+
+/// What all sections print, one behind another.
+fn all_texts(alloc: Global) -> Result<Vec<u8>, Fail> {
     let mut all = Vec::new(alloc);
     for (_, expected) in FULL {
         all.extend_from_slice(expected.as_bytes())?;
     }
-    assert_eq!(rt;
-        dumped(alloc, &header, &Section::ALL)?.as_slice(),
-        all.as_slice()
-    );
-    Ok(())
+    Ok(all)
+}
+
+#[test]
+fn all_sections_stand_in_their_order(rt: HostRuntime) -> Result<(), Fail> {
+    let header = header_of(rt.alloc(), FULL_FILE)?;
+    prints_full(&rt, rt.alloc(), &header)?;
+    let all = all_texts(rt.alloc())?;
+    prints(&rt, rt.alloc(), &header, &Section::ALL, &all)
 }

@@ -3,6 +3,7 @@
 ghost use Rattle.std.specs.Prelude.{IfOk};
 ghost use Rattle.dat_header.specs.Allowed.{IsHeader};
 
+use crate::sections::is;
 use dat_header::{Body, Header, read_header, write_header};
 use std::alloc::{AllocError, Global};
 use std::process::Abort;
@@ -74,7 +75,7 @@ fn is_refused(
     expected: &str,
 ) -> Result<(), Fail> {
     let bytes = edited(alloc, edit.0, edit.1, edit.2)?;
-    assert_eq!(rt; fault_of(alloc, &bytes)?.as_str(), expected);
+    is(rt, fault_of(alloc, &bytes)?.as_str(), expected);
     Ok(())
 }
 
@@ -130,28 +131,34 @@ fn what_is_wrong_is_told_with_its_place(rt: HostRuntime) -> Result<(), Fail> {
     Ok(())
 }
 
-#[test]
-fn a_cut_header_ends_early(rt: HostRuntime) -> Result<(), Fail> {
-    let alloc = rt.alloc();
-    let bytes = whole(alloc)?;
-    for cut in 0..bytes.len() {
-        let expected = format!(in alloc; "file ends early at byte {cut}")?;
-        assert_eq!(rt; fault_of(alloc, &bytes[..cut])?.as_str(), expected.as_str());
-    }
+fn ends_early(rt: &impl Abort, alloc: Global, bytes: &[u8]) -> Result<(), Fail> {
+    let expected = format!(in alloc; "file ends early at byte {}", bytes.len())?;
+    is(rt, fault_of(alloc, bytes)?.as_str(), expected.as_str());
     Ok(())
 }
 
 #[test]
+fn a_cut_header_ends_early(rt: HostRuntime) -> Result<(), Fail> {
+    let bytes = whole(rt.alloc())?;
+    for cut in 0..bytes.len() {
+        ends_early(&rt, rt.alloc(), &bytes[..cut])?;
+    }
+    Ok(())
+}
+
+/// Words by the places of their bytes, and how a wrong byte in one is told.
+const WORDS: &[(usize, usize, &str)] = &[
+    (0, 10, "not a trace file at byte 0"),
+    (10, 12, "unknown version at byte 10"),
+    (18, 30, "bad section at byte 18"),
+    (38, 51, "bad section at byte 38"),
+    (87, 97, "bad section at byte 87"),
+];
+
+#[test]
 fn a_wrong_byte_of_a_word_is_refused(rt: HostRuntime) -> Result<(), Fail> {
-    let words = [
-        (0, 10, "not a trace file at byte 0"),
-        (10, 12, "unknown version at byte 10"),
-        (18, 30, "bad section at byte 18"),
-        (38, 51, "bad section at byte 38"),
-        (87, 97, "bad section at byte 87"),
-    ];
-    for (from, to, expected) in words {
-        for at in from..to {
+    for (from, to, expected) in WORDS {
+        for at in *from..*to {
             is_refused(&rt, rt.alloc(), (at, b"\xff", 113), expected)?;
         }
     }
@@ -172,63 +179,44 @@ fn numbers_of(alloc: Global, header: &Header) -> Result<String, AllocError> {
 }
 
 /// Where the data of a header's processors stand.
-fn body_of(alloc: Global, body: &Body) -> Result<String, AllocError> {
-    let mut text = String::new(alloc);
-    match body {
-        Body::Latency => text.push_str("latency")?,
-        Body::Fly(parts) => {
-            for part in parts.as_slice() {
-                text.push_str(format!(in alloc; "{}+{} ", part.offset, part.size)?.as_str())?;
-            }
-        }
+fn put_body(alloc: Global, body: &Body, told: &mut Vec<u8>) -> Result<(), AllocError> {
+    let Body::Fly(parts) = body else {
+        return told.extend_from_slice(b"latency");
+    };
+    for part in parts.as_slice() {
+        let part = format!(in alloc; "{}+{} ", part.offset, part.size)?;
+        told.extend_from_slice(part.as_bytes())?;
     }
-    Ok(text)
-}
-
-/// The plain header, edited so, has these numbers and this body, and no options.
-fn is_read(
-    rt: &impl Abort,
-    alloc: Global,
-    edit: (usize, &[u8], usize),
-    numbers: &str,
-    body: &str,
-) -> Result<(), Fail> {
-    let header = open(alloc, &edited(alloc, edit.0, edit.1, edit.2)?)?;
-    assert_eq!(rt; numbers_of(alloc, &header)?.as_str(), numbers);
-    assert_eq!(rt; body_of(alloc, &header.body)?.as_str(), body);
-    assert!(rt; header.options.is_none());
     Ok(())
 }
 
-#[test]
-fn plain_headers_are_read(rt: HostRuntime) -> Result<(), Fail> {
-    let alloc = rt.alloc();
-    is_read(
-        &rt,
-        alloc,
-        (0, b"", 113),
-        "Little 8 4096 0 8 8 16 1 113",
-        "0+0 ",
-    )?;
-    is_read(
-        &rt,
-        alloc,
-        (83, b"\0", 97),
-        "Little 8 4096 0 8 8 16 0 97",
-        "",
-    )?;
-    is_read(
-        &rt,
-        alloc,
-        (87, b"latency  \0hello\n", 103),
-        "Little 8 4096 0 8 8 16 1 97",
-        "latency",
-    )
+/// The options of a header, each with its id and its bytes.
+fn put_options(alloc: Global, header: &Header, told: &mut Vec<u8>) -> Result<(), AllocError> {
+    let Some(options) = &header.options else {
+        return told.extend_from_slice(b"none");
+    };
+    for option in options.as_slice() {
+        told.extend_from_slice(format!(in alloc; "{}:", option.id)?.as_bytes())?;
+        told.extend_from_slice(option.bytes.as_bytes())?;
+        told.push(b' ')?;
+    }
+    Ok(())
 }
 
-/// The texts and lists of a header, one a line.
-fn contents_of(alloc: Global, header: &Header) -> Result<Vec<u8>, AllocError> {
-    let mut told = Vec::new(alloc);
+fn put_texts(texts: &[ByteText], told: &mut Vec<u8>) -> Result<(), AllocError> {
+    for text in texts {
+        put_line(text, told)?;
+    }
+    Ok(())
+}
+
+fn put_line(text: &ByteText, told: &mut Vec<u8>) -> Result<(), AllocError> {
+    told.push(b'\n')?;
+    told.extend_from_slice(text.as_bytes())
+}
+
+/// The texts and lists of a header, each behind a newline.
+fn put_contents(header: &Header, told: &mut Vec<u8>) -> Result<(), AllocError> {
     let texts = [
         &header.page_text,
         &header.event_text,
@@ -237,58 +225,90 @@ fn contents_of(alloc: Global, header: &Header) -> Result<Vec<u8>, AllocError> {
         &header.cmdlines,
     ];
     for text in texts {
-        put_line(text, &mut told)?;
+        put_line(text, told)?;
     }
-    for text in header.ftrace.as_slice() {
-        put_line(text, &mut told)?;
-    }
+    put_texts(header.ftrace.as_slice(), told)?;
     for system in header.systems.as_slice() {
-        put_line(&system.name, &mut told)?;
-        for text in system.formats.as_slice() {
-            put_line(text, &mut told)?;
-        }
+        put_line(&system.name, told)?;
+        put_texts(system.formats.as_slice(), told)?;
     }
-    Ok(told)
-}
-
-fn put_line(text: &ByteText, told: &mut Vec<u8>) -> Result<(), AllocError> {
-    told.extend_from_slice(text.as_bytes())?;
-    told.push(b'\n')?;
     Ok(())
 }
 
-/// The options of a header, each with its id and its bytes.
-fn options_of(alloc: Global, header: &Header) -> Result<Vec<u8>, AllocError> {
+/// What a header says: numbers, parts, options and texts.
+fn told(alloc: Global, header: &Header) -> Result<Vec<u8>, AllocError> {
     let mut told = Vec::new(alloc);
-    if let Some(options) = &header.options {
-        for option in options.as_slice() {
-            told.extend_from_slice(format!(in alloc; "{}:", option.id)?.as_bytes())?;
-            put_line(&option.bytes, &mut told)?;
-        }
-    }
+    told.extend_from_slice(numbers_of(alloc, header)?.as_bytes())?;
+    told.push(b' ')?;
+    put_body(alloc, &header.body, &mut told)?;
+    put_options(alloc, header, &mut told)?;
+    put_contents(header, &mut told)?;
     Ok(told)
+}
+
+/// A header says just this.
+fn says(
+    rt: &impl Abort,
+    alloc: Global,
+    header: &Header,
+    expected: &[u8],
+) -> Result<(), AllocError> {
+    let told = told(alloc, header)?;
+    assert!(rt; told.as_slice() == expected);
+    Ok(())
+}
+
+/// Edits of the plain header, and what it says then.
+const EDITED: &[((usize, &[u8], usize), &[u8])] = &[
+    (
+        (0, b"", 113),
+        b"Little 8 4096 0 8 8 16 1 113 0+0 none\n\n\n\n\n",
+    ),
+    (
+        (83, b"\0", 97),
+        b"Little 8 4096 0 8 8 16 0 97 none\n\n\n\n\n",
+    ),
+    (
+        (87, b"latency  \0hello\n", 103),
+        b"Little 8 4096 0 8 8 16 1 97 latencynone\n\n\n\n\n",
+    ),
+];
+
+fn is_read(
+    rt: &impl Abort,
+    alloc: Global,
+    edit: (usize, &[u8], usize),
+    expected: &[u8],
+) -> Result<(), Fail> {
+    let header = open(alloc, &edited(alloc, edit.0, edit.1, edit.2)?)?;
+    Ok(says(rt, alloc, &header, expected)?)
+}
+
+#[test]
+fn plain_headers_are_read(rt: HostRuntime) -> Result<(), Fail> {
+    for (edit, expected) in EDITED {
+        is_read(&rt, rt.alloc(), *edit, expected)?;
+    }
+    Ok(())
+}
+
+/// What the header in which each item has something says, up to its texts, and from the second of these on.
+const FRONT: &[u8] = b"Big 4 8192 0 8 4 12 2 369 16384+8192 24576+0 3:x 9: \n";
+
+const TEXTS: &[u8] = b"\nevent\nkall\npr\ncmdline\none\n\nsched\nswitch";
+
+fn is_whole(rt: &impl Abort, alloc: Global, header: &Header) -> Result<(), AllocError> {
+    let mut expected = FRONT.to_vec(alloc)?;
+    expected.extend_from_slice(PAGE_TEXT)?;
+    expected.extend_from_slice(TEXTS)?;
+    says(rt, alloc, header, &expected)
 }
 
 #[test]
 fn every_item_is_read(rt: HostRuntime) -> Result<(), Fail> {
     let alloc = rt.alloc();
-    let bytes = whole(alloc)?;
-    let header = open(alloc, &bytes)?;
-    let numbers = format!(in alloc; "Big 4 8192 0 8 4 12 2 {}", bytes.len())?;
-    assert_eq!(rt; numbers_of(alloc, &header)?.as_str(), numbers.as_str());
-    assert_eq!(rt;
-        body_of(alloc, &header.body)?.as_str(),
-        "16384+8192 24576+0 "
-    );
-    let mut expected = PAGE_TEXT.to_vec(alloc)?;
-    expected.extend_from_slice(b"\nevent\nkall\npr\ncmdline\none\n\nsched\nswitch\n")?;
-    assert_eq!(rt;
-        contents_of(alloc, &header)?.as_slice(),
-        expected.as_slice()
-    );
-    let options = options_of(alloc, &header)?;
-    assert_eq!(rt; options.as_slice(), b"3:x\n9:\n".as_slice());
-    Ok(())
+    let header = open(alloc, &whole(alloc)?)?;
+    Ok(is_whole(&rt, alloc, &header)?)
 }
 
 /// So many bytes of a text.
@@ -327,41 +347,60 @@ const BEFORE_LARGE: &[&[u8]] = &[
     b"\0\x04\0\0options  \0\x09\0\xa0\x86\x01\0",
 ];
 
+/// A line of numbers, four bytes for each part, a long option with its id, and behind newlines four long texts, an empty one and a
+/// thousand of one byte.
+fn is_large(rt: &impl Abort, alloc: Global, header: &Header, len: usize) -> Result<(), AllocError> {
+    let told = told(alloc, header)?;
+    let is_read = header.end == len as u64 && header.ftrace.as_slice().len() == 1_000;
+    assert!(rt; is_read && told.len() == 35 + 4 * 1_024 + 100_003 + 400_005 + 2_000);
+    Ok(())
+}
+
 #[test]
 fn a_large_header_is_read(rt: HostRuntime) -> Result<(), Fail> {
     let alloc = rt.alloc();
     let bytes = large(alloc)?;
     let header = open(alloc, &bytes)?;
-    assert_eq!(rt; header.end, bytes.len() as u64);
-    assert_eq!(rt; header.ftrace.as_slice().len(), 1_000);
-    assert_eq!(rt; contents_of(alloc, &header)?.len(), 400_000 + 5 + 2_000);
-    assert_eq!(rt; options_of(alloc, &header)?.len(), 100_000 + 3);
-    assert_eq!(rt; body_of(alloc, &header.body)?.len(), 4 * 1_024);
-    Ok(())
+    Ok(is_large(&rt, alloc, &header, bytes.len())?)
+}
+
+const PARTS: [Part; 2] = [
+    Part {
+        offset: 0x4000,
+        size: 0x2000,
+    },
+    Part {
+        offset: 0x6000,
+        size: 0,
+    },
+];
+
+fn is_written(rt: &impl Abort, alloc: Global, header: &Header, bytes: &[u8])
+    requires { IsHeader header.now }
+{
+    assert!(rt; header.cpus == 2);
+    let mut out = MemSink::new(alloc);
+    let written = write_header(header, &PARTS, &mut out);
+    assert!(rt; written == Ok(bytes.len() as u64) && out.bytes() == bytes);
 }
 
 #[test]
 fn a_header_is_written_as_it_was(rt: HostRuntime) -> Result<(), Fail> {
-    let alloc = rt.alloc();
-    let bytes = whole(alloc)?;
-    let header = open(alloc, &bytes)?;
-    let parts = [
-        Part {
-            offset: 0x4000,
-            size: 0x2000,
-        },
-        Part {
-            offset: 0x6000,
-            size: 0,
-        },
-    ];
-    assert_eq!(rt; header.cpus, 2);
-    let mut out = MemSink::new(alloc);
-    assert_eq!(rt;
-        write_header(&header, &parts, &mut out),
-        Ok(bytes.len() as u64)
-    );
-    assert_eq!(rt; out.bytes(), bytes.as_slice());
+    let bytes = whole(rt.alloc())?;
+    let header = open(rt.alloc(), &bytes)?;
+    is_written(&rt, rt.alloc(), &header, &bytes);
+    Ok(())
+}
+
+fn has_options(
+    rt: &impl Abort,
+    alloc: Global,
+    header: &Header,
+    expected: &[u8],
+) -> Result<(), AllocError> {
+    let mut told = Vec::new(alloc);
+    put_options(alloc, header, &mut told)?;
+    assert!(rt; told.as_slice() == expected);
     Ok(())
 }
 
@@ -370,6 +409,5 @@ fn options_of_instances_are_dropped(rt: HostRuntime) -> Result<(), Fail> {
     let alloc = rt.alloc();
     let mut header = open(alloc, &whole(alloc)?)?;
     header.drop_instances();
-    assert_eq!(rt; options_of(alloc, &header)?.as_slice(), b"9:\n".as_slice());
-    Ok(())
+    Ok(has_options(&rt, alloc, &header, b"9: ")?)
 }

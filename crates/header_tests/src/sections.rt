@@ -26,8 +26,9 @@ const PARTS: [Part; 2] = [
 
 const TABLE: &[u8] = b"\0\x10\0\0\0\0\0\0\0\x20\0\0\0\0\0\0\0\x50\0\0\0\0\0\0\0\x10\0\0\0\0\0\0";
 
-fn is(rt: &impl Abort, told: &str, expected: &str) {
-    assert_eq!(rt; told, expected);
+/// What is told is what was to be told.
+pub(crate) fn is(rt: &impl Abort, told: &str, expected: &str) {
+    assert!(rt; told == expected, "{told}");
 }
 
 /// How many options stand there and the place behind them, or the fault.
@@ -52,62 +53,102 @@ fn ends_early(alloc: Global, len: usize) -> Result<String, Fail> {
     Ok(format!(in alloc; "file ends early at byte {len}")?)
 }
 
+fn options_are(
+    rt: &impl Abort,
+    alloc: Global,
+    order: Order,
+    bytes: &[u8],
+    at: u64,
+    expected: &str,
+) -> Result<(), Fail> {
+    is(rt, options_at(alloc, order, bytes, at)?.as_str(), expected);
+    Ok(())
+}
+
+fn parts_are(
+    rt: &impl Abort,
+    alloc: Global,
+    cpus: u32,
+    bytes: &[u8],
+    at: u64,
+    expected: &str,
+) -> Result<(), Fail> {
+    is(rt, parts_at(alloc, cpus, bytes, at)?.as_str(), expected);
+    Ok(())
+}
+
+/// A list of options, and one of parts, that are cut here.
+fn end_early(rt: &impl Abort, alloc: Global, order: Order, bytes: &[u8]) -> Result<(), Fail> {
+    let expected = ends_early(alloc, bytes.len())?;
+    options_are(rt, alloc, order, bytes, 0, expected.as_str())
+}
+
+fn parts_end_early(rt: &impl Abort, alloc: Global, bytes: &[u8]) -> Result<(), Fail> {
+    let expected = ends_early(alloc, bytes.len())?;
+    parts_are(rt, alloc, 2, bytes, 0, expected.as_str())
+}
+
+/// Places in a list of options, and what is told there. A size is not believed before the file's length.
+const OPTIONS: &[(Order, &[u8], u64, &str)] = &[
+    (Order::Little, LITTLE, 0, "2 21"),
+    (Order::Little, LITTLE, 10, "1 21"),
+    (Order::Little, LITTLE, 19, "0 21"),
+    (
+        Order::Little,
+        LITTLE,
+        u64::MAX,
+        "file ends early at byte 21",
+    ),
+    (Order::Big, BIG, 0, "2 21"),
+    (Order::Big, BIG, 10, "1 21"),
+    (Order::Big, BIG, 19, "0 21"),
+    (Order::Big, BIG, u64::MAX, "file ends early at byte 21"),
+    (
+        Order::Little,
+        b"\x01\0\xff\xff\xff\xff\0\0",
+        0,
+        "file ends early at byte 8",
+    ),
+];
+
 fn cut_options_end_early(
     rt: &impl Abort,
     alloc: Global,
     order: Order,
-    text: &[u8],
+    bytes: &[u8],
 ) -> Result<(), Fail> {
-    for cut in 0..text.len() {
-        is(
-            rt,
-            options_at(alloc, order, &text[..cut], 0)?.as_str(),
-            ends_early(alloc, cut)?.as_str(),
-        );
-    }
-    let rows = [
-        (0, "2 21"),
-        (10, "1 21"),
-        (19, "0 21"),
-        (u64::MAX, "file ends early at byte 21"),
-    ];
-    for (at, expected) in rows {
-        is(rt, options_at(alloc, order, text, at)?.as_str(), expected);
+    for cut in 0..bytes.len() {
+        end_early(rt, alloc, order, &bytes[..cut])?;
     }
     Ok(())
 }
 
 #[test]
 fn a_cut_list_of_options_ends_early(rt: HostRuntime) -> Result<(), Fail> {
-    let alloc = rt.alloc();
-    cut_options_end_early(&rt, alloc, Order::Little, LITTLE)?;
-    cut_options_end_early(&rt, alloc, Order::Big, BIG)?;
-    // A size is not believed before the file's length.
-    let large = options_at(alloc, Order::Little, b"\x01\0\xff\xff\xff\xff\0\0", 0)?;
-    is(&rt, large.as_str(), "file ends early at byte 8");
+    cut_options_end_early(&rt, rt.alloc(), Order::Little, LITTLE)?;
+    cut_options_end_early(&rt, rt.alloc(), Order::Big, BIG)?;
+    for (order, bytes, at, expected) in OPTIONS {
+        options_are(&rt, rt.alloc(), *order, bytes, *at, expected)?;
+    }
     Ok(())
 }
 
+/// How many parts are read at a place of the table. The count is not believed before the file's length.
+const TABLES: &[(u32, u64, &str)] = &[
+    (2, 0, "2 32"),
+    (1, 5, "1 21"),
+    (0, 32, "0 32"),
+    (0, 33, "file ends early at byte 32"),
+    (u32::MAX, 0, "file ends early at byte 32"),
+];
+
 #[test]
 fn a_cut_table_ends_early(rt: HostRuntime) -> Result<(), Fail> {
-    let alloc = rt.alloc();
     for cut in 0..TABLE.len() {
-        is(
-            &rt,
-            parts_at(alloc, 2, &TABLE[..cut], 0)?.as_str(),
-            ends_early(alloc, cut)?.as_str(),
-        );
+        parts_end_early(&rt, rt.alloc(), &TABLE[..cut])?;
     }
-    // A count of processors is not believed before the file's length.
-    let rows = [
-        (2, 0, "2 32"),
-        (1, 5, "1 21"),
-        (0, 32, "0 32"),
-        (0, 33, "file ends early at byte 32"),
-        (u32::MAX, 0, "file ends early at byte 32"),
-    ];
-    for (cpus, at, expected) in rows {
-        is(&rt, parts_at(alloc, cpus, TABLE, at)?.as_str(), expected);
+    for (cpus, at, expected) in TABLES {
+        parts_are(&rt, rt.alloc(), *cpus, TABLE, *at, expected)?;
     }
     Ok(())
 }
@@ -141,15 +182,23 @@ fn written(alloc: Global, order: Order) -> Result<Vec<u8>, Fail> {
     Ok(sink.bytes().to_vec(alloc)?)
 }
 
+fn go_and_come_back(
+    rt: &impl Abort,
+    alloc: Global,
+    order: Order,
+    bytes: &[u8],
+) -> Result<(), Fail> {
+    let told = told(alloc, order, bytes)?;
+    let written = written(alloc, order)?;
+    let expected = b"1:\0\0\0\08:abc".as_slice();
+    assert!(rt; told.as_slice() == expected && written.as_slice() == bytes);
+    Ok(())
+}
+
 #[test]
 fn options_are_written_and_read_again(rt: HostRuntime) -> Result<(), Fail> {
-    let alloc = rt.alloc();
-    let expected = b"1:\0\0\0\08:abc".as_slice();
-    for (order, bytes) in [(Order::Little, LITTLE), (Order::Big, BIG)] {
-        assert_eq!(rt; told(alloc, order, bytes)?.as_slice(), expected);
-        assert_eq!(rt; written(alloc, order)?.as_slice(), bytes);
-    }
-    Ok(())
+    go_and_come_back(&rt, rt.alloc(), Order::Little, LITTLE)?;
+    go_and_come_back(&rt, rt.alloc(), Order::Big, BIG)
 }
 
 /// The bytes of parts in an order.
@@ -170,14 +219,15 @@ fn are_read_again(
     let bytes = table_of(alloc, order, parts)?;
     let mut file = MemFile::new(ByteText::copy(alloc, &bytes)?);
     let (again, _) = read_table(alloc, order, cpus, &mut file, 0)?;
-    assert_eq!(rt; again.as_slice(), parts);
+    assert!(rt; again.as_slice() == parts);
     Ok(())
 }
 
 #[test]
 fn a_table_is_written_and_read_again(rt: HostRuntime) -> Result<(), Fail> {
     let alloc = rt.alloc();
-    assert_eq!(rt; table_of(alloc, Order::Little, &PARTS)?.as_slice(), TABLE);
+    let table = table_of(alloc, Order::Little, &PARTS)?;
+    assert!(rt; table.as_slice() == TABLE);
     are_read_again(&rt, alloc, Order::Little, &PARTS, 2)?;
     // More parts than one write takes.
     let many = vec![in alloc; PARTS[1]; 200]?;

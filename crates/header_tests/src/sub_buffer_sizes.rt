@@ -1,5 +1,6 @@
 // Sizes of sub-buffers beside sizes of pages.
 
+use crate::sections::is;
 use dat_header::read_header;
 use std::alloc::{AllocError, Global};
 use std::process::Abort;
@@ -50,7 +51,7 @@ fn has_sizes(
     expected: &str,
 ) -> Result<(), Fail> {
     let bytes = header_of(alloc, page, data)?;
-    assert_eq!(rt; sizes_of(alloc, &bytes)?.as_str(), expected);
+    is(rt, sizes_of(alloc, &bytes)?.as_str(), expected);
     Ok(())
 }
 

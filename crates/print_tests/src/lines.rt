@@ -1,9 +1,10 @@
 //! Lines of a report.
 
+ghost use Rattle.std.specs.Prelude.{◌≡◌, IfOk};
+
 use filter_lang::{FilterFault, parse_filter};
 use filter_truth::FilterUse;
 use format_parse::FormatTable;
-use itoa::Buffer;
 use report_print::{Context, Show, line, selected};
 use std::alloc::{AllocError, Global};
 use std::process::Abort;
@@ -44,20 +45,42 @@ ID: 5
 print fmt: \"%s\", my_helper(REC->a)
 ";
 
-/// How lines are shown: times of six digits, and nothing else that is asked for.
-fn plain(alloc: Global) -> Result<Show, AllocError> {
+/// How lines are shown: with times of nine digits, differences, the latency columns, the fields as they are, without what hard or
+/// soft interrupts did, each where its letter is there.
+fn shown(alloc: Global, letters: &[u8]) -> Result<Show, AllocError>
+    ensures { IfOk result (λ show. show.long ≡ 8) }
+{
     let names = vec![in alloc; ByteText::copy(alloc, b"kinds")?]?;
     Ok(Show {
         order: Order::Little,
         long: 8,
-        full: false,
-        diff: false,
-        latency: false,
-        raw: false,
-        no_hard: false,
-        no_soft: false,
+        full: letters.contains(&b't'),
+        diff: letters.contains(&b'd'),
+        latency: letters.contains(&b'l'),
+        raw: letters.contains(&b'R'),
+        no_hard: letters.contains(&b'I'),
+        no_soft: letters.contains(&b'S'),
         raw_events: ListOf::from_vec(names),
     })
+}
+
+/// Names of which the one of the task 42 is this.
+fn names_of(alloc: Global, task: &str) -> Result<Symbols, AllocError> {
+    let names = format!(in alloc; "42 {task}\n")?;
+    Symbols::read(alloc, b"", b"", names.as_bytes())
+}
+
+/// A context of these formats in which the task 42 has this name.
+fn context_of(
+    alloc: Global,
+    formats: FormatTable,
+    task: &str,
+    filters: Vec<FilterUse>,
+    letters: &str,
+) -> Result<Context, AllocError> {
+    let symbols = names_of(alloc, task)?;
+    let show = shown(alloc, letters.as_bytes())?;
+    Context::build(alloc, formats, symbols, filters, show)
 }
 
 /// Texts of formats, with a `#` before all but the first.
@@ -69,150 +92,119 @@ fn texts(alloc: Global, formats: &str) -> Result<Vec<ByteText>, AllocError> {
     Ok(texts)
 }
 
-/// A context of five formats and one name.
-fn context(alloc: Global, filters: Vec<FilterUse>, show: Show) -> Result<Context, AllocError> {
+/// A context of five formats.
+fn context(alloc: Global, filters: Vec<FilterUse>, letters: &str) -> Result<Context, AllocError> {
     let formats = FormatTable::new(alloc)
         .with_texts(alloc, b"ftrace", &texts(alloc, FUNCTION)?)?
         .with_texts(alloc, b"events", &texts(alloc, EVENT_FORMATS)?)?;
-    let symbols = Symbols::read(alloc, b"", b"", b"42 kworker/0:1\n")?;
-    built(alloc, formats, symbols, filters, show)
+    context_of(alloc, formats, "kworker/0:1", filters, letters)
 }
 
-fn built(
-    alloc: Global,
-    formats: FormatTable,
-    symbols: Symbols,
-    filters: Vec<FilterUse>,
-    show: Show,
-) -> Result<Context, AllocError> {
-    // A kernel's long has four bytes or eight.
-    let long = if show.long == 4 { 4 } else { 8 };
-    Context::build(alloc, formats, symbols, filters, Show { long, ..show })
-}
-
-/// The line of the item on processor 1.
-fn shows(rt: &impl Abort, context: &Context, item: &Item<'_>, expected: &[u8]) {
+/// The item on processor 1 has this line, or none.
+fn shows(rt: &impl Abort, context: &Context, item: &Item<'_>, text: &str) {
     let mut room = [0; 256];
     let mut into = Tail::new(&mut room);
     let (len, _) = line(context, 1, item, &mut into);
-    assert_eq!(rt; into.kept(), expected);
-    assert_eq!(rt; len as usize, expected.len());
-    assert_eq!(rt; selected(context, 1, item), !expected.is_empty());
+    let kept = into.kept();
+    let front = &kept[..kept.len().saturating_sub(1)];
+    let ends = kept.ends_with(b"\n") && selected(context, 1, item);
+    assert!(rt;
+        len as usize == kept.len() && front == text.as_bytes() && ends == !text.is_empty(),
+        "{text}"
+    );
 }
 
-/// The line of an event at this time on processor 1: the row is its payload in hexadecimal, and the line without its newline, or
-/// nothing.
-fn show_event(
+/// An event of this payload in hexadecimal has this line.
+fn shows_event(
     rt: &impl Abort,
     alloc: Global,
     context: &Context,
-    time: u64,
-    row: &str,
+    time: &str,
+    payload: &str,
+    text: &str,
 ) -> Result<(), Fail> {
-    let (payload, text) = row.split_once("\t").unwrap_or(("", "no text"));
     let payload = hex::decode(alloc, payload)?;
-    let mut expected = Vec::from_slice(alloc, text.as_bytes())?;
-    if !text.is_empty() {
-        expected.push(b'\n')?;
-    }
     let item = Item::Event {
-        time,
+        time: time.parse::<u64>().unwrap_or(0),
         payload: &payload,
     };
-    shows(rt, context, &item, &expected);
+    shows(rt, context, &item, text);
     Ok(())
 }
 
-/// The same of events at one second and a quarter of a millisecond.
-fn show_events(rt: &impl Abort, alloc: Global, show: Show, rows: &str) -> Result<(), Fail> {
-    let context = context(alloc, Vec::new(alloc), show)?;
-    for row in rows.lines() {
-        show_event(rt, alloc, &context, 1_000_250_000, row)?;
+/// How lines are shown, an event's time and payload, and its line.
+const LINES: &str =
+    "R\t1000250000\t010000002a00000010000081ffffffff\t     kworker/0:1-42    [001]     1.000250: function:             ip=18446744071578845200
+R\t1000250000\t01000000ffffffff\t           <...>--1    [001]     1.000250: function:             ip=0
+R\t1000250000\t0701\t          <idle>-0     [001]     1.000250: [UNKNOWN EVENT 263]
+tlI\t1000250000\t090015132a000000\tkworker/0:1-42      1dNs3     1.000250000: [UNKNOWN EVENT 9]
+tlI\t1000250000\t0900020a00000000\t  <idle>-0       1X..a     1.000250000: [UNKNOWN EVENT 9]
+tlI\t1000250000\t0900080000000000\t
+\t1000250000\t0200000000000000feff0080616200630fa0\t          <idle>-0     [001]     1.000250: kinds:                small=-2 at=0x8000fffe text=ab bytes=0fa0 past=0
+\t1000250000\t0200000000000000feff00806162\t          <idle>-0     [001]     1.000250: kinds:                small=-2 at=0x8000fffe text=ab bytes= past=0
+\t1000250000\t04000000000000002a0000000000000000000000\t          <idle>-0     [001]     1.000250: prints:                  42|42   |00042|+42|2a 0 1
+\t1000250000\t050000000000000005000000\t          <idle>-0     [001]     1.000250: unread:               [FAILED TO PARSE] a=5
+\t123456999999500\t0000\t          <idle>-0     [001] 123457.000000: [UNKNOWN EVENT 0]
+";
+
+fn shows_row(rt: &impl Abort, alloc: Global, row: &str) -> Result<(), Fail> {
+    let mut cells = row.split('\t');
+    let context = context(alloc, Vec::new(alloc), cells.next().unwrap_or(""))?;
+    let time = cells.next().unwrap_or("");
+    let payload = cells.next().unwrap_or("");
+    shows_event(
+        rt,
+        alloc,
+        &context,
+        time,
+        payload,
+        cells.next().unwrap_or("no text"),
+    )
+}
+
+#[test]
+fn events_have_these_lines(rt: HostRuntime) -> Result<(), Fail> {
+    for row in LINES.lines() {
+        shows_row(&rt, rt.alloc(), row)?;
     }
     Ok(())
 }
 
-const COLUMNS: &str =
-    "010000002a00000010000081ffffffff\t     kworker/0:1-42    [001]     1.000250: function:             ip=18446744071578845200
-01000000ffffffff\t           <...>--1    [001]     1.000250: function:             ip=0
-0701\t          <idle>-0     [001]     1.000250: [UNKNOWN EVENT 263]
-";
+/// Losses, which are always shown, and a text that keeps its newlines.
+const ITEMS: &[(Item<'_>, &str)] = &[
+    (
+        Item::Loss {
+            time: 1,
+            count: Some(3),
+        },
+        "CPU:1 [3 EVENTS DROPPED]",
+    ),
+    (
+        Item::Loss {
+            time: 1,
+            count: None,
+        },
+        "CPU:1 [EVENTS DROPPED]",
+    ),
+    (
+        Item::Event {
+            time: 0,
+            payload: b"\x03\0\0\0\0\0\0\0one\ntwo\n",
+        },
+        "          <idle>-0     [001]     0.000000: text:                 [FAILED TO PARSE] text=one\ntwo",
+    ),
+];
 
-#[test]
-fn an_event_is_shown_in_columns(rt: HostRuntime) -> Result<(), Fail> {
-    let alloc = rt.alloc();
-    let raw = Show {
-        raw: true,
-        ..plain(alloc)?
-    };
-    show_events(&rt, alloc, raw, COLUMNS)
+fn shows_items(rt: &impl Abort, context: &Context) {
+    for (item, text) in ITEMS {
+        shows(rt, context, item, text);
+    }
 }
 
 #[test]
-fn a_time_is_rounded_to_microseconds(rt: HostRuntime) -> Result<(), Fail> {
-    let alloc = rt.alloc();
-    let context = context(alloc, Vec::new(alloc), plain(alloc)?)?;
-    let row = "0000\t          <idle>-0     [001] 123457.000000: [UNKNOWN EVENT 0]";
-    show_event(&rt, alloc, &context, 123_456_999_999_500, row)
-}
-
-const LATENCY: &str =
-    "090015132a000000\tkworker/0:1-42      1dNs3     1.000250000: [UNKNOWN EVENT 9]
-0900020a00000000\t  <idle>-0       1X..a     1.000250000: [UNKNOWN EVENT 9]
-0900080000000000\t
-";
-
-#[test]
-fn the_latency_columns_say_what_was_going_on(rt: HostRuntime) -> Result<(), Fail> {
-    let alloc = rt.alloc();
-    let full = Show {
-        full: true,
-        latency: true,
-        no_hard: true,
-        ..plain(alloc)?
-    };
-    show_events(&rt, alloc, full, LATENCY)
-}
-
-const FIELDS: &str =
-    "0200000000000000feff0080616200630fa0\t          <idle>-0     [001]     1.000250: kinds:                small=-2 at=0x8000fffe text=ab bytes=0fa0 past=0
-0200000000000000feff00806162\t          <idle>-0     [001]     1.000250: kinds:                small=-2 at=0x8000fffe text=ab bytes= past=0
-04000000000000002a0000000000000000000000\t          <idle>-0     [001]     1.000250: prints:                  42|42   |00042|+42|2a 0 1
-050000000000000005000000\t          <idle>-0     [001]     1.000250: unread:               [FAILED TO PARSE] a=5
-";
-
-#[test]
-fn an_event_is_shown_by_its_fields_or_its_print_fmt(rt: HostRuntime) -> Result<(), Fail> {
-    let alloc = rt.alloc();
-    show_events(&rt, alloc, plain(alloc)?, FIELDS)
-}
-
-#[test]
-fn a_text_keeps_its_newlines(rt: HostRuntime) -> Result<(), Fail> {
-    let alloc = rt.alloc();
-    let context = context(alloc, Vec::new(alloc), plain(alloc)?)?;
-    let payload = b"\x03\0\0\0\0\0\0\0one\ntwo\n".as_slice();
-    let text =
-        b"          <idle>-0     [001]     0.000000: text:                 [FAILED TO PARSE] text=one\ntwo\n".as_slice();
-    shows(&rt, &context, &Item::Event { time: 0, payload }, text);
-    Ok(())
-}
-
-fn shows_loss(rt: &impl Abort, context: &Context, count: Option<u64>, text: &str) {
-    let item = Item::Loss { time: 1, count };
-    shows(rt, context, &item, text.as_bytes());
-}
-
-#[test]
-fn a_loss_is_always_shown(rt: HostRuntime) -> Result<(), Fail> {
-    let alloc = rt.alloc();
-    let no_hard = Show {
-        no_hard: true,
-        ..plain(alloc)?
-    };
-    let context = context(alloc, Vec::new(alloc), no_hard)?;
-    shows_loss(&rt, &context, Some(3), "CPU:1 [3 EVENTS DROPPED]\n");
-    shows_loss(&rt, &context, None, "CPU:1 [EVENTS DROPPED]\n");
+fn losses_and_newlines_are_shown(rt: HostRuntime) -> Result<(), Fail> {
+    let context = context(rt.alloc(), Vec::new(rt.alloc()), "I")?;
+    shows_items(&rt, &context);
     Ok(())
 }
 
@@ -227,60 +219,47 @@ fn lettered(alloc: Global, letters: usize, last: &str) -> Result<Vec<u8>, AllocE
     Ok(payload)
 }
 
-/// The line has this length in a room that holds only its front.
-fn has_length(rt: &impl Abort, context: &Context, payload: &[u8], len: u32) {
-    let item = Item::Event { time: 0, payload };
+/// How long the line is, in a room for its front alone.
+fn len_of(context: &Context, item: &Item<'_>) -> u32 {
     let mut room = [0; 64];
-    assert_eq!(rt; line(context, 1, &item, &mut Tail::new(&mut room)).0, len);
+    line(context, 1, item, &mut Tail::new(&mut room)).0
 }
 
-/// The line has this length and end in a room that holds all of it.
-fn has_end(rt: &impl Abort, context: &Context, payload: &[u8], len: u32, end: &str) {
+/// The line has this length, also in a room for all of it, and this end before its newline.
+fn is_limited(rt: &impl Abort, context: &Context, payload: &[u8], len: u32, end: &str) {
     let item = Item::Event { time: 0, payload };
+    let short = len_of(context, &item);
     let mut room = [0; 65_600];
     let mut into = Tail::new(&mut room);
-    assert_eq!(rt; line(context, 1, &item, &mut into).0, len);
+    let (long, _) = line(context, 1, &item, &mut into);
     let kept = into.kept();
-    assert!(rt; kept.ends_with(b"\n"));
-    assert!(rt; kept[..kept.len().saturating_sub(1)].ends_with(end.as_bytes()));
+    let front = &kept[..kept.len().saturating_sub(1)];
+    let ends = kept.ends_with(b"\n") && front.ends_with(end.as_bytes());
+    assert!(rt; short == len && long == len && ends, "{end}");
 }
 
 /// How many letters, the last byte or else a newline, the length of the line, and its end.
-const LIMITS: &str = "10\tb\t82\taab
-10\t\t81\taaa
-65465\tb\t65537\taab
-65465\t\t65536\taaa
-65466\tb\t65537\ta...
-65466\t\t65537\ta...
-";
+const LIMITS: &[(usize, &str, u32, &str)] = &[
+    (10, "b", 82, "aab"),
+    (10, "", 81, "aaa"),
+    (65_465, "b", 65_537, "aab"),
+    (65_465, "", 65_536, "aaa"),
+    (65_466, "b", 65_537, "a..."),
+    (65_466, "", 65_537, "a..."),
+];
 
-fn is_limited(
-    rt: &impl Abort,
-    alloc: Global,
-    context: &Context,
-    row: &str,
-) -> Result<(), AllocError> {
-    let mut cells = row.split('\t');
-    let letters = cells.next().unwrap_or("").parse::<usize>().unwrap_or(0);
-    let payload = lettered(alloc, letters, cells.next().unwrap_or(""))?;
-    let len = cells.next().unwrap_or("").parse::<u32>().unwrap_or(0);
-    has_length(rt, context, &payload, len);
-    has_end(rt, context, &payload, len, cells.next().unwrap_or("no end"));
+fn are_limited(rt: &impl Abort, alloc: Global, context: &Context) -> Result<(), AllocError> {
+    for (letters, last, len, end) in LIMITS {
+        let payload = lettered(alloc, *letters, last)?;
+        is_limited(rt, context, &payload, *len, end);
+    }
     Ok(())
 }
 
 #[test]
 fn a_line_has_a_limit_and_one_newline(rt: HostRuntime) -> Result<(), Fail> {
-    let alloc = rt.alloc();
-    let raw = Show {
-        raw: true,
-        ..plain(alloc)?
-    };
-    let context = context(alloc, Vec::new(alloc), raw)?;
-    for row in LIMITS.lines() {
-        is_limited(&rt, alloc, &context, row)?;
-    }
-    Ok(())
+    let context = context(rt.alloc(), Vec::new(rt.alloc()), "R")?;
+    Ok(are_limited(&rt, rt.alloc(), &context)?)
 }
 
 /// An event of `ftrace/function` and three of `events/prints`, the last of the idle task, and one without a format.
@@ -326,32 +305,38 @@ fn uses(alloc: Global, filters: &str) -> Result<Vec<FilterUse>, FilterFault> {
 }
 
 /// Whether an event on processor 1 is shown, and has a line.
-fn is_chosen(rt: &impl Abort, context: &Context, payload: &[u8], expected: bool) {
-    let event = Item::Event { time: 0, payload };
+fn is_chosen(
+    rt: &impl Abort,
+    alloc: Global,
+    context: &Context,
+    event: &str,
+    expected: bool,
+) -> Result<(), Fail> {
+    let payload = hex::decode(alloc, event)?;
+    let item = Item::Event {
+        time: 0,
+        payload: &payload,
+    };
     let mut room = [0; 256];
-    assert_eq!(rt; selected(context, 1, &event), expected);
-    let (len, _) = line(context, 1, &event, &mut Tail::new(&mut room));
-    assert_eq!(rt; len > 0, expected);
+    let (len, _) = line(context, 1, &item, &mut Tail::new(&mut room));
+    assert!(rt;
+        selected(context, 1, &item) == expected && (len > 0) == expected,
+        "{event}"
+    );
+    Ok(())
 }
 
 fn are_chosen(rt: &impl Abort, alloc: Global, context: &Context, shown: &str) -> Result<(), Fail> {
-    for (event, is_shown) in EVENTS.lines().zip(shown.chars()) {
-        let payload = hex::decode(alloc, event)?;
-        is_chosen(rt, context, &payload, is_shown == 'y');
+    for (event, is_shown) in EVENTS.lines().zip(shown.bytes()) {
+        is_chosen(rt, alloc, context, event, is_shown == b'y')?;
     }
     Ok(())
 }
 
 fn choose(rt: &impl Abort, alloc: Global, row: &str) -> Result<(), Fail> {
     let (filters, shown) = row.split_once("\t").unwrap_or(("", ""));
-    let context = context(alloc, uses(alloc, filters)?, plain(alloc)?)?;
-    are_chosen(rt, alloc, &context, shown)?;
-    let loss = Item::Loss {
-        time: 0,
-        count: None,
-    };
-    assert!(rt; selected(&context, 1, &loss));
-    Ok(())
+    let context = context(alloc, uses(alloc, filters)?, "")?;
+    are_chosen(rt, alloc, &context, shown)
 }
 
 #[test]
@@ -362,82 +347,69 @@ fn filters_choose_the_events(rt: HostRuntime) -> Result<(), Fail> {
     Ok(())
 }
 
-/// A format whose name is its number.
-fn numbered(alloc: Global, id: u16) -> Result<ByteText, AllocError> {
-    let mut digits = Buffer::new();
-    let digits = digits.format(id).as_bytes();
-    let mut text = Vec::from_slice(alloc, b"name: n")?;
-    text.extend_from_slice(digits)?;
-    text.extend_from_slice(b"\nID: ")?;
-    text.extend_from_slice(digits)?;
-    text.extend_from_slice(b"\nprint fmt: \"a text\"\n")?;
-    Ok(ByteText::from_vec(text))
-}
-
+/// Formats whose names are their numbers.
 fn many_formats(alloc: Global) -> Result<FormatTable, AllocError> {
     let mut texts = Vec::new(alloc);
-    for id in 0..3_000 {
-        texts.push(numbered(alloc, id)?)?;
+    for id in 0..3_000u16 {
+        let text = format!(in alloc; "name: n{id}\nID: {id}\nprint fmt: \"a text\"\n")?;
+        texts.push(ByteText::copy(alloc, text.as_bytes())?)?;
     }
     FormatTable::new(alloc).with_texts(alloc, b"many", &texts)
 }
 
-fn context_of(alloc: Global, formats: FormatTable) -> Result<Context, AllocError> {
-    let symbols = Symbols::read(alloc, b"", b"", b"")?;
-    built(alloc, formats, symbols, Vec::new(alloc), plain(alloc)?)
-}
+/// The payloads of the first and of the last, and their lines.
+const FIRST_AND_LAST: [(&str, &str); 2] = [
+    (
+        "0000",
+        "          <idle>-0     [001]     0.000000: n0:                   a text",
+    ),
+    (
+        "b70b",
+        "          <idle>-0     [001]     0.000000: n2999:                a text",
+    ),
+];
 
-const FIRST_AND_LAST: &str =
-    "0000\t          <idle>-0     [001]     0.000000: n0:                   a text
-b70b\t          <idle>-0     [001]     0.000000: n2999:                a text
-";
-
-#[test]
-fn many_formats_are_known(rt: HostRuntime) -> Result<(), Fail> {
-    let alloc = rt.alloc();
-    let context = context_of(alloc, many_formats(alloc)?)?;
-    for row in FIRST_AND_LAST.lines() {
-        show_event(&rt, alloc, &context, 0, row)?;
+fn shows_both(rt: &impl Abort, alloc: Global, context: &Context) -> Result<(), Fail> {
+    for (payload, text) in FIRST_AND_LAST {
+        shows_event(rt, alloc, context, "0", payload, text)?;
     }
     Ok(())
 }
 
-/// A context in which the task 42 has a name of so many letters, and differences are asked for.
-fn named(alloc: Global, letters: u32) -> Result<Context, AllocError> {
-    let mut names = Vec::from_slice(alloc, b"42 ")?;
-    for _ in 0..letters {
-        names.push(b'n')?;
-    }
-    names.push(b'\n')?;
-    let symbols = Symbols::read(alloc, b"", b"", &names)?;
-    let show = Show {
-        diff: true,
-        ..plain(alloc)?
-    };
-    built(
-        alloc,
-        FormatTable::new(alloc),
-        symbols,
-        Vec::new(alloc),
-        show,
-    )
+#[test]
+fn many_formats_are_known(rt: HostRuntime) -> Result<(), Fail> {
+    let alloc = rt.alloc();
+    let context = context_of(alloc, many_formats(alloc)?, "", Vec::new(alloc), "")?;
+    shows_both(&rt, alloc, &context)
 }
 
-fn has_hole(
-    rt: &impl Abort,
-    alloc: Global,
-    letters: u32,
-    expected: Option<u32>,
-) -> Result<(), AllocError> {
-    let context = named(alloc, letters)?;
+/// A name of so many letters.
+fn name_of(alloc: Global, letters: u32) -> Result<String, AllocError> {
+    let mut name = String::new(alloc);
+    for _ in 0..letters {
+        name.push_str("n")?;
+    }
+    Ok(name)
+}
+
+fn named(alloc: Global, task: &str) -> Result<Context, AllocError> {
+    context_of(alloc, FormatTable::new(alloc), task, Vec::new(alloc), "d")
+}
+
+/// The hole of an event of the task 42.
+fn hole_of(context: &Context) -> Option<(u32, u64)> {
     let item = Item::Event {
         time: 7,
         payload: b"\x09\0\0\0\x2a\0\0\0",
     };
     let mut room = [0; 64];
-    let (_, hole) = line(&context, 1, &item, &mut Tail::new(&mut room));
-    assert_eq!(rt; hole, expected.map(|place| (place, 7)));
-    Ok(())
+    line(context, 1, &item, &mut Tail::new(&mut room)).1
+}
+
+/// The same where the task's name has so many letters, and differences are asked for.
+fn hole_behind(alloc: Global, letters: u32) -> Result<Option<(u32, u64)>, AllocError> {
+    let context = named(alloc, name_of(alloc, letters)?.as_str())?;
+    Ok(hole_of(&context))
 }
 
 /// How many letters the task's name has, and where the hole stands: 25 bytes behind the name, unless it would stand in what was
@@ -456,8 +428,9 @@ const HOLES: &[(u32, Option<u32>)] = &[
 
 #[test]
 fn a_hole_stands_behind_the_time(rt: HostRuntime) -> Result<(), Fail> {
-    for (letters, expected) in HOLES {
-        has_hole(&rt, rt.alloc(), *letters, *expected)?;
+    for (letters, place) in HOLES {
+        let hole = hole_behind(rt.alloc(), *letters)?;
+        assert!(rt; hole == place.map(|place| (place, 7)), "{letters}");
     }
     Ok(())
 }

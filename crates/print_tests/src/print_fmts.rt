@@ -1,14 +1,14 @@
 //! Printed texts.
 
-use c_operators::BinaryOp;
-use fmt_expr::CKind::{I32, I64};
-use fmt_expr::{Entry, Expr, Operand, PrefixOp, PrintFmt};
-use fmt_print::{compile, print};
+use fmt_expr::{PrintFmt, parse_args};
+use fmt_lexer::tokens;
+use fmt_print::{PrintPlan, compile, print};
+use format_parse::{EventFormat, parse_format};
 use std::alloc::{AllocError, Global};
 use std::process::Abort;
 use std::test::Fail;
 use symbols::Symbols;
-use trace_base::{ByteText, Field, FieldKind, FieldPlace, ListOf, Order, Rec, Tail};
+use trace_base::{Field, Order, Rec, Tail};
 
 /// A format, and the texts of 42, of -42 and of 0. These and those below were printed by snprintf of glibc, compiled by gcc on
 /// x86-64, with the number as an int, or as a long long where the length is `l` or more.
@@ -78,30 +78,30 @@ const TEXTS: &str = "%s\t\tabc
 ";
 
 /// What C leaves open, and what symbols and printk formats give: a format, a number, and the text.
-const OTHERS: &str = "%c\t321\tA
-%3c\t65\t  A
-%-3c|\t65\tA  |
-%03c\t65\t  A
-%.0c\t65\tA
-%s\t16\t0x10
-%s\t-1\t0xffffffffffffffff
-%6s\t16\t  0x10
-%06s\t16\t  0x10
-%.3s\t16\t0x1
-%.1s\t16\t0
-%-5.2s|\t16\t0x   |
-%s\t49152\tfault %d
-%.5s\t49152\tfault
-%p\t31\t0x1f
-%08p\t31\t    0x1f
-%.1p\t31\t0x1f
-%ps\t4111\tschedule
-%pf\t4095\t0xfff
-%pS\t4111\tschedule+0xf
-%-14pS|\t4096\tschedule+0x0  |
-%20pF\t8193\t         do_idle+0x1
-%pI4\t16777343\t0x100007f
-%pM\t0\t0x0
+const OTHERS: &str = "%c\t321l\tA
+%3c\t65l\t  A
+%-3c|\t65l\tA  |
+%03c\t65l\t  A
+%.0c\t65l\tA
+%s\t16l\t0x10
+%s\t-1l\t0xffffffffffffffff
+%6s\t16l\t  0x10
+%06s\t16l\t  0x10
+%.3s\t16l\t0x1
+%.1s\t16l\t0
+%-5.2s|\t16l\t0x   |
+%s\t49152l\tfault %d
+%.5s\t49152l\tfault
+%p\t31l\t0x1f
+%08p\t31l\t    0x1f
+%.1p\t31l\t0x1f
+%ps\t4111l\tschedule
+%pf\t4095l\t0xfff
+%pS\t4111l\tschedule+0xf
+%-14pS|\t4096l\tschedule+0x0  |
+%20pF\t8193l\t         do_idle+0x1
+%pI4\t16777343l\t0x100007f
+%pM\t0l\t0x0
 ";
 
 /// Each conversion over each kind of argument: a format, and the texts of the number 0x100007f, of a text of the byte 0x7f, and of the
@@ -126,43 +126,62 @@ const KINDS: &str = "%d\t16777343\t0\t0
 %3d|%-4x|%+d|%.2u\t16777343|||\t  0|||\t  0|||
 ";
 
-/// A format, a letter for each argument (`argument`), and the text.
-const ARGUMENTS: &str = "%5d|%-5d|%05d|%+d|%#x\taaaaa\t   42|42   |00042|+42|0x2a
-100%% %d\ta\t100% 42
-%d %d|\ta\t42 |
-%*d|\ta\t|
-%*d|%d|\taa\t                                        42||
-%.*d%d\taa\t000000000000000000000000000000000000000042
-%*.*d|\taa\t|
-none\taaa\tnone
-%c%c\taa\t**
-%d%%%d\taa\t42%42
+/// A format, its arguments, and the text.
+const ARGUMENTS: &str =
+    "%5d|%-5d|%05d|%+d|%#x\tREC->a, REC->a, REC->a, REC->a, REC->a\t   42|42   |00042|+42|0x2a
+100%% %d\tREC->a\t100% 42
+%d %d|\tREC->a\t42 |
+%*d|\tREC->a\t|
+%*d|%d|\tREC->a, REC->a\t                                        42||
+%.*d%d\tREC->a, REC->a\t000000000000000000000000000000000000000042
+%*.*d|\tREC->a, REC->a\t|
+none\tREC->a, REC->a, REC->a\tnone
+%c%c\tREC->a, REC->a\t**
+%d%%%d\tREC->a, REC->a\t42%42
 \t\t
 %s\t\t
-%0*.*d|\t-~7\t7   |
-%d %d %d\ta/<\t42 0 0
-%d\t>\t-4
-[%-6s]\tf\t[A|C   ]
-%*d|\tt7\t7|
-%*d|\tB7\t7|
-%.*d|\ttz\t|
-%-*.*s|\tt7T\tab|
-%*ps|\tat\t                                       0x0|
-%ps %pS %p %ps\ttttz\t0x0 0x0 0x0 zero
-%pf %pF %p %pF\tbbbz\t0x0 0x0 0x0 zero+0x0
-%ps\tf\t0x0
-%pS\tf\t0x0
-%pI4\tf\t65.124.67.0
-%s.\tT\tab.
-%s.\tB\tab.
-%4s\tB\t  ab
-%16pI4\tb\t       127.0.0.1
-%-18pM|\tb\t7f:00:00:01:00:00 |
-%pM\tT\t61:62:00:00:00:00
+%0*.*d|\t-4, -1, 7\t7   |
+%d %d %d\tREC->a, 7 / 0, 1 << 32\t42 0 0
+%d\tREC->v >> 1\t-4
+[%-6s]\t__print_flags(5, \"|\", { 1, \"A\" }, { 4, \"C\\0D\" })\t[A|C   ]
+%*d|\tREC->t, 7\t7|
+%*d|\tREC->B, 7\t7|
+%.*d|\tREC->t, 0\t|
+%-*.*s|\tREC->t, 7, REC->T\tab|
+%*ps|\tREC->a, REC->t\t                                       0x0|
+%ps %pS %p %ps\tREC->t, REC->t, REC->t, 0\t0x0 0x0 0x0 zero
+%pf %pF %p %pF\tREC->b, REC->b, REC->b, 0\t0x0 0x0 0x0 zero+0x0
+%ps\t__print_flags(5, \"|\", { 1, \"A\" }, { 4, \"C\\0D\" })\t0x0
+%pS\t__print_flags(5, \"|\", { 1, \"A\" }, { 4, \"C\\0D\" })\t0x0
+%pI4\t__print_flags(5, \"|\", { 1, \"A\" }, { 4, \"C\\0D\" })\t65.124.67.0
+%s.\tREC->T\tab.
+%s.\tREC->B\tab.
+%4s\tREC->B\t  ab
+%16pI4\tREC->b\t       127.0.0.1
+%-18pM|\tREC->b\t7f:00:00:01:00:00 |
+%pM\tREC->T\t61:62:00:00:00:00
+[%s]\tREC->a ? \"yes\" : \"no\"\t[yes]
+[%s]\t0 ? REC->t : REC->T\t[ab]
 ";
 
 /// The payload of the record: a text with a NUL in it, four bytes of an address, 42, and -7.
 const PAYLOAD: [u8; 16] = *b"ab\0d\x7f\x00\x00\x01\x2a\0\0\0\xf9\xff\xff\xff";
+
+/// The fields of the payload: 42, the address in three kinds, the text in two, and -7.
+const FORMAT: &[u8] = b"name: payload
+ID: 1
+\tfield:int a;\toffset:8;\tsize:4;\tsigned:1;
+\tfield:int n;\toffset:4;\tsize:4;\tsigned:1;
+\tfield:char t[4];\toffset:4;\tsize:4;\tsigned:1;
+\tfield:u8 b[4];\toffset:4;\tsize:4;\tsigned:0;
+\tfield:char T[4];\toffset:0;\tsize:4;\tsigned:1;
+\tfield:u8 B[4];\toffset:0;\tsize:4;\tsigned:0;
+\tfield:int v;\toffset:12;\tsize:4;\tsigned:1;
+";
+
+fn format(alloc: Global) -> Result<EventFormat, Fail> {
+    Ok(parse_format(alloc, b"tests", FORMAT)?.ok_or("no format")?)
+}
 
 /// Two symbols, with others before them, and a printk format.
 fn symbols(alloc: Global, before: &str) -> Result<Symbols, AllocError> {
@@ -171,330 +190,174 @@ fn symbols(alloc: Global, before: &str) -> Result<Symbols, AllocError> {
     Symbols::read(alloc, &names, b"0xc000 : \"fault %d\"\n", b"")
 }
 
-/// Prints a text by a format.
-fn prints(
-    rt: &impl Abort,
-    alloc: Global,
-    symbols: &Symbols,
-    format: &str,
-    args: Vec<Expr>,
-    text: &str,
-) -> Result<(), AllocError> {
-    let fmt = PrintFmt {
-        text: ByteText::copy(alloc, format.as_bytes())?,
-        args: ListOf::from_vec(args),
-        long: 8,
-    };
+fn read(alloc: Global, fields: &[Field], text: &[u8]) -> Result<Option<PrintFmt>, AllocError> {
+    match tokens(alloc, text)? {
+        Some(row) => parse_args(alloc, text, &row, fields, 8),
+        None => Ok(None),
+    }
+}
+
+/// The plan of a print fmt.
+fn plan_of(alloc: Global, fields: &[Field], text: &[u8]) -> Result<PrintPlan, Fail> {
+    let fmt = read(alloc, fields, text)?.ok_or("no print fmt")?;
+    Ok(compile(alloc, fmt)?.ok_or("no plan")?)
+}
+
+/// A plan prints a text of the payload.
+fn prints(rt: &impl Abort, plan: &PrintPlan, symbols: &Symbols, text: &str, row: &str) {
     let rec = Rec {
         order: Order::Little,
         payload: &PAYLOAD,
     };
     let mut room = [0; 100];
     let mut tail = Tail::new(&mut room);
-    match compile(alloc, fmt)? {
-        Some(plan) => print(&plan, &rec, symbols, &mut tail),
-        None => tail.put(b"unread"),
-    }
-    assert_eq!(rt; tail.kept(), text.as_bytes(), "{format}");
-    assert_eq!(rt; tail.total(), text.len() as u64, "{format}");
-    Ok(())
+    print(plan, &rec, symbols, &mut tail);
+    assert!(rt;
+        tail.kept() == text.as_bytes() && tail.total() == text.len() as u64,
+        "{row}"
+    );
 }
 
-fn one(alloc: Global, expr: Expr) -> Result<Vec<Expr>, AllocError> {
-    let mut args = Vec::new(alloc);
-    args.push(expr)?;
-    Ok(args)
-}
-
-fn show_number(
+/// Prints a text by a format and its arguments.
+fn show_text(
     rt: &impl Abort,
     alloc: Global,
+    fields: &[Field],
     symbols: &Symbols,
     format: &str,
-    number: i64,
+    arguments: &str,
     text: &str,
-) -> Result<(), AllocError> {
-    let bits = number.cast_unsigned();
-    let args = one(alloc, Expr::Number { bits, kind: I64 })?;
-    prints(rt, alloc, symbols, format, args, text)
-}
-
-/// A row is a format and the text of each of the numbers.
-fn show_row(
-    rt: &impl Abort,
-    alloc: Global,
-    symbols: &Symbols,
-    numbers: &[i64],
-    row: &str,
-) -> Result<(), AllocError> {
-    let mut cells = row.split('\t');
-    let format = cells.next().unwrap_or("");
-    for number in numbers {
-        let text = cells.next().unwrap_or("no text");
-        show_number(rt, alloc, symbols, format, *number, text)?;
-    }
+) -> Result<(), Fail> {
+    let comma = if arguments.is_empty() { "" } else { ", " };
+    let fmt = format!(in alloc; "\"{format}\"{comma}{arguments}")?;
+    let plan = plan_of(alloc, fields, fmt.as_bytes())?;
+    prints(rt, &plan, symbols, text, fmt.as_str());
     Ok(())
 }
 
-fn show_numbers(
-    rt: &impl Abort,
-    alloc: Global,
-    numbers: &[i64],
-    rows: &str,
-) -> Result<(), AllocError> {
-    let symbols = symbols(alloc, "")?;
-    for row in rows.lines() {
-        show_row(rt, alloc, &symbols, numbers, row)?;
-    }
-    Ok(())
-}
-
-#[test]
-fn numbers_are_shown_as_by_c(rt: HostRuntime) -> Result<(), Fail> {
-    show_numbers(&rt, rt.alloc(), &[42, -42, 0], NUMBERS)?;
-    show_numbers(
-        &rt,
-        rt.alloc(),
-        &[0x1234_5678_9abc_def0, -1, 200, 40_000],
-        LENGTHS,
-    )?;
-    Ok(())
-}
-
-/// A row is a format and the texts of an empty text and of `abc`.
+/// Prints a text by a format for each of the arguments.
 fn show_texts(
     rt: &impl Abort,
     alloc: Global,
+    fields: &[Field],
     symbols: &Symbols,
-    row: &str,
-) -> Result<(), AllocError> {
-    let mut cells = row.split('\t');
-    let format = cells.next().unwrap_or("");
-    for argument in "|abc".split('|') {
-        let text = ByteText::copy(alloc, argument.as_bytes())?;
-        let args = one(alloc, Expr::Literal { text })?;
-        let text = cells.next().unwrap_or("no text");
-        prints(rt, alloc, symbols, format, args, text)?;
+    format: &str,
+    arguments: &str,
+    texts: &str,
+) -> Result<(), Fail> {
+    for (argument, text) in arguments.split(';').zip(texts.split('\t')) {
+        show_text(rt, alloc, fields, symbols, format, argument, text)?;
     }
     Ok(())
 }
 
-#[test]
-fn texts_are_shown_as_by_c(rt: HostRuntime) -> Result<(), Fail> {
-    let symbols = symbols(rt.alloc(), "")?;
-    for row in TEXTS.lines() {
-        show_texts(&rt, rt.alloc(), &symbols, row)?;
-    }
-    Ok(())
-}
-
-fn show_other(
+/// A row is a format, its arguments where they are not those of all rows, and the text of each of them.
+fn show_row(
     rt: &impl Abort,
     alloc: Global,
+    fields: &[Field],
     symbols: &Symbols,
+    arguments: &str,
     row: &str,
-) -> Result<(), AllocError> {
-    let mut cells = row.split('\t');
-    let format = cells.next().unwrap_or("");
-    let number = cells.next().unwrap_or("").parse::<i64>().unwrap_or(0);
-    let text = cells.next().unwrap_or("no text");
-    show_number(rt, alloc, symbols, format, number, text)
-}
-
-#[test]
-fn what_c_leaves_open_is_shown(rt: HostRuntime) -> Result<(), Fail> {
-    let symbols = symbols(rt.alloc(), "")?;
-    for row in OTHERS.lines() {
-        show_other(&rt, rt.alloc(), &symbols, row)?;
-    }
-    Ok(())
-}
-
-/// A field of four bytes at this place in the payload.
-fn field(alloc: Global, kind: FieldKind, offset: u32) -> Result<Field, AllocError> {
-    Ok(Field {
-        name: ByteText::copy(alloc, b"f")?,
-        offset,
-        size: 4,
-        signed: true,
-        kind,
-        place: FieldPlace::Fixed,
-        element: 1,
-    })
-}
-
-fn number_at(alloc: Global, offset: u32) -> Result<Expr, AllocError> {
-    let field = field(alloc, FieldKind::Number, offset)?;
-    Ok(Expr::FieldNumber { field })
-}
-
-fn text_at(alloc: Global, offset: u32) -> Result<Expr, AllocError> {
-    let field = field(alloc, FieldKind::Text, offset)?;
-    Ok(Expr::FieldText { field })
-}
-
-fn bytes_at(alloc: Global, offset: u32) -> Result<Expr, AllocError> {
-    let field = field(alloc, FieldKind::Bytes, offset)?;
-    Ok(Expr::FieldBytes { field })
-}
-
-fn int(bits: u64) -> Expr {
-    Expr::Number { bits, kind: I32 }
-}
-
-fn minus(alloc: Global, bits: u64) -> Result<Expr, AllocError> {
-    Ok(Expr::Prefix {
-        op: PrefixOp::Minus,
-        of: Box::new(alloc, int(bits))?,
-    })
-}
-
-fn chain(alloc: Global, first: Expr, op: BinaryOp, value: Expr) -> Result<Expr, AllocError> {
-    let mut rest = Vec::new(alloc);
-    rest.push(Operand { op, value })?;
-    Ok(Expr::Chain {
-        first: Box::new(alloc, first)?,
-        rest,
-    })
-}
-
-fn entry(alloc: Global, bits: u64, text: &[u8]) -> Result<Entry, AllocError> {
-    Ok(Entry {
-        value: int(bits),
-        text: ByteText::copy(alloc, text)?,
-    })
-}
-
-/// `__print_flags(5, "|", { 1, "A" }, { 4, "C\0D" })`
-fn flags(alloc: Global) -> Result<Expr, AllocError> {
-    let mut entries = Vec::new(alloc);
-    entries.push(entry(alloc, 1, b"A")?)?;
-    entries.push(entry(alloc, 4, b"C\0D")?)?;
-    Ok(Expr::Flags {
-        value: Box::new(alloc, int(5))?,
-        between: ByteText::copy(alloc, b"|")?,
-        entries,
-    })
-}
-
-/// The fields of the payload, and trees of numbers and of a text.
-fn argument(alloc: Global, letter: char) -> Result<Expr, AllocError> {
-    match letter {
-        'a' => number_at(alloc, 8),
-        'n' => number_at(alloc, 4),
-        't' => text_at(alloc, 4),
-        'T' => text_at(alloc, 0),
-        'b' => bytes_at(alloc, 4),
-        'B' => bytes_at(alloc, 0),
-        'f' => flags(alloc),
-        '7' => Ok(int(7)),
-        'z' => Ok(int(0)),
-        other => operation(alloc, other),
+) -> Result<(), Fail> {
+    let (format, texts) = row.split_once('\t').unwrap_or((row, ""));
+    if arguments.is_empty() {
+        let (own, text) = texts.split_once('\t').unwrap_or((texts, "no text"));
+        show_texts(rt, alloc, fields, symbols, format, own, text)
+    } else {
+        show_texts(rt, alloc, fields, symbols, format, arguments, texts)
     }
 }
 
-/// `-4`, `7 / 0`, `1 << 32`, `-7 >> 1` of a field, and `-1`.
-fn operation(alloc: Global, letter: char) -> Result<Expr, AllocError> {
-    match letter {
-        '-' => minus(alloc, 4),
-        '/' => chain(alloc, int(7), BinaryOp::Divide, int(0)),
-        '<' => chain(alloc, int(1), BinaryOp::ShiftLeft, int(32)),
-        '>' => chain(alloc, number_at(alloc, 12)?, BinaryOp::ShiftRight, int(1)),
-        _ => minus(alloc, 1),
-    }
-}
-
-/// A row is a format and the texts of a number, of a text and of bytes.
-fn show_kinds(
+fn show_rows(
     rt: &impl Abort,
     alloc: Global,
+    fields: &[Field],
     symbols: &Symbols,
-    row: &str,
-) -> Result<(), AllocError> {
-    let mut cells = row.split('\t');
-    let format = cells.next().unwrap_or("");
-    for letter in "ntb".chars() {
-        let args = one(alloc, argument(alloc, letter)?)?;
-        let text = cells.next().unwrap_or("no text");
-        prints(rt, alloc, symbols, format, args, text)?;
+    arguments: &str,
+    rows: &str,
+) -> Result<(), Fail> {
+    for row in rows.lines() {
+        show_row(rt, alloc, fields, symbols, arguments, row)?;
     }
     Ok(())
 }
 
-#[test]
-fn each_conversion_shows_each_kind(rt: HostRuntime) -> Result<(), Fail> {
-    let symbols = symbols(rt.alloc(), "0000000000000000 A zero\n")?;
-    for row in KINDS.lines() {
-        show_kinds(&rt, rt.alloc(), &symbols, row)?;
-    }
-    Ok(())
-}
-
-fn arguments(alloc: Global, letters: &str) -> Result<Vec<Expr>, AllocError> {
-    let mut args = Vec::new(alloc);
-    for letter in letters.chars() {
-        args.push(argument(alloc, letter)?)?;
-    }
-    Ok(args)
-}
-
-/// A row is a format, the letters of its arguments, and the text.
-fn show_arguments(
+fn show(
     rt: &impl Abort,
     alloc: Global,
-    symbols: &Symbols,
-    row: &str,
-) -> Result<(), AllocError> {
-    let mut cells = row.split('\t');
-    let format = cells.next().unwrap_or("");
-    let args = arguments(alloc, cells.next().unwrap_or(""))?;
-    let text = cells.next().unwrap_or("no text");
-    prints(rt, alloc, symbols, format, args, text)
+    before: &str,
+    arguments: &str,
+    rows: &str,
+) -> Result<(), Fail> {
+    let symbols = symbols(alloc, before)?;
+    let format = format(alloc)?;
+    show_rows(
+        rt,
+        alloc,
+        format.fields.as_slice(),
+        &symbols,
+        arguments,
+        rows,
+    )
 }
 
 #[test]
-fn arguments_are_taken_in_order(rt: HostRuntime) -> Result<(), Fail> {
-    let symbols = symbols(rt.alloc(), "0000000000000000 A zero\n")?;
-    for row in ARGUMENTS.lines() {
-        show_arguments(&rt, rt.alloc(), &symbols, row)?;
+fn numbers_and_texts_are_shown_as_by_c(rt: HostRuntime) -> Result<(), Fail> {
+    let alloc = rt.alloc();
+    show(&rt, alloc, "", "42;-42;0", NUMBERS)?;
+    show(&rt, alloc, "", "0x123456789abcdef0;-1l;200;40000", LENGTHS)?;
+    show(&rt, alloc, "", "\"\";\"abc\"", TEXTS)
+}
+
+#[test]
+fn arguments_of_every_kind_are_shown(rt: HostRuntime) -> Result<(), Fail> {
+    let alloc = rt.alloc();
+    let zero = "0000000000000000 A zero\n";
+    show(&rt, alloc, "", "", OTHERS)?;
+    show(&rt, alloc, zero, "REC->n;REC->t;REC->b", KINDS)?;
+    show(&rt, alloc, zero, "", ARGUMENTS)
+}
+
+fn put_often(text: &mut Vec<u8>, piece: &[u8]) -> Result<(), AllocError> {
+    for _ in 0..5_000 {
+        text.extend_from_slice(piece)?;
     }
     Ok(())
 }
 
-/// So many numbers of two digits, each behind 14 bytes of a literal, and as many arguments.
-fn long_fmt(alloc: Global, count: usize) -> Result<PrintFmt, AllocError> {
-    let mut text = Vec::new(alloc);
-    let mut args = Vec::new(alloc);
-    for _ in 0..count {
-        text.extend_from_slice(b"and a literal %d")?;
-        args.push(int(42))?;
-    }
-    Ok(PrintFmt {
-        text: ByteText::from_vec(text),
-        args: ListOf::from_vec(args),
-        long: 8,
-    })
+/// Numbers of two digits, each behind 14 bytes of a literal, and as many arguments.
+fn long_fmt(alloc: Global) -> Result<Vec<u8>, AllocError> {
+    let mut text = Vec::from_slice(alloc, b"\"")?;
+    put_often(&mut text, b"and a literal %d")?;
+    text.push(b'"')?;
+    put_often(&mut text, b", 42")?;
+    Ok(text)
+}
+
+/// A plan prints a text that is this long and begins so.
+fn prints_front(rt: &impl Abort, plan: &PrintPlan, symbols: &Symbols, front: &[u8], len: u64) {
+    let rec = Rec {
+        order: Order::Little,
+        payload: &[],
+    };
+    let mut room = [0; 32];
+    let mut tail = Tail::new(&mut room);
+    print(plan, &rec, symbols, &mut tail);
+    assert!(rt; tail.kept() == front && tail.total() == len);
 }
 
 #[test]
 fn a_long_text_of_many_directives_is_printed(rt: HostRuntime) -> Result<(), Fail> {
     let alloc = rt.alloc();
+    let plan = plan_of(alloc, &[], &long_fmt(alloc)?)?;
     let symbols = symbols(alloc, "")?;
-    let rec = Rec {
-        order: Order::Little,
-        payload: &[],
-    };
-    let plan = compile(alloc, long_fmt(alloc, 5_000)?)?;
-    assert!(rt; plan.is_some());
-    if let Some(plan) = plan {
-        let mut room = [0; 48];
-        let mut tail = Tail::new(&mut room);
-        print(&plan, &rec, &symbols, &mut tail);
-        assert_eq!(rt;
-            tail.kept(),
-            b"and a literal 42and a literal 42and a literal 42".as_slice()
-        );
-        assert_eq!(rt; tail.total(), 80_000);
-    }
+    prints_front(
+        &rt,
+        &plan,
+        &symbols,
+        b"and a literal 42and a literal 42",
+        80_000,
+    );
     Ok(())
 }

@@ -1,16 +1,22 @@
 // Whole runs over objects in memory: the words, the file's sub-buffers, and what must come of them.
 
+mod calls;
 mod differences;
 mod filters;
 mod gates;
 mod known;
+mod restores;
 mod rounds;
 mod selftests;
 mod splits;
 mod sub_buffers;
+mod waits;
 
 use dat_header::OpenFault;
-use known::{FUNCTION, SWITCH, Task, put_carried, put_function, put_switch, put_wide};
+use known::{
+    FUNCTION, SWITCH, Task, put_carried, put_entry, put_exit, put_function, put_graph, put_switch,
+    put_wide, put_woken,
+};
 use std::alloc::Global;
 use std::process::Abort;
 use std::test::Fail;
@@ -51,6 +57,10 @@ enum Carried {
     Texts,
     /// Formats of long lines.
     Wide,
+    /// Formats of a wake-up and of a switch.
+    Woken,
+    /// Formats of the function graph.
+    Graph,
 }
 
 /// A sub-buffer.
@@ -76,6 +86,12 @@ enum Record {
     Switch(u32, u32, Task, u64, Task),
     /// A function: its delta, pid, address, and the address that it was called from.
     Function(u32, u32, u64, u64),
+    /// An event of a task, of pid 5: its delta, id, and the task's number.
+    OfTask(u32, u16, u32),
+    /// An entry of pid 7: its delta, function and depth.
+    Enter(u32, u64, u32),
+    /// An exit of pid 7: the same, and when its call began and ended.
+    Leave(u32, u64, u32, u64, u64),
     /// A stamp of this time, below 2^27.
     Stamp(u32),
 }
@@ -538,6 +554,22 @@ fn put_record(file: &mut Vec<u8>, record: &Record) -> Result<(), Fail> {
             put_common(file, FUNCTION, 0, 0, *pid)?;
             put_function(file, *ip, *parent)
         }
+        Record::OfTask(delta, id, task) => {
+            put_head(file, *delta, 3)?;
+            put_common(file, *id, 0, 0, 5)?;
+            file.extend_from_slice(&task.to_le_bytes())?;
+            Ok(())
+        }
+        Record::Enter(delta, func, depth) => {
+            put_head(file, *delta, 5)?;
+            put_common(file, 11, 0, 0, 7)?;
+            put_entry(file, *func, *depth)
+        }
+        Record::Leave(delta, func, depth, from, to) => {
+            put_head(file, *delta, 9)?;
+            put_common(file, 10, 0, 0, 7)?;
+            put_exit(file, *func, *depth, *from, *to)
+        }
         Record::Stamp(time) => {
             put_head(file, *time, 31)?;
             put_head(file, 0, 0)
@@ -587,6 +619,8 @@ fn put_table(file: &mut Vec<u8>, carried: &Carried, parts: &[(u64, u64)]) -> Res
         Carried::Nothing => file.extend_from_slice(&header[59..83])?,
         Carried::Texts => put_carried(file)?,
         Carried::Wide => put_wide(file)?,
+        Carried::Woken => put_woken(file)?,
+        Carried::Graph => put_graph(file)?,
     }
     file.extend_from_slice(&(parts.len() as u64).to_le_bytes()[..4])?;
     file.extend_from_slice(b"flyrecord\0")?;

@@ -1,44 +1,28 @@
 //! Directives of format texts.
 
+use crate::rows::repeated;
 use fmt_directives::{Amount, Base, Directive, Length, PointerForm, Spec, directives};
 use std::alloc::{AllocError, Global};
 use std::test::Fail;
 
-/// How many directives spell a text; `none` where a conversion is not listed.
-fn count(alloc: Global, text: &[u8]) -> Result<String, AllocError> {
+/// How many directives spell a text; none where a conversion is not listed.
+fn count(alloc: Global, text: &[u8]) -> Result<Option<usize>, AllocError> {
     if text.len() > 100_000 {
-        return format!(in alloc; "too long");
+        return Ok(None);
     }
     match directives(alloc, text)? {
-        Some(row) => format!(in alloc; "{}", row.len()),
-        None => format!(in alloc; "none"),
+        Some(row) => Ok(Some(row.len())),
+        None => Ok(None),
     }
 }
 
-#[test]
-fn listed_conversions_are_read(rt: HostRuntime) -> Result<(), Fail> {
-    for row in TEXTS.lines() {
-        let (text, expected) = row.split_once(" => ").ok_or("a row has two parts")?;
-        let found = count(rt.alloc(), text.as_bytes())?;
-        assert_eq!(rt; found.as_str(), expected, "{row}");
-    }
-    Ok(())
-}
-
-/// The same of a text that is one piece so many times.
-fn repeated(alloc: Global, piece: &[u8], times: u32) -> Result<String, AllocError> {
-    let mut text = Vec::new(alloc);
-    for _ in 0..times {
-        text.extend_from_slice(piece)?;
-    }
-    count(alloc, &text)
-}
-
-#[test]
-fn long_texts_are_read_with_memory_at_hand(rt: HostRuntime) -> Result<(), Fail> {
-    assert_eq!(rt; repeated(rt.alloc(), b"a", 70_000)?.as_str(), "1");
-    assert_eq!(rt; repeated(rt.alloc(), b"%d", 5000)?.as_str(), "5000");
-    Ok(())
+pub(crate) fn told(alloc: Global, kind: &str, text: &str) -> Result<Vec<u8>, Fail> {
+    let count = if kind == "count" {
+        count(alloc, text.as_bytes())?
+    } else {
+        count(alloc, &repeated(alloc, text)?)?
+    };
+    Ok(format!(in alloc; "{count:?}")?.as_bytes().to_vec(alloc)?)
 }
 
 const NUMBER: Spec = Spec {
@@ -74,88 +58,87 @@ const POINTER: Spec = Spec {
     length: Length::Usual,
 };
 
+const PARTS: &[Directive] = &[
+    Directive::Literal { start: 0, end: 1 },
+    Directive::Number {
+        spec: NUMBER,
+        base: Base::UpperHex,
+    },
+    Directive::Literal { start: 12, end: 13 },
+    Directive::Letter { spec: LETTER },
+    Directive::Pointer {
+        spec: POINTER,
+        form: PointerForm::NameOffset,
+    },
+];
+
 #[test]
 fn parts_are_kept(rt: HostRuntime) -> Result<(), Fail> {
     let row = directives(rt.alloc(), b"a%-+08.*llX%%% #*.c%.0pS")?.ok_or("no directives")?;
-    assert_eq!(rt; row.len(), 5);
-    assert_eq!(rt; row[0], Directive::Literal { start: 0, end: 1 });
-    assert_eq!(rt;
-        row[1],
-        Directive::Number {
-            spec: NUMBER,
-            base: Base::UpperHex
-        }
-    );
-    assert_eq!(rt; row[2], Directive::Literal { start: 12, end: 13 });
-    assert_eq!(rt; row[3], Directive::Letter { spec: LETTER });
-    assert_eq!(rt;
-        row[4],
-        Directive::Pointer {
-            spec: POINTER,
-            form: PointerForm::NameOffset
-        }
-    );
+    assert!(rt; row.as_slice() == PARTS);
     Ok(())
 }
 
-// Format texts, and how many directives spell them; `none` where a conversion is not listed.
-static TEXTS: &str = r#" => 0
-plain => 1
-% => none
-%% => 1
-%%% => none
-100%%. => 3
-%5% => none
-%d => 1
-%d %i %u %x %X %o %c %s %p => 17
-%y => none
-%n => none
-%f => none
-%-0+ #d => 1
-%#08llx => 1
-%00005d => 1
-%5-d => none
-%65535d => 1
-%65536d => none
-%99999999999999999999d => none
-%.65535d => 1
-%.65536d => none
-%.d => 1
-%.007d => 1
-%.-3d => none
-%*d => 1
-%*.*d => 1
-%.*s => 1
-%*5d => none
-%5*d => none
-%**d => none
-%hhd%hd%ld%lld%zd%td%jd%Ld => 8
-%hhhd => none
-%llld => none
-%lhd => none
-%zzd => none
-%qd => none
-%hc%ls%Lp => 3
-%l => none
-%5 => none
-%. => none
-%p => 1
-%p_ => 2
-%p %p => 3
-%p%p => 2
-%ps%pf%pS%pF => 4
-%pI4 => 1
-%pI4. => 2
-%pM: => 2
-%px => none
-%p4 => none
-%ps4 => none
-%pI => none
-%pI6 => none
-%pI4c => none
-%pMx => none
-%20pS => 1
-%-16.3ps => 1
-a%db%dc => 5
-\0%s\0 => 3
-%s\n => 2"#;
+// Format texts, and how many directives spell them; none where a conversion is not listed.
+pub(crate) static ROWS: &str = r#"count  => Some(0)
+count plain => Some(1)
+count % => None
+count %% => Some(1)
+count %%% => None
+count 100%%. => Some(3)
+count %5% => None
+count %d => Some(1)
+count %d %i %u %x %X %o %c %s %p => Some(17)
+count %y => None
+count %n => None
+count %f => None
+count %-0+ #d => Some(1)
+count %#08llx => Some(1)
+count %00005d => Some(1)
+count %5-d => None
+count %65535d => Some(1)
+count %65536d => None
+count %99999999999999999999d => None
+count %.65535d => Some(1)
+count %.65536d => None
+count %.d => Some(1)
+count %.007d => Some(1)
+count %.-3d => None
+count %*d => Some(1)
+count %*.*d => Some(1)
+count %.*s => Some(1)
+count %*5d => None
+count %5*d => None
+count %**d => None
+count %hhd%hd%ld%lld%zd%td%jd%Ld => Some(8)
+count %hhhd => None
+count %llld => None
+count %lhd => None
+count %zzd => None
+count %qd => None
+count %hc%ls%Lp => Some(3)
+count %l => None
+count %5 => None
+count %. => None
+count %p => Some(1)
+count %p_ => Some(2)
+count %p %p => Some(3)
+count %p%p => Some(2)
+count %ps%pf%pS%pF => Some(4)
+count %pI4 => Some(1)
+count %pI4. => Some(2)
+count %pM: => Some(2)
+count %px => None
+count %p4 => None
+count %ps4 => None
+count %pI => None
+count %pI6 => None
+count %pI4c => None
+count %pMx => None
+count %20pS => Some(1)
+count %-16.3ps => Some(1)
+count a%db%dc => Some(5)
+count \0%s\0 => Some(3)
+count %s\n => Some(2)
+long-count 70000||a| => Some(1)
+long-count 5000||%d| => Some(5000)"#;

@@ -6,6 +6,8 @@ mod directives;
 #[cfg(test)]
 mod literals;
 #[cfg(test)]
+mod rows;
+#[cfg(test)]
 mod tokens;
 #[cfg(test)]
 mod trees;

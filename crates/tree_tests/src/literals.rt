@@ -1,5 +1,7 @@
 //! Numbers, letters, texts and types.
 
+ghost use Rattle.std.specs.Prelude.{◌≡◌, ◌⊎◌};
+
 use fmt_literal::{
     CKind, CastTo, Numeral, cast_of, is_qualifier, letter, number, push_text, size_of,
     unsigned_long,
@@ -16,158 +18,158 @@ fn kind_name(kind: CKind) -> &'static str {
     }
 }
 
-fn numeral_text(alloc: Global, numeral: Option<Numeral>) -> Result<String, AllocError> {
+fn bits_of(numeral: Option<Numeral>) -> (u64, &'static str) {
     match numeral {
-        Some(numeral) => format!(in alloc; "{} {}", numeral.bits, kind_name(numeral.kind)),
-        None => format!(in alloc; "none"),
+        Some(numeral) => (numeral.bits, kind_name(numeral.kind)),
+        None => (0, "none"),
     }
 }
 
-#[test]
-fn numbers_have_the_kinds_of_c(rt: HostRuntime) -> Result<(), Fail> {
-    for row in NUMBERS.lines() {
-        let (spelling, expected) = row.split_once(" => ").ok_or("a row has two parts")?;
-        let (wide, narrow) = expected.split_once(" | ").ok_or("a row has two kinds")?;
-        let found = numeral_text(rt.alloc(), number(spelling.as_bytes(), 8))?;
-        assert_eq!(rt; found.as_str(), wide, "{row}");
-        let found = numeral_text(rt.alloc(), number(spelling.as_bytes(), 4))?;
-        assert_eq!(rt; found.as_str(), narrow, "{row}");
-    }
-    Ok(())
+fn number_text(alloc: Global, spelling: &[u8]) -> Result<String, AllocError> {
+    let (wide, kind) = bits_of(number(spelling, 8));
+    let (narrow, other) = bits_of(number(spelling, 4));
+    format!(in alloc; "{wide} {kind} | {narrow} {other}")
 }
 
-// Spellings, and their bits and kinds where the long has 8 bytes and where it has 4: `i` is an int, `u` an unsigned one,
-// `I` and `U` have 64 bits.
-static NUMBERS: &str = "0 => 0 i | 0 i
-010 => 8 i | 8 i
-2147483647 => 2147483647 i | 2147483647 i
-2147483648 => 2147483648 I | 2147483648 I
-0x7fffffff => 2147483647 i | 2147483647 i
-0x80000000 => 2147483648 u | 2147483648 u
-0xffffffffL => 4294967295 I | 4294967295 u
-4294967295l => 4294967295 I | 4294967295 I
-037777777777 => 4294967295 u | 4294967295 u
-0x100000000 => 4294967296 I | 4294967296 I
-0x8000000000000000 => 9223372036854775808 U | 9223372036854775808 U
-9223372036854775808 => 9223372036854775808 U | 9223372036854775808 U
-7U => 7 u | 7 u
-7l => 7 I | 7 i
-7ul => 7 U | 7 u
-7LLu => 7 U | 7 U
- => none | none
-08 => none | none
-1a => none | none
-18446744073709551616 => none | none";
-
-fn letter_text(alloc: Global, letter: Option<u8>) -> Result<String, AllocError> {
-    match letter {
-        Some(byte) => format!(in alloc; "{byte}"),
-        None => format!(in alloc; "none"),
-    }
-}
-
-#[test]
-fn letters_are_these_bytes(rt: HostRuntime) -> Result<(), Fail> {
-    for row in LETTERS.lines() {
-        let (spelling, expected) = row.split_once(" => ").ok_or("a row has two parts")?;
-        let found = letter_text(rt.alloc(), letter(spelling.as_bytes()))?;
-        assert_eq!(rt; found.as_str(), expected, "{row}");
-    }
-    Ok(())
-}
-
-static LETTERS: &str = r"'a' => 97
-'\n' => 10
-'\0' => 0
-'\x4a' => 74
-'\377' => 255
-'\400' => 0
-'\'' => 39
-'' => none
-'ab' => none";
-
-fn text_of(alloc: Global, spelling: &[u8]) -> Result<Vec<u8>, AllocError> {
+/// The bytes of a text, in hexadecimal.
+fn text_of(alloc: Global, spelling: &[u8]) -> Result<String, AllocError> {
     let mut text = Vec::new(alloc);
     push_text(&mut text, spelling)?;
-    Ok(text)
-}
-
-/// Spellings, and the texts that they are.
-const TEXTS: [(&[u8], &[u8]); 8] = [
-    (b"\"\"", b""),
-    (b"\"a\\tb\\r\\n\"", b"a\tb\r\n"),
-    (b"\"\\\"\\\\\\'\\a\"", b"\"\\'a"),
-    (b"\"\\x41\\x4Az\"", b"AJz"),
-    (b"\"\\x4g\\xg\"", b"x4gxg"),
-    (b"\"\\1\\12\\101\\1018\"", b"\x01\nAA8"),
-    (b"\"\\18\\1 1\"", b"\x018\x01 1"),
-    (b"\"\\777\"", b"\xff"),
-];
-
-#[test]
-fn escapes_stand_for_these_bytes(rt: HostRuntime) -> Result<(), Fail> {
-    for (spelling, expected) in TEXTS {
-        let text = text_of(rt.alloc(), spelling)?;
-        assert_eq!(rt; text.as_slice(), expected);
-    }
-    Ok(())
+    hex::encode(alloc, &text)
 }
 
 /// What a cast to a type makes of a number, and how many bytes the type has.
-fn type_text(alloc: Global, cast: CastTo, size: Option<u32>) -> Result<String, AllocError> {
-    let bytes = size.unwrap_or(0);
-    match cast {
-        CastTo::Bits { width, signed } => {
-            let sign = if signed { "signed" } else { "unsigned" };
-            format!(in alloc; "{sign} {width}, {bytes}")
-        }
-        CastTo::Truth => format!(in alloc; "truth, {bytes}"),
-        CastTo::Same => format!(in alloc; "same, {bytes}"),
+fn type_text(alloc: Global, name: &[u8], stars: usize, long: u32) -> Result<String, AllocError>
+    requires { (long ≡ 4) ⊎ (long ≡ 8) }
+{
+    let (sign, width) = match cast_of(name, stars, long) {
+        CastTo::Bits { width, signed } => (if signed { "signed" } else { "unsigned" }, width),
+        CastTo::Truth => ("truth", 0),
+        CastTo::Same => ("same", 0),
+    };
+    let bytes = size_of(name, stars, long).unwrap_or(0);
+    format!(in alloc; "{sign} {width}, {bytes}")
+}
+
+fn text(alloc: Global, kind: &str, spelling: &[u8]) -> Result<String, AllocError> {
+    match kind {
+        "number" => number_text(alloc, spelling),
+        "letter" => format!(in alloc; "{:?}", letter(spelling)),
+        "text" => text_of(alloc, spelling),
+        "type" => type_text(alloc, spelling, 0, 8),
+        "narrow-type" => type_text(alloc, spelling, 0, 4),
+        "pointer" => type_text(alloc, spelling, 1, 8),
+        "narrow-pointer" => type_text(alloc, spelling, 2, 4),
+        "unsigned-long" => format!(in alloc;
+            "{}",
+            kind_name(unsigned_long(if spelling == b"4".as_slice() { 4 } else { 8 }))
+        ),
+        _ => format!(in alloc; "{}", is_qualifier(spelling)),
     }
 }
 
-#[test]
-fn types_have_these_casts_and_sizes(rt: HostRuntime) -> Result<(), Fail> {
-    for row in TYPES.lines() {
-        let (names, expected) = row.split_once(" => ").ok_or("a row has two parts")?;
-        for name in names.split(',') {
-            let words = name.as_bytes();
-            let found = type_text(rt.alloc(), cast_of(words, 0, 8), size_of(words, 0, 8))?;
-            assert_eq!(rt; found.as_str(), expected, "{name}");
-        }
-    }
-    Ok(())
+pub(crate) fn told(alloc: Global, kind: &str, spelling: &str) -> Result<Vec<u8>, Fail> {
+    let text = text(alloc, kind, spelling.as_bytes())?;
+    Ok(text.as_bytes().to_vec(alloc)?)
 }
 
-#[test]
-fn pointers_and_longs_have_the_long_size(rt: HostRuntime) -> Result<(), Fail> {
-    let alloc = rt.alloc();
-    let long = type_text(
-        alloc,
-        cast_of(b"unsigned long", 0, 4),
-        size_of(b"unsigned long", 0, 4),
-    )?;
-    assert_eq!(rt; long.as_str(), "unsigned 32, 4");
-    let pointer = type_text(alloc, cast_of(b"void", 1, 8), size_of(b"void", 2, 4))?;
-    assert_eq!(rt; pointer.as_str(), "unsigned 64, 4");
-    assert_eq!(rt; unsigned_long(4), CKind::U32);
-    assert_eq!(rt; unsigned_long(8), CKind::U64);
-    assert!(rt; is_qualifier(b"volatile"));
-    assert!(rt; !is_qualifier(b"restrict"));
-    Ok(())
-}
-
-// The known types without `*`, by what a cast makes of a number and how many bytes each has; behind them some that are
-// not known.
-static TYPES: &str = "signed char,s8,__s8,int8_t,char => signed 8, 1
-unsigned char,u8,__u8,uint8_t => unsigned 8, 1
-short,short int,s16,__s16,int16_t => signed 16, 2
-unsigned short,unsigned short int,u16,__u16,uint16_t => unsigned 16, 2
-int,signed,signed int,s32,__s32,int32_t,pid_t => signed 32, 4
-unsigned,unsigned int,u32,__u32,uint32_t => unsigned 32, 4
-long,long int,ssize_t => signed 64, 8
-unsigned long,unsigned long int,size_t => unsigned 64, 8
-long long,long long int,s64,__s64,int64_t => signed 64, 8
-unsigned long long,unsigned long long int,u64,__u64,uint64_t => unsigned 64, 8
-bool => truth, 1
-,struct page,long unsigned,char *,u9 => same, 0";
+// Numbers, with their bits and kinds where the long has 8 bytes and where it has 4: `i` is an int, `u` an unsigned one, `I` and
+// `U` have 64 bits. Letters. Texts, and their bytes. Types, by what a cast makes of a number and how many bytes each has; the last
+// ones are not known. Pointers of one star, and of two where the long has 4 bytes.
+pub(crate) static ROWS: &str = r#"number 0 => 0 i | 0 i
+number 010 => 8 i | 8 i
+number 2147483647 => 2147483647 i | 2147483647 i
+number 2147483648 => 2147483648 I | 2147483648 I
+number 0x7fffffff => 2147483647 i | 2147483647 i
+number 0x80000000 => 2147483648 u | 2147483648 u
+number 0xffffffffL => 4294967295 I | 4294967295 u
+number 4294967295l => 4294967295 I | 4294967295 I
+number 037777777777 => 4294967295 u | 4294967295 u
+number 0x100000000 => 4294967296 I | 4294967296 I
+number 0x8000000000000000 => 9223372036854775808 U | 9223372036854775808 U
+number 9223372036854775808 => 9223372036854775808 U | 9223372036854775808 U
+number 7U => 7 u | 7 u
+number 7l => 7 I | 7 i
+number 7ul => 7 U | 7 u
+number 7LLu => 7 U | 7 U
+number  => 0 none | 0 none
+number 08 => 0 none | 0 none
+number 1a => 0 none | 0 none
+number 18446744073709551616 => 0 none | 0 none
+letter 'a' => Some(97)
+letter '\n' => Some(10)
+letter '\0' => Some(0)
+letter '\x4a' => Some(74)
+letter '\377' => Some(255)
+letter '\400' => Some(0)
+letter '\'' => Some(39)
+letter '' => None
+letter 'ab' => None
+text "" => 
+text "a\tb\r\n" => 6109620d0a
+text "\"\\\'\a" => 225c2761
+text "\x41\x4Az" => 414a7a
+text "\x4g\xg" => 7834677867
+text "\1\12\101\1018" => 010a414138
+text "\18\1 1" => 0138012031
+text "\777" => ff
+type signed char => signed 8, 1
+type s8 => signed 8, 1
+type __s8 => signed 8, 1
+type int8_t => signed 8, 1
+type char => signed 8, 1
+type unsigned char => unsigned 8, 1
+type u8 => unsigned 8, 1
+type __u8 => unsigned 8, 1
+type uint8_t => unsigned 8, 1
+type short => signed 16, 2
+type short int => signed 16, 2
+type s16 => signed 16, 2
+type __s16 => signed 16, 2
+type int16_t => signed 16, 2
+type unsigned short => unsigned 16, 2
+type unsigned short int => unsigned 16, 2
+type u16 => unsigned 16, 2
+type __u16 => unsigned 16, 2
+type uint16_t => unsigned 16, 2
+type int => signed 32, 4
+type signed => signed 32, 4
+type signed int => signed 32, 4
+type s32 => signed 32, 4
+type __s32 => signed 32, 4
+type int32_t => signed 32, 4
+type pid_t => signed 32, 4
+type unsigned => unsigned 32, 4
+type unsigned int => unsigned 32, 4
+type u32 => unsigned 32, 4
+type __u32 => unsigned 32, 4
+type uint32_t => unsigned 32, 4
+type long => signed 64, 8
+type long int => signed 64, 8
+type ssize_t => signed 64, 8
+type unsigned long => unsigned 64, 8
+type unsigned long int => unsigned 64, 8
+type size_t => unsigned 64, 8
+type long long => signed 64, 8
+type long long int => signed 64, 8
+type s64 => signed 64, 8
+type __s64 => signed 64, 8
+type int64_t => signed 64, 8
+type unsigned long long => unsigned 64, 8
+type unsigned long long int => unsigned 64, 8
+type u64 => unsigned 64, 8
+type __u64 => unsigned 64, 8
+type uint64_t => unsigned 64, 8
+type bool => truth 0, 1
+type  => same 0, 0
+type struct page => same 0, 0
+type long unsigned => same 0, 0
+type char * => same 0, 0
+type u9 => same 0, 0
+narrow-type unsigned long => unsigned 32, 4
+pointer void => unsigned 64, 8
+narrow-pointer void => unsigned 32, 4
+unsigned-long 4 => u
+unsigned-long 8 => U
+qualifier volatile => true
+qualifier restrict => false"#;

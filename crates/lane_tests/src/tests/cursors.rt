@@ -291,18 +291,22 @@ const PARTS: &str = "\
 0 4096 100  read
 0 12288 4096 ab read";
 
+fn part_row(alloc: Global, row: &str) -> Result<bool, AllocError> {
+    let mut words = row.split(' ');
+    let part = Part {
+        offset: number(word(&mut words)),
+        size: number(word(&mut words)),
+    };
+    let byte = number(word(&mut words));
+    let items = word(&mut words);
+    let end = end_of(word(&mut words));
+    tells_part(alloc, part, byte, items, end)
+}
+
 #[test]
 fn items_of_a_part_with_keys_that_never_fall(rt: HostRuntime) -> Result<(), Fail> {
     for row in PARTS.lines() {
-        let mut words = row.split(' ');
-        let part = Part {
-            offset: number(word(&mut words)),
-            size: number(word(&mut words)),
-        };
-        let byte = number(word(&mut words));
-        let items = word(&mut words);
-        let end = end_of(word(&mut words));
-        assert!(rt; tells_part(rt.alloc(), part, byte, items, end)?, "{row}");
+        assert!(rt; part_row(rt.alloc(), row)?, "{row}");
     }
     Ok(())
 }
@@ -330,22 +334,26 @@ const PLACES: &str = "\
 2 2 0 30 8192  read 0
 2 2 0 30 8200  read 0";
 
+fn place_row(alloc: Global, row: &str) -> Result<bool, AllocError> {
+    let mut words = row.split(' ');
+    let used = small(word(&mut words));
+    let to = Place {
+        page: number(word(&mut words)),
+        at: small(word(&mut words)),
+        high: word(&mut words).parse::<u64>().ok(),
+    };
+    let byte = number(word(&mut words));
+    let items = word(&mut words);
+    let sought = sought_of(word(&mut words));
+    let read = number(word(&mut words));
+    let found = goes_to(alloc, used, to, byte, items)?;
+    Ok(found == Some((sought, read)))
+}
+
 #[test]
 fn places_forth_and_back(rt: HostRuntime) -> Result<(), Fail> {
     for row in PLACES.lines() {
-        let mut words = row.split(' ');
-        let used = small(word(&mut words));
-        let to = Place {
-            page: number(word(&mut words)),
-            at: small(word(&mut words)),
-            high: word(&mut words).parse::<u64>().ok(),
-        };
-        let byte = number(word(&mut words));
-        let items = word(&mut words);
-        let sought = sought_of(word(&mut words));
-        let read = number(word(&mut words));
-        let found = goes_to(rt.alloc(), used, to, byte, items)?;
-        assert!(rt; found == Some((sought, read)), "{row}");
+        assert!(rt; place_row(rt.alloc(), row)?, "{row}");
     }
     Ok(())
 }

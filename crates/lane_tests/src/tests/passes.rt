@@ -8,7 +8,6 @@ ghost use Rattle.page_write.specs.PageBytes.{IsPackable};
 
 use page_passes::{PageCount, write_item, write_last};
 use page_write::Packer;
-use std::test::Fail;
 use subpage::Item;
 use trace_base::{Layout, Order};
 use trace_outside::{Failed, MemSink};
@@ -46,23 +45,13 @@ fn write_at(times: &[u64], out: &mut MemSink) -> Result<u64, Failed>
     Ok(count.pages())
 }
 
+const FIRST: &[u8] = b"\0\0\0\0\0\0\x03\xe8\0\0\0\x18\x10\0\0\0payload.\x10\0\x03\xe8payload.";
+
+// A time that goes back opens a further sub-buffer.
 #[test]
-fn counts_what_is_written(rt: HostRuntime) -> Result<(), Fail> {
-    let a = rt.alloc();
-    let mut out = MemSink::new(a);
-    assert!(rt; write_at(&[], &mut out) == Ok(0), "no event");
-    assert!(rt;
-        write_at(&[1000, 2000, 1999], &mut out) == Ok(2),
-        "a time that goes back"
-    );
-    let mut first = [0; 36];
-    first.copy_from_slice(
-        b"\0\0\0\0\0\0\x03\xe8\0\0\0\x18\x10\0\0\0payload.\x10\0\x03\xe8payload.",
-    );
-    let bytes = out.bytes();
-    assert!(rt;
-        bytes.len() == 8192 && bytes.starts_with(&first),
-        "two sub-buffers"
-    );
-    Ok(())
+fn counts_what_is_written(rt: HostRuntime) {
+    let mut out = MemSink::new(rt.alloc());
+    let is_none = write_at(&[], &mut out) == Ok(0);
+    assert!(rt; is_none && write_at(&[1000, 2000, 1999], &mut out) == Ok(2));
+    assert!(rt; out.bytes().len() == 8192 && out.bytes().starts_with(FIRST));
 }

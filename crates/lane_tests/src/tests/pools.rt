@@ -1,4 +1,5 @@
 use page_pool::{Lane, LaneState, Pool, Put, Region};
+use std::alloc::{AllocError, Global};
 use std::test::Fail;
 use trace_base::Tail;
 
@@ -19,23 +20,26 @@ fn is_new(lane: &mut Lane, page: usize, text: usize, first: u8) -> bool {
         && lane.region.free().len() == text
 }
 
+fn are_new(alloc: Global, count: u32) -> Result<bool, AllocError> {
+    let mut pool = Pool::new(alloc, count, 64, 100)?;
+    let lanes = pool.lanes();
+    if let Some(last) = lanes.last_mut() {
+        write_first(last, 9);
+    }
+    for i in 0..lanes.len() {
+        let first = if i + 1 == lanes.len() { 9 } else { 0 };
+        if !is_new(&mut lanes[i], 64, 100, first) {
+            return Ok(false);
+        }
+    }
+    Ok(lanes.len() == count as usize)
+}
+
 // As many as a trace may have processors, and more than a byte counts.
 #[test]
 fn each_of_many_lanes_has_its_own_buffers(rt: HostRuntime) -> Result<(), Fail> {
     for count in [0, 3, 1024] {
-        let mut pool = Pool::new(rt.alloc(), count, 64, 100)?;
-        let lanes = pool.lanes();
-        assert_eq!(rt; lanes.len(), count as usize);
-        if let Some(last) = lanes.last_mut() {
-            write_first(last, 9);
-        }
-        for i in 0..lanes.len() {
-            let first = if i + 1 == lanes.len() { 9 } else { 0 };
-            assert!(rt;
-                is_new(&mut lanes[i], 64, 100, first),
-                "lane {i} of {count}"
-            );
-        }
+        assert!(rt; are_new(rt.alloc(), count)?, "{count}");
     }
     Ok(())
 }
@@ -74,29 +78,46 @@ fn drop_lines(region: &mut Region, count: u32) {
     }
 }
 
+const PUTS: &[(u64, &[u8], Put)] = &[
+    (5, b"abc", Put::Kept),
+    (5, b"longer than the rest", Put::Full),
+    (7, b"", Put::Kept),
+    (9, b"defghij", Put::Kept),
+    (9, b"k", Put::Full),
+];
+
+fn keeps_what_was_put(region: &mut Region) -> bool {
+    for (key, text, put) in PUTS {
+        if keep(region, *key, text) != *put {
+            return false;
+        }
+    }
+    keeps(region, &[(5, b"abc"), (7, b""), (9, b"defghij")])
+        && region.lines() == 3
+        && region.front(3) == b"abcdefghij".as_slice()
+}
+
+fn drops_a_front(region: &mut Region) -> bool {
+    drop_lines(region, 2);
+    keeps(region, &[(9, b"defghij")]) && keep(region, 9, b"k") == Put::Full
+}
+
+fn keeps_1024_empty_lines(region: &mut Region) -> bool {
+    region.clear();
+    for _ in 0..1024 {
+        if keep(region, 1, b"") != Put::Kept {
+            return false;
+        }
+    }
+    keep(region, 1, b"") == Put::Full
+}
+
 #[test]
 fn lines_are_kept_until_they_are_dropped(rt: HostRuntime) -> Result<(), Fail> {
     let mut pool = Pool::new(rt.alloc(), 1, 4096, 10)?;
     let lanes = pool.lanes();
     let region = &mut lanes[0].region;
-    for (key, text, put) in [
-        (5, &b"abc"[..], Put::Kept),
-        (5, &b"longer than the rest"[..], Put::Full),
-        (7, &b""[..], Put::Kept),
-        (9, &b"defghij"[..], Put::Kept),
-        (9, &b"k"[..], Put::Full),
-    ] {
-        assert!(rt; keep(region, key, text) == put, "{key}");
-    }
-    assert!(rt; keeps(region, &[(5, b"abc"), (7, b""), (9, b"defghij")]));
-    assert!(rt; region.lines() == 3 && region.front(3) == b"abcdefghij".as_slice());
-    drop_lines(region, 2);
-    assert!(rt; keeps(region, &[(9, b"defghij")]));
-    assert!(rt; keep(region, 9, b"k") == Put::Full);
-    region.clear();
-    for _ in 0..1024 {
-        assert!(rt; keep(region, 1, b"") == Put::Kept);
-    }
-    assert!(rt; keep(region, 1, b"") == Put::Full);
+    let is_kept = keeps_what_was_put(region) && drops_a_front(region);
+    assert!(rt; is_kept && keeps_1024_empty_lines(region));
     Ok(())
 }

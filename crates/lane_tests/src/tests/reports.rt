@@ -4,6 +4,7 @@ mod marks;
 mod pages;
 
 use End::{Done, Malformed, Read, Write};
+use least_tree::LeastTree;
 use marks::{Marks, len_of, mark};
 use page_pool::Pool;
 use pages::{Page, bytes_of, open_lanes};
@@ -34,6 +35,7 @@ fn report<R: Threads + Sync, F: File, O: Sink>(
     let mut pool = Pool::new(alloc, counts.len() as u32, 4096, room)?;
     let lanes = pool.lanes();
     open_lanes(&layout, lanes, counts, room);
+    let mut heads = LeastTree::new(alloc, counts.len() as u32)?;
     let mut pending = Pending::new(alloc)?;
     Ok(Some(report_rounds(
         rt,
@@ -43,6 +45,7 @@ fn report<R: Threads + Sync, F: File, O: Sink>(
         lanes,
         workers,
         &NoGate,
+        &mut heads,
         &mut pending,
         out,
     )))
@@ -146,18 +149,47 @@ fn row_reports<R: Threads + Sync>(
     )
 }
 
-#[test]
-fn items_come_by_key_up_to_the_least_cut(rt: HostRuntime) -> Result<(), Fail> {
-    for row in REPORTS.lines() {
-        for room in [2, 5, 65_537] {
-            for workers in [1, 3, 64] {
-                assert!(rt;
-                    row_reports(&rt, rt.alloc(), row, room, workers)?,
-                    "{row}: {room} bytes, {workers} workers"
-                );
+// The same for each size of a region and each number of workers.
+fn always_reports<R: Threads + Sync>(rt: &R, alloc: Global, row: &str) -> Result<bool, AllocError> {
+    for room in [2, 5, 65_537] {
+        for workers in [1, 3, 64] {
+            if !row_reports(rt, alloc, row, room, workers)? {
+                return Ok(false);
             }
         }
     }
+    Ok(true)
+}
+
+#[test]
+fn items_come_by_key_up_to_the_least_cut(rt: HostRuntime) -> Result<(), Fail> {
+    for row in REPORTS.lines() {
+        assert!(rt; always_reports(&rt, rt.alloc(), row)?, "{row}");
+    }
+    Ok(())
+}
+
+// The sub-buffers of 16 processors, 20 each of 145 events. They follow at like rates.
+fn put_like_rates(pages: &mut Vec<Page>) -> Result<(), AllocError> {
+    for lane in 0..16_u64 {
+        for i in 0..20_u64 {
+            pages.push(events(1 + 2320 * i + lane, 145, 16))?;
+        }
+    }
+    Ok(())
+}
+
+// A round writes once: what it prints is less than what waits at most.
+#[test]
+fn lanes_of_like_rates_form_a_sub_buffer_each_in_a_round(rt: HostRuntime) -> Result<(), Fail> {
+    let mut pages = Vec::new(rt.alloc());
+    put_like_rates(&mut pages)?;
+    let bytes = bytes_of(rt.alloc(), pages.as_slice())?;
+    let mut file = MemFile::new(ByteText::from_vec(bytes));
+    let mut out = MemSink::new(rt.alloc());
+    let end = report(&rt, rt.alloc(), &[20; 16], 65_537, 1, &mut file, &mut out)?;
+    assert!(rt; end == Some(Done));
+    assert!(rt; out.writes() <= 22, "{}", out.writes());
     Ok(())
 }
 
@@ -186,88 +218,100 @@ fn put_two_processors(pages: &mut Vec<Page>) -> Result<(), AllocError> {
     Ok(())
 }
 
-#[test]
-fn many_events_of_one_processor_against_two_of_another(rt: HostRuntime) -> Result<(), Fail> {
-    let mut pages = Vec::new(rt.alloc());
-    put_many(&mut pages, 1)?;
-    pages.push(events(2, 2, 4999))?;
-    let mut text = Vec::new(rt.alloc());
-    put_mark(&mut text, 3, 1)?;
-    put_mark(&mut text, 3, 2)?;
-    put_mark(&mut text, 4, 2)?;
-    for time in 3..=3000 {
-        put_mark(&mut text, 3, time)?;
-    }
-    put_mark(&mut text, 4, 5001)?;
-    for (room, workers) in [(2, 1), (9, 3), (65_537, 64)] {
-        assert!(rt;
-            reports(
-                &rt,
-                rt.alloc(),
-                &[9, 1],
-                pages.as_slice(),
-                room,
-                workers,
-                text.as_slice(),
-                Done
-            )?,
-            "{room}"
-        );
+// Marks of a processor at these times.
+fn put_marks(text: &mut Vec<u8>, cpu: u32, from: u64, to: u64) -> Result<(), AllocError> {
+    for time in from..to {
+        put_mark(text, cpu, time)?;
     }
     Ok(())
+}
+
+// Whether the reports of so many sub-buffers have this text, in regions of several sizes, on several workers.
+fn often_reports<R: Threads + Sync>(
+    rt: &R,
+    alloc: Global,
+    counts: &[u32],
+    pages: &[Page],
+    rooms: &[(u32, u32)],
+    text: &[u8],
+) -> Result<bool, AllocError> {
+    for (room, workers) in rooms {
+        if !reports(rt, alloc, counts, pages, *room, *workers, text, Done)? {
+            return Ok(false);
+        }
+    }
+    Ok(true)
+}
+
+fn many_pages(alloc: Global) -> Result<Vec<Page>, AllocError> {
+    let mut pages = Vec::new(alloc);
+    put_many(&mut pages, 1)?;
+    pages.push(events(2, 2, 4999))?;
+    Ok(pages)
+}
+
+fn many_marks(alloc: Global) -> Result<Vec<u8>, AllocError> {
+    let mut text = Vec::new(alloc);
+    put_marks(&mut text, 3, 1, 3)?;
+    put_mark(&mut text, 4, 2)?;
+    put_marks(&mut text, 3, 3, 3001)?;
+    put_mark(&mut text, 4, 5001)?;
+    Ok(text)
+}
+
+#[test]
+fn many_events_of_one_processor_against_two_of_another(rt: HostRuntime) -> Result<(), Fail> {
+    let pages = many_pages(rt.alloc())?;
+    let text = many_marks(rt.alloc())?;
+    let rooms = [(2, 1), (9, 3), (65_537, 64)];
+    assert!(rt; often_reports(&rt, rt.alloc(), &[9, 1], &pages, &rooms, &text)?);
+    Ok(())
+}
+
+fn waiting_marks(alloc: Global) -> Result<Vec<u8>, AllocError> {
+    let mut text = Vec::new(alloc);
+    put_marks(&mut text, 4, 1, 21)?;
+    put_marks(&mut text, 3, 10_000, 13_000)?;
+    put_mark(&mut text, 4, 20_000)?;
+    Ok(text)
+}
+
+fn two_processors(alloc: Global) -> Result<Vec<Page>, AllocError> {
+    let mut pages = Vec::new(alloc);
+    put_two_processors(&mut pages)?;
+    Ok(pages)
 }
 
 #[test]
 fn more_lines_wait_than_a_region_keeps(rt: HostRuntime) -> Result<(), Fail> {
-    let mut pages = Vec::new(rt.alloc());
-    put_two_processors(&mut pages)?;
-    let mut text = Vec::new(rt.alloc());
-    for time in 1..=20_u64 {
-        put_mark(&mut text, 4, time)?;
-    }
-    for time in 10_000..13_000 {
-        put_mark(&mut text, 3, time)?;
-    }
-    put_mark(&mut text, 4, 20_000)?;
-    for workers in [1, 3, 64] {
-        assert!(rt;
-            reports(
-                &rt,
-                rt.alloc(),
-                &[9, 21],
-                pages.as_slice(),
-                65_537,
-                workers,
-                text.as_slice(),
-                Done
-            )?,
-            "{workers}"
-        );
-    }
+    let pages = two_processors(rt.alloc())?;
+    let text = waiting_marks(rt.alloc())?;
+    let rooms = [(65_537, 1), (65_537, 3), (65_537, 64)];
+    assert!(rt; often_reports(&rt, rt.alloc(), &[9, 21], &pages, &rooms, &text)?);
     Ok(())
+}
+
+fn pages_of_each(alloc: Global) -> Result<Vec<Page>, AllocError> {
+    let mut pages = Vec::new(alloc);
+    for i in 0..1024_u32 {
+        pages.push(events(u64::from(5000 - i), 1, 0))?;
+    }
+    Ok(pages)
+}
+
+fn marks_of_each(alloc: Global) -> Result<Vec<u8>, AllocError> {
+    let mut text = Vec::new(alloc);
+    for i in 0..1024_u32 {
+        put_mark(&mut text, 1026 - i, u64::from(3977 + i))?;
+    }
+    Ok(text)
 }
 
 #[test]
 fn many_processors_with_an_event_each(rt: HostRuntime) -> Result<(), Fail> {
-    let mut pages = Vec::new(rt.alloc());
-    let mut text = Vec::new(rt.alloc());
-    for i in 0..1024_u32 {
-        pages.push(events(u64::from(5000 - i), 1, 0))?;
-        put_mark(&mut text, 1026 - i, u64::from(3977 + i))?;
-    }
-    let counts = vec![in rt.alloc(); 1_u32; 1024]?;
-    assert!(rt;
-        reports(
-            &rt,
-            rt.alloc(),
-            counts.as_slice(),
-            pages.as_slice(),
-            2,
-            64,
-            text.as_slice(),
-            Done
-        )?
-    );
+    let pages = pages_of_each(rt.alloc())?;
+    let text = marks_of_each(rt.alloc())?;
+    assert!(rt; often_reports(&rt, rt.alloc(), &[1; 1024], &pages, &[(2, 64)], &text)?);
     Ok(())
 }
 
@@ -311,73 +355,104 @@ fn sink_of(alloc: Global, room: u64) -> MemSink {
     out
 }
 
+// The byte that cannot be read and how many bytes can be written, the size of the regions, the end, how many bytes are read
+// where that is told, and the text.
+const ENDINGS: &[((u64, u64), u32, End, Option<u64>, &str)] = &[
+    ((0, u64::MAX), 2, Read, Some(0), ""),
+    // The first sub-buffer of the second processor.
+    ((8192, u64::MAX), 2, Read, Some(4096), ""),
+    // The last sub-buffer is read before the second one where that is far from being needed.
+    ((12_288, u64::MAX), 2, Read, Some(8192), "d0d1e1e1e1"),
+    ((12_288, u64::MAX), 65_537, Read, Some(12_288), "d0d1e1e1e1"),
+    (
+        (16_384, u64::MAX),
+        2,
+        Done,
+        Some(16_384),
+        "d0d1e1e1e1d2d3d0e4d5",
+    ),
+    (
+        (16_384, u64::MAX),
+        65_537,
+        Done,
+        Some(16_384),
+        "d0d1e1e1e1d2d3d0e4d5",
+    ),
+    ((u64::MAX, 0), 65_537, Write, None, ""),
+    ((u64::MAX, 3), 65_537, Write, None, "d0d"),
+    ((u64::MAX, 19), 65_537, Write, None, "d0d1e1e1e1d2d3d0e4d"),
+    ((u64::MAX, 20), 65_537, Done, None, "d0d1e1e1e1d2d3d0e4d5"),
+];
+
+// Whether a report ends so, with so many bytes read and this text where these are told, and with its one fault.
+fn ends_so<R: Threads + Sync>(
+    rt: &R,
+    alloc: Global,
+    (pages, counts): (&[Page], &[u32]),
+    (byte, space): (u64, u64),
+    room: u32,
+    end: End,
+    reads: Option<u64>,
+    text: Option<&str>,
+) -> Result<bool, AllocError> {
+    let mut file = failing_file(alloc, pages, byte)?;
+    let mut out = sink_of(alloc, space);
+    let found = report(rt, alloc, counts, room, 2, &mut file, &mut out)?;
+    let is_text = match text {
+        Some(text) => out.bytes() == text.as_bytes(),
+        None => true,
+    };
+    let is_faulty = file.faults() == u64::from(end == Read)
+        && out.faults() == u64::from(end == Write);
+    let is_read = reads.is_none() || reads == Some(file.reads());
+    Ok(found == Some(end) && is_text && is_faulty && is_read)
+}
+
 #[test]
-fn lines_are_whole_before_a_failed_read(rt: HostRuntime) -> Result<(), Fail> {
-    let all = "d0d1e1e1e1d2d3d0e4d5";
-    for (byte, room, text, end, reads) in [
-        (0, 2, "", Read, 0),
-        // The first sub-buffer of the second processor.
-        (8192, 2, "", Read, 4096),
-        // The last sub-buffer is read before the second one where that is far from being needed.
-        (12_288, 2, "d0d1e1e1e1", Read, 8192),
-        (12_288, 65_537, "d0d1e1e1e1", Read, 12_288),
-        (16_384, 2, all, Done, 16_384),
-        (16_384, 65_537, all, Done, 16_384),
-    ] {
-        let mut file = failing_file(rt.alloc(), &FAILING, byte)?;
-        let mut out = MemSink::new(rt.alloc());
-        let found = report(&rt, rt.alloc(), &[2, 2], room, 2, &mut file, &mut out)?;
-        assert!(rt;
-            found == Some(end) && file.reads() == reads,
-            "{byte}: {room}"
-        );
-        assert!(rt; out.bytes() == text.as_bytes(), "{byte}: {room}");
-        assert!(rt; file.faults() == u64::from(end == Read), "{byte}: {room}");
+fn lines_are_whole_before_a_failed_read_and_a_prefix_before_a_failed_write(
+    rt: HostRuntime,
+) -> Result<(), Fail> {
+    let pages = (FAILING.as_slice(), [2, 2].as_slice());
+    for (faults, room, end, reads, text) in ENDINGS {
+        let text = Some(*text);
+        assert!(rt; ends_so(&rt, rt.alloc(), pages, *faults, *room, *end, *reads, text)?);
     }
     Ok(())
 }
 
-#[test]
-fn a_prefix_is_written_before_a_failed_write(rt: HostRuntime) -> Result<(), Fail> {
-    for (room, text, end) in [
-        (0, "", Write),
-        (3, "d0d", Write),
-        (19, "d0d1e1e1e1d2d3d0e4d", Write),
-        (20, "d0d1e1e1e1d2d3d0e4d5", Done),
-    ] {
-        let mut file = failing_file(rt.alloc(), &FAILING, u64::MAX)?;
-        let mut out = sink_of(rt.alloc(), room);
-        let found = report(&rt, rt.alloc(), &[2, 2], 65_537, 2, &mut file, &mut out)?;
-        assert!(rt; found == Some(end), "{room}");
-        assert!(rt; out.bytes() == text.as_bytes(), "{room}");
-        assert!(rt; out.faults() == u64::from(end == Write), "{room}");
+// The bytes that can be written, the sub-buffers that are read, and those that are due. All 21 of the second processor are due.
+// The fifth of the first one has 1,224 lines before it: it is due from the 200th on, behind the second one's 18 lines of two
+// bytes.
+const DUE: &[(u64, u64, u64, End)] = &[
+    (0, 2, 4 + 21, Write),
+    (1, 2, 4 + 21, Write),
+    (2, 4, 4 + 21, Write),
+    (36, 25, 4 + 21, Write),
+    (435, 25, 4 + 21, Write),
+    (436, 25, 5 + 21, Write),
+    (5437, 30, 9 + 21, Write),
+    (5438, 30, 9 + 21, Done),
+];
+
+fn reads_what_is_due<R: Threads + Sync>(
+    rt: &R,
+    alloc: Global,
+    pages: &[Page],
+) -> Result<bool, AllocError> {
+    let pages = (pages, [9, 21].as_slice());
+    for (space, read, due, end) in DUE {
+        let reads = Some(read.saturating_mul(4096));
+        let faults = (u64::MAX, *space);
+        if read > due || !ends_so(rt, alloc, pages, faults, 65_537, *end, reads, None)? {
+            return Ok(false);
+        }
     }
-    Ok(())
+    Ok(true)
 }
 
 #[test]
 fn no_more_is_read_than_is_due_by_what_was_written(rt: HostRuntime) -> Result<(), Fail> {
-    let mut pages = Vec::new(rt.alloc());
-    put_two_processors(&mut pages)?;
-    // Each row has the bytes that can be written, the sub-buffers that are read, and those that are due. All 21 of the
-    // second processor are due. The fifth of the first one has 1,224 lines before it: it is due from the 200th on, behind
-    // the second one's 18 lines of two bytes.
-    for (room, read, due, end) in [
-        (0, 2, 4 + 21, Write),
-        (1, 2, 4 + 21, Write),
-        (2, 4, 4 + 21, Write),
-        (36, 25, 4 + 21, Write),
-        (435, 25, 4 + 21, Write),
-        (436, 25, 5 + 21, Write),
-        (5437, 30, 9 + 21, Write),
-        (5438, 30, 9 + 21, Done),
-    ] {
-        let mut file = failing_file(rt.alloc(), pages.as_slice(), u64::MAX)?;
-        let mut out = sink_of(rt.alloc(), room);
-        let found = report(&rt, rt.alloc(), &[9, 21], 65_537, 2, &mut file, &mut out)?;
-        assert!(rt; found == Some(end), "{room}");
-        assert!(rt; file.reads() == 4096 * read, "{room}: {read}");
-        assert!(rt; file.reads() <= 4096 * due, "{room}: {due}");
-    }
+    let pages = two_processors(rt.alloc())?;
+    assert!(rt; reads_what_is_due(&rt, rt.alloc(), &pages)?);
     Ok(())
 }

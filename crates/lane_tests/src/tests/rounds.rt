@@ -6,6 +6,7 @@ ghost use Rattle.time_merge.specs.LaneRows.{parts_of};
 ghost use Rattle.round_print.specs.Prints.{KeysRise, KeysUpTo};
 
 use Horizon::{All, Start, To};
+use least_tree::LeastTree;
 use page_pool::{Lane, Pool};
 use round_print::print_round;
 use std::alloc::{AllocError, Global};
@@ -115,16 +116,18 @@ fn kept(lanes: &[Lane]) -> (u32, u32)
 fn print_rounds<O: Sink>(
     horizons: &[Horizon],
     lanes: &mut [Lane],
+    heads: &mut LeastTree,
     last: &mut Option<u64>,
     pending: &mut Pending,
     out: &mut O,
 ) -> Result<(), Failed>
     requires rise { CpusRise (parts_of lanes.old) }
     requires rises { All KeysRise lanes.old }
+    requires heads { length heads.old ≡ length lanes.old }
     requires empty { pending.old ≡ [] }
 {
     for horizon in horizons {
-        match print_round(horizon, lanes, last, pending, out) {
+        match print_round(horizon, lanes, heads, last, pending, out) {
             Ok(()) => {}
             Err(failed) => return Err(failed),
         }
@@ -135,93 +138,124 @@ fn print_rounds<O: Sink>(
 // What a round up to a horizon prints, and how many lines the lanes then keep.
 fn prints(
     alloc: Global,
-    horizon: Horizon,
-    text: &[u8],
+    horizon: &Horizon,
+    text: &str,
     left: (u32, u32),
 ) -> Result<bool, AllocError> {
     let mut pool = Pool::new(alloc, 2, 4096, 16)?;
     let lanes = pool.lanes();
     fill(lanes);
+    let mut heads = LeastTree::new(alloc, 2)?;
     let mut pending = Pending::new(alloc)?;
     let mut out = MemSink::new(alloc);
-    let result = print_round(&horizon, lanes, &mut None, &mut pending, &mut out);
-    Ok(result == Ok(()) && out.bytes() == text && kept(lanes) == left)
+    let result = print_round(
+        horizon,
+        lanes,
+        &mut heads,
+        &mut None,
+        &mut pending,
+        &mut out,
+    );
+    Ok(result == Ok(()) && out.bytes() == text.as_bytes() && kept(lanes) == left)
 }
+
+const HORIZONS: &[(Horizon, &str, (u32, u32))] = &[
+    (Start(3), "", (4, 3)),
+    (To(9, 9), "", (4, 3)),
+    (To(10, 3), "a", (3, 3)),
+    (To(20, 6), "a", (3, 3)),
+    (To(20, 7), "ae", (3, 2)),
+    (To(30, 3), "aebc", (1, 2)),
+    (To(30, 7), "aebcf", (1, 1)),
+    (To(49, 9), "aebcfg", (1, 0)),
+    (All, "aebcfgd", (0, 0)),
+];
 
 #[test]
 fn lines_up_to_a_horizon(rt: HostRuntime) -> Result<(), Fail> {
-    for (horizon, text, left) in [
-        (Start(3), "", (4, 3)),
-        (To(9, 9), "", (4, 3)),
-        (To(10, 3), "a", (3, 3)),
-        (To(20, 6), "a", (3, 3)),
-        (To(20, 7), "ae", (3, 2)),
-        (To(30, 3), "aebc", (1, 2)),
-        (To(30, 7), "aebcf", (1, 1)),
-        (To(49, 9), "aebcfg", (1, 0)),
-        (All, "aebcfgd", (0, 0)),
-    ] {
+    for (horizon, text, left) in HORIZONS {
+        assert!(rt; prints(rt.alloc(), horizon, text, *left)?, "{text}");
+    }
+    Ok(())
+}
+
+const ROUNDS: &[Horizon] = &[To(10, 3), To(30, 3), All];
+
+// Each round is one write, the first of which that fails ends them.
+const WRITES: &[(u64, bool, &str, u64)] = &[
+    (4, false, "aebcfgd", 3),
+    (3, true, "aebc", 3),
+    (2, true, "a", 2),
+    (1, true, "", 1),
+];
+
+fn fails_so(
+    alloc: Global,
+    from: u64,
+    fails: bool,
+    text: &str,
+    writes: u64,
+) -> Result<bool, AllocError> {
+    let mut pool = Pool::new(alloc, 2, 4096, 16)?;
+    let lanes = pool.lanes();
+    fill(lanes);
+    let mut heads = LeastTree::new(alloc, 2)?;
+    let mut pending = Pending::new(alloc)?;
+    let mut out = MemSink::new(alloc);
+    out.fail_from(from);
+    let found = print_rounds(ROUNDS, lanes, &mut heads, &mut None, &mut pending, &mut out);
+    let is_told = out.bytes() == text.as_bytes() && out.writes() == writes;
+    Ok(found.is_err() == fails && is_told && out.faults() == u64::from(fails))
+}
+
+#[test]
+fn one_round_behind_another(rt: HostRuntime) -> Result<(), Fail> {
+    for (from, fails, text, writes) in WRITES {
         assert!(rt;
-            prints(rt.alloc(), horizon, text.as_bytes(), left)?,
-            "{text}"
+            fails_so(rt.alloc(), *from, *fails, text, *writes)?,
+            "{from}"
         );
     }
     Ok(())
 }
 
-// Each round is one write, the first of which that fails ends them.
-#[test]
-fn one_round_behind_another(rt: HostRuntime) -> Result<(), Fail> {
-    for (fails, result, text, writes) in [
-        (4, Ok(()), "aebcfgd", 3),
-        (3, Err(Failed), "aebc", 3),
-        (2, Err(Failed), "a", 2),
-        (1, Err(Failed), "", 1),
-    ] {
-        let mut pool = Pool::new(rt.alloc(), 2, 4096, 16)?;
-        let lanes = pool.lanes();
-        fill(lanes);
-        let mut pending = Pending::new(rt.alloc())?;
-        let mut out = MemSink::new(rt.alloc());
-        out.fail_from(fails);
-        let found = print_rounds(
-            &[To(10, 3), To(30, 3), All],
-            lanes,
-            &mut None,
-            &mut pending,
-            &mut out,
-        );
-        assert!(rt; found == result, "{fails}");
-        assert!(rt;
-            out.bytes() == text.as_bytes() && out.writes() == writes,
-            "{fails}"
-        );
-        assert_eq!(rt; out.faults(), u64::from(result.is_err()), "{fails}");
-    }
-    Ok(())
+const FILLED: &[(Horizon, Option<u64>, &str, Option<u64>)] = &[
+    (To(10, 3), None, "a1\n", Some(10)),
+    (To(20, 7), None, "a1\nd2 (+7)\n", Some(17)),
+    (To(30, 7), Some(12), "a1 (-2)\nd2 (+7)\nb\n", Some(17)),
+    (All, None, "a1\nd2 (+7)\nb\ne4\n (+23) (-35)c\n", Some(5)),
+    (Start(3), Some(9), "", Some(9)),
+];
+
+fn fills(
+    alloc: Global,
+    horizon: &Horizon,
+    last: Option<u64>,
+    text: &str,
+    now: Option<u64>,
+) -> Result<bool, AllocError> {
+    let mut pool = Pool::new(alloc, 2, 4096, 16)?;
+    let lanes = pool.lanes();
+    fill_holed(lanes);
+    let mut heads = LeastTree::new(alloc, 2)?;
+    let mut pending = Pending::new(alloc)?;
+    let mut out = MemSink::new(alloc);
+    let mut time = last;
+    let result = print_round(
+        horizon,
+        lanes,
+        &mut heads,
+        &mut time,
+        &mut pending,
+        &mut out,
+    );
+    Ok(result == Ok(()) && out.bytes() == text.as_bytes() && time == now)
 }
 
 #[test]
 fn holes_are_filled_from_the_line_before(rt: HostRuntime) -> Result<(), Fail> {
-    for (horizon, last, text, now) in [
-        (To(10, 3), None, "a1\n", Some(10)),
-        (To(20, 7), None, "a1\nd2 (+7)\n", Some(17)),
-        (To(30, 7), Some(12), "a1 (-2)\nd2 (+7)\nb\n", Some(17)),
-        (All, None, "a1\nd2 (+7)\nb\ne4\n (+23) (-35)c\n", Some(5)),
-        (Start(3), Some(9), "", Some(9)),
-    ] {
-        let mut pool = Pool::new(rt.alloc(), 2, 4096, 16)?;
-        let lanes = pool.lanes();
-        fill_holed(lanes);
-        let mut pending = Pending::new(rt.alloc())?;
-        let mut out = MemSink::new(rt.alloc());
-        let mut time = last;
-        let result = print_round(&horizon, lanes, &mut time, &mut pending, &mut out);
-        assert!(rt;
-            result == Ok(()) && out.bytes() == text.as_bytes(),
-            "{text}"
-        );
-        assert!(rt; time == now, "{text}");
+    for (horizon, last, text, now) in FILLED {
+        assert!(rt; fills(rt.alloc(), horizon, *last, text, *now)?, "{text}");
     }
     Ok(())
 }

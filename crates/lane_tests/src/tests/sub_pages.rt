@@ -13,23 +13,13 @@ use subpage::{Item, Page, check_page, first_at, open_page};
 use trace_base::{Layout, Order, put_u32, put_u64};
 
 /// A sub-buffer of 4096 bytes: time, commit word, and the bytes that its data begin with; zero bytes fill it.
-#[derive(Clone, Copy)]
+#[derive(Drop)]
 struct SubPage {
     order: Order,
     is_64_bit: bool,
     time: u64,
     commit: u32,
-    bytes: &'static [u8],
-}
-
-fn little(time: u64, commit: u32, bytes: &'static [u8]) -> SubPage {
-    SubPage {
-        order: Little,
-        is_64_bit: true,
-        time,
-        commit,
-        bytes,
-    }
+    bytes: Vec<u8>,
 }
 
 fn layout_of(order: Order, is_64_bit: bool) -> Layout
@@ -58,10 +48,6 @@ fn write(alloc: Global, layout: &Layout, page: &SubPage) -> Result<Vec<u8>, Allo
     let len = page.bytes.len().min(4000);
     data[..len].copy_from_slice(&page.bytes[..len]);
     Ok(out)
-}
-
-fn event(time: u64, payload: &[u8]) -> Item<'_> {
-    Item::Event { time, payload }
 }
 
 fn time_of(item: &Item<'_>) -> u64 {
@@ -106,202 +92,120 @@ fn leads_over(layout: &Layout, bytes: &[u8], items: &[Item<'_>]) -> bool
     first_at(layout, bytes, mark).is_none()
 }
 
-/// The sub-buffer tells these items, or is malformed where there are none to be told.
-fn tells(alloc: Global, page: SubPage, items: Option<&[Item<'_>]>) -> Result<bool, AllocError> {
-    let layout = layout_of(page.order, page.is_64_bit);
-    let bytes = write(alloc, &layout, &page)?;
-    let found = check_page(&layout, bytes.as_slice());
-    Ok(match (found, items) {
-        (Some(found), Some(items)) => {
-            tells_just(&found, items) && leads_over(&layout, bytes.as_slice(), items)
+fn put_item(alloc: Global, item: &Item<'_>, text: &mut String) -> Result<(), AllocError> {
+    let item = match item {
+        Item::Event { time, payload } => {
+            let payload = hex::encode(alloc, *payload)?;
+            format!(in alloc; " {time}:{payload}")
         }
-        (None, None) => open_page(&layout, bytes.as_slice()).is_none(),
-        _ => false,
+        Item::Loss {
+            time,
+            count: Some(count),
+        } => format!(in alloc; " {time}-{count}"),
+        Item::Loss { time, count: None } => format!(in alloc; " {time}-?"),
+    }?;
+    text.push_str(item.as_str())
+}
+
+fn items_of<'a>(alloc: Global, page: &Page<'a>) -> Result<Vec<Item<'a>>, AllocError> {
+    let mut items = Vec::new(alloc);
+    for item in page.items() {
+        items.push(item)?;
+    }
+    Ok(items)
+}
+
+/// Items, each as its time and its payload in hexadecimal, or as its time and how many were lost.
+fn items_text(alloc: Global, items: &[Item<'_>]) -> Result<String, AllocError> {
+    let mut text = String::new(alloc);
+    for item in items {
+        put_item(alloc, item, &mut text)?;
+    }
+    Ok(text)
+}
+
+/// The items of a sub-buffer, where all ways to them tell the same.
+fn told(alloc: Global, layout: &Layout, bytes: &[u8], page: &Page<'_>) -> Result<String, AllocError>
+    requires allowed { IsLayout layout.now }
+    requires whole { length bytes.now ≡ layout.now.page }
+{
+    let items = items_of(alloc, page)?;
+    if tells_just(page, &items) && leads_over(layout, bytes, &items) {
+        items_text(alloc, &items)
+    } else {
+        String::from_str(alloc, "otherwise")
+    }
+}
+
+/// The items of a sub-buffer; `!` where it is malformed.
+fn text_of(alloc: Global, page: &SubPage) -> Result<String, AllocError> {
+    let layout = layout_of(page.order, page.is_64_bit);
+    let bytes = write(alloc, &layout, page)?;
+    match check_page(&layout, bytes.as_slice()) {
+        Some(found) => told(alloc, &layout, bytes.as_slice(), &found),
+        None if open_page(&layout, bytes.as_slice()).is_none() => String::from_str(alloc, " !"),
+        None => String::from_str(alloc, "opened"),
+    }
+}
+
+/// The sub-buffer of a row.
+fn page_of(alloc: Global, row: &str) -> Result<SubPage, Fail> {
+    let mut words = row.split(' ');
+    let kind = words.next().unwrap_or("");
+    Ok(SubPage {
+        order: if kind == "little" { Little } else { Big },
+        is_64_bit: kind != "big4",
+        time: words.next().unwrap_or("").parse::<u64>().unwrap_or(0),
+        commit: words.next().unwrap_or("").parse::<u32>().unwrap_or(0),
+        bytes: hex::decode(alloc, words.next().unwrap_or(""))?,
     })
 }
 
-#[test]
-fn elements_and_their_times(rt: HostRuntime) -> Result<(), Fail> {
-    let a = rt.alloc();
-    let page = little(1_000_000_000, 12, b"\x02\0\0\0\x3a\0\0\0\xd2\x04\0\0");
-    let first = event(1_000_000_000, b"\x3a\0\0\0\xd2\x04\0\0");
-    assert!(rt; tells(a, page, Some(&[first]))?, "one event");
+// A name, and of a sub-buffer the order with the size of a big commit word, the time, the commit word and the first bytes; the
+// items that it tells. A `!` stands for a malformed one.
+const ROWS: &str = "\
+one event: little 1000000000 12 020000003a000000d2040000 => 1000000000:3a000000d2040000
+an extend: little 0 20 1e00000001000000020000003a000000d2040000 => 134217728:3a000000d2040000
+stamps that take over the upper five bits: little 576460752303423588 40 1f19000000000000020000003a000000010000005f06000000000000020000003a00000001000000 => 576460752303423688:3a00000001000000 1152921504606847026:3a00000001000000
+the greatest stamp: little 5 20 ffffffffffffffff020000003a00000001000000 => 576460752303423487:3a00000001000000
+a discarded record, and an end: little 1000 40 420100003a00000001000000fd0000000800000000000000620000003a000000010000001d000000 => 1010:3a00000001000000 1020:3a00000001000000
+a long event: little 1000 24 a0000000070000006162630042000000776f72641d000000 => 1005:616263 1007:776f72641d000000
+an event that is cut: little 1000 20 a0000000070000006162630042000000776f72641d000000 => !
+a long event with nothing in it: little 1000 8 0000000004000000 => 1000:
+an end before some bytes: little 1000 4 1d000000ffffff =>
+an end before some bytes: little 1000 5 1d000000ffffff =>
+an end before some bytes: little 1000 6 1d000000ffffff =>
+an end before some bytes: little 1000 7 1d000000ffffff =>
+no committed bytes: little 1000 0  =>
+a commit word of 4 bytes: big4 0 20 f00000000000000110000000003a0000000004d2 => 134217728:003a0000000004d2
+a commit word of 8 bytes: big8 0 20 f00000000000000110000000003a0000000004d2 => 134217728:003a0000000004d2
+a loss: big8 0 3221225472 0000000000000003 => 0-3
+a loss with its number: little 1000 3221225484 020000003a000000010000000300000000000000 => 1000-3 1000:3a00000001000000
+a loss without a number: little 1000 2147483660 020000003a000000010000000300000000000000 => 1000-? 1000:3a00000001000000
+bits that tell nothing: little 1000 2013265932 020000003a000000010000000300000000000000 => 1000:3a00000001000000
+no room for the number: little 1000 3221229552 1d000000 => 1000-?
+more than the data area: little 1000 5000  => !
+one byte more than the data area: little 0 4081  => !
+half a word: little 0 2 02000000 => !
+an event that is cut: little 0 8 1c000000 => !
+a length below 4: little 0 8 0000000003000000 => !
+a discarded record's length below 4: little 0 8 3d00000003000000 => !
+a discarded record that is cut: little 0 12 3d0000000c000000 => !
+an extend that is cut: little 0 4 1e000000 => !
+2^64 by an event: little 18446744073709551615 12 220000003a00000001000000 => !
+2^64 by a stamp: little 18446744073709551615 8 1f00000000000000 => !";
 
-    let page = little(
-        0,
-        20,
-        b"\x1e\0\0\0\x01\0\0\0\x02\0\0\0\x3a\0\0\0\xd2\x04\0\0",
-    );
-    let first = event(134_217_728, b"\x3a\0\0\0\xd2\x04\0\0");
-    assert!(rt; tells(a, page, Some(&[first]))?, "an extend");
-
-    let page = little(
-        576_460_752_303_423_588,
-        40,
-        b"\x1f\x19\0\0\0\0\0\0\x02\0\0\0\x3a\0\0\0\x01\0\0\0\x5f\x06\0\0\0\0\0\0\x02\0\0\0\x3a\0\0\0\x01\0\0\0",
-    );
-    let first = event(576_460_752_303_423_688, b"\x3a\0\0\0\x01\0\0\0");
-    let second = event(1_152_921_504_606_847_026, b"\x3a\0\0\0\x01\0\0\0");
-    assert!(rt;
-        tells(a, page, Some(&[first, second]))?,
-        "stamps that take over the upper five bits"
-    );
-
-    let page = little(
-        5,
-        20,
-        b"\xff\xff\xff\xff\xff\xff\xff\xff\x02\0\0\0\x3a\0\0\0\x01\0\0\0",
-    );
-    let first = event(576_460_752_303_423_487, b"\x3a\0\0\0\x01\0\0\0");
-    assert!(rt; tells(a, page, Some(&[first]))?, "the greatest stamp");
-
-    let page = little(
-        1000,
-        40,
-        b"\x42\x01\0\0\x3a\0\0\0\x01\0\0\0\xfd\0\0\0\x08\0\0\0\0\0\0\0\x62\0\0\0\x3a\0\0\0\x01\0\0\0\x1d\0\0\0",
-    );
-    let first = event(1010, b"\x3a\0\0\0\x01\0\0\0");
-    let second = event(1020, b"\x3a\0\0\0\x01\0\0\0");
-    assert!(rt;
-        tells(a, page, Some(&[first, second]))?,
-        "a discarded record, and an end"
-    );
-    Ok(())
+fn is_told(alloc: Global, row: &str) -> Result<bool, Fail> {
+    let (_, row) = row.split_once(": ").unwrap_or(("", ""));
+    let (page, expected) = row.split_once(" =>").unwrap_or(("", "no row"));
+    let page = page_of(alloc, page)?;
+    Ok(text_of(alloc, &page)?.as_str() == expected)
 }
 
 #[test]
-fn long_events_and_ends(rt: HostRuntime) -> Result<(), Fail> {
-    let a = rt.alloc();
-    let page = little(
-        1000,
-        24,
-        b"\xa0\0\0\0\x07\0\0\0abc\0\x42\0\0\0word\x1d\0\0\0",
-    );
-    let first = event(1005, b"abc");
-    let second = event(1007, b"word\x1d\0\0\0");
-    assert!(rt; tells(a, page, Some(&[first, second]))?, "a long event");
-    let page = SubPage { commit: 20, ..page };
-    assert!(rt; tells(a, page, None)?, "an event that is cut");
-
-    let page = little(1000, 8, b"\0\0\0\0\x04\0\0\0");
-    let first = event(1000, b"");
-    assert!(rt;
-        tells(a, page, Some(&[first]))?,
-        "a long event with nothing in it"
-    );
-
-    for commit in 4..8 {
-        let page = little(1000, commit, b"\x1d\0\0\0\xff\xff\xff");
-        assert!(rt; tells(a, page, Some(&[]))?, "an end before some bytes");
-    }
-    assert!(rt;
-        tells(a, little(1000, 0, b""), Some(&[]))?,
-        "no committed bytes"
-    );
-    Ok(())
-}
-
-#[test]
-fn big_endian(rt: HostRuntime) -> Result<(), Fail> {
-    let a = rt.alloc();
-    let page = SubPage {
-        order: Big,
-        is_64_bit: false,
-        time: 0,
-        commit: 20,
-        bytes: b"\xf0\0\0\0\0\0\0\x01\x10\0\0\0\0\x3a\0\0\0\0\x04\xd2",
-    };
-    let first = event(134_217_728, b"\0\x3a\0\0\0\0\x04\xd2");
-    assert!(rt; tells(a, page, Some(&[first]))?, "a commit word of 4 bytes");
-    let page = SubPage {
-        is_64_bit: true,
-        ..page
-    };
-    assert!(rt; tells(a, page, Some(&[first]))?, "a commit word of 8 bytes");
-    let page = SubPage {
-        commit: 0xc000_0000,
-        bytes: b"\0\0\0\0\0\0\0\x03",
-        ..page
-    };
-    assert!(rt;
-        tells(
-            a,
-            page,
-            Some(&[Item::Loss {
-                time: 0,
-                count: Some(3)
-            }])
-        )?,
-        "a loss"
-    );
-    Ok(())
-}
-
-#[test]
-fn losses(rt: HostRuntime) -> Result<(), Fail> {
-    let a = rt.alloc();
-    let page = little(
-        1000,
-        0xc000_000c,
-        b"\x02\0\0\0\x3a\0\0\0\x01\0\0\0\x03\0\0\0\0\0\0\0",
-    );
-    let event = event(1000, b"\x3a\0\0\0\x01\0\0\0");
-    let loss = Item::Loss {
-        time: 1000,
-        count: Some(3),
-    };
-    assert!(rt;
-        tells(a, page, Some(&[loss, event]))?,
-        "a loss with its number"
-    );
-    let loss = Item::Loss {
-        time: 1000,
-        count: None,
-    };
-    let page = SubPage {
-        commit: 0x8000_000c,
-        ..page
-    };
-    assert!(rt;
-        tells(a, page, Some(&[loss, event]))?,
-        "a loss without a number"
-    );
-    let page = SubPage {
-        commit: 0x7800_000c,
-        ..page
-    };
-    assert!(rt; tells(a, page, Some(&[event]))?, "bits that tell nothing");
-    let page = little(1000, 0xc000_0ff0, b"\x1d\0\0\0");
-    assert!(rt; tells(a, page, Some(&[loss]))?, "no room for the number");
-    Ok(())
-}
-
-#[test]
-fn malformed_pages(rt: HostRuntime) -> Result<(), Fail> {
-    let a = rt.alloc();
-    let last = u64::MAX;
-    for (name, page) in [
-        ("more than the data area", little(1000, 5000, b"")),
-        ("one byte more than the data area", little(0, 4081, b"")),
-        ("half a word", little(0, 2, b"\x02\0\0\0")),
-        ("an event that is cut", little(0, 8, b"\x1c\0\0\0")),
-        ("a length below 4", little(0, 8, b"\0\0\0\0\x03\0\0\0")),
-        (
-            "a discarded record's length below 4",
-            little(0, 8, b"\x3d\0\0\0\x03\0\0\0"),
-        ),
-        (
-            "a discarded record that is cut",
-            little(0, 12, b"\x3d\0\0\0\x0c\0\0\0"),
-        ),
-        ("an extend that is cut", little(0, 4, b"\x1e\0\0\0")),
-        (
-            "2^64 by an event",
-            little(last, 12, b"\x22\0\0\0\x3a\0\0\0\x01\0\0\0"),
-        ),
-        ("2^64 by a stamp", little(last, 8, b"\x1f\0\0\0\0\0\0\0")),
-    ] {
-        assert!(rt; tells(a, page, None)?, "{name}");
+fn sub_buffers_have_these_items(rt: HostRuntime) -> Result<(), Fail> {
+    for row in ROWS.lines() {
+        assert!(rt; is_told(rt.alloc(), row)?, "{row}");
     }
     Ok(())
 }

@@ -1,11 +1,16 @@
-// The texts of a file with two formats, two symbols and two tasks, and the payloads of its events.
+// The texts that files carry, and the payloads of their events.
 
 use std::test::Fail;
 
-/// The ids of the two formats.
+/// The ids of a function and of a switch.
 pub(super) const FUNCTION: u16 = 1;
 
 pub(super) const SWITCH: u16 = 316;
+
+/// Those of a wake-up and of a switch to a task.
+pub(super) const WOKEN: u16 = 10;
+
+pub(super) const NEXT: u16 = 11;
 
 /// A format's text, but for the common fields.
 struct FormatText {
@@ -85,6 +90,36 @@ pub(super) fn put_carried(file: &mut Vec<u8>) -> Result<(), Fail> {
     put_long(file, COMMAND_LINES.as_bytes())
 }
 
+const WOKEN_TEXT: FormatText = FormatText {
+    head: "name: sched_wakeup\nID: 10\nformat:\n",
+    fields: "\tfield:pid_t pid;\toffset:8;\tsize:4;\tsigned:1;
+
+",
+    print: "print fmt: \"pid=%d\", REC->pid
+",
+};
+
+const NEXT_TEXT: FormatText = FormatText {
+    head: "name: sched_switch\nID: 11\nformat:\n",
+    fields: "\tfield:pid_t next_pid;\toffset:8;\tsize:4;\tsigned:1;
+
+",
+    print: "print fmt: \"next=%d\", REC->next_pid
+",
+};
+
+/// The same for a file with wake-ups and switches, and without names.
+pub(super) fn put_woken(file: &mut Vec<u8>) -> Result<(), Fail> {
+    file.extend_from_slice(&0u32.to_le_bytes())?;
+    file.extend_from_slice(&1u32.to_le_bytes())?;
+    file.extend_from_slice(b"sched\0\x02\0\0\0")?;
+    put_format(file, &WOKEN_TEXT)?;
+    put_format(file, &NEXT_TEXT)?;
+    put_short(file, "")?;
+    put_short(file, "")?;
+    put_long(file, b"")
+}
+
 const WIDE_TEXT: FormatText = FormatText {
     head: "name: wide\nID: 7\nformat:\n",
     fields: "",
@@ -108,6 +143,61 @@ pub(super) fn put_wide(file: &mut Vec<u8>) -> Result<(), Fail> {
     put_short(file, "")?;
     put_short(file, "")?;
     put_long(file, b"")
+}
+
+const EXIT_TEXT: FormatText = FormatText {
+    head: "name: funcgraph_exit\nID: 10\nformat:\n",
+    fields: "\tfield:unsigned long func;\toffset:8;\tsize:8;\tsigned:0;
+\tfield:unsigned long long calltime;\toffset:16;\tsize:8;\tsigned:0;
+\tfield:unsigned long long rettime;\toffset:24;\tsize:8;\tsigned:0;
+\tfield:int depth;\toffset:32;\tsize:4;\tsigned:1;
+
+",
+    print: "print fmt: \"<-- %ps\", (void *)REC->func
+",
+};
+
+const ENTRY_TEXT: FormatText = FormatText {
+    head: "name: funcgraph_entry\nID: 11\nformat:\n",
+    fields: "\tfield:unsigned long func;\toffset:8;\tsize:8;\tsigned:0;
+\tfield:int depth;\toffset:16;\tsize:4;\tsigned:1;
+
+",
+    print: "print fmt: \"--> %ps\", (void *)REC->func
+",
+};
+
+/// The same for a file with the two formats of the function graph.
+pub(super) fn put_graph(file: &mut Vec<u8>) -> Result<(), Fail> {
+    file.extend_from_slice(&2u32.to_le_bytes())?;
+    put_format(file, &EXIT_TEXT)?;
+    put_format(file, &ENTRY_TEXT)?;
+    file.extend_from_slice(&0u32.to_le_bytes())?;
+    put_short(file, "1000 T outer\n2000 T inner\n")?;
+    put_short(file, "")?;
+    put_long(file, b"7 sh\n")
+}
+
+/// An entry into a function at this depth.
+pub(super) fn put_entry(file: &mut Vec<u8>, func: u64, depth: u32) -> Result<(), Fail> {
+    file.extend_from_slice(&func.to_le_bytes())?;
+    file.extend_from_slice(&depth.to_le_bytes())?;
+    Ok(())
+}
+
+/// An exit from it, with when its call began and ended.
+pub(super) fn put_exit(
+    file: &mut Vec<u8>,
+    func: u64,
+    depth: u32,
+    from: u64,
+    to: u64,
+) -> Result<(), Fail> {
+    for number in [func, from, to] {
+        file.extend_from_slice(&number.to_le_bytes())?;
+    }
+    file.extend_from_slice(&depth.to_le_bytes())?;
+    Ok(())
 }
 
 /// A function that was called from another.

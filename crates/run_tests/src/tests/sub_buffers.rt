@@ -221,3 +221,38 @@ fn a_split_keeps_the_size_of_sub_buffers(rt: HostRuntime) -> Result<(), Fail> {
     }
     Ok(())
 }
+
+/// What is restored of the header of such a file and of two data files.
+const RESTORED: (&str, usize, &str, &str) = (
+    "whole",
+    135_168,
+    "[flyrecord 2]\ncpu 0 offset 4096 size 65536\ncpu 1 offset 69632 size 65536\n",
+    "cpus=2\n           <...>-7     [000]     1.000000: [UNKNOWN EVENT 58]\n           <...>-7     [001]     2.000000: [UNKNOWN EVENT 58]\n",
+);
+
+fn put_data(alloc: Global, folder: &mut MemFolder, name: &str, seconds: u64) -> Result<(), Fail> {
+    let mut data = Vec::new(alloc);
+    put_sub_buffer(&mut data, 65_536, seconds)?;
+    folder.put(name, &data)?;
+    Ok(())
+}
+
+/// Restored data begin with a page too.
+#[test]
+fn a_restore_keeps_the_size_of_sub_buffers(rt: HostRuntime) -> Result<(), Fail> {
+    let alloc = rt.alloc();
+    let trace = Trace {
+        data: 65_520,
+        count: 0,
+        size: 0,
+    };
+    let mut folder = folder_of(alloc, &trace)?;
+    put_data(alloc, &mut folder, "c0", 1)?;
+    put_data(alloc, &mut folder, "c1", 2)?;
+    let words = words_of(
+        alloc,
+        &["restore", "-i", "trace.dat", "-o", "whole", "c0", "c1"],
+    )?;
+    ends_as(&rt, &words, &mut folder, (Status::Done, "", ""));
+    is_file(&rt, &mut folder, &RESTORED)
+}

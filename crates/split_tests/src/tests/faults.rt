@@ -45,35 +45,42 @@ fn text_of(alloc: Global, most: u32, fault: MemFault) -> Result<String, Fail> {
     Ok(text)
 }
 
+fn leaves(alloc: Global, most: u32, fault: MemFault, told: &str) -> Result<bool, Fail> {
+    Ok(text_of(alloc, most, fault)?.as_str() == told)
+}
+
+const FAULTS: &[(MemFault, &str)] = &[
+    (MemFault::Create(1), "-/older/-/write 0"),
+    (MemFault::Create(2), "10 20 |/older/-/write 1"),
+    (MemFault::Create(3), "10 20 |/30 40 |/-/write 2"),
+    (MemFault::Create(4), "10 20 |/30 40 |/50 |/done 3"),
+    (MemFault::Finish(1), "-/older/-/write 1"),
+    (MemFault::Finish(2), "10 20 |/older/-/write 2"),
+    (MemFault::Finish(3), "10 20 |/30 40 |/-/write 3"),
+];
+
 #[test]
 fn an_older_file_stands_after_a_fault(rt: HostRuntime) -> Result<(), Fail> {
-    for (fault, told) in [
-        (MemFault::Create(1), "-/older/-/write 0"),
-        (MemFault::Create(2), "10 20 |/older/-/write 1"),
-        (MemFault::Create(3), "10 20 |/30 40 |/-/write 2"),
-        (MemFault::Create(4), "10 20 |/30 40 |/50 |/done 3"),
-        (MemFault::Finish(1), "-/older/-/write 1"),
-        (MemFault::Finish(2), "10 20 |/older/-/write 2"),
-        (MemFault::Finish(3), "10 20 |/30 40 |/-/write 3"),
-    ] {
-        let text = text_of(rt.alloc(), u32::MAX, fault)?;
-        assert!(rt; text.as_str() == told, "{text}");
+    for (fault, told) in FAULTS {
+        assert!(rt; leaves(rt.alloc(), u32::MAX, *fault, told)?, "{told}");
     }
     Ok(())
 }
 
+// The bytes of the second file whose writes fail. It has 8,192, each of which is written by itself: the header's pieces, the zero
+// bytes behind it, and the sub-buffer.
+const BYTES: [u64; 10] = [1, 2, 11, 21, 101, 118, 119, 4096, 4097, 8192];
+
 #[test]
 fn each_failed_write_leaves_the_files_before(rt: HostRuntime) -> Result<(), Fail> {
-    // A file has 8,192 bytes, each of which is written by itself: the header's pieces, the zero bytes behind it, and the
-    // sub-buffer.
-    for byte in [1_u64, 2, 11, 21, 101, 118, 119, 4096, 4097, 8192] {
-        let text = text_of(rt.alloc(), 1, MemFault::Write(byte.saturating_add(8192)))?;
+    for byte in BYTES {
+        let fault = MemFault::Write(byte.saturating_add(8192));
         assert!(rt;
-            text.as_str() == "10 20 |/older/-/write 2",
-            "{byte}: {text}"
+            leaves(rt.alloc(), 1, fault, "10 20 |/older/-/write 2")?,
+            "{byte}"
         );
     }
-    let text = text_of(rt.alloc(), 1, MemFault::Write(16_385))?;
-    assert_eq!(rt; text.as_str(), "10 20 |/30 40 |/-/write 3");
+    let fault = MemFault::Write(16_385);
+    assert!(rt; leaves(rt.alloc(), 1, fault, "10 20 |/30 40 |/-/write 3")?);
     Ok(())
 }

@@ -13,6 +13,7 @@ use super::watched::{Then, WatchedFile};
 use PieceEnd::{Done, Full};
 use PieceUnit::{All, Events, Nanos};
 use event_cursor::Place;
+use least_tree::LeastTree;
 use page_pool::{Lane, Pool};
 use split_passes::{PieceEnd, Tally, clear, measure, note_fronts, pack_all};
 use split_pieces::Gauge;
@@ -141,13 +142,16 @@ fn pass_piece<F: File, O: Sink>(
     lanes: &mut [Lane],
     unit: PieceUnit,
     stop: Option<Moment>,
+    nexts: &mut LeastTree,
     out: &mut O,
 ) -> Result<Passed, Failed>
     requires allowed { IsLayout layout.now }
     requires page { layout.now.page ≡ 4096 }
     requires two { length lanes.old ≡ 2 }
+    requires slots { length nexts.old ≡ 2 }
     requires in_order { All (IsInOrder layout.now) lanes.old }
     requires rise { CpusRise (parts_of lanes.old) }
+    ensures slots { length nexts.new ≡ 2 }
     ensures in_order { All (IsInOrder layout.now) lanes.new }
     ensures parts { parts_of lanes.new ≡ parts_of lanes.old }
 {
@@ -163,7 +167,7 @@ fn pass_piece<F: File, O: Sink>(
     note_fronts(lanes, &mut fronts);
     clear(&mut tallies);
     let mut gauge = Gauge::new(unit);
-    let end = measure(layout, file, lanes, stop, &mut gauge, &mut tallies)?;
+    let end = measure(layout, file, lanes, stop, &mut gauge, &mut tallies, nexts)?;
     let packed = pack_all(layout, file, lanes, &fronts, &tallies, &mut page, out);
     Ok(Passed {
         end,
@@ -211,6 +215,7 @@ fn put_piece<F: File>(
     ensures in_order { All (IsInOrder layout.now) lanes.new }
     ensures parts { parts_of lanes.new ≡ parts_of lanes.old }
 {
+    let mut nexts = LeastTree::new(alloc, 2)?;
     let mut out = MemSink::new(alloc);
     let passed = pass_piece(
         layout,
@@ -218,6 +223,7 @@ fn put_piece<F: File>(
         lanes,
         unit_of(words),
         stop_of(words),
+        &mut nexts,
         &mut out,
     );
     let Ok(passed) = passed else {
@@ -330,40 +336,42 @@ fn passes(
     let lanes = pool.lanes();
     let layout = layout();
     set_lanes(&layout, lanes, THREE);
-    match pass_piece(&layout, &mut file, lanes, All, None, &mut out) {
+    let mut nexts = LeastTree::new(alloc, 2)?;
+    match pass_piece(&layout, &mut file, lanes, All, None, &mut nexts, &mut out) {
         Ok(passed) => Ok(Ok((passed.end, passed.packed))),
         Err(Failed) => Ok(Err(Failed)),
     }
 }
 
+// How many reads are good, what comes then, how many bytes there is room for, and how both passes end. There are three
+// sub-buffers, each of which both passes read.
+const FAULTS: &[(u64, Then, u64, Result<(PieceEnd, End), Failed>)] = &[
+    (6, Then::Fails, 8192, Ok((Done, End::Done))),
+    (0, Then::Fails, 8192, Err(Failed)),
+    (2, Then::Fails, 8192, Err(Failed)),
+    (3, Then::Fails, 8192, Ok((Done, End::Read))),
+    (5, Then::Fails, 8192, Ok((Done, End::Read))),
+    (
+        3,
+        Then::Zeros,
+        8192,
+        Ok((Done, End::Malformed { cpu: 0, page: 1 })),
+    ),
+    (
+        5,
+        Then::Zeros,
+        8192,
+        Ok((Done, End::Malformed { cpu: 1, page: 0 })),
+    ),
+    (6, Then::Fails, 0, Ok((Done, End::Write))),
+    (6, Then::Fails, 4096, Ok((Done, End::Write))),
+];
+
 #[test]
 fn faults_and_other_bytes(rt: HostRuntime) -> Result<(), Fail> {
-    // Three sub-buffers, each of which both passes read.
-    for (reads, then, room, passed) in [
-        (6, Then::Fails, 8192, Ok((Done, End::Done))),
-        (0, Then::Fails, 8192, Err(Failed)),
-        (2, Then::Fails, 8192, Err(Failed)),
-        (3, Then::Fails, 8192, Ok((Done, End::Read))),
-        (5, Then::Fails, 8192, Ok((Done, End::Read))),
-        (
-            3,
-            Then::Zeros,
-            8192,
-            Ok((Done, End::Malformed { cpu: 0, page: 1 })),
-        ),
-        (
-            5,
-            Then::Zeros,
-            8192,
-            Ok((Done, End::Malformed { cpu: 1, page: 0 })),
-        ),
-        (6, Then::Fails, 0, Ok((Done, End::Write))),
-        (6, Then::Fails, 4096, Ok((Done, End::Write))),
-    ] {
-        assert!(rt;
-            passes(rt.alloc(), reads, then, room)? == passed,
-            "{reads} reads"
-        );
+    for (reads, then, room, passed) in FAULTS {
+        let found = passes(rt.alloc(), *reads, *then, *room)?;
+        assert!(rt; found == *passed, "{reads} reads");
     }
     Ok(())
 }

@@ -1,0 +1,140 @@
+// Reports of the function graph's calls.
+
+use super::{Carried, Input, Page, Record, Row, ends_as, folder_of, runs_as, words_of};
+use std::test::Fail;
+use trace_outside::MemFault;
+use trace_run::Status;
+
+const OUTER: u64 = 0x1000;
+
+const INNER: u64 = 0x2000;
+
+/// A call in a call.
+const NESTED: Input = Input::Processors(
+    Carried::Graph,
+    &[&[Page::Of(
+        1000,
+        &[
+            Record::Enter(0, OUTER, 0),
+            Record::Enter(1000, INNER, 1),
+            Record::Event(0, 58, 7, 0, 0),
+            Record::Leave(700, INNER, 1, 2000, 2600),
+            Record::Leave(2300, OUTER, 0, 1000, 4900),
+        ],
+    )]],
+);
+
+/// An exit without its entry.
+const LONE: Input = Input::Processors(
+    Carried::Graph,
+    &[&[Page::Of(1000, &[Record::Leave(0, INNER, 1, 2000, 2600)])]],
+);
+
+/// A call whose exit stands behind a loss of processor 1, which then has a malformed sub-buffer.
+const BROKEN: Input = Input::Processors(
+    Carried::Graph,
+    &[
+        &[Page::Of(
+            1000,
+            &[
+                Record::Enter(0, OUTER, 0),
+                Record::Leave(4000, OUTER, 0, 1000, 4900),
+                Record::Enter(4000, OUTER, 0),
+            ],
+        )],
+        &[
+            Page::Lossy(2000, Some(4), &[Record::Event(4000, 58, 7, 0, 0)]),
+            Page::Malformed,
+        ],
+    ],
+);
+
+const ROWS: &[Row] = &[
+    Row {
+        words: &["report", "--calls"],
+        file: NESTED,
+        status: Status::Done,
+        out: "cpus=1\n              sh-7     [000]     0.000001:              | outer() {\n              sh-7     [000]     0.000002:     0.600 us |   inner();\n              sh-7     [000]     0.000005:     3.900 us | }\n",
+        err: "",
+    },
+    Row {
+        words: &["report", "-tl", "--calls", "--workers", "3"],
+        file: NESTED,
+        status: Status::Done,
+        out: "cpus=1\n      sh-7       0....     0.000001000:              | outer() {\n      sh-7       0....     0.000002000:     0.600 us |   inner();\n      sh-7       0....     0.000005000:     3.900 us | }\n",
+        err: "",
+    },
+    Row {
+        words: &["report", "--calls"],
+        file: LONE,
+        status: Status::Done,
+        out: "cpus=1\n              sh-7     [000]     0.000001:              |   } /* inner */\n",
+        err: "",
+    },
+    Row {
+        words: &["report", "--calls"],
+        file: BROKEN,
+        status: Status::Malformed { cpu: 1, page: 1 },
+        out: "cpus=2\n              sh-7     [000]     0.000001:              | outer() {\nCPU:1 [4 EVENTS DROPPED]\n              sh-7     [000]     0.000005:              | } /* outer */\n",
+        err: "trace-cmd: trace.dat: malformed sub-page 1 of processor 1\n",
+    },
+    Row {
+        words: &["report", "--calls", "--cpu", "0"],
+        file: BROKEN,
+        status: Status::Done,
+        out: "cpus=2\n              sh-7     [000]     0.000001:     3.900 us | outer();\n              sh-7     [000]     0.000009:              | outer() {\n",
+        err: "",
+    },
+    // the rest of a latency file
+    Row {
+        words: &["report", "--calls"],
+        file: Input::Bytes(
+            b"\x17\x08\x44tracing6\0\0\x08\0\x10\0\0header_page\0\0\0\0\0\0\0\0\0header_event\0\0\0\0\0\0\0\0\0\0\0\0\0\0\0\0\0\0\0\0\0\0\0\0\0\0\0\0\0\0\0\0\0\x01\0\0\0latency  \0hello\n",
+        ),
+        status: Status::Done,
+        out: "cpus=1\nhello\n",
+        err: "",
+    },
+    Row {
+        words: &["report", "--calls", "-F"],
+        file: NESTED,
+        status: Status::Usage,
+        out: "",
+        err: "trace-cmd: word 3: not with an earlier word\n",
+    },
+];
+
+#[test]
+fn calls_are_reported(rt: HostRuntime) -> Result<(), Fail> {
+    for row in ROWS {
+        runs_as(&rt, row)?;
+    }
+    Ok(())
+}
+
+/// The byte that cannot be read, and what was printed of the call then: all is read before the first byte.
+const DISKS: &[(u64, Status, &str, &str)] = &[
+    (
+        4096,
+        Status::ReadFault,
+        "",
+        "trace-cmd: trace.dat: read failed\n",
+    ),
+    (
+        8192,
+        Status::Done,
+        "cpus=1\n              sh-7     [000]     0.000001:              |   } /* inner */\n",
+        "",
+    ),
+];
+
+#[test]
+fn a_failed_read_leaves_nothing_written(rt: HostRuntime) -> Result<(), Fail> {
+    for (from, status, out, err) in DISKS {
+        let words = words_of(rt.alloc(), &["report", "--calls"])?;
+        let mut folder = folder_of(rt.alloc(), &LONE)?;
+        folder.fail(MemFault::ReadAt(*from));
+        ends_as(&rt, &words, &mut folder, (*status, out, err));
+    }
+    Ok(())
+}
