@@ -1,11 +1,12 @@
 #!/usr/bin/env python3
 """A trace of one processor with N events of one kind, for counting what one event costs.
 
-  one_kind.py IN.dat OUT.dat switch|function N
+  one_kind.py IN.dat OUT.dat switch|function|graph N
 
 The header is that of IN.dat, a little-endian recording of a kernel of 64 bits that has sched_switch events and 'flyrecord'
 data. `switch` repeats its sched_switch events; `function` has in their places ftrace's `function` events, whose two addresses
-lie behind symbols of the recording. Two traces of different lengths give the cost of one event:
+lie behind symbols of the recording; `graph` has entries and exits of the function graph, of which half are leafs'. Two traces
+of different lengths give the cost of one event:
 
   valgrind --tool=callgrind trace_cmd report OUT.dat
 """
@@ -72,6 +73,19 @@ def packed(events):
     return b"".join(pages)
 
 
+def graph(ids, symbols, events):
+    """In the places of these events, by fours an entry, a leaf's entry and exit, and the exit of the first."""
+    for i, (time, payload) in enumerate(events[: len(events) // 4 * 4]):
+        part = i % 4
+        func, depth = symbols[(i - (part == 2) - 3 * (part == 3)) * 7919 % len(symbols)], int(part in (1, 2))
+        pid = events[i - part][1][4:8]
+        if part < 2:
+            yield time, struct.pack("<HBB", ids["funcgraph_entry"], 0, 0) + pid + struct.pack("<Qi", func, depth)
+        else:
+            began = events[i - (1 if part == 2 else 3)][0]
+            yield time, struct.pack("<HBB", ids["funcgraph_exit"], 0, 0) + pid + struct.pack("<QiIQQ", func, depth, 0, began, time)
+
+
 def main():
     source, target, kind, count = sys.argv[1], sys.argv[2], sys.argv[3], int(sys.argv[4])
     with open(source, "rb") as file:
@@ -80,8 +94,10 @@ def main():
     ids = {name.decode(): int(number) for name, number in re.findall(rb"name: (\w+)\nID: (\d+)\n", head)}
     pages = [trace[at : at + PAGE] for offset, size in parts for at in range(offset, offset + size, PAGE)]
     events = sorted(event for page in pages for event in events_of(page) if event[1][:2] == struct.pack("<H", ids["sched_switch"]))
+    symbols = [int(line, 16) for line in re.findall(rb"\n([0-9a-f]{16}) [tT] ", head)]
+    if kind == "graph":
+        events = list(graph(ids, symbols, events))
     if kind == "function":
-        symbols = [int(line, 16) for line in re.findall(rb"\n([0-9a-f]{16}) [tT] ", head)]
         events = [
             (time, struct.pack("<HBB", ids["function"], 1, 0) + payload[4:8]
              + struct.pack("<QQ", symbols[i * 7919 % len(symbols)] + 5, symbols[i * 104729 % len(symbols)] + 9))

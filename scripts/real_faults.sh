@@ -11,7 +11,8 @@
 program=$(realpath "$1")
 trace=$(realpath "${2:-$(dirname "$0")/../samples/sched.dat}")
 room=$(mktemp -d)
-trap 'rm -rf "$room"' EXIT
+# A part of this script that a signal ends must not clear the room away.
+trap '[ $BASHPID != $$ ] || rm -rf "$room"' EXIT
 cd "$room" || exit 1
 chmod 755 "$room"
 cp "$trace" trace.dat
@@ -31,7 +32,7 @@ begins() {
     rm -rf out err new
     : >out
     : >err
-    mkdir new
+    mkdir new || exit 1
 }
 
 # status_is WANTED FOUND
@@ -46,11 +47,11 @@ begins_whole() {
     [ ! -s out ] || [ "$(tail -c 1 out | od -An -tx1 | tr -d ' ')" = 0a ] || wrong "the last line is cut"
 }
 
-# only_whole PARTS: each new file is whole, they are the first ones, and at most so many parts stay.
+# only_whole PARTS [CLEAN]: each new file is whole, they are the first ones, and at most so many parts stay.
 only_whole() {
-    local number=1
+    local number=1 clean=${2:-clean}
     while [ -e "new/p.$number" ]; do
-        cmp -s "new/p.$number" "clean/p.$number" || wrong "p.$number is not whole"
+        cmp -s "new/p.$number" "$clean/p.$number" || wrong "p.$number is not whole"
         number=$((number + 1))
     done
     local names parts
@@ -63,6 +64,8 @@ only_whole() {
 "$program" report trace.dat >whole || exit 1
 mkdir clean
 "$program" split -i trace.dat -e 50 -r -o clean/p || exit 1
+mkdir small
+"$program" split -i trace.dat -e 5 -r -o small/p || exit 1
 
 begins "a full device"
 "$program" report trace.dat >/dev/full 2>err
@@ -220,17 +223,33 @@ else
     echo "passed over: a full file system (it cannot be mounted here)"
 fi
 
+# has_begun: the split has made something, or has ended.
+has_begun() {
+    local file
+    while kill -0 $runs 2>/dev/null; do
+        for file in new/*; do
+            [ ! -e "$file" ] || return
+        done
+    done
+}
+
+# With job control, since else an interrupt is ignored by what runs beside the script.
+set -m
+ended=0
 for signal in INT TERM KILL; do
-    for wait in 0.001 0.002 0.004 0.008 0.012 0.016 0.024 0.032; do
-        begins "$signal after $wait seconds of a split"
-        "$program" split -i trace.dat -e 50 -r -o new/p 2>err &
+    for wait in 0 0.001 0.002 0.004 0.008 0.012 0.016 0.024; do
+        begins "$signal $wait seconds after a split has begun"
+        "$program" split -i trace.dat -e 5 -r -o new/p 2>err &
         runs=$!
+        has_begun
         sleep $wait
         kill -$signal $runs 2>/dev/null
         wait $runs 2>/dev/null
-        only_whole 1
+        [ $? -le 128 ] || ended=$((ended + 1))
+        only_whole 1 small
     done
 done
+[ $ended != 0 ] || wrong "no signal came in time"
 
-[ $failed = 0 ] && echo "$cases cases, each as it must be"
+[ $failed = 0 ] && echo "$cases cases, each as it must be; $ended splits were ended by a signal"
 exit $failed
