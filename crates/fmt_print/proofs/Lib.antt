@@ -4,6 +4,7 @@ pub mod TextLemmas
 pub mod ArgumentLemmas
 pub mod SameLemmas
 pub mod StepLemmas
+pub mod Gathering
 pub mod Showing
 pub mod Contents
 pub mod Folding

@@ -6,15 +6,20 @@ use Rattle.std.specs.Option.{option_to_list}
 use Rattle.std.proofs.lemmas.List.{append-nil, drop_more, drop_all, flat_map_more, length-take, length-drop, take_all, drop-append-le, take-append-le}
 use Rattle.std.proofs.lemmas.List.Elements.{All-nil, All-cons, All-head, All-tail, All-same}
 use Rattle.trace_base.specs.declared.tail.Tail.{Tail}
-use Rattle.waiting_text.specs.Gathered.{Gathered, gathered, joined}
-use Rattle.waiting_text.proofs.Gathering.{joined_twice, nothing_joined}
+use Rattle.fmt_print.specs.Gathered.{Gathered, gathered, joined}
+use Rattle.fmt_print.proofs.Gathering.{joined_twice, nothing_joined}
 use Rattle.fmt_directives.specs.Directives.{IsWithin}
 use Rattle.fmt_directives.specs.declared.directive.Directive.{Directive}
 use Rattle.fmt_expr.specs.Tree.{Tree}
 use Rattle.fmt_print.specs.declared.step.Literal.{Literal}
 use Rattle.fmt_print.specs.declared.step.Shown.{Shown}
 use Rattle.fmt_print.specs.declared.step.Step.{Step}
-use Rattle.fmt_print.specs.Printed.{Source, printed}
+use Rattle.fmt_print.specs.declared.step.Content.{Content}
+use Rattle.fmt_print.specs.declared.step.Content.TheVariants as content
+use Rattle.fmt_directives.specs.declared.directive.Spec.{Spec}
+use Rattle.fmt_print.specs.Arguments.{taken, by}
+use Rattle.fmt_print.specs.Contents.{content_text, directive_of}
+use Rattle.fmt_print.specs.Printed.{Source, printed, printed_one}
 use Rattle.fmt_print.specs.Steps.{literal_directive, literal_text, shown_directive, directives_of, IsPlaced, printed_some, printed_step}
 
 -- steps that were made of the first of some directives
@@ -33,6 +38,13 @@ steps_more steps left behind rest ds l s is_left is_behind before =
 pub steps_all : (steps : List Step) (left ds : List Directive) → length left ≡ 0 → flat_map directives_of steps ++ left ≡ ds → flat_map directives_of steps ≡ ds
 steps_all steps [] ds none before = sym (append-nil (flat_map directives_of steps)) ∙ before
 steps_all steps (d ∷ left) ds none before = absurd (omega arith)
+
+-- what a conversion shows
+pub directive_shown : (s : Source) (what : Content) (spec : Spec) (args : List Tree) → by (content_text s what spec.length) (taken s.given spec args) ≡ printed_one s (directive_of what spec) args
+directive_shown s (content.Number base) spec args = refl
+directive_shown s content.Letter spec args = refl
+directive_shown s content.Text spec args = refl
+directive_shown s (content.Pointer pointer) spec args = refl
 
 -- the texts of steps, one after another
 module _ (s : Source) where
@@ -64,9 +76,9 @@ module _ (s : Source) where
       ∙ ap (λ (es : List Step). joined so_far (printed s (flat_map directives_of es) args)) (sym (drop_more steps i d lt))
       ∙ before
 
-  pub printed_all : (r : Gathered) (waiting : List ℕ) (t : Tail) (steps : List Step) (i : ℕ) (args : List Tree) → length steps ≤ i → joined (gathered waiting t) (printed s (flat_map directives_of (drop i steps)) args) ≡ r → gathered waiting t ≡ r
-  printed_all r waiting t steps i args le before =
-      nothing_joined waiting t ∙ ap (λ (es : List Step). joined (gathered waiting t) (printed s (flat_map directives_of es) args)) (sym (drop_all i steps le)) ∙ before
+  pub printed_all : (r : Gathered) (t : Tail) (steps : List Step) (i : ℕ) (args : List Tree) → length steps ≤ i → joined (gathered t) (printed s (flat_map directives_of (drop i steps)) args) ≡ r → gathered t ≡ r
+  printed_all r t steps i args le before =
+      nothing_joined t ∙ ap (λ (es : List Step). joined (gathered t) (printed s (flat_map directives_of es) args)) (sym (drop_all i steps le)) ∙ before
 
 -- what holds of each directive holds of those of each step
 both_of : (P : Directive → Type 0) (a b : Option Directive) (ds : List Directive) → All P ((option_to_list a ++ option_to_list b) ++ ds) → (IfSome a P × IfSome b P) × All P ds

@@ -1,8 +1,9 @@
 -- Texts that a NUL or a precision cuts.
-use Rattle.std.proofs.Common.{◌≡◌, ℕ, zero, suc, ◌+◌, ◌-◌, Bool, true, false, List, [], ◌∷◌, ◌++◌, take, Option, Some, None, refl, sym, ap, ◌∙◌, arith, inl, inr}
+use Rattle.std.proofs.Common.{◌≡◌, ℕ, zero, suc, ◌+◌, ◌-◌, Bool, true, false, List, [], ◌∷◌, ◌++◌, length, take, Option, Some, None, refl, sym, ap, ◌∙◌, arith, inl, inr}
 use Rattle.std.specs.Prelude.{codes}
 use Rattle.std.specs.List.{prefix_len}
 use Rattle.std.specs.Option.{option_map}
+use Rattle.std.proofs.Math.Seq.{take-append_seam}
 use Rattle.std.proofs.lemmas.Bool.{cases_Bool}
 use Rattle.std.proofs.lemmas.List.{take-take, take_all, append-nil}
 use Rattle.trace_base.specs.Kept.{is_letter}
@@ -59,3 +60,7 @@ first_six Name text = refl
 first_six NameOffset text = refl
 first_six Ip4 text = network_six true text
 first_six Mac text = network_six false text
+
+-- digits that stand at the front of a text
+pub first_digits : (m : ℕ) (text digits rest : List ℕ) → text ≡ digits ++ rest → m ≡ length digits → take m text ≡ digits
+first_digits m text digits rest is is_m = ap (take m) is ∙ ap (λ (n : ℕ). take n (digits ++ rest)) is_m ∙ take-append_seam digits rest

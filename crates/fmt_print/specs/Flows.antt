@@ -6,8 +6,8 @@ use Rattle.trace_base.specs.Kept.{until_nul}
 use Rattle.fmt_eval.specs.Texts.{text_of}
 use Rattle.fmt_forms.specs.Texts.{cut_to}
 use Rattle.fmt_print.specs.Addresses.{network_text}
-use Rattle.fmt_print.specs.declared.printer.Flow.{Flow}
-use Rattle.fmt_print.specs.declared.printer.Flow.TheVariants.{Text, Ip4, Mac}
+use Rattle.fmt_print.specs.declared.flow.Flow.{Flow}
+use Rattle.fmt_print.specs.declared.flow.Flow.TheVariants.{Text, Ip4, Mac}
 
 abbrev pub flow_text : RecData → Flow → List ℕ
 flow_text g (Text tree precision) = cut_to precision (until_nul (text_of g (tree_of tree.now)))

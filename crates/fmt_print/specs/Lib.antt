@@ -10,5 +10,6 @@ pub mod Views
 pub mod Steps
 pub mod Flows
 pub mod Contents
+pub mod Gathered
 pub mod Shows
 pub mod Sources

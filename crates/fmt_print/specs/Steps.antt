@@ -10,6 +10,7 @@ use Rattle.fmt_directives.specs.declared.directive.Directive.{Directive}
 use Rattle.fmt_directives.specs.declared.directive.Directive.TheVariants as directive
 use Rattle.fmt_directives.specs.Directives.{IsWithin}
 use Rattle.fmt_expr.specs.Tree.{Tree}
+use Rattle.fmt_print.specs.Contents.{directive_of}
 use Rattle.fmt_print.specs.declared.step.Literal.{Literal}
 use Rattle.fmt_print.specs.declared.step.Shown.{Shown}
 use Rattle.fmt_print.specs.declared.step.Shown.TheVariants as shown
@@ -28,11 +29,12 @@ literal_directive l = option_map a_literal l
 
 abbrev pub shown_directive : Shown → Option Directive
 shown_directive shown.Nothing = None
+shown_directive (shown.Again l) = Some (a_literal l)
 shown_directive (shown.Signed length) = Some (directive.Number (plain_spec length) Signed)
 shown_directive (shown.Unsigned length) = Some (directive.Number (plain_spec length) Unsigned)
 shown_directive shown.Text = Some (directive.Text (plain_spec Usual))
 shown_directive (shown.Pointer form) = Some (directive.Pointer (plain_spec Usual) form)
-shown_directive (shown.Other d) = Some d
+shown_directive (shown.Formed what spec) = Some (directive_of what spec)
 
 abbrev pub directives_of : Step → List Directive
 directives_of s = option_to_list (literal_directive s.literal) ++ option_to_list (shown_directive s.shown)

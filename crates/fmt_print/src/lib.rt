@@ -4,6 +4,7 @@
 mod argument;
 mod arguments;
 mod conversions;
+mod flow;
 mod plan;
 mod printer;
 mod printing;

@@ -7,123 +7,130 @@ ghost use Rattle.fmt_directives.specs.Directives.{IsWithin};
 ghost use Rattle.fmt_eval.specs.Values.{given};
 ghost use Rattle.fmt_print.specs.ArgumentView.{trees};
 ghost use Rattle.fmt_print.specs.PlanView.{plan_view};
-ghost use Rattle.fmt_print.specs.Printed.{printed_one, printed, print_text};
-ghost use Rattle.fmt_print.specs.Steps.{literal_directive, literal_text, shown_directive, printed_some, printed_step, IsPlaced};
+ghost use Rattle.fmt_print.specs.Printed.{printed, print_text};
+ghost use Rattle.fmt_print.specs.Steps.{plain_spec, literal_directive, literal_text, shown_directive, printed_some, printed_step, IsPlaced};
 
 use crate::argument::Argument;
-use crate::conversions::{Content, Printer};
+use crate::arguments::{first_of, taken};
+use crate::conversions::{PLAIN, Printer};
 use crate::plan::PrintPlan;
-use crate::step::{Literal, Shown, Step};
-use fmt_directives::{Base, Directive};
+use crate::printer::front;
+use crate::step::{Content, Literal, Shown, Step};
+use fmt_directives::{Base, Length, Spec};
 use symbols::Symbols;
 use trace_base::{Rec, Tail};
-use waiting_text::Waiting;
 
 impl<'a> Printer<'a> {
+    ghost use Rattle.fmt_print.specs.Arguments.{by, taken};
+    ghost use Rattle.fmt_print.specs.Contents.{content_text};
     ghost use Rattle.fmt_print.specs.Shows.{Shows};
     ghost use Rattle.fmt_print.specs.Sources.{source};
 
-    /// Shows a directive. Gives the arguments behind those that it takes.
+    /// Shows a conversion of any form. Gives the arguments behind those that it takes.
     #[inline(never)]
-    fn directive<'b>(
+    fn formed<'b>(
         &self,
-        directive: &Directive,
+        what: Content,
+        spec: Spec,
         args: &'b [Argument],
-        waiting: &mut Waiting,
         into: &mut Tail<'_>,
     ) -> &'b [Argument]
-        requires { IsWithin (length (source self.now).text) directive.now }
-        ensures shown { Shows waiting.old into.old waiting.new into.new (printed_one (source self.now) directive.now (trees args.now)).0 }
-        ensures rest { trees result.now ≡ (printed_one (source self.now) directive.now (trees args.now)).1 }
+        ensures shown { Shows into.old into.new (by (content_text (source self.now) what spec.length) (taken (given self.now.rec.now) spec (trees args.now))).0 }
+        ensures rest { trees result.now ≡ (by (content_text (source self.now) what spec.length) (taken (given self.now.rec.now) spec (trees args.now))).1 }
     {
-        match *directive {
-            Directive::Literal { start, end } => {
-                self.literal(Some(Literal { start, end }), waiting, into);
-                args
+        match taken(self.rec, spec, args) {
+            Some(of) => {
+                self.content(what, spec.length, &of.form, of.argument, into);
+                of.rest
             }
-            Directive::Number { spec, base } => {
-                let what = Content::Number(base, spec.length);
-                self.conversion(what, spec, args, waiting, into)
-            }
-            Directive::Letter { spec } => {
-                self.conversion(Content::Letter, spec, args, waiting, into)
-            }
-            Directive::Text { spec } => self.conversion(Content::Text, spec, args, waiting, into),
-            Directive::Pointer { spec, form } => {
-                self.conversion(Content::Pointer(form), spec, args, waiting, into)
-            }
+            None => &[],
         }
     }
 
-    /// Shows what stands behind a literal. Gives the arguments behind those that it takes.
+    /// Shows a plain conversion. Gives the arguments behind its own. What it shows and its form are known when this is compiled.
     #[inline(always)]
-    #[tactic(auto, using(waiting_text::proofs::Gathering::nothing_joined))]
-    fn shown<'b>(
+    fn plain<'b>(
         &self,
-        shown: &Shown,
+        what: Content,
+        length: Length,
         args: &'b [Argument],
-        waiting: &mut Waiting,
         into: &mut Tail<'_>,
     ) -> &'b [Argument]
-        requires { IfSome (shown_directive shown.now) (IsWithin (length (source self.now).text)) }
-        ensures shown { Shows waiting.old into.old waiting.new into.new (printed_some (source self.now) (shown_directive shown.now) (trees args.now)).0 }
-        ensures rest { trees result.now ≡ (printed_some (source self.now) (shown_directive shown.now) (trees args.now)).1 }
+        ensures shown { Shows into.old into.new (by (content_text (source self.now) what length) (taken (given self.now.rec.now) (plain_spec length) (trees args.now))).0 }
+        ensures rest { trees result.now ≡ (by (content_text (source self.now) what length) (taken (given self.now.rec.now) (plain_spec length) (trees args.now))).1 }
     {
-        match shown {
-            Shown::Nothing => args,
-            Shown::Signed { length } => {
-                self.plain_number(Base::Signed, *length, args, waiting, into)
+        match first_of(args) {
+            Some((argument, rest)) => {
+                self.content(what, length, &PLAIN, argument, into);
+                rest
             }
-            Shown::Unsigned { length } => {
-                self.plain_number(Base::Unsigned, *length, args, waiting, into)
-            }
-            Shown::Text => self.plain_text(args, waiting, into),
-            Shown::Pointer { form } => self.plain_pointer(*form, args, waiting, into),
-            Shown::Other { directive } => self.directive(directive, args, waiting, into),
+            None => &[],
         }
     }
 
-    /// Shows the literal that a step begins with, if there is one.
+    /// Shows a literal, if there is one.
     #[inline(always)]
-    #[tactic(auto, using(crate::proofs::StepLemmas::literal_room, crate::proofs::StepLemmas::literal_front, waiting_text::proofs::Gathering::nothing_joined))]
-    fn literal(&self, literal: Option<Literal>, waiting: &mut Waiting, into: &mut Tail<'_>)
+    #[tactic(auto, using(crate::proofs::StepLemmas::literal_room, crate::proofs::StepLemmas::literal_front, crate::proofs::Gathering::nothing_joined))]
+    fn literal(&self, literal: Option<Literal>, into: &mut Tail<'_>)
         requires { IfSome (literal_directive literal) (IsWithin (length (source self.now).text)) }
-        ensures { Shows waiting.old into.old waiting.new into.new (literal_text (source self.now).text literal) }
+        ensures { Shows into.old into.new (literal_text (source self.now).text literal) }
     {
         match literal {
             Some(Literal { start, end }) => {
                 let text = &self.plan.padded()[start as usize..];
-                waiting.front(text, (end - start) as usize, into);
+                front(text, (end - start) as usize, into);
             }
             None => {}
         }
     }
 
+    /// Shows what stands behind a literal. Gives the arguments behind those that it takes.
+    #[inline(always)]
+    #[tactic(auto, using(crate::proofs::Gathering::nothing_joined, crate::proofs::StepLemmas::directive_shown))]
+    fn shown<'b>(&self, shown: &Shown, args: &'b [Argument], into: &mut Tail<'_>) -> &'b [Argument]
+        requires { IfSome (shown_directive shown.now) (IsWithin (length (source self.now).text)) }
+        ensures shown { Shows into.old into.new (printed_some (source self.now) (shown_directive shown.now) (trees args.now)).0 }
+        ensures rest { trees result.now ≡ (printed_some (source self.now) (shown_directive shown.now) (trees args.now)).1 }
+    {
+        match *shown {
+            Shown::Nothing => args,
+            Shown::Again(literal) => {
+                self.literal(Some(literal), into);
+                args
+            }
+            Shown::Signed(length) => {
+                self.plain(Content::Number(Base::Signed), length, args, into)
+            }
+            Shown::Unsigned(length) => {
+                self.plain(Content::Number(Base::Unsigned), length, args, into)
+            }
+            Shown::Text => self.plain(Content::Text, Length::Usual, args, into),
+            Shown::Pointer(form) => {
+                self.plain(Content::Pointer(form), Length::Usual, args, into)
+            }
+            Shown::Formed(what, spec) => self.formed(what, spec, args, into),
+        }
+    }
+
     /// Shows a step. Gives the arguments behind those that it takes.
     #[inline(always)]
-    fn step<'b>(
-        &self,
-        step: &Step,
-        args: &'b [Argument],
-        waiting: &mut Waiting,
-        into: &mut Tail<'_>,
-    ) -> &'b [Argument]
+    fn step<'b>(&self, step: &Step, args: &'b [Argument], into: &mut Tail<'_>) -> &'b [Argument]
         requires { IsPlaced (length (source self.now).text) step.now }
-        ensures shown { Shows waiting.old into.old waiting.new into.new (printed_step (source self.now) step.now (trees args.now)).0 }
+        ensures shown { Shows into.old into.new (printed_step (source self.now) step.now (trees args.now)).0 }
         ensures rest { trees result.now ≡ (printed_step (source self.now) step.now (trees args.now)).1 }
     {
-        self.literal(step.literal, waiting, into);
-        self.shown(&step.shown, args, waiting, into)
+        self.literal(step.literal, into);
+        self.shown(&step.shown, args, into)
     }
 
     /// Shows the plan's steps, one after another.
-    fn steps(&self, args: &[Argument], waiting: &mut Waiting, into: &mut Tail<'_>)
-        ensures { Shows waiting.old into.old waiting.new into.new (printed (source self.now) (plan_view self.now.plan.now).directives (trees args.now)) }
+    fn steps(&self, args: &[Argument], into: &mut Tail<'_>)
+        ensures { Shows into.old into.new (printed (source self.now) (plan_view self.now.plan.now).directives (trees args.now)) }
     {
         let steps = self.plan.steps();
         let mut left = args;
         for step in steps {
-            left = self.step(step, left, waiting, into);
+            left = self.step(step, left, into);
         }
     }
 }
@@ -134,7 +141,5 @@ pub fn print(plan: &PrintPlan, rec: &Rec<'_>, symbols: &Symbols, into: &mut Tail
     ensures value { held into.new ≡ put_held (held into.old) (print_text (plan_view plan.now) (given rec.now) symbols.now) }
 {
     let printer = Printer { plan, rec, symbols };
-    let mut waiting = Waiting::new();
-    printer.steps(plan.folded(), &mut waiting, into);
-    waiting.put_into(into);
+    printer.steps(plan.folded(), into);
 }

@@ -16,21 +16,32 @@ pub struct Literal {
     pub end: u32,
 }
 
+/// What a conversion shows of its argument.
+#[derive(Clone, Copy)]
+pub enum Content {
+    Number(Base),
+    Letter,
+    Text,
+    Pointer(PointerForm),
+}
+
 /// What is shown behind a literal. Most conversions are plain: they have no flag, no width and no precision.
 #[derive(Clone, Copy)]
 pub enum Shown {
     /// Nothing.
     Nothing,
+    /// A further literal.
+    Again(Literal),
     /// A plain decimal number with a sign.
-    Signed { length: Length },
+    Signed(Length),
     /// A plain decimal number without a sign.
-    Unsigned { length: Length },
+    Unsigned(Length),
     /// A plain text.
     Text,
     /// A plain address.
-    Pointer { form: PointerForm },
-    /// Any other directive.
-    Other { directive: Directive },
+    Pointer(PointerForm),
+    /// Any other conversion.
+    Formed(Content, Spec),
 }
 
 /// One literal or none, and what is shown behind it.
@@ -58,21 +69,21 @@ fn shown_of(directive: Directive) -> Shown
     ensures { shown_directive result ≡ Some directive }
 {
     match directive {
+        Directive::Literal { start, end } => Shown::Again(Literal { start, end }),
         Directive::Number {
             spec,
             base: Base::Signed,
-        } if is_plain(spec) => Shown::Signed {
-            length: spec.length,
-        },
+        } if is_plain(spec) => Shown::Signed(spec.length),
         Directive::Number {
             spec,
             base: Base::Unsigned,
-        } if is_plain(spec) => Shown::Unsigned {
-            length: spec.length,
-        },
+        } if is_plain(spec) => Shown::Unsigned(spec.length),
         Directive::Text { spec } if is_usual(spec) => Shown::Text,
-        Directive::Pointer { spec, form } if is_usual(spec) => Shown::Pointer { form },
-        _ => Shown::Other { directive },
+        Directive::Pointer { spec, form } if is_usual(spec) => Shown::Pointer(form),
+        Directive::Number { spec, base } => Shown::Formed(Content::Number(base), spec),
+        Directive::Letter { spec } => Shown::Formed(Content::Letter, spec),
+        Directive::Text { spec } => Shown::Formed(Content::Text, spec),
+        Directive::Pointer { spec, form } => Shown::Formed(Content::Pointer(form), spec),
     }
 }
 

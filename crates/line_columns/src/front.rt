@@ -1,6 +1,6 @@
 // The columns of a line, written from the right.
 
-ghost use Rattle.std.specs.Prelude.{◌≡◌, ◌∷◌, ◌++◌, [], ◌+◌, ◌-◌, ◌^◌, ◌<◌, ◌≤◌, length, max, replicate, codes, FitsSigned};
+ghost use Rattle.std.specs.Prelude.{◌≡◌, ◌∷◌, ◌++◌, [], ◌+◌, ◌-◌, ◌/◌, ◌%◌, ◌^◌, ◌<◌, ◌≤◌, length, max, replicate, codes, FitsSigned};
 ghost use Rattle.std.specs.Int.{w32};
 ghost use Rattle.std.specs.Fmt.{decimal, signed_decimal};
 ghost use Rattle.line_columns.specs.Columns.{left, right, zeros, time_text, bare_time_text, duration_text};
@@ -92,7 +92,7 @@ impl Front {
     }
 
     /// Puts a text in front.
-    fn text(&mut self, text: &[u8])
+    pub fn text(&mut self, text: &[u8])
         requires { length self.old + length text.now ≤ ROOM }
         ensures longer { length self.new ≡ length self.old + length text.now }
         ensures value { self.new ≡ text.now ++ self.old }
@@ -114,7 +114,7 @@ impl Front {
     /// Puts a number in front.
     #[inline(always)]
     #[tactic(auto, using(crate::proofs::Lengths::short))]
-    fn digits(&mut self, n: u64)
+    pub fn digits(&mut self, n: u64)
         requires { length self.old + DIGITS ≤ ROOM }
         ensures longer { length self.new ≤ length self.old + DIGITS }
         ensures value { self.new ≡ decimal n ++ self.old }
@@ -197,43 +197,20 @@ impl Front {
         self.digits(nanos / 1000);
     }
 
-    /// Puts one digit in front.
-    fn digit(&mut self, digit: u32)
-        requires room { length self.old < ROOM }
-        requires one { digit < 10 }
-        ensures longer { length self.new ≡ length self.old + 1 }
-        ensures value { self.new ≡ (48 + digit) ∷ self.old }
-    {
-        self.byte(b'0' + digit as u8);
-    }
-
-    /// Puts a number in front, of three digits at least.
-    #[tactic(auto, using(crate::proofs::ZeroFills::three, crate::proofs::Lengths::no_zeros))]
-    fn three_digits(&mut self, n: u32)
-        requires { length self.old + DIGITS ≤ ROOM }
-        ensures longer { length self.new ≤ length self.old + DIGITS }
-        ensures value { self.new ≡ zeros 3 (decimal n) ++ self.old }
-    {
-        if n < 1000 {
-            self.digit(n % 10);
-            self.digit(n / 10 % 10);
-            self.digit(n / 100);
-        } else {
-            self.digits(n as u64);
-        }
-    }
-
     /// Puts the processor in front.
+    #[tactic(auto, using(crate::proofs::ZeroFills::three_between, crate::proofs::ZeroFills::more_between))]
     pub fn processor(&mut self, cpu: u32)
         requires { length self.old ≤ BEFORE_PLACE }
         ensures longer { length self.new ≤ length self.old + LONGEST_PLACE }
         ensures value { self.new ≡ (codes " [" ++ (zeros 3 (decimal cpu) ++ codes "] ")) ++ self.old }
     {
-        self.byte(b' ');
-        self.byte(b']');
-        self.three_digits(cpu);
-        self.byte(b'[');
-        self.byte(b' ');
+        if cpu < 1000 {
+            self.text(&three_digits(cpu));
+        } else {
+            self.text(b"] ");
+            self.digits(cpu as u64);
+            self.text(b" [");
+        }
     }
 
     /// Puts the processor in front, and what an event says of its context.
@@ -298,4 +275,28 @@ impl Front {
         self.fill(self.len() + 5usize.saturating_sub(digits.len()));
         self.text(digits);
     }
+}
+
+/// The last digit of a number.
+fn last_digit(n: u32) -> u8
+    ensures { result ≡ 48 + n % 10 }
+{
+    b'0' + (n % 10) as u8
+}
+
+/// A number of at most three digits, with the brackets and spaces round it.
+fn three_digits(n: u32) -> [u8; 7]
+    requires { n < 1000 }
+    ensures { result ≡ 32 ∷ 91 ∷ (48 + n / 100) ∷ (48 + n / 10 % 10) ∷ (48 + n % 10) ∷ 93 ∷ 32 ∷ [] }
+{
+    let hundreds = last_digit(n / 100);
+    [
+        b' ',
+        b'[',
+        hundreds,
+        last_digit(n / 10),
+        last_digit(n),
+        b']',
+        b' ',
+    ]
 }

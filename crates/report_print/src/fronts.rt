@@ -1,4 +1,4 @@
-// The front of a line that is not an event's own, and what stands on it.
+// The front of a line: the columns before what is said.
 
 ghost use Rattle.std.specs.Prelude.{◌≡◌, ◌≤◌, ◌+◌, ◌++◌, ℕ, List, length};
 ghost use Rattle.trace_base.specs.Kept.{put_held};
@@ -8,13 +8,16 @@ ghost use Rattle.report_print.specs.Line as line;
 ghost use Rattle.report_print.specs.Prefix as spec;
 
 use crate::context::Context;
-use crate::event::task_width;
 use crate::fields::put_pair;
 use crate::show::Show;
 use line_columns::{
     BEFORE_PLACE, Common, Front, LONGEST_BEHIND, LONGEST_COLUMNS, LONGEST_PLACE, LONGEST_TASK,
+    USUAL_COLUMNS, USUAL_LABEL,
 };
 use trace_base::{Order, Tail};
+
+/// How long most fronts are.
+const USUAL_FRONT: usize = USUAL_COLUMNS + USUAL_LABEL;
 
 impl Context {
     /// The order of the numbers in the file's events.
@@ -35,25 +38,89 @@ impl Context {
             pid: self.pid(payload),
         }
     }
+
+    /// The same as far as an event's line shows them. Most lines show the task alone.
+    #[tactic(auto, using(crate::proofs::FrontLemmas::same_prefix, crate::proofs::FrontLemmas::own_prefix))]
+    pub(crate) fn shown_common(&self, payload: &[u8]) -> Common
+        ensures { (cpu : ℕ) (time : ℕ) → spec.prefix_text self.now cpu time result ≡ line.front_text self.now cpu time payload.now }
+    {
+        if self.show().latency {
+            return self.common(payload);
+        }
+        Common {
+            id: 0,
+            flags: 0,
+            preempt: 0,
+            pid: self.pid(payload),
+        }
+    }
 }
 
 /// Puts the columns of a line up to the colon behind the time: the task with its pid, where and when it was.
-#[tactic(auto, unfolding(crate::specs::Prefix::prefix_text), using(crate::proofs::FrontLemmas::wide_task))]
+#[tactic(auto, using(crate::proofs::HeldPuts::put_end))]
 pub fn prefix(context: &Context, cpu: u32, time: u64, common: &Common, into: &mut Tail<'_>)
     ensures same_slice { lent into.new ≡ lent into.old }
     ensures value { held into.new ≡ put_held (held into.old) (spec.prefix_text context.now cpu time common.now) }
 {
-    let common = *common;
+    put_front(context, cpu, time, *common, b"", into);
+}
+
+/// Puts the columns of a line, and a short text behind them. Gives where the time ends: behind it stand a colon and a space.
+#[tactic(auto, unfolding(crate::specs::Prefix::prefix_text), using(crate::proofs::FrontLemmas::wide_task, crate::proofs::FrontLemmas::behind_front, trace_base::proofs::TailJoins::put_held_twice))]
+pub(crate) fn put_front(
+    context: &Context,
+    cpu: u32,
+    time: u64,
+    common: Common,
+    behind: &[u8],
+    into: &mut Tail<'_>,
+) -> usize
+    requires short { length behind.now ≤ LONGEST_BEHIND }
+    ensures same_slice { lent into.new ≡ lent into.old }
+    ensures value { held into.new ≡ put_held (put_held (held into.old) (spec.prefix_text context.now cpu time common)) behind.now }
+    ensures until { result + 2 ≡ length (spec.prefix_text context.now cpu time common) }
+{
     let name = context.symbols().comm_of(common.pid);
     let mut front = Front::new();
+    front.start(behind);
     put_columns(context.show(), cpu, time, common, &mut front);
     let width = task_width(context.show());
+    let more = behind.len() + 2;
     if name.len() <= LONGEST_TASK {
         front.task(width, name);
-        into.put(front.as_bytes());
+        put_known_length(front.as_bytes(), into);
+        front.len() - more
     } else {
         put_pair(name, front.as_bytes(), into);
+        name.len() + (front.len() - more)
     }
+}
+
+/// Puts the front of a line. Most have the same length: a text of a length that is known beforehand needs no call.
+fn put_known_length(front: &[u8], into: &mut Tail<'_>)
+    ensures same_slice { lent into.new ≡ lent into.old }
+    ensures value { held into.new ≡ put_held (held into.old) front.now }
+{
+    if front.len() == USUAL_FRONT {
+        into.put(&front[..USUAL_FRONT]);
+    } else {
+        put_piece(front, into);
+    }
+}
+
+#[inline(never)]
+fn put_piece(piece: &[u8], into: &mut Tail<'_>)
+    ensures same_slice { lent into.new ≡ lent into.old }
+    ensures value { held into.new ≡ put_held (held into.old) piece.now }
+{
+    into.put(piece);
+}
+
+fn task_width(show: &Show) -> usize
+    ensures value { result ≡ line.task_width show.now }
+    ensures narrow { result ≤ 16 }
+{
+    if show.latency { 8 } else { 16 }
 }
 
 // Puts the columns behind the task's name in front.

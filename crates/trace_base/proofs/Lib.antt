@@ -8,6 +8,7 @@ pub mod FieldLines
 pub mod FieldBytes
 pub mod DigitLemmas
 pub mod TailFills
+pub mod TailFronts
 pub mod TailJoins
 pub mod TailNuls
 pub mod NulLemmas

@@ -46,6 +46,27 @@ impl<'a> Tail<'a> {
         note_last(&mut self.last, piece);
     }
 
+    /// Puts the first bytes of a longer text, as the pieces of a line are. Of the tail what stays through cuts is told.
+    #[inline(always)]
+    pub fn put_front(&mut self, text: &[u8], len: usize)
+        requires within { len ≤ length text.now }
+        requires longer { 16 ≤ length text.now }
+        ensures same_slice { lent self.new ≡ lent self.old }
+        ensures held { held self.new ≡ put_held (held self.old) (take len text.now) }
+    {
+        if len <= 16 && self.total.saturating_add(16) <= self.into.len() as u64 {
+            // Sixteen bytes are copied, however many count: a copy of a fixed length needs no call, and one by way of a
+            // place of its own no test whether the texts overlap.
+            let at = self.total as usize;
+            let mut piece = [0; 16];
+            piece.copy_from_slice(&text[..16]);
+            self.into[at..at + 16].copy_from_slice(&piece);
+            self.total += len as u64;
+        } else {
+            self.put(&text[..len]);
+        }
+    }
+
     /// The true length of what was put. It stays at the greatest number of 64 bits.
     pub fn total(&self) -> u64
         ensures value { result ≡ (kept self.now).total }

@@ -1,6 +1,6 @@
 use Rattle.std.proofs.Common.{ap, ◌∙◌}
-use Rattle.waiting_text.specs.Gathered.{Gathered, gathered, joined}
-use Rattle.waiting_text.proofs.Gathering.{joined_twice}
+use Rattle.fmt_print.specs.Gathered.{Gathered, gathered, joined}
+use Rattle.fmt_print.proofs.Gathering.{joined_twice}
 use Rattle.fmt_print.specs.ArgumentView.{trees}
 use Rattle.fmt_print.specs.Sources.{source}
 use Rattle.fmt_print.specs.Steps.{literal_text, printed_some, shown_directive}
@@ -12,4 +12,4 @@ returns-clause-shown c =
     let behind = printed_some from (shown_directive c.args.step.now.shown) (trees c.args.args.now) in
     c.shown.ensures.shown
     ∙ ap (λ (g : Gathered). joined g behind.0) c.literal.ensures
-    ∙ joined_twice (gathered c.args.waiting.now c.args.into.now) (literal_text from.text c.args.step.now.literal) behind.0
+    ∙ joined_twice (gathered c.args.into.now) (literal_text from.text c.args.step.now.literal) behind.0
