@@ -15,12 +15,13 @@ ffffffff81000000 T _text
 0x17 T one
 10000000000000018 T long
 
-";
+ffffffffc0a1b2d0 t last";
 
 const SYMBOLS: &[u8] = b"0 fixed
 12 \naf Mixed\r
 ffffffff81000000 _text
 ffffffffc0a1b2c3 open
+ffffffffc0a1b2d0 last
 ";
 
 // Lines of printk formats, and those that give a text.

@@ -1,7 +1,7 @@
 -- Hexadecimal digits at the front of a text.
-use Rattle.std.proofs.Common.{◌≡◌, ℕ, ◌+◌, ◌-◌, ◌*◌, ◌%◌, ◌^◌, ◌<◌, ◌≤◌, true, ltb, leb, List, [], ◌∷◌, Some, length, take, drop, get_or, refl, sym, ap, subst, ◌∙◌, arith}
+use Rattle.std.proofs.Common.{◌≡◌, false, ℕ, ◌+◌, ◌*◌, ◌%◌, ◌^◌, ◌<◌, ◌≤◌, true, ltb, leb, List, [], ◌∷◌, Some, length, take, drop, get_or, refl, sym, ap, subst, ◌∙◌, arith}
 use Rattle.std.proofs.lemmas.Bool.{ltb-true, le-ltb, lt-ltb, le-leb}
-use Rattle.std.proofs.lemmas.List.{length-take, take-append-drop, at_drop_more, at_drop_all}
+use Rattle.std.proofs.lemmas.List.{length-take, take-append-drop, take_all, at_drop_more, at_drop_all}
 use Rattle.std.proofs.lemmas.List.Folds.{list_all_more}
 use Rattle.std.proofs.lemmas.Int.Digits.{digits_value-lt, digits_value_more}
 use Rattle.std.proofs.Math.Nat.{pow-le-pow_right}
@@ -57,6 +57,19 @@ address_read text address count is value some few =
     let positive : ltb 0 run ≡ true = lt-ltb 0 run (omega (arith, is, some)) in
     let within : leb run 16 ≡ true = le-leb run 16 (omega (arith, is, few)) in
     ap (λ (n : ℕ). Some (n, drop count text)) whole ∙ ap (λ (n : ℕ). Some (digits_value 16 (take run text), drop n text)) is ∙ sym (rw (positive, within) refl)
+
+-- a space behind 16 digits ends them
+pub full_is : (text : List ℕ) (address : ℕ) → 16 < length text → get_or text 16 0 ≡ 32 → list_all is_hexadecimal (take 16 text) ≡ true → address ≡ digits_value 16 (take 16 text) % 2 ^ 64 → Some (address, drop 16 text) ≡ address_at text
+full_is text address inside space all value =
+    let here : is_hexadecimal (get_or text 16 0) ≡ false = subst (λ (b : ℕ). is_hexadecimal b ≡ false) (sym space) refl in
+    let outside : BeginsOutside is_hexadecimal (get_or text 16 0 ∷ drop (16 + 1) text) = here in
+    let count : prefix_len is_hexadecimal text ≡ 16 = run_len text 16 (omega (arith, inside)) all (subst (BeginsOutside is_hexadecimal) (sym (at_drop_more (λ (l : List ℕ). l) text 16 0 inside)) outside) in
+    address_read text address 16 (sym count) value (omega arith) (omega arith)
+
+-- every byte was a digit
+pub all_read : (text : List ℕ) (number i : ℕ) → length text ≤ i → list_all is_hexadecimal (take i text) ≡ true → number ≡ digits_value 16 (take i text) % 2 ^ 64 → (list_all is_hexadecimal text ≡ true) × (number ≡ digits_value 16 text % 2 ^ 64)
+all_read text number i whole all value =
+    (ap (list_all is_hexadecimal) (sym (take_all i text whole)) ∙ all, value ∙ ap (λ (l : List ℕ). digits_value 16 l % 2 ^ 64) (take_all i text whole))
 
 -- the low bits of a number with a further digit
 pub step : (whole digit : ℕ) → ((whole % 2 ^ 64 * 16) % 2 ^ 64 + digit) % 2 ^ 64 ≡ (whole * 16 + digit) % 2 ^ 64

@@ -8,7 +8,6 @@ use Rattle.std.specs.Char.{is_ascii_alphabetic}
 use Rattle.std.specs.Str.Parse.{digits_value}
 use Rattle.trace_base.specs.FieldLine.{is_decimal, decimal}
 use Rattle.trace_base.specs.FieldReading.{after_word}
-use Rattle.trace_base.specs.OptionSteps.{◌>>=◌}
 use Rattle.trace_base.proofs.FieldSteps.{bind_some, guarded, some_is, both}
 use Rattle.trace_base.proofs.FieldRuns as runs
 use Rattle.trace_base.proofs.FieldRuns.{run_again, run_all, run_outside}
@@ -24,7 +23,7 @@ outside_of : (test : ℕ → Bool) (text : List ℕ) → BeginsOutside test text
 outside_of test [] outside = tt
 outside_of test (byte ∷ text) outside = outside byte text refl
 
-outside_is : (test : ℕ → Bool) (text : List ℕ) → runs.BeginsOutside test text → BeginsOutside test text
+pub outside_is : (test : ℕ → Bool) (text : List ℕ) → runs.BeginsOutside test text → BeginsOutside test text
 outside_is test [] outside = λ first rest e. absurd cc
 outside_is test (byte ∷ text) outside = λ first rest e. let same : byte ≡ first = cc in subst (λ (b : ℕ). test b ≡ false) same outside
 
@@ -66,10 +65,10 @@ letter_again : (letter : ℕ) (rest : List ℕ) → is_ascii_alphabetic letter �
 unfolding after_letter
 letter_again letter rest is = let long : leb 2 (length (letter ∷ (codes " " ++ rest))) ≡ true = le-leb _ _ (omega arith) in rw (long, is) refl
 
-abbrev Lettered : List ℕ → List ℕ → Type 0
+abbrev pub Lettered : List ℕ → List ℕ → Type 0
 Lettered text rest = (letter : ℕ) × (text ≡ letter ∷ (codes " " ++ rest)) × (is_ascii_alphabetic letter ≡ true)
 
-letter_is : (text rest : List ℕ) → after_letter text ≡ Some rest → Lettered text rest
+pub letter_is : (text rest : List ℕ) → after_letter text ≡ Some rest → Lettered text rest
 unfolding after_letter
 letter_is [] rest is = absurd cc
 letter_is (letter ∷ []) rest is = absurd cc

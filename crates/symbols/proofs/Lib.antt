@@ -1,6 +1,8 @@
 pub mod Addresses
+pub mod FirstSymbols
 pub mod Forms
 pub mod MapLemmas
+pub mod NameLemmas
 pub mod PairLemmas
 pub mod ReadLines
 pub mod RowLemmas

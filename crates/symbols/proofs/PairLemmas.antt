@@ -1,10 +1,10 @@
 -- What is found among pairs whose numbers rise.
-use Rattle.std.proofs.Common.{ltb, ◌≡◌, ℕ, zero, suc, ◌+◌, ◌-◌, ◌<◌, ◌≤◌, nat_eq, eqb, List, [], ◌∷◌, map, length, slice_get, slice_index, Option, Some, None, refl, sym, ap, subst, ◌∙◌, arith, inl, inr}
+use Rattle.std.proofs.Common.{ltb, ◌≡◌, ℕ, zero, suc, ◌+◌, ◌-◌, ◌<◌, ◌≤◌, nat_eq, List, [], ◌∷◌, length, slice_get, slice_index, Option, Some, None, refl, sym, ap, subst, ◌∙◌, arith, inl, inr}
 use Rattle.std.specs.Map.{keys_of}
 use Rattle.std.proofs.lemmas.Bool.{cases_Bool, cases_lt, eqb-true, eqb-false, eq-eqb, ne_eqb, ltb-true, ltb-false, le-leb, lt-leb}
 use Rattle.std.specs.Option.{option_or}
 use Rattle.symbols.specs.NameMap.{Pair, first_at, RisesFrom, SamePairs, IsMapOf, IsNearest, NoneUpTo, put, map_of, last_up_to}
-use Rattle.symbols.specs.Found.{IsFrom}
+use Rattle.symbols.specs.Names.{IsFrom}
 use Rattle.symbols.specs.Search.{RisesKeys, IsLastUpTo, NoneWithin}
 use Rattle.symbols.specs.RowsView.{firsts}
 

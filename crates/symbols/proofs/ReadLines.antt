@@ -1,41 +1,131 @@
 -- A loop over lines that names are read from.
-use Rattle.std.proofs.Common.{◌≡◌, ℕ, ◌≤◌, Bool, List, [], ◌∷◌, ◌++◌, map, reverse, subst, length, Option, Some, None, refl, sym, ap, ◌∙◌, append_assoc}
-use Rattle.std.specs.List.{cons_option, prefix_len}
-use Rattle.std.proofs.lemmas.List.{append-nil, map-append, reverse-append}
+use Rattle.std.proofs.Common.{◌≡◌, ℕ, suc, ◌+◌, ◌-◌, ◌<◌, ◌≤◌, Bool, List, [], ◌∷◌, ◌++◌, length, take, drop, get_or, codes, Option, Some, None, IfSome, refl, sym, ap, ◌∙◌, append_assoc, arith}
+use Rattle.std.specs.List.{cons_option, prefix_len, join_with_byte}
+use Rattle.std.proofs.lemmas.List.{append-nil, length-append, drop_at, take-append-le}
+use Rattle.std.proofs.lemmas.List.Splits.{join_with_byte-slice_split}
 use Rattle.std.proofs.lemmas.List.Sums.{prefix_len-le-length}
-use Rattle.text_lines.specs.Lines.{lines_of}
-use Rattle.symbols.specs.declared.found.Found.{Found}
-use Rattle.symbols.specs.NameMap.{Pair, IsMapOf}
-use Rattle.symbols.specs.Found.{pairs_of, found_view}
+use Rattle.trace_base.specs.FieldReading.{after_word}
+use Rattle.trace_base.proofs.FieldEntries.{after_again, after_is}
+use Rattle.text_lines.specs.Lines.{lines_of, lines_left}
+use Rattle.text_lines.proofs.Splits.{lines_long}
+use denote.Ref.{Bor}
+use Rattle.symbols.specs.NameMap.{Pair}
 use Rattle.symbols.specs.declared.lines.Form.{Form}
+use Rattle.symbols.specs.declared.lines.Form.TheVariants.{Kallsyms}
 use Rattle.symbols.specs.Forms.{line_in, pairs_in}
+use Rattle.symbols.specs.Names.{BeginsWith, EndsWith}
+use Rattle.symbols.specs.FirstLine.{IsFirstSymbol, PutsFirst}
 
 pub prefix_within : (p : ℕ → Bool) (xs : List ℕ) → prefix_len p xs ≤ length xs
 prefix_within p xs = prefix_len-le-length p xs
 
-pub one_put : (o : Option Pair) (front now : List Found) (name : Found) → Some (found_view name) ≡ o → now ≡ front ++ name ∷ [] → pairs_of now ≡ pairs_of front ++ cons_option o []
-one_put o front now name is next = ap pairs_of next ∙ map-append found_view front (name ∷ []) ∙ ap (λ (o : Option Pair). pairs_of front ++ cons_option o []) is
+-- a space at the front, and none
+pub space_is : (text : List ℕ) → 0 < length text → get_or text 0 0 ≡ 32 → Some (drop 1 text) ≡ after_word (codes " ") text
+space_is [] some space = absurd (omega (arith, some))
+space_is (byte ∷ text) some space = sym (ap (λ (b : ℕ). after_word (codes " ") (b ∷ text)) space ∙ after_again (codes " ") text)
 
-pub none_put : (o : Option Pair) (front : List Found) → None ≡ o → pairs_of front ≡ pairs_of front ++ cons_option o []
-none_put o front is = sym (append-nil (pairs_of front)) ∙ ap (λ (o : Option Pair). pairs_of front ++ cons_option o []) is
+never_behind : (o : Option (List ℕ)) (text : List ℕ) → after_word (codes " ") text ≡ o → ((rest : List ℕ) → text ≡ codes " " ++ rest → ⊥) → None ≡ after_word (codes " ") text
+never_behind None text e never = sym e
+never_behind (Some rest) text e never = absurd (never rest (after_is (codes " ") text rest e))
 
+pub no_text : (text : List ℕ) → length text ≡ 0 → None ≡ after_word (codes " ") text
+no_text text none = never_behind (after_word (codes " ") text) text refl (λ rest e. absurd (omega (arith, ap length e, none)))
+
+pub no_space : (text : List ℕ) → (get_or text 0 0 ≡ 32 → ⊥) → None ≡ after_word (codes " ") text
+no_space text other = never_behind (after_word (codes " ") text) text refl (λ rest e. other (ap (λ (l : List ℕ). get_or l 0 0) e))
+
+-- a line that gives a name, and one that gives none
+pub one_put : (o : Option Pair) (front now : List Pair) (name : Pair) → Some name ≡ o → now ≡ front ++ name ∷ [] → now ≡ front ++ cons_option o []
+one_put o front now name is next = next ∙ ap (λ (o : Option Pair). front ++ cons_option o []) is
+
+pub none_put : (o : Option Pair) (front : List Pair) → None ≡ o → front ≡ front ++ cons_option o []
+none_put o front is = sym (append-nil front) ∙ ap (λ (o : Option Pair). front ++ cons_option o []) is
+
+-- blocks that grow
+pub block_same : (block : List ℕ) → BeginsWith block block
+block_same block = ([], sym (append-nil block))
+
+pub block_more : (block before text : List ℕ) → block ≡ before ++ text → BeginsWith block before
+block_more block before text is = (text, is)
+
+pub block_behind : (block before text : List ℕ) → BeginsWith block before → BeginsWith before text → BeginsWith block text
+block_behind block before text grown begins = (begins.0 ++ grown.0, grown.1 ∙ ap (λ (l : List ℕ). l ++ grown.0) begins.1 ∙ append_assoc text begins.0 grown.0)
+
+pub ends_itself : (text : List ℕ) → EndsWith text text
+ends_itself text = ([], refl)
+
+pub ends_behind : (text lines end : List ℕ) → EndsWith text lines → EndsWith lines end → EndsWith text end
+ends_behind text lines end outer inner = (outer.0 ++ inner.0, outer.1 ∙ ap (λ (l : List ℕ). outer.0 ++ l) inner.1 ∙ sym (append_assoc outer.0 inner.0 end))
+
+-- where a name that a text ends with stands in a block that begins with the text
+pub record IsPlace (block text from : List ℕ) (len : ℕ) : Type 0 where
+  pub room : length from ≤ length text
+  pub inside : length text - length from + len ≤ length block
+  pub text_is : take (length text - length from + len - (length text - length from)) (drop (length text - length from) block) ≡ take len from
+
+pub place_of : (block text from : List ℕ) (len : ℕ) → BeginsWith block text → EndsWith text from → len < length from → IsPlace block text from len
+place_of block text from len begins ends inside =
+    let front = ends.0 in
+    let more = begins.0 in
+    let long : length text ≡ length front + length from = ap length ends.1 ∙ length-append front from in
+    let whole : length block ≡ length text + length more = ap length begins.1 ∙ length-append text more in
+    let at : length text - length from ≡ length front = omega (arith, long) in
+    let parted : block ≡ front ++ (from ++ more) = begins.1 ∙ ap (λ (l : List ℕ). l ++ more) ends.1 ∙ append_assoc front from more in
+    let count : length text - length from + len - (length text - length from) ≡ len = omega arith in
+    record {
+      room = omega (arith, long);
+      inside = omega (arith, long, whole, inside);
+      text_is =
+          ap (λ (n : ℕ). take n (drop (length text - length from) block)) count
+          ∙ ap (λ (n : ℕ). take len (drop n block)) at
+          ∙ ap (λ (l : List ℕ). take len (drop (length front) l)) parted
+          ∙ ap (λ (l : List ℕ). take len l) (drop_at front (from ++ more) (length front) refl)
+          ∙ take-append-le len from more (omega (arith, inside));
+    }
+
+-- what follows the first line
+line_and : (line rest : List ℕ) (others : List (List ℕ)) → lines_of rest ≡ others → join_with_byte 10 (line ∷ others) ≡ line ++ (10 ∷ rest)
+line_and line [] [] is = absurd cc
+line_and line (byte ∷ rest) [] is =
+    let none : [] ≡ byte ∷ rest = sym (ap (join_with_byte 10) is) ∙ join_with_byte-slice_split 10 (byte ∷ rest) in absurd cc
+line_and line rest (other ∷ others) is =
+    ap (λ (l : List ℕ). line ++ (10 ∷ l)) (sym (ap (join_with_byte 10) is) ∙ join_with_byte-slice_split 10 rest)
+
+pub first_of : (text line rest : List ℕ) → lines_of text ≡ line ∷ lines_of rest → text ≡ line ++ (10 ∷ rest)
+first_of text line rest split = sym (join_with_byte-slice_split 10 text) ∙ ap (join_with_byte 10) split ∙ line_and line rest (lines_of rest) refl
+
+pub ends_left : (text lines line : List ℕ) (behind : Option (Bor (List ℕ))) → EndsWith text lines → lines_of lines ≡ line ∷ lines_left behind → IfSome behind (λ rest. EndsWith text rest.now)
+ends_left text lines line None ends split = tt
+ends_left text lines line (Some rest) ends split =
+    ends_behind text lines rest.now ends (line ++ 10 ∷ [], first_of lines line rest.now split ∙ sym (append_assoc line (10 ∷ []) rest.now))
+
+pub shorter_left : (lines line : List ℕ) (behind : Option (Bor (List ℕ))) → lines_of lines ≡ line ∷ lines_left behind → lines_long behind < suc (length lines)
+shorter_left lines line None split = omega arith
+shorter_left lines line (Some rest) split = omega (arith, ap length (first_of lines line rest.now split) ∙ length-append line (10 ∷ rest.now))
+
+-- the loop
 one_more : (o : Option Pair) (ps : List Pair) → cons_option o [] ++ ps ≡ cons_option o ps
 one_more None ps = refl
 one_more (Some p) ps = refl
 
-pub line_more : (form : Form) (text line : List ℕ) (others : List (List ℕ)) (front now whole : List Pair) → lines_of text ≡ line ∷ others → now ≡ front ++ cons_option (line_in form line) []
+pub line_more : (form : Form) (text : List ℕ) (others : List (List ℕ)) (front now whole : List Pair) → PutsFirst form text front now others
     → front ++ pairs_in form (lines_of text) ≡ whole → now ++ pairs_in form others ≡ whole
-line_more form text line others front now whole split next before =
-    ap (λ (l : List Pair). l ++ pairs_in form others) next
-    ∙ append_assoc front (cons_option (line_in form line) []) (pairs_in form others)
-    ∙ ap (λ (l : List Pair). front ++ l) (one_more (line_in form line) (pairs_in form others) ∙ ap (pairs_in form) (sym split)) ∙ before
+line_more form text others front now whole puts before =
+    ap (λ (l : List Pair). l ++ pairs_in form others) puts.put
+    ∙ append_assoc front (cons_option (line_in form puts.line) []) (pairs_in form others)
+    ∙ ap (λ (l : List Pair). front ++ l) (one_more (line_in form puts.line) (pairs_in form others) ∙ ap (pairs_in form) (sym puts.split)) ∙ before
 
 pub all_read : (form : Form) (front whole : List Pair) → front ++ pairs_in form [] ≡ whole → front ≡ whole
 all_read form front whole before = sym (append-nil front) ∙ before
 
-pub pairs_reverse : (xs : List Found) → pairs_of (reverse xs) ≡ reverse (pairs_of xs)
-pairs_reverse [] = refl
-pairs_reverse (x ∷ xs) = ap pairs_of (reverse-append (x ∷ []) xs) ∙ map-append found_view (reverse xs) (x ∷ []) ∙ ap (λ (l : List Pair). l ++ found_view x ∷ []) (pairs_reverse xs) ∙ sym (reverse-append (found_view x ∷ []) (pairs_of xs))
-
-pub map_behind : (xs ys : List Found) (pairs rows : List Pair) → ys ≡ reverse xs → pairs_of xs ≡ pairs → IsMapOf (pairs_of ys) rows → IsMapOf (reverse pairs) rows
-map_behind xs ys pairs rows turned are is = subst (λ (l : List Pair). IsMapOf l rows) (ap pairs_of turned ∙ pairs_reverse xs ∙ ap reverse are) is
+-- a symbol that was read in one pass is what its line gives
+pub symbol_put : (form : Form) (text : List ℕ) (key : ℕ) (from name : List ℕ) (len : ℕ) (others : List (List ℕ)) (front now : List Pair) → form ≡ Kallsyms → IsFirstSymbol text key from len others
+    → name ≡ take len from → now ≡ front ++ (key, name) ∷ [] → PutsFirst form text front now others
+symbol_put form text key from name len others front now is first named next = record {
+  line = first.line;
+  split = first.split;
+  put = next
+      ∙ ap (λ (l : List ℕ). front ++ (key, l) ∷ []) named
+      ∙ ap (λ (o : Option Pair). front ++ cons_option o []) (sym first.is)
+      ∙ ap (λ (f : Form). front ++ cons_option (line_in f first.line) []) (sym is);
+}

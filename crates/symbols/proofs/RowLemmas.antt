@@ -1,17 +1,17 @@
--- Names in a block that grows.
-use Rattle.std.proofs.Common.{◌≡◌, ℕ, zero, suc, ◌+◌, ◌-◌, ◌<◌, ◌≤◌, true, false, List, [], ◌∷◌, ◌++◌, map, length, take, drop, append_assoc, slice_get, slice_index, get_or, All, Option, Some, None, refl, sym, ap, subst, ◌∙◌, arith}
+-- Names in rows.
+use Rattle.std.proofs.Common.{◌≡◌, ℕ, zero, suc, ◌+◌, ◌-◌, ◌<◌, ◌≤◌, true, false, List, [], ◌∷◌, ◌++◌, map, length, drop, append_assoc, slice_get, slice_index, get_or, Option, Some, None, refl, sym, ap, subst, ◌∙◌, arith}
 use Rattle.std.specs.List.{zip}
 use Rattle.std.specs.Map.{keys_of}
-use Rattle.std.proofs.lemmas.List.{map-append, length-map, length-append, get_or_default, append-nil, at_drop_more, at_drop_all, take_all, drop_at, length-drop, drop-append-le, take-append-le}
+use Rattle.std.proofs.lemmas.List.{map-append, length-map, get_or_default, append-nil, at_drop_more, at_drop_all}
 use Rattle.symbols.specs.declared.rows.Rows.{Rows}
-use Rattle.symbols.specs.declared.rows.Span.{Span}
-use Rattle.symbols.specs.declared.found.Found.{Found}
+use Rattle.symbols.specs.declared.names.Span.{Span}
+use Rattle.symbols.specs.declared.names.Spot.{Spot}
 use Rattle.symbols.specs.NameMap.{Pair}
-use Rattle.symbols.specs.Found.{pairs_of, found_view}
+use Rattle.symbols.specs.Names.{text_in, spot_view, spots_view}
 use Rattle.symbols.specs.NameMap.{RisesFrom, IsNearest, NoneUpTo, last_up_to}
 use Rattle.symbols.specs.Search.{RisesKeys, IsLastUpTo, NoneWithin}
 use Rattle.symbols.proofs.PairLemmas.{rises_keys, nearest_is, within, none_up_to, last_found, last_none}
-use Rattle.symbols.specs.RowsView.{text_in, rows_view, IsSound, is_key, firsts}
+use Rattle.symbols.specs.RowsView.{rows_view, IsSound, is_key, firsts}
 
 pub keys_zip : {X : Type 0} (ks : List ℕ) (xs : List X) → length xs ≡ length ks → keys_of (zip ks xs) ≡ ks
 keys_zip [] xs e = refl
@@ -24,35 +24,13 @@ zip_more [] (y ∷ ys) k x e = absurd (omega (arith, e))
 zip_more (j ∷ ks) [] k x e = absurd (omega (arith, e))
 zip_more {X} (j ∷ ks) (y ∷ ys) k x e = ap (λ (l : List (ℕ × X)). (j, y) ∷ l) (zip_more ks ys k x (omega (arith, e)))
 
--- names that are there stay when the block grows
-kept : (block more : List ℕ) (spans : List Span) → All (λ (s : Span). s.start ≤ s.end) spans → All (λ (s : Span). s.end ≤ length block) spans → map (text_in (block ++ more)) spans ≡ map (text_in block) spans
-kept block more [] ordered inside = refl
-kept block more (s ∷ spans) ordered inside =
-    let before : s.start ≤ s.end = ordered 0 s (omega arith) in
-    let within : s.end ≤ length block = inside 0 s (omega arith) in
-    let here : text_in (block ++ more) s ≡ text_in block s =
-    ap (λ (l : List ℕ). take (s.end - s.start) l) (drop-append-le s.start block more (omega (arith, before, within)))
-    ∙ take-append-le (s.end - s.start) (drop s.start block) more (omega (arith, before, within, length-drop s.start block)) in
-    ap (λ (l : List ℕ). l ∷ map (text_in (block ++ more)) spans) here
-    ∙ ap (λ (l : List (List ℕ)). text_in block s ∷ l) (kept block more spans (λ k d less. ordered (suc k) d (omega (arith, less))) (λ k d less. inside (suc k) d (omega (arith, less))))
-
-newest : (block text : List ℕ) (s : Span) → s.start ≡ length block → s.end ≡ length (block ++ text) → text_in (block ++ text) s ≡ text
-newest block text s is_start is_end =
-    ap (λ (n : ℕ). take (s.end - s.start) (drop n (block ++ text))) is_start
-    ∙ ap (λ (l : List ℕ). take (s.end - s.start) l) (drop_at block text (length block) refl)
-    ∙ take_all (s.end - s.start) text (omega (arith, is_start, is_end, length-append block text))
-
-pub pushed : (rows now : Rows) (key : ℕ) (text : List ℕ) (s : Span) → IsSound rows → s.start ≡ length rows.block.items → s.end ≡ length now.block.items
-    → now.keys.items ≡ rows.keys.items ++ key ∷ [] → now.spans.items ≡ rows.spans.items ++ s ∷ [] → now.block.items ≡ rows.block.items ++ text
-    → rows_view now ≡ rows_view rows ++ (key, text) ∷ []
-pushed rows now key text s sound is_start is_end keys spans block =
-    let b = rows.block.items in
-    let texts : List (List ℕ) = map (text_in (b ++ text)) rows.spans.items in
+pub pushed : (rows now : Rows) (key : ℕ) (s : Span) → IsSound rows → now.keys.items ≡ rows.keys.items ++ key ∷ [] → now.spans.items ≡ rows.spans.items ++ s ∷ [] → now.block.items ≡ rows.block.items
+    → rows_view now ≡ rows_view rows ++ (key, text_in rows.block.items s) ∷ []
+pushed rows now key s sound keys spans block =
+    let texts : List (List ℕ) = map (text_in rows.block.items) rows.spans.items in
     rw (keys, spans, block) (
-    ap (zip (rows.keys.items ++ key ∷ [])) (map-append (text_in (b ++ text)) rows.spans.items (s ∷ []))
-    ∙ zip_more rows.keys.items texts key (text_in (b ++ text) s) (length-map rows.spans.items (text_in (b ++ text)) ∙ sound.paired)
-    ∙ ap (λ (l : List (List ℕ)). zip rows.keys.items l ++ (key, text_in (b ++ text) s) ∷ []) (kept b text rows.spans.items sound.ordered sound.inside)
-    ∙ ap (λ (l : List ℕ). rows_view rows ++ (key, l) ∷ []) (newest b text s is_start (is_end ∙ ap length block)))
+    ap (zip (rows.keys.items ++ key ∷ [])) (map-append (text_in rows.block.items) rows.spans.items (s ∷ []))
+    ∙ zip_more rows.keys.items texts key (text_in rows.block.items s) (length-map rows.spans.items (text_in rows.block.items) ∙ sound.paired))
 
 -- a name at a place
 zip_get : {X Y : Type 0} (f : X → Y) (ks : List ℕ) (xs : List X) (i : ℕ) (d : X) → length xs ≡ length ks → i < length ks → slice_get (zip ks (map f xs)) i ≡ Some (slice_index ks i, f (get_or xs i d))
@@ -93,24 +71,24 @@ pub rows_long : (rows : Rows) → IsSound rows → length rows.keys.items ≡ le
 rows_long rows sound = long_zip rows.keys.items (map (text_in rows.block.items) rows.spans.items) (length-map rows.spans.items (text_in rows.block.items) ∙ sound.paired)
 
 -- a loop over what was found: a name that is passed over, one that is put, and the end
-abbrev left : Option ℕ → List Found → ℕ → List Pair
-left last xs i = firsts last (pairs_of (drop i xs))
+abbrev left : List ℕ → Option ℕ → List Spot → ℕ → List Pair
+left block last xs i = firsts last (spots_view block (drop i xs))
 
-pub passed : (front whole : List Pair) (last : Option ℕ) (xs : List Found) (i : ℕ) (d : Found) → i < length xs → is_key last (get_or xs i d).key ≡ true → front ++ left last xs i ≡ whole → front ++ left last xs (i + 1) ≡ whole
-passed front whole last xs i d less same before =
-    let here : left last xs i ≡ left last xs (i + 1) = at_drop_more (λ (l : List Found). firsts last (pairs_of l)) xs i d less ∙ rw same refl in
+pub passed : (front whole : List Pair) (block : List ℕ) (last : Option ℕ) (xs : List Spot) (i : ℕ) (d : Spot) → i < length xs → is_key last (get_or xs i d).key ≡ true → front ++ left block last xs i ≡ whole → front ++ left block last xs (i + 1) ≡ whole
+passed front whole block last xs i d less same before =
+    let here : left block last xs i ≡ left block last xs (i + 1) = at_drop_more (λ (l : List Spot). firsts last (spots_view block l)) xs i d less ∙ rw same refl in
     ap (λ (l : List Pair). front ++ l) (sym here) ∙ before
 
-pub taken : (front now whole : List Pair) (last : Option ℕ) (xs : List Found) (i : ℕ) (d : Found) → i < length xs → is_key last (get_or xs i d).key ≡ false → now ≡ front ++ found_view (get_or xs i d) ∷ [] → front ++ left last xs i ≡ whole
-    → now ++ left (Some (get_or xs i d).key) xs (i + 1) ≡ whole
-taken front now whole last xs i d less other is before =
+pub taken : (front now whole : List Pair) (block : List ℕ) (last : Option ℕ) (xs : List Spot) (i : ℕ) (d : Spot) → i < length xs → is_key last (get_or xs i d).key ≡ false → now ≡ front ++ spot_view block (get_or xs i d) ∷ [] → front ++ left block last xs i ≡ whole
+    → now ++ left block (Some (get_or xs i d).key) xs (i + 1) ≡ whole
+taken front now whole block last xs i d less other is before =
     let x = get_or xs i d in
-    let here : left last xs i ≡ found_view x ∷ left (Some x.key) xs (i + 1) = at_drop_more (λ (l : List Found). firsts last (pairs_of l)) xs i d less ∙ rw other refl in
-    ap (λ (l : List Pair). l ++ left (Some x.key) xs (i + 1)) is ∙ append_assoc front (found_view x ∷ []) (left (Some x.key) xs (i + 1)) ∙ ap (λ (l : List Pair). front ++ l) (sym here) ∙ before
+    let here : left block last xs i ≡ spot_view block x ∷ left block (Some x.key) xs (i + 1) = at_drop_more (λ (l : List Spot). firsts last (spots_view block l)) xs i d less ∙ rw other refl in
+    ap (λ (l : List Pair). l ++ left block (Some x.key) xs (i + 1)) is ∙ append_assoc front (spot_view block x ∷ []) (left block (Some x.key) xs (i + 1)) ∙ ap (λ (l : List Pair). front ++ l) (sym here) ∙ before
 
-pub all_taken : (front whole : List Pair) (last : Option ℕ) (xs : List Found) (i : ℕ) → length xs ≤ i → front ++ left last xs i ≡ whole → front ≡ whole
-all_taken front whole last xs i le before =
-    sym (append-nil front) ∙ ap (λ (l : List Pair). front ++ l) (sym (at_drop_all (λ (l : List Found). firsts last (pairs_of l)) xs i le)) ∙ before
+pub all_taken : (front whole : List Pair) (block : List ℕ) (last : Option ℕ) (xs : List Spot) (i : ℕ) → length xs ≤ i → front ++ left block last xs i ≡ whole → front ≡ whole
+all_taken front whole block last xs i le before =
+    sym (append-nil front) ∙ ap (λ (l : List Pair). front ++ l) (sym (at_drop_all (λ (l : List Spot). firsts last (spots_view block l)) xs i le)) ∙ before
 
 -- a search in the numbers
 pub rises_rows : (rows : Rows) (keys : List ℕ) → keys ≡ rows.keys.items → IsSound rows → RisesFrom 0 (rows_view rows) → RisesKeys keys

@@ -1,6 +1,8 @@
+pub mod FirstLine
 pub mod Forms
 pub mod LineForms
 pub mod NameMap
+pub mod Names
 pub mod Found
 pub mod RowsView
 pub mod Search

@@ -1,12 +1,10 @@
 -- Names in one block of bytes, with their numbers in one array.
-use Rattle.std.specs.Prelude.{◌≡◌, ℕ, ◌-◌, ◌≤◌, Bool, nat_eq, if◌then◌else◌, List, [], ◌∷◌, length, take, drop, map, All, Option, Some, None}
+use Rattle.std.specs.Prelude.{◌≡◌, ℕ, ◌≤◌, Bool, nat_eq, if◌then◌else◌, List, [], ◌∷◌, length, map, All, Option, Some, None}
 use Rattle.std.specs.List.{zip}
 use Rattle.symbols.specs.declared.rows.Rows.{Rows}
-use Rattle.symbols.specs.declared.rows.Span.{Span}
+use Rattle.symbols.specs.declared.names.Span.{Span}
 use Rattle.symbols.specs.NameMap.{Pair}
-
-abbrev pub text_in : List ℕ → Span → List ℕ
-text_in block span = take (span.end - span.start) (drop span.start block)
+use Rattle.symbols.specs.Names.{text_in}
 
 abbrev pub rows_view : Rows → List Pair
 rows_view rows = zip rows.keys.items (map (text_in rows.block.items) rows.spans.items)

@@ -5,9 +5,11 @@
 #![tactic(auto)]
 
 mod digits;
+mod first;
 mod found;
 mod lines;
 mod maps;
+mod names;
 mod read;
 mod rows;
 mod search;

@@ -1,8 +1,9 @@
 // The lines of kallsyms, printk formats and saved command lines, one at a time.
 
-ghost use Rattle.std.specs.Prelude.{◌≡◌, IfSome, IfNone};
+ghost use Rattle.std.specs.Prelude.{◌≡◌, IfSome, IfNone, codes};
 ghost use Rattle.std.specs.List.{prefix_len};
 ghost use Rattle.std.specs.Option.{option_map};
+ghost use Rattle.trace_base.specs.FieldReading.{after_word};
 ghost use Rattle.symbols.specs.NameMap.{Pair};
 ghost use Rattle.symbols.specs.Found.{found_view};
 ghost use Rattle.symbols.specs.LineForms.{in_name, IsSymbolLine, IsPrintkLine, IsTaskLine};
@@ -90,8 +91,27 @@ fn leading_number(text: &[u8]) -> Option<(u32, &[u8])>
     }
 }
 
+/// What follows a space.
+#[inline]
+#[tactic(auto, using(crate::proofs::ReadLines::space_is, crate::proofs::ReadLines::no_space, crate::proofs::ReadLines::no_text))]
+pub(crate) fn after_space(text: &[u8]) -> Option<&[u8]>
+    ensures { option_map (λ r. r.now) result ≡ after_word (codes " ") text.now }
+{
+    if text.is_empty() {
+        return None;
+    }
+    if text[0] == b' ' {
+        let (_, rest) = text.split_at(1);
+        Some(rest)
+    } else {
+        None
+    }
+}
+
+/// What follows one letter and a space.
+#[inline]
 #[tactic(auto, unfolding(crate::specs::Forms::after_letter))]
-fn after_letter(text: &[u8]) -> Option<&[u8]>
+pub(crate) fn after_letter(text: &[u8]) -> Option<&[u8]>
     ensures { option_map (λ r. r.now) result ≡ after_letter text.now }
 {
     if text.len() >= 2 && text[0].is_ascii_alphabetic() && text[1] == b' ' {
@@ -127,7 +147,7 @@ fn read_symbol(line: &[u8]) -> Option<Found<'_>>
     ensures { option_map found_view result ≡ symbol_line line.now }
 {
     let (key, rest) = address_at(line)?;
-    let rest = after_word(b" ", rest)?;
+    let rest = after_space(rest)?;
     let name = after_letter(rest)?;
     let (text, _) = name.split_at(name_len(name));
     Some(Found { key, text })
@@ -148,7 +168,7 @@ fn read_task(line: &[u8]) -> Option<Found<'_>>
     ensures { option_map found_view result ≡ task_line line.now }
 {
     let (pid, rest) = leading_number(line)?;
-    let text = after_word(b" ", rest)?;
+    let text = after_space(rest)?;
     if pid < 0x8000_0000 && !text.is_empty() {
         Some(Found {
             key: pid as u64,

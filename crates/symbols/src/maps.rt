@@ -4,7 +4,7 @@ ghost use Rattle.symbols.specs.NameMap.{first_at, nearest, IsNearest, NoneUpTo};
 ghost use Rattle.symbols.specs.Maps.{AreMapsOf, maps_of, task_name};
 
 use crate::lines::Form;
-use crate::read::found_in;
+use crate::read::names_in;
 use crate::table::NameTable;
 use noted_places::Places;
 use std::alloc::{AllocError, Global};
@@ -46,9 +46,9 @@ impl Symbols {
         ensures maps { IfOk result (AreMapsOf kallsyms.now printk.now cmdlines.now) }
         ensures exact { IfOk result (λ symbols. symbols ≡ maps_of kallsyms.now printk.now cmdlines.now) }
     {
-        let symbols = NameTable::build(alloc, found_in(alloc, Form::Kallsyms, kallsyms)?)?;
-        let printk = NameTable::build(alloc, found_in(alloc, Form::Printk, printk)?)?;
-        let mut found = found_in(alloc, Form::Tasks, cmdlines)?;
+        let symbols = NameTable::build(alloc, names_in(alloc, Form::Kallsyms, kallsyms)?)?;
+        let printk = NameTable::build(alloc, names_in(alloc, Form::Printk, printk)?)?;
+        let mut found = names_in(alloc, Form::Tasks, cmdlines)?;
         found.reverse();
         let tasks = NameTable::build(alloc, found)?;
         let task_places = tasks.places(alloc)?;

@@ -1,21 +1,14 @@
 // Names in one block of bytes, with their numbers in one array.
 
-ghost use Rattle.std.specs.Prelude.{◌≡◌, ◌<◌, ◌≤◌, ◌-◌, ◌++◌, [], ◌∷◌, None, Some, IfSome, IfNone, OnOk, IfOk, length, slice_get};
+ghost use Rattle.std.specs.Prelude.{◌≡◌, ◌<◌, ◌≤◌, ◌-◌, ◌++◌, [], ◌∷◌, None, Some, IfSome, IfNone, OnOk, IfOk, All, length, slice_get};
 ghost use Rattle.std.specs.Option.{option_map};
 ghost use Rattle.symbols.specs.NameMap.{RisesFrom, IsNearest, NoneUpTo, last_up_to};
-ghost use Rattle.symbols.specs.Found.{pairs_of};
+ghost use Rattle.symbols.specs.Names.{text_in, spots_view};
 ghost use Rattle.symbols.specs.RowsView.{rows_view, IsSound, is_key, firsts};
 
-use crate::found::Found;
+use crate::names::{Span, Spot};
 use crate::search::place_up_to;
 use std::alloc::{AllocError, Global};
-
-/// The place of a name in the block.
-#[derive(Clone, Copy, Debug)]
-pub(crate) struct Span {
-    pub start: usize,
-    pub end: usize,
-}
 
 #[derive(Drop)]
 pub(crate) struct Rows {
@@ -25,26 +18,26 @@ pub(crate) struct Rows {
 }
 
 impl Rows {
-    fn new(alloc: Global) -> Rows
-        ensures sound { IsSound result }
-        ensures value { rows_view result ≡ [] }
+    /// No rows, with room for so many.
+    fn over(alloc: Global, count: usize, block: Vec<u8>) -> Result<Rows, AllocError>
+        ensures sound { IfOk result IsSound }
+        ensures value { IfOk result (λ rows. rows_view rows ≡ []) }
+        ensures block { IfOk result (λ rows. rows.block.items ≡ block.items) }
     {
-        Rows {
-            keys: Vec::new(alloc),
-            spans: Vec::new(alloc),
-            block: Vec::new(alloc),
-        }
+        let keys = Vec::with_capacity(alloc, count)?;
+        let spans = Vec::with_capacity(alloc, count)?;
+        Ok(Rows { keys, spans, block })
     }
 
-    fn push(&mut self, key: u64, text: &[u8]) -> Result<(), AllocError>
-        requires { IsSound self.old }
+    fn push(&mut self, key: u64, span: Span) -> Result<(), AllocError>
+        requires sound { IsSound self.old }
+        requires ordered { span.start ≤ span.end }
+        requires inside { span.end ≤ length self.old.block.items }
         ensures sound { OnOk result (IsSound self.new) }
-        ensures value { OnOk result (rows_view self.new ≡ rows_view self.old ++ (key, text.now) ∷ []) }
+        ensures value { OnOk result (rows_view self.new ≡ rows_view self.old ++ (key, text_in self.old.block.items span) ∷ []) }
+        ensures block { OnOk result (self.new.block.items ≡ self.old.block.items) }
     {
-        let start = self.block.len();
-        self.block.extend_from_slice(text)?;
-        let end = self.block.len();
-        self.spans.push(Span { start, end })?;
+        self.spans.push(span)?;
         self.keys.push(key)?;
         Ok(())
     }
@@ -108,16 +101,18 @@ fn is_key(last: Option<u64>, key: u64) -> bool
 
 /// The names as rows; of those with one number that follow each other only the first.
 #[tactic(auto, using(crate::proofs::RowLemmas::passed, crate::proofs::RowLemmas::taken, crate::proofs::RowLemmas::all_taken))]
-pub(crate) fn gather(alloc: Global, found: &[Found<'_>]) -> Result<Rows, AllocError>
+pub(crate) fn gather(alloc: Global, spots: &[Spot], block: Vec<u8>) -> Result<Rows, AllocError>
+    requires ordered { All (λ s. s.span.start ≤ s.span.end) spots.now }
+    requires inside { All (λ s. s.span.end ≤ length block.items) spots.now }
     ensures sound { IfOk result IsSound }
-    ensures value { IfOk result (λ rows. rows_view rows ≡ firsts None (pairs_of found.now)) }
+    ensures value { IfOk result (λ rows. rows_view rows ≡ firsts None (spots_view block.items spots.now)) }
 {
-    let mut rows = Rows::new(alloc);
+    let mut rows = Rows::over(alloc, spots.len(), block)?;
     let mut last = None;
-    for found in found {
-        if !is_key(last, found.key) {
-            rows.push(found.key, found.text)?;
-            last = Some(found.key);
+    for spot in spots {
+        if !is_key(last, spot.key) {
+            rows.push(spot.key, spot.span)?;
+            last = Some(spot.key);
         }
     }
     Ok(rows)

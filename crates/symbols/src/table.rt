@@ -4,10 +4,10 @@ ghost use Rattle.std.specs.Prelude.{◌≡◌, Some, length, slice_get, IfOk, If
 ghost use Rattle.std.specs.Option.{option_map};
 ghost use Rattle.symbols.specs.NameMap.{first_at, name_if, nearest, IsMapOf, IsNearest, NoneUpTo, HasMap, OneMap};
 ghost use Rattle.std.specs.Map.{keys_of};
-ghost use Rattle.symbols.specs.Found.{pairs_of};
+ghost use Rattle.symbols.specs.Names.{names_view, AreInside};
 ghost use Rattle.noted_places.specs.Noted.{noted};
 
-use crate::found::{Found, sort_found};
+use crate::names::Names;
 use crate::rows::{Rows, gather};
 use noted_places::Places;
 use std::alloc::{AllocError, Global};
@@ -34,12 +34,14 @@ impl Model for NameTable {
 impl NameTable {
     /// The names that were found; of equal numbers the first counts.
     #[tactic(auto, using(crate::proofs::PairLemmas::rises_all, crate::proofs::PairLemmas::same_firsts))]
-    pub fn build(alloc: Global, found: Vec<Found<'_>>) -> Result<NameTable, AllocError>
-        ensures { IfOk result (IsMapOf (pairs_of found.entry.items)) }
+    pub fn build(alloc: Global, names: Names) -> Result<NameTable, AllocError>
+        requires { AreInside names }
+        ensures { IfOk result (IsMapOf (names_view names)) }
     {
-        let mut found = found;
-        sort_found(&mut found)?;
-        let rows = gather(alloc, &found)?;
+        let mut names = names;
+        names.sort()?;
+        let Names { spots, block } = names;
+        let rows = gather(alloc, &spots, block)?;
         Ok(NameTable { rows })
     }
 

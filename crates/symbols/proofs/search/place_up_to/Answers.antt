@@ -1,4 +1,4 @@
-use Rattle.std.proofs.Common.{rules, Err, ◌-◌}
+use Rattle.std.proofs.Common.{rules, Err}
 use Rattle.std.proofs.lemmas.List.Sorted.{searched}
 use Rattle.symbols.proofs.SearchLemmas.{not_falls, before_place}
 use Rattle.symbols.proofs.search.place_up_to.Goals as goal

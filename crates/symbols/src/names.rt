@@ -1,0 +1,93 @@
+// Names as they stand in a block of bytes.
+
+ghost use Rattle.std.specs.Prelude.{◌≡◌, ◌≤◌, ◌-◌, ◌++◌, [], ◌∷◌, OnOk, length, reverse, take, drop};
+ghost use Rattle.symbols.specs.NameMap.{SamePairs};
+ghost use Rattle.symbols.specs.Names.{names_view, AreInside, IsSortedPairs};
+
+use std::alloc::{AllocError, Global};
+
+/// The place of a name in the block.
+#[derive(Clone, Copy, Debug)]
+pub(crate) struct Span {
+    pub start: usize,
+    pub end: usize,
+}
+
+/// A number and the place of the name beside it.
+#[derive(Clone, Copy, Debug)]
+pub(crate) struct Spot {
+    /// The address or the pid.
+    pub key: u64,
+    /// Where the name stands.
+    pub span: Span,
+}
+
+/// Names in the order in which they were found.
+#[derive(Drop)]
+pub(crate) struct Names {
+    pub spots: Vec<Spot>,
+    pub block: Vec<u8>,
+}
+
+impl Names {
+    /// No names yet, over these bytes.
+    pub fn over(alloc: Global, block: Vec<u8>) -> Names
+        ensures inside { AreInside result }
+        ensures value { names_view result ≡ [] }
+        ensures block { result.block.items ≡ block.items }
+    {
+        Names {
+            spots: Vec::new(alloc),
+            block,
+        }
+    }
+
+    /// Puts a name behind the others; its bytes are copied.
+    pub fn copy(&mut self, key: u64, text: &[u8]) -> Result<(), AllocError>
+        requires { AreInside self.old }
+        ensures inside { OnOk result (AreInside self.new) }
+        ensures value { OnOk result (names_view self.new ≡ names_view self.old ++ (key, text.now) ∷ []) }
+        ensures block { OnOk result (self.new.block.items ≡ self.old.block.items ++ text.now) }
+    {
+        let start = self.block.len();
+        self.block.extend_from_slice(text)?;
+        let end = self.block.len();
+        let span = Span { start, end };
+        self.spots.push(Spot { key, span })?;
+        Ok(())
+    }
+
+    /// Puts a name that stands in the block behind the others.
+    pub fn point(&mut self, key: u64, start: usize, end: usize) -> Result<(), AllocError>
+        requires inside { AreInside self.old }
+        requires ordered { start ≤ end }
+        requires within { end ≤ length self.old.block.items }
+        ensures inside { OnOk result (AreInside self.new) }
+        ensures value { OnOk result (names_view self.new ≡ names_view self.old ++ (key, take (end - start) (drop start self.old.block.items)) ∷ []) }
+        ensures block { OnOk result (self.new.block.items ≡ self.old.block.items) }
+    {
+        let span = Span { start, end };
+        self.spots.push(Spot { key, span })?;
+        Ok(())
+    }
+
+    /// Turns the order of the names round.
+    pub fn reverse(&mut self)
+        requires { AreInside self.old }
+        ensures inside { AreInside self.new }
+        ensures value { names_view self.new ≡ reverse (names_view self.old) }
+    {
+        self.spots.reverse();
+    }
+
+    /// Puts the names in order of their numbers, those of one number as they stand.
+    pub fn sort(&mut self) -> Result<(), AllocError>
+        requires { AreInside self.old }
+        ensures inside { OnOk result (AreInside self.new) }
+        ensures rises { OnOk result (IsSortedPairs (names_view self.new)) }
+        ensures same { OnOk result (SamePairs (names_view self.old) (names_view self.new)) }
+    {
+        self.spots.sort_by_key(|spot| spot.key)?;
+        Ok(())
+    }
+}
