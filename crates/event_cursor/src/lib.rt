@@ -18,4 +18,4 @@ pub use laws::used_items;
 pub use loading::{Loaded, load};
 pub use places::Place;
 pub use seeking::{Sought, place, seek};
-pub use stepping::{head, head_key, key_behind, step};
+pub use stepping::{head, head_at, head_key, key_behind, step};

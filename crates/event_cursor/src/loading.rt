@@ -30,6 +30,7 @@ pub enum Loaded {
 ///
 /// # Errors
 /// `Failed` where a read failed. The lane is not to be used again then.
+#[inline(never)]
 pub fn load<F: File>(layout: &Layout, file: &mut F, lane: &mut Lane) -> Result<Loaded, Failed>
     requires allowed { IsLayout layout.now }
     requires in_order { IsInOrder layout.now lane.old }

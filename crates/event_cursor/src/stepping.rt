@@ -2,13 +2,13 @@ ghost use Rattle.std.specs.Prelude.{◌≡◌, ◌+◌, ◌<◌, length, option_
 ghost use Rattle.trace_base.specs.declared.layout.Layout.{Layout};
 ghost use Rattle.subpage.specs.Arrangement.{key_of};
 ghost use Rattle.subpage.specs.ItemView.{item_view};
-ghost use Rattle.subpage.specs.Marks.{IsMark};
+ghost use Rattle.subpage.specs.Marks.{IsMark, items_from};
 ghost use Rattle.event_cursor.specs.Keys.{key_behind, first_of};
 ghost use Rattle.event_cursor.specs.Standing.{IsInOrder, TellsAhead, held_left, keyed_held, most_left};
-ghost use Rattle.event_cursor.specs.Stepping.{IsStepped, head_view};
+ghost use Rattle.event_cursor.specs.Stepping.{IsHead, IsStepped, head_view};
 
-use page_pool::{Ahead, Lane, LaneState};
-use subpage::{Item, Mark, first_at};
+use page_pool::{Ahead, Cursor, Lane, LaneState};
+use subpage::{Item, Mark, item_between, pass_item};
 use trace_base::Layout;
 
 /// The key of an item behind those whose greatest time is `high`: the greatest time up to it, in nanoseconds.
@@ -30,10 +30,14 @@ pub(crate) fn ahead_at(layout: &Layout, page: &[u8], mark: Mark, high: Option<u6
     requires { IsMark layout.now page.now mark }
     ensures { TellsAhead layout.now page.now mark high result }
 {
-    let (item, behind) = first_at(layout, page, mark)?;
+    let Some((behind, payload)) = pass_item(layout, page, mark) else {
+        return None;
+    };
+    let item = item_between(page, &mark, &behind, payload);
     Some(Ahead {
         key: key_behind(high, &item),
         behind,
+        payload,
     })
 }
 
@@ -51,6 +55,22 @@ pub fn head_key(lane: &Lane) -> Option<u64>
     }
 }
 
+/// The first item at a cursor of a held sub-buffer, with its key. The item was read when the cursor came to it, and is not
+/// read again.
+#[inline]
+pub fn head_at<'a>(layout: &Layout, cursor: &Cursor, page: &'a [u8]) -> Option<(u64, Item<'a>)>
+    requires { TellsAhead layout.now page.now cursor.now.mark cursor.now.high cursor.now.ahead }
+    ensures { IsHead cursor.now.high (items_from layout.now page.now cursor.now.mark) result }
+{
+    match cursor.ahead {
+        None => None,
+        Some(ahead) => {
+            let item = item_between(page, &cursor.mark, &ahead.behind, ahead.payload);
+            Some((ahead.key, item))
+        }
+    }
+}
+
 /// The first item of the held sub-buffer that is not used up, with its key. `None` exactly where the held one is used up
 /// or none is held.
 pub fn head<'a>(layout: &Layout, lane: &'a Lane) -> Option<(u64, Item<'a>)>
@@ -60,9 +80,7 @@ pub fn head<'a>(layout: &Layout, lane: &'a Lane) -> Option<(u64, Item<'a>)>
     if lane.cursor.state != LaneState::Held {
         return None;
     }
-    let ahead = lane.cursor.ahead?;
-    let (item, _) = first_at(layout, lane.page.bytes(), lane.cursor.mark)?;
-    Some((ahead.key, item))
+    head_at(layout, &lane.cursor, lane.page.bytes())
 }
 
 /// Uses up the item that [`head`] gives.
@@ -76,8 +94,9 @@ pub fn step(layout: &Layout, lane: &mut Lane)
 {
     if let Some(ahead) = lane.cursor.ahead {
         let high = Some(ahead.key);
-        lane.cursor.ahead = ahead_at(layout, lane.page.bytes(), ahead.behind, high);
-        lane.cursor.mark = ahead.behind;
+        let mark = ahead.behind.past_loss();
+        lane.cursor.ahead = ahead_at(layout, lane.page.bytes(), mark, high);
+        lane.cursor.mark = mark;
         lane.cursor.at += 1;
         lane.cursor.high = high;
     }

@@ -5,6 +5,7 @@ ghost use Rattle.page_write.specs.Fill.{event_len, record_len};
 ghost use Rattle.page_write.specs.Record.{is_short};
 
 use crate::bits::DELTA_BITS;
+use subpage::filled_up;
 
 /// Whether the first word tells the length of a payload.
 fn is_short_len(len: usize) -> bool
@@ -23,7 +24,7 @@ pub fn len_of_event(len: usize) -> usize
     if is_short_len(len) {
         4 + len
     } else {
-        8 + (len + 3) / 4 * 4
+        8 + filled_up(len)
     }
 }
 

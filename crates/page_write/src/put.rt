@@ -3,11 +3,11 @@
 ghost use Rattle.std.specs.Prelude.{◌≡◌, ◌+◌, ◌≤◌, ◌<◌, ◌^◌, ◌*◌, ◌⊎◌, length};
 ghost use Rattle.trace_base.specs.Number.{bytes_of};
 ghost use Rattle.page_write.specs.Record.{is_short, pair_word, first_word, event_text, extend_text, record_text, zeros};
-ghost use Rattle.subpage.specs.Element.{round4};
 ghost use Rattle.page_write.specs.Fill.{event_len, record_len};
 ghost use Rattle.page_write.specs.PageBytes.{put_at};
 
 use crate::bits::DELTA_BITS;
+use subpage::filled_up;
 use trace_base::{Order, put_u32, put_u64};
 
 /// The kind of element that a time extend is.
@@ -18,14 +18,6 @@ fn is_in_first_word(len: usize) -> bool
     ensures { result ≡ is_short len }
 {
     matches!(len, 4..=112) && len % 4 == 0
-}
-
-// A length filled up to whole words.
-fn filled_up(len: usize) -> usize
-    requires { len < 2 ^ 32 }
-    ensures { result ≡ round4 len }
-{
-    (len + 3) / 4 * 4
 }
 
 /// Where an event ends that begins at a place and is so much later than what stands before it.

@@ -5,6 +5,7 @@ pub mod Elements
 pub mod Walking
 pub mod Suffixes
 pub mod Settling
+pub mod Payloads
 pub mod Counting
 pub mod PageItems
 pub mod Arranging

@@ -1,9 +1,11 @@
 -- A place among the items of a sub-buffer, and the items behind it.
-use Rattle.std.specs.Prelude.{◌≡◌, ℕ, ◌≤◌, List, [], ◌∷◌, length, take, drop, Option, Some, None, IsSome}
+use Rattle.std.specs.Prelude.{◌≡◌, ℕ, ◌+◌, ◌≤◌, List, [], ◌∷◌, length, take, drop, Option, Some, None, IsSome}
 use Rattle.trace_base.specs.declared.layout.Layout.{Layout}
+use Rattle.subpage.specs.declared.loss.Loss.{Loss}
 use Rattle.subpage.specs.declared.mark.Mark.{Mark}
+use Rattle.subpage.specs.declared.mark.Span.{Span}
 use Rattle.subpage.specs.declared.item.Item.{Item}
-use Rattle.subpage.specs.ItemData.{ItemData}
+use Rattle.subpage.specs.ItemData.{ItemData, EventAt, LossAt}
 use Rattle.subpage.specs.ItemView.{item_view}
 use Rattle.subpage.specs.Reading.{walk}
 use Rattle.subpage.specs.Left.{left}
@@ -25,3 +27,30 @@ abbrev pub IsFirst : Layout → List ℕ → Mark → Option (Item × Mark) → 
 IsFirst layout page mark None = items_from layout page mark ≡ []
 IsFirst layout page mark (Some first) =
     (items_from layout page mark ≡ item_view first.0 ∷ items_from layout page first.1) × IsMark layout page first.1
+
+-- bytes of the page
+abbrev pub IsInside : List ℕ → Span → Type 0
+IsInside page span = span.from + span.len ≤ length page
+
+abbrev pub span_bytes : List ℕ → Span → List ℕ
+span_bytes page span = take span.len (drop span.from page)
+
+-- the loss that is to be told at a mark, or else the event of this time and payload
+abbrev pub item_by : Option Loss → ℕ → List ℕ → ItemData
+item_by None time payload = EventAt time payload
+item_by (Some loss) time payload = LossAt loss.time loss.count
+
+-- The item between a mark and the mark behind it: an event's time is the running time behind it.
+abbrev pub item_between : List ℕ → Mark → Mark → Span → ItemData
+item_between page mark behind payload = item_by mark.loss behind.time (span_bytes page payload)
+
+-- the place behind the loss that is told at a mark
+abbrev pub past_loss : Mark → Mark
+past_loss mark = record { loss = None; time = mark.time; from = mark.from; to = mark.to }
+
+-- The mark behind the first item, at which no loss is told, and its payload.
+abbrev pub IsPassed : Layout → List ℕ → Mark → Option (Mark × Span) → Type 0
+IsPassed layout page mark None = items_from layout page mark ≡ []
+IsPassed layout page mark (Some passed) =
+    (items_from layout page mark ≡ item_between page mark passed.0 passed.1 ∷ items_from layout page passed.0)
+    × (IsMark layout page passed.0 × (IsInside page passed.1 × (past_loss passed.0 ≡ passed.0)))

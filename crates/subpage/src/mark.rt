@@ -1,9 +1,11 @@
-ghost use Rattle.std.specs.Prelude.{◌≡◌, ◌≤◌, length};
-ghost use Rattle.subpage.specs.Marks.{bytes_from, items_from, IsMark, IsFirst};
+ghost use Rattle.std.specs.Prelude.{◌≡◌, ◌≤◌, None, length};
+ghost use Rattle.subpage.specs.ItemView.{item_view};
+ghost use Rattle.subpage.specs.Marks.{bytes_from, item_between, items_from, IsMark, IsFirst, IsInside, IsPassed, past_loss};
 
 use crate::item::Item;
 use crate::loss::Loss;
 use crate::next::{Next, next_event, pass_silent};
+use crate::reading::{filled_up, short_event};
 use trace_base::Layout;
 
 /// A place among the items of a sub-buffer, as plain numbers: it can be kept beside the sub-buffer's bytes, and the
@@ -27,6 +29,19 @@ impl Mark {
         from: 0,
         to: 0,
     };
+
+    /// The place behind the loss, where one is told there. Behind an item none is, and it is this very place.
+    #[inline(always)]
+    pub fn past_loss(&self) -> Mark
+        ensures { result ≡ past_loss self.now }
+    {
+        Mark {
+            loss: None,
+            time: self.time,
+            from: self.from,
+            to: self.to,
+        }
+    }
 }
 
 /// The committed bytes behind a mark.
@@ -55,39 +70,114 @@ pub(crate) fn settle(layout: &Layout, page: &[u8], mark: Mark) -> Mark
     }
 }
 
-/// The item at a mark, and the mark behind it.
-pub fn first_at<'a>(layout: &Layout, page: &'a [u8], mark: Mark) -> Option<(Item<'a>, Mark)>
-    requires { IsMark layout.now page.now mark }
-    ensures { IsFirst layout.now page.now mark result }
+/// Which bytes of a sub-buffer are an item's payload, as plain numbers.
+#[derive(Clone, Copy, Debug)]
+pub struct Span {
+    pub(crate) from: u32,
+    pub(crate) len: u32,
+}
+
+impl Span {
+    /// No bytes.
+    pub const NONE: Span = Span { from: 0, len: 0 };
+}
+
+/// The item between a mark and the mark behind it, as [`pass_item`] found them. It is not read again.
+#[inline(always)]
+pub fn item_between<'a>(page: &'a [u8], mark: &Mark, behind: &Mark, payload: Span) -> Item<'a>
+    requires { IsInside page.now payload }
+    ensures { item_view result ≡ item_between page.now mark.now behind.now payload }
 {
-    if let Some(loss) = mark.loss {
-        let item = Item::Loss {
+    match mark.loss {
+        Some(loss) => Item::Loss {
             time: loss.time,
             count: loss.count,
-        };
-        let behind = Mark {
-            loss: None,
-            time: mark.time,
-            from: mark.from,
-            to: mark.to,
-        };
-        return Some((item, behind));
+        },
+        None => {
+            let (_, rest) = page.split_at(payload.from as usize);
+            let (payload, _) = rest.split_at(payload.len as usize);
+            Item::Event {
+                time: behind.time,
+                payload,
+            }
+        }
     }
+}
+
+/// The mark behind the first event from a mark on, whatever stands before it, and its payload.
+#[inline(never)]
+fn pass_next(layout: &Layout, page: &[u8], mark: Mark) -> Option<(Mark, Span)>
+    requires mark { IsMark layout.now page.now mark }
+    requires event { mark.loss ≡ None }
+    ensures { IsPassed layout.now page.now mark result }
+{
     match next_event(layout.order, mark.time, bytes_behind(page, mark)) {
         Next::Event {
             time,
             payload,
             rest,
         } => {
+            let from = mark.to - rest.len() as u32;
             let behind = Mark {
                 loss: None,
                 time,
-                from: mark.to - rest.len() as u32,
+                from,
                 to: mark.to,
             };
-            Some((Item::Event { time, payload }, behind))
+            let len = payload.len();
+            let filled = filled_up(len) as u32;
+            let payload = Span {
+                from: from - filled,
+                len: len as u32,
+            };
+            Some((behind, payload))
         }
         // The bytes behind a mark can be read.
         Next::Done | Next::Malformed => None,
     }
+}
+
+/// The mark behind the event at a mark at which no loss is told, and its payload. Most events have their length in their
+/// first word.
+#[inline(always)]
+fn pass_event(layout: &Layout, page: &[u8], mark: Mark) -> Option<(Mark, Span)>
+    requires mark { IsMark layout.now page.now mark }
+    requires event { mark.loss ≡ None }
+    ensures { IsPassed layout.now page.now mark result }
+{
+    match short_event(layout.order, mark.time, bytes_behind(page, mark)) {
+        Some((time, len)) => {
+            let from = mark.from + 4;
+            let behind = Mark {
+                loss: None,
+                time,
+                from: from + len,
+                to: mark.to,
+            };
+            Some((behind, Span { from, len }))
+        }
+        None => pass_next(layout, page, mark),
+    }
+}
+
+/// The mark behind the item at a mark, and its payload.
+#[inline(always)]
+pub fn pass_item(layout: &Layout, page: &[u8], mark: Mark) -> Option<(Mark, Span)>
+    requires { IsMark layout.now page.now mark }
+    ensures { IsPassed layout.now page.now mark result }
+{
+    if mark.loss.is_some() {
+        let behind = mark.past_loss();
+        return Some((behind, Span::NONE));
+    }
+    pass_event(layout, page, mark)
+}
+
+/// The item at a mark, and the mark behind it.
+pub fn first_at<'a>(layout: &Layout, page: &'a [u8], mark: Mark) -> Option<(Item<'a>, Mark)>
+    requires { IsMark layout.now page.now mark }
+    ensures { IsFirst layout.now page.now mark result }
+{
+    let (behind, payload) = pass_item(layout, page, mark)?;
+    Some((item_between(page, &mark, &behind, payload), behind))
 }

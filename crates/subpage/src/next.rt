@@ -1,7 +1,7 @@
 ghost use Rattle.std.specs.Prelude.{◌≡◌, ◌-◌, [], drop, length, IsTrue, ℕ};
 ghost use Rattle.subpage.specs.ElementView.{element_view};
 ghost use Rattle.subpage.specs.ItemData.{told_by};
-ghost use Rattle.subpage.specs.NextEvent.{IsNext, IsSuffix};
+ghost use Rattle.subpage.specs.NextEvent.{HasPayload, IsNext, IsSuffix};
 ghost use Rattle.subpage.specs.Reading.{walk};
 
 use crate::element::Element;
@@ -28,6 +28,7 @@ pub enum Next<'a> {
 pub fn next_event(order: Order, start: u64, bytes: &[u8]) -> Next<'_>
     ensures next { IsNext order start bytes.now result }
     ensures suffix { IsSuffix bytes.now result }
+    ensures payload { HasPayload bytes.now result }
 {
     let mut time = start;
     let mut rest = bytes;

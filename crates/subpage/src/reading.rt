@@ -1,11 +1,13 @@
 // The elements of committed bytes, read from the front: each function gives what it read, and the bytes behind it.
 
 ghost use Rattle.std.specs.Prelude.{◌≡◌, ◌-◌, ◌^◌, ◌<◌, ◌≤◌, IfSome, length, option_map};
-ghost use Rattle.subpage.specs.Element.{type_len, time_delta};
+ghost use Rattle.subpage.specs.Element.{round4, type_len, time_delta};
 ghost use Rattle.subpage.specs.ElementView.{split_view};
+ghost use Rattle.subpage.specs.NextEvent.{IsShort};
 ghost use Rattle.subpage.specs.Reading.{word_at, counted_at, short_event_at, long_event_at, discarded_at, extend_at, stamp_at, rest_at, element_at};
 
 use crate::element::Element;
+use crate::running_time::time_past;
 use trace_base::{Order, read_u32};
 
 /// How many bits of a first word are its delta; the word behind it goes on above them.
@@ -44,6 +46,14 @@ fn split_word(order: Order, bytes: &[u8]) -> Option<(u32, &[u8])>
     Some((read_u32(order, bytes), rest))
 }
 
+/// A length filled up to whole words.
+pub fn filled_up(len: usize) -> usize
+    requires { len < 2 ^ 32 }
+    ensures { result ≡ round4 len }
+{
+    (len + 3) / 4 * 4
+}
+
 /// A length that counts its own word, and the bytes that it counts, filled up to whole words.
 #[tactic(auto, unfolding(crate::specs::Reading::counted_at))]
 fn split_counted(order: Order, bytes: &[u8]) -> Option<(u32, &[u8], &[u8])>
@@ -54,7 +64,7 @@ fn split_counted(order: Order, bytes: &[u8]) -> Option<(u32, &[u8], &[u8])>
     if len < 4 {
         return None;
     }
-    let filled = (len as usize + 3) / 4 * 4 - 4;
+    let filled = filled_up(len as usize) - 4;
     if after.len() < filled {
         return None;
     }
@@ -137,4 +147,27 @@ pub fn split_element(order: Order, bytes: &[u8]) -> Option<(Element<'_>, &[u8])>
     let (word, after) = split_word(order, bytes)?;
     let kind = type_len_of(order, word);
     split_rest(order, kind, time_delta_of(order, word), after)
+}
+
+/// The running time behind the event at the front and its payload's length, where its first word tells the length.
+#[inline(always)]
+pub fn short_event(order: Order, time: u64, bytes: &[u8]) -> Option<(u64, u32)>
+    ensures { IsShort order time bytes.now result }
+{
+    if bytes.len() < 4 {
+        return None;
+    }
+    let word = read_u32(order, bytes);
+    let kind = type_len_of(order, word);
+    if kind == 0 || kind > 28 {
+        return None;
+    }
+    let len = 4 * kind;
+    if bytes.len() - 4 < len as usize {
+        return None;
+    }
+    let Some(after) = time_past(time, time_delta_of(order, word)) else {
+        return None;
+    };
+    Some((after, len))
 }

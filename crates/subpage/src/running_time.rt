@@ -1,4 +1,4 @@
-ghost use Rattle.std.specs.Prelude.{◌≡◌};
+ghost use Rattle.std.specs.Prelude.{◌≡◌, ◌+◌};
 ghost use Rattle.subpage.specs.ElementView.{element_view};
 ghost use Rattle.subpage.specs.RunningTime.{in_64_bits, stamped, time_after};
 
@@ -23,14 +23,19 @@ fn time_at_stamp(time: u64, stamp: u64) -> Option<u64>
     }
 }
 
+/// The running time so much later, where it is below 2^64.
+pub fn time_past(time: u64, delta: u32) -> Option<u64>
+    ensures { result ≡ in_64_bits (time + delta) }
+{
+    time.checked_add(u64::from(delta))
+}
+
 /// The running time behind an element, where it is below 2^64.
 pub fn time_behind(time: u64, element: &Element<'_>) -> Option<u64>
     ensures { result ≡ in_64_bits (time_after time (element_view element.now)) }
 {
     match *element {
-        Element::Event { delta, .. } | Element::Discarded { delta } => {
-            time.checked_add(u64::from(delta))
-        }
+        Element::Event { delta, .. } | Element::Discarded { delta } => time_past(time, delta),
         Element::Extend { delta } => time.checked_add(delta),
         Element::Stamp { time: stamp } => time_at_stamp(time, stamp),
         Element::End => Some(time),

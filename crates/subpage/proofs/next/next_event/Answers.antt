@@ -8,6 +8,7 @@ use Rattle.subpage.specs.ItemData.{told_by}
 use Rattle.subpage.specs.Reading.{walk}
 use Rattle.subpage.proofs.Walking.{walk_none, goes_on, too_late, passes, at_end, IsEvent}
 use Rattle.subpage.proofs.Suffixes.{suffix_step, suffix_whole}
+use Rattle.subpage.proofs.Payloads.{payload_step}
 use Rattle.subpage.proofs.next.next_event.Goals as goal
 
 pub returns-in_default-clause-next : goal.returns-in_default-clause-next
@@ -35,6 +36,11 @@ no_event (code.Stamp s) never is = is
 pub returns-in-Event-clause-suffix : goal.returns-in-Event-clause-suffix
 returns-in-Event-clause-suffix c =
     suffix_step c.args.order c.loop-rest.rest.now (element_view c.in-Some.element) c.in-Some.behind.now c.args.bytes.now c.in-Some.ensures c.loop-rest.invariant.suffix c.loop-rest.invariant.left
+
+pub returns-in-Event-clause-payload : goal.returns-in-Event-clause-payload
+returns-in-Event-clause-payload c =
+    payload_step c.args.order c.loop-rest.rest.now (element_view c.in-Some.element) c.in-Some.behind.now c.args.bytes.now c.in-Event.delta c.in-Event.payload.now c.in-Some.ensures
+    (ap element_view c.in-Event.is) c.loop-rest.invariant.suffix c.loop-rest.invariant.left
 
 pub loop-rest-init : goal.loop-rest-init
 loop-rest-init c = record { same = refl; left = omega arith; suffix = suffix_whole c.args.bytes.now }

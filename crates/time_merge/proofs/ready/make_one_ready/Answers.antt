@@ -1,9 +1,10 @@
 use Rattle.std.proofs.Common.{refl, ◌≡◌, ◌≤◌, ◌<◌, ℕ, length, get_or, arith, ◌-◌}
 use Rattle.std.proofs.lemmas.Result.{on_ok_weaker}
+use Rattle.std.proofs.lemmas.List.Elements.{All-set}
 use Rattle.std.proofs.lemmas.List.Sums.{sum_by-set}
 use Rattle.trace_outside.specs.Causes.{raised}
 use Rattle.trace_outside.proofs.Gains.{on_err}
-use Rattle.event_cursor.specs.Standing.{most_left}
+use Rattle.event_cursor.specs.Standing.{IsInOrder, most_left}
 use Rattle.event_cursor.proofs.Told.{told_all}
 use Rattle.time_merge.specs.LaneRows.{IsReady}
 use Rattle.time_merge.specs.Reads.{all_unread}
@@ -12,6 +13,9 @@ use Rattle.time_merge.proofs.LaneReads.{less_unread, one_read, stopped}
 use Rattle.time_merge.proofs.Readying.{same_parts, same_rows, stand_still}
 use Rattle.time_merge.proofs.OneLane.{ready_set}
 use Rattle.time_merge.proofs.ready.make_one_ready.Goals as goal
+
+pub returns-clause-in_order : goal.returns-clause-in_order
+returns-clause-in_order g c = All-set (IsInOrder c.args.layout.now) c.args.lanes.now c.args.i c.make_ready.new.lane c.make_ready.ensures.in_order c.requires.in_order
 
 pub returns-clause-parts : goal.returns-clause-parts
 returns-clause-parts g c = same_parts c.args.lanes.now c.args.i c.index-lanes-i.result c.make_ready.new.lane c.requires.inside c.make_ready.ensures.place

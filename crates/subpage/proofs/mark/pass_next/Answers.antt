@@ -1,0 +1,15 @@
+use Rattle.std.proofs.Common.{List, ℕ, subst}
+use Rattle.subpage.proofs.Payloads.{Told, next_passed}
+use Rattle.subpage.proofs.mark.pass_next.Goals as goal
+
+pub returns-in-Event : goal.returns-in-Event
+returns-in-Event c =
+    let l = c.args.layout.now in
+    let m = c.args.mark in
+    let time = c.in-Event.time in
+    let payload = c.in-Event.payload.now in
+    let rest = c.in-Event.rest.now in
+    next_passed l c.args.page.now m time c.filled_up-filled.result payload rest c.requires.event c.requires.mark
+    (subst (λ (bytes : List ℕ). Told l m time payload rest bytes) c.bytes_behind.ensures
+    (record { walked = c.in-Event.ensures.next.0; suffix = c.in-Event.ensures.suffix; fits = c.in-Event.ensures.payload.0; own = c.in-Event.ensures.payload.1 }))
+    c.filled_up-filled.ensures
