@@ -162,7 +162,7 @@ const LINES: &[(Long, Status, &str, &str)] = &[
         Long {
             begin: "report",
             part: " -r no",
-            count: 20_000,
+            count: 174_762,
             end: "",
         },
         Status::Done,
@@ -173,7 +173,7 @@ const LINES: &[(Long, Status, &str, &str)] = &[
         Long {
             begin: "report",
             part: " -r no",
-            count: 20_000,
+            count: 174_762,
             end: " -r sum",
         },
         Status::Done,
@@ -195,12 +195,34 @@ const LINES: &[(Long, Status, &str, &str)] = &[
         Long {
             begin: "report",
             part: " -F no",
-            count: 20_000,
+            count: 174_762,
             end: " -F sum",
         },
         Status::Done,
         SHOWN,
         "",
+    ),
+    (
+        Long {
+            begin: "report -",
+            part: "R",
+            count: 1_048_576,
+            end: "",
+        },
+        Status::Done,
+        RAW,
+        "",
+    ),
+    (
+        Long {
+            begin: "report",
+            part: " -i a",
+            count: 209_715,
+            end: "",
+        },
+        Status::Usage,
+        "",
+        "trace-cmd: word 18: given twice\n",
     ),
     (
         Long {

@@ -1,6 +1,6 @@
 -- The command that settings ask for.
 -- Source: trace-cmd-report(1), trace-cmd-split(1), trace-cmd-dump(1) and trace-cmd-restore(1), `OPTIONS`.
-use Rattle.std.specs.Prelude.{ℕ, Bool, true, false, ◌&&◌, ◌||◌, not, List, [], ◌∷◌, map, Option, option_map, unwrap_or, codes}
+use Rattle.std.specs.Prelude.{ℕ, Bool, true, false, ◌&&◌, ◌||◌, not, List, [], ◌∷◌, drop, map, Option, option_map, unwrap_or, codes}
 use Rattle.std.specs.List.{list_any, find, cons_option}
 use Rattle.std.specs.Option.{option_and_then, option_map_or, option_or}
 use Rattle.word_values.specs.declared.section.Section.{Section}
@@ -28,6 +28,13 @@ use Rattle.trace_args.specs.Given.{sets, value_for, value_of, value_at, texts_of
 abbrev pub input_of : List Setting → List ℕ
 input_of settings = option_map_or (λ text. text.bytes) (value_of valued.Input settings) (codes "trace.dat")
 
+-- the first input of a report, and the inputs behind it
+abbrev pub first_input : List Setting → List ℕ
+first_input settings = option_map_or (λ text. text.bytes) (value_of valued.Source settings) (input_of settings)
+
+abbrev pub more_inputs : List Setting → List (List ℕ)
+more_inputs settings = drop 1 (texts_of valued.Source settings)
+
 abbrev pub filter_data : Bool → Text → FilterData
 filter_data hide filter = record { word = filter.word; hide = hide; text = filter.bytes }
 
@@ -52,7 +59,8 @@ workers_of settings =
 abbrev pub report_of : List Setting → ReportData
 report_of settings =
     record {
-      input = input_of settings;
+      input = first_input settings;
+      more = more_inputs settings;
       filters = filters_from false settings;
       full = is_set flag.FullTime settings;
       diff = is_set flag.Differences settings;

@@ -20,6 +20,7 @@ pub record FilterData : Type 0 where
 
 pub record ReportData : Type 0 where
   pub input : List ℕ
+  pub more : List (List ℕ)
   pub filters : List FilterData
   pub full : Bool
   pub diff : Bool
@@ -72,6 +73,7 @@ abbrev pub report_view : ReportWords → ReportData
 report_view w =
     record {
       input = w.input.now;
+      more = map (λ name. name.now) w.more.items;
       filters = map filter_view w.filters.items;
       full = w.full;
       diff = w.diff;

@@ -1,10 +1,10 @@
-ghost use Rattle.std.specs.Prelude.{◌≡◌, IfOk, MatchResult};
+ghost use Rattle.std.specs.Prelude.{◌≡◌, IfOk, MatchResult, map};
 ghost use Rattle.std.specs.List.{list_any};
 ghost use Rattle.word_values.specs.Sections.{sections};
-ghost use Rattle.trace_args.specs.Asked.{base_of, bound_of, command_of, cpu_of, cpus_of, dump_of, events_of, input_of, is_printed, listing_of, names_any, names_section, output_of, piece_by, report_of, restore_of, seed_of, self_of, split_of, unit_of, workers_of};
+ghost use Rattle.trace_args.specs.Asked.{base_of, bound_of, command_of, cpu_of, cpus_of, dump_of, events_of, first_input, input_of, is_printed, listing_of, more_inputs, names_any, names_section, output_of, piece_by, report_of, restore_of, seed_of, self_of, split_of, unit_of, workers_of};
 ghost use Rattle.trace_args.specs.Command.{command_view, dump_view, report_view, restore_view, self_view, split_view};
 ghost use Rattle.trace_args.specs.Given.{is_set};
-ghost use Rattle.trace_args.specs.Views.{given_view};
+ghost use Rattle.trace_args.specs.GivenView.{given_view};
 
 use crate::fault::{WordFault, WordKind};
 use crate::given::Given;
@@ -34,8 +34,10 @@ pub enum Command<'a> {
 /// The words of `report` (trace-cmd-report(1)).
 #[derive(Drop)]
 pub struct ReportWords<'a> {
-    /// The name of the file.
+    /// The name of the file, or of the first where there are more.
     pub input: &'a str,
+    /// `-i`, given again: the names of up to seven more files, in their order.
+    pub more: Vec<&'a str>,
     /// `-F` and `-v`: the filters, in their order.
     pub filters: Vec<FilterWord<'a>>,
     /// `-t`: times are printed to the nanosecond.
@@ -158,10 +160,12 @@ impl<'a> ReportWords<'a> {
     fn asked(alloc: Global, given: &Given<'a>) -> Result<ReportWords<'a>, AllocError>
         ensures { IfOk result (λ words. report_view words ≡ report_of (given_view given.now)) }
     {
+        let more = more_inputs(alloc, given)?;
         let filters = given.filters(alloc)?;
         let raw_events = given.texts(alloc, ValuedOption::RawEvent)?;
         Ok(ReportWords {
-            input: input(given),
+            input: first_input(given),
+            more,
             filters,
             full: given.is_set(FlagOption::FullTime),
             diff: given.is_set(FlagOption::Differences),
@@ -329,6 +333,27 @@ fn input<'a>(given: &Given<'a>) -> &'a str
         Some(value) => value.text,
         None => "trace.dat",
     }
+}
+
+// The name of the first file of a report.
+fn first_input<'a>(given: &Given<'a>) -> &'a str
+    ensures { result.now ≡ first_input (given_view given.now) }
+{
+    match given.value(ValuedOption::Source) {
+        Some(value) => value.text,
+        None => input(given),
+    }
+}
+
+// The names of the files of a report behind the first.
+fn more_inputs<'a>(alloc: Global, given: &Given<'a>) -> Result<Vec<&'a str>, AllocError>
+    ensures { IfOk result (λ more. map (λ name. name.now) more.items ≡ more_inputs (given_view given.now)) }
+{
+    let mut inputs = given.texts(alloc, ValuedOption::Source)?;
+    if !inputs.is_empty() {
+        inputs.remove(0);
+    }
+    Ok(inputs)
 }
 
 // The list that is printed in place of the events, where one is.
