@@ -1,5 +1,5 @@
 -- From what was opened, made and closed to what a restoring by names promises.
-use Rattle.std.proofs.Common.{◌≡◌, ◌≢◌, ◌⊎◌, ℕ, zero, suc, ◌+◌, ◌-◌, ◌<◌, ◌≤◌, List, [], ◌∷◌, length, get_or, map, Option, Some, None, Result, Ok, Err, inl, inr, refl, sym, ap, subst, ◌∙◌, arith}
+use Rattle.std.proofs.Common.{◌≡◌, ◌≢◌, ◌⊎◌, ℕ, suc, ◌+◌, ◌-◌, ◌<◌, ◌≤◌, List, [], ◌∷◌, length, get_or, map, Option, Some, None, Result, Ok, Err, inl, inr, refl, sym, ap, subst, ◌∙◌, arith}
 use Rattle.std.specs.List.{All}
 use Rattle.std.specs.Option.{IfSome, IsSome, unwrap_or}
 use Rattle.std.specs.Prelude.{is_none, if◌then◌else◌, option_and_then}
@@ -23,7 +23,7 @@ use Rattle.restore_tool.specs.declared.named.Answer.{Answer}
 use Rattle.restore_tool.specs.declared.named.Answer.TheVariants as code
 use Rattle.restore_tool.specs.declared.named.Source.{Source}
 use Rattle.restore_tool.specs.Answers.{Causes, ClosesAll, Created, KeepsFiles, LeavesOpen, SomeFaulty, answer_of}
-use Rattle.restore_tool.specs.Copying.{AllTold, FileSeen, IsCaused, text_of}
+use Rattle.restore_tool.specs.Copying.{AllTold, FileSeen, text_of}
 use Rattle.restore_tool.specs.Meaning.{IsDone, IsMade, NamesData, Task, missing, refused, made, task_of, texts_of, with_header, with_partial, with_texts}
 use Rattle.restore_tool.specs.Open.{AreFilesOf, AreThere, ClosesMany, OpensMany}
 use Rattle.restore_tool.specs.Restored.{for_processors, restored}
@@ -152,16 +152,6 @@ done_opened task output start mid now (Some named) opened new answer since few s
     (subst (λ (o : Option NamedFiles). IfSome o (λ m. IsDone (task m) output mid now m new answer)) same done)
 
 -- CAUSES AND COUNTS
-
-pub data_causes : (before now : List FileSeen) (start mid last : Counts) (end : RestoreEnd) (answer : Answer) → answer ≡ answer_of end → length now ≡ length before → start.writing ≤ mid.writing
-    → IsCaused end before now mid.writing last.writing → Causes answer (Rose start.reading last.reading ⊎ SomeFaulty now) (Rose start.writing last.writing)
-data_causes before now start mid last end answer is each later caused =
-    subst (λ (a : Answer). Causes a (Rose start.reading last.reading ⊎ SomeFaulty now) (Rose start.writing last.writing)) (sym is) (by_end end caused)
-  where
-    by_end : (e : RestoreEnd) → IsCaused e before now mid.writing last.writing → Causes (answer_of e) (Rose start.reading last.reading ⊎ SomeFaulty now) (Rose start.writing last.writing)
-    by_end end_code.Done caused = tt
-    by_end (end_code.Read file) caused = inr (file, omega (arith, caused.0, each), λ d. let rose = caused.1 d in omega (arith, rose))
-    by_end end_code.Write caused = omega (arith, caused, later)
 
 pub causes_more : (answer : Answer) (P Q R S : Type 0) → (P → Q) → (R → S) → Causes answer P R → Causes answer Q S
 causes_more code.Done P Q R S f h causes = tt

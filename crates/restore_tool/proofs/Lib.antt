@@ -4,3 +4,4 @@ pub mod Making
 pub mod OpenFiles
 pub mod Answered
 pub mod Unread
+pub mod Failures

@@ -10,13 +10,11 @@ use Rattle.std.proofs.lemmas.List.Elements.{All-push}
 use Rattle.std.proofs.lemmas.List.Sums.{sum_by-cons}
 use Rattle.trace_outside.specs.declared.counts.Counts.{Counts}
 use Rattle.trace_outside.specs.Causes.{Rose, raised}
-use Rattle.std.specs.FinMap.{get}
-use Rattle.std.specs.Option.{IfSome, IsSome}
-use Rattle.std.proofs.lemmas.List.Elements.{All-get_or}
-use Rattle.trace_outside.specs.Folders.{Closes, IsFileOf, misses_after}
+use Rattle.std.specs.Option.{IsSome}
+use Rattle.trace_outside.specs.Folders.{Closes, IsFileOf}
 use Rattle.trace_outside.specs.Names.{NamedFiles}
 use Rattle.restore_tool.specs.Copying.{FileSeen}
-use Rattle.restore_tool.specs.Open.{AreFilesOf, AreThere, ClosesMany, IsUnused, OpensMany}
+use Rattle.restore_tool.specs.Open.{AreFilesOf, ClosesMany, IsUnused, OpensMany}
 
 pub closes_none : (counts : Counts) → ClosesMany [] counts counts
 closes_none counts = record {
@@ -96,24 +94,9 @@ name_told now names told told1 k count x d bytes same counted lt is =
 
 -- NAMES THAT ARE MISSING
 
-there_is : (found : Option (List ℕ)) (misses : ℕ) → IsSome found → (if is_none found then raised misses 1 else misses) ≡ misses
+pub there_is : (found : Option (List ℕ)) (misses : ℕ) → IsSome found → (if is_none found then raised misses 1 else misses) ≡ misses
 there_is None misses there = absurd cc
 there_is (Some bytes) misses there = refl
-
--- where all names are there, none was missed
-abbrev pub NoneMissed : Option NamedFiles → List (List ℕ) → ℕ → ℕ → Type 0
-NoneMissed told names before now = IfSome told (λ named. AreThere named names → now ≡ before)
-
-pub missed_more : {N : Type 0} (name_of : N → List ℕ) (told same : Option NamedFiles) (names : List N) (i : ℕ) (d : N) (before mid now : ℕ) → i < length names → same ≡ told
-    → IfSome same (λ named. now ≡ misses_after named (name_of (get_or names i d)) mid) → NoneMissed told (map name_of names) before mid → NoneMissed told (map name_of names) before now
-missed_more name_of None same names i d before mid now lt is one so_far = tt
-missed_more name_of (Some named) same names i d before mid now lt is one so_far = λ there.
-    let name = name_of (get_or names i d) in
-    let here : IsSome (get named name) =
-    subst (λ (n : List ℕ). IsSome (get named n)) (get_or-map name_of names i d [] lt)
-    (All-get_or (λ (n : List ℕ). IsSome (get named n)) (map name_of names) i [] (omega (arith, lt, length-map names name_of)) there) in
-    let last : now ≡ misses_after named name mid = subst (λ (o : Option NamedFiles). IfSome o (λ m. now ≡ misses_after m name mid)) is one in
-    last ∙ there_is (get named name) mid here ∙ so_far there
 
 -- all are closed
 pub closes_all : {F : Type 0} (f : F → FileSeen) (all left tail : List F) (before now : Counts) → all ≡ left ++ tail → length left ≡ 0 → ClosesMany (map f tail) before now → ClosesMany (map f all) before now

@@ -5,3 +5,4 @@ pub mod Restoring
 pub mod Open
 pub mod Meaning
 pub mod Answers
+pub mod Failing

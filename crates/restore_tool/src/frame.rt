@@ -1,10 +1,10 @@
 // Files that are open at once, and are closed on every way out.
 
-ghost use Rattle.std.specs.Prelude.{◌≡◌, ◌≤◌, ◌<◌, ◌++◌, ◌∷◌, ◌-◌, [], All, IfSome, OnErr, OnOk, length, map, vec_capacity, vec_len};
+ghost use Rattle.std.specs.Prelude.{◌≡◌, ◌≤◌, ◌<◌, ◌++◌, ◌∷◌, ◌-◌, [], ℕ, All, IfSome, List, OnErr, OnOk, length, map, slice_index_or, vec_capacity, vec_len};
 ghost use Rattle.trace_outside.specs.Causes.{Rose};
 ghost use Rattle.trace_outside.specs.Folders.{IsFileOf, misses_after};
 ghost use Rattle.restore_tool.specs.Copying.{seen};
-ghost use Rattle.restore_tool.specs.Open.{AreFilesOf, AreThere, ClosesMany, IsUnused, OpensMany};
+ghost use Rattle.restore_tool.specs.Open.{AreFilesOf, ClosesMany, IsUnused, OpensMany};
 
 use trace_outside::{Failed, Folder};
 
@@ -40,8 +40,9 @@ pub fn open_files<F: Folder>(
     ensures unused { All IsUnused (map (seen F.In.bytes F.In.size F.In.faults F.In.reads) files.new.items) }
     ensures failed { OnErr result (Rose (F.counts folder.old).reading (F.counts folder.new).reading) }
     ensures counts { OpensMany (F.counts folder.old) (F.counts folder.new) (length files.new.items) }
-    ensures misses { IfSome (F.files folder.old) (λ named. AreThere named (map (λ name. name.now) names.now)
-        → (F.counts folder.new).misses ≡ (F.counts folder.old).misses) }
+    ensures unmissed { OnOk result (IfSome (F.files folder.old) (λ named. (F.counts folder.new).misses ≡ (F.counts folder.old).misses)) }
+    ensures missed { OnErr result (IfSome (F.files folder.old) (λ named. (d : List ℕ) → (F.counts folder.new).misses
+        ≡ misses_after named (slice_index_or (map (λ name. name.now) names.now) (length files.new.items) d) (F.counts folder.old).misses)) }
     ensures files { F.files folder.new ≡ F.files folder.old }
 {
     for name in names {

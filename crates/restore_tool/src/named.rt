@@ -4,8 +4,9 @@ ghost use Rattle.std.specs.Prelude.{◌≡◌, ◌≢◌, ◌+◌, ◌≤◌, �
 ghost use Rattle.trace_outside.specs.Causes.{Rose, raised};
 ghost use Rattle.dat_header.specs.Allowed.{IsHeader};
 ghost use Rattle.dat_header.specs.Partial.{partial_of};
-ghost use Rattle.restore_tool.specs.Answers.{Causes, ClosesAll, Created, KeepsFiles, LeavesOpen, SomeFaulty, answer_of, unread_of};
+ghost use Rattle.restore_tool.specs.Answers.{Causes, ClosesAll, Created, KeepsFiles, LeavesOpen, answer_of, unread_of};
 ghost use Rattle.restore_tool.specs.Copying.{seen};
+ghost use Rattle.restore_tool.specs.Failing.{IfRead, IsFaulty, IsUnread, IsUnreadBehind, inputs_of, place_of};
 ghost use Rattle.restore_tool.specs.Meaning.{IsDone, missing, names_view, task_of, texts_of, with_header, with_texts};
 ghost use Rattle.restore_tool.specs.Open.{AreThere};
 
@@ -80,8 +81,9 @@ fn restore_data<D: Folder>(
     requires room { length names.now.files.now ≤ vec_capacity files.old }
     ensures done { IfSome (D.files folder.old) (λ named. IsDone (with_texts header names.now.output.now (texts_of named (names_view names.now).files)) names.now.output.now
         (D.counts folder.old) (D.counts folder.new) named (D.files folder.new) result) }
-    ensures causes { Causes result (Rose (D.counts folder.old).reading (D.counts folder.new).reading ⊎ SomeFaulty (map (seen D.In.bytes D.In.size D.In.faults D.In.reads) files.new.items))
+    ensures causes { Causes result (IfRead result (IsFaulty (Rose (D.counts folder.old).reading (D.counts folder.new).reading) (map (seen D.In.bytes D.In.size D.In.faults D.In.reads) files.new.items)))
         (Rose (D.counts folder.old).writing (D.counts folder.new).writing) }
+    ensures unread { IfRead result (IsUnreadBehind (D.files folder.old) (names_view names.now).files (D.counts folder.old).misses (D.counts folder.new).misses) }
     ensures kept { KeepsFiles result (D.files folder.old) (D.files folder.new) }
     ensures created { Created result (D.counts folder.old).created (D.counts folder.new).created }
     ensures misses { IfSome (D.files folder.old) (λ named. AreThere named (names_view names.now).files → (D.counts folder.new).misses ≡ (D.counts folder.old).misses) }
@@ -123,6 +125,7 @@ fn restore_under<D: Folder>(
     ensures done { IfSome (D.files folder.old) (λ named. IsDone (with_texts header names.now.output.now (texts_of named (names_view names.now).files)) names.now.output.now
         (D.counts folder.old) (D.counts folder.new) named (D.files folder.new) result) }
     ensures causes { Causes result (Rose (D.counts folder.old).reading (D.counts folder.new).reading) (Rose (D.counts folder.old).writing (D.counts folder.new).writing) }
+    ensures unread { IfRead result (IsUnreadBehind (D.files folder.old) (names_view names.now).files (D.counts folder.old).misses (D.counts folder.new).misses) }
     ensures kept { KeepsFiles result (D.files folder.old) (D.files folder.new) }
     ensures created { Created result (D.counts folder.old).created (D.counts folder.new).created }
     ensures misses { IfSome (D.files folder.old) (λ named. AreThere named (names_view names.now).files → (D.counts folder.new).misses ≡ (D.counts folder.old).misses) }
@@ -148,6 +151,7 @@ fn restore_from<D: Folder>(
         (D.counts folder.old) (D.counts folder.new) named (D.files folder.new) result)) }
     ensures causes { Causes result (Rose (D.counts folder.old).reading (D.counts folder.new).reading ⊎ Rose (D.In.faults partial.old) (D.In.faults partial.new))
         (Rose (D.counts folder.old).writing (D.counts folder.new).writing) }
+    ensures unread { IfRead result (IsUnreadBehind (D.files folder.old) (names_view names.now).files (D.counts folder.old).misses (D.counts folder.new).misses) }
     ensures later { D.In.faults partial.old ≤ D.In.faults partial.new }
     ensures kept { KeepsFiles result (D.files folder.old) (D.files folder.new) }
     ensures created { Created result (D.counts folder.old).created (D.counts folder.new).created }
@@ -177,12 +181,14 @@ fn unread_of(fault: OpenFault) -> Answer
 ///
 /// The partial file is opened first and then the data files, in order, before anything is created; all stay open until the end,
 /// so that the new file may have the name of one of them, and all are closed then. The first file that is missing or has no
-/// header decides. After a fault every name is as it was, unless finishing the new file failed.
+/// header decides, and is the one that the answer names; where all are there, it names the one that could not be opened or
+/// read. After a fault every name is as it was, unless finishing the new file failed.
 pub fn restore_named<D: Folder>(alloc: Global, names: &Names<'_>, folder: &mut D) -> Answer
     requires few { length names.now.files.now ≤ 256 }
     ensures done { IfSome (D.files folder.old) (λ named. IsDone (task_of named (names_view names.now)) names.now.output.now
         (D.counts folder.old) (D.counts folder.new) named (D.files folder.new) result) }
     ensures causes { Causes result (Rose (D.counts folder.old).reading (D.counts folder.new).reading) (Rose (D.counts folder.old).writing (D.counts folder.new).writing) }
+    ensures unread { IfRead result (λ source. IsUnread (D.files folder.old) (inputs_of (names_view names.now)) (D.counts folder.old).misses (D.counts folder.new).misses (place_of source)) }
     ensures kept { KeepsFiles result (D.files folder.old) (D.files folder.new) }
     ensures created { Created result (D.counts folder.old).created (D.counts folder.new).created }
     ensures misses { IfSome (D.files folder.old) (λ named. task_of named (names_view names.now) ≢ missing → (D.counts folder.new).misses ≡ (D.counts folder.old).misses) }

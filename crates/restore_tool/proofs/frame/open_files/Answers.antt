@@ -3,7 +3,8 @@ use Rattle.std.proofs.lemmas.List.{get_or-map, length-append}
 use Rattle.trace_outside.specs.Folders.{IsFileOf}
 use Rattle.trace_outside.specs.Names.{NamedFiles}
 use Rattle.restore_tool.specs.Copying.{seen}
-use Rattle.restore_tool.proofs.OpenFiles.{missed_more, name_told, opens_more, seen_more, unused_more}
+use Rattle.restore_tool.proofs.Failures.{missed_at, on_err, unmissed_more}
+use Rattle.restore_tool.proofs.OpenFiles.{name_told, opens_more, seen_more, unused_more}
 use Rattle.restore_tool.proofs.frame.open_files.Goals as goal
 
 pub loop-name-preserved : goal.loop-name-preserved
@@ -21,12 +22,13 @@ loop-name-preserved g c =
       told = seen_more f (g.F.Folder.files c.args.folder.now) _ old now one.0 one.1.0 before.told (λ d. name_told (λ name. name.now) c.args.names.now (g.F.Folder.files c.args.folder.now) (g.F.Folder.files c.loop-name.folder) c.loop-name.name-index (length old) _ d (g.F.In.File.bytes one.0) before.files before.count lt one.1.1.0);
       unused = unused_more f old now one.0 one.1.0 (record { faults = one.1.1.1.0; reads = one.1.1.1.1 }) before.unused;
       counts = opens_more (g.F.Folder.counts c.args.folder.now) (g.F.Folder.counts c.loop-name.folder) (g.F.Folder.counts c.open_next.new.folder) _ _ _ before.counts c.in_ok-open_next.ensures.counts (omega (arith, long));
-      missed = missed_more (λ name. name.now) (g.F.Folder.files c.args.folder.now) (g.F.Folder.files c.loop-name.folder) c.args.names.now c.loop-name.name-index _ _ _ _ lt before.files c.in_ok-open_next.ensures.misses before.missed;
+      unmissed = unmissed_more (g.F.Folder.files c.args.folder.now) (g.F.Folder.files c.loop-name.folder) _ (g.F.In.File.bytes one.0) _ _ _ before.files one.1.1.0 c.in_ok-open_next.ensures.misses before.unmissed;
       files = c.in_ok-open_next.ensures.files ∙ before.files;
     }
 
-pub returns-in_err-open_next-clause-misses : goal.returns-in_err-open_next-clause-misses
-returns-in_err-open_next-clause-misses g c =
+pub returns-in_err-open_next-clause-missed : goal.returns-in_err-open_next-clause-missed
+returns-in_err-open_next-clause-missed g c =
     let before = c.loop-name.invariant in
     let lt : c.loop-name.name-index < length c.args.names.now = search rules in
-    missed_more (λ name. name.now) (g.F.Folder.files c.args.folder.now) (g.F.Folder.files c.loop-name.folder) c.args.names.now c.loop-name.name-index _ _ _ _ lt before.files c.open_next.ensures.misses before.missed
+    let count : length c.open_next.new.files.items ≡ c.loop-name.name-index = ap (λ files. length files.items) c.in_err-open_next.ensures.kept ∙ before.count in
+    on_err _ _ (missed_at (λ name. name.now) (g.F.Folder.files c.args.folder.now) (g.F.Folder.files c.loop-name.folder) c.args.names.now c.loop-name.name-index _ _ _ _ _ lt before.files count c.open_next.ensures.misses before.unmissed)

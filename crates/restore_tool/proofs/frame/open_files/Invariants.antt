@@ -2,7 +2,7 @@ use Rattle.std.proofs.Common.{◌≡◌, map, length, vec_capacity}
 use Rattle.std.specs.List.{All}
 use Rattle.restore_tool.specs.Copying.{seen}
 use Rattle.restore_tool.specs.Open.{AreFilesOf, IsUnused, OpensMany}
-use Rattle.restore_tool.proofs.OpenFiles.{NoneMissed}
+use Rattle.std.specs.Option.{IfSome}
 use Rattle.restore_tool.proofs.frame.open_files.Given as goal
 
 abbrev pub invariant-loop-name : goal.invariant-loop-name
@@ -12,6 +12,6 @@ invariant-loop-name g l = record {
   told : AreFilesOf (g.F.Folder.files l.fn.folder) (map (λ name. name.now) l.names) (map (seen g.F.In.File.bytes g.F.In.File.size g.F.In.File.faults g.F.In.File.reads) l.files.items);
   unused : All IsUnused (map (seen g.F.In.File.bytes g.F.In.File.size g.F.In.File.faults g.F.In.File.reads) l.files.items);
   counts : OpensMany (g.F.Folder.counts l.fn.folder) (g.F.Folder.counts l.folder) (length l.files.items);
-  missed : NoneMissed (g.F.Folder.files l.fn.folder) (map (λ name. name.now) l.names) (g.F.Folder.counts l.fn.folder).misses (g.F.Folder.counts l.folder).misses;
+  unmissed : IfSome (g.F.Folder.files l.fn.folder) (λ named. (g.F.Folder.counts l.folder).misses ≡ (g.F.Folder.counts l.fn.folder).misses);
   files : g.F.Folder.files l.folder ≡ g.F.Folder.files l.fn.folder;
 }

@@ -1,14 +1,16 @@
-use Rattle.std.proofs.Common.{◌≡◌, ◌∙◌, ◌⊎◌, ℕ, List, length, map, refl, sym, ap, subst, arith}
+use Rattle.std.proofs.Common.{◌≡◌, List, inl, length, map, refl, sym, ap, subst, arith}
 use Rattle.std.proofs.lemmas.List.{length-map, take_at}
 use Rattle.trace_outside.specs.Causes.{Rose}
 use Rattle.trace_outside.specs.Names.{NamedFiles}
 use Rattle.restore_tool.specs.declared.named.Source.TheVariants.{Partial}
-use Rattle.restore_tool.specs.Answers.{Causes, SomeFaulty}
+use Rattle.restore_tool.specs.Answers.{Causes}
 use Rattle.restore_tool.specs.Copying.{seen}
+use Rattle.restore_tool.specs.Failing.{IfRead, IsFaulty}
 use Rattle.restore_tool.specs.Meaning.{names_view, texts_of, with_texts}
 use Rattle.restore_tool.specs.Open.{AreFilesOf, AreThere}
-use Rattle.restore_tool.proofs.Answered.{created_by, data_causes, data_done, kept_by, unheld_done, unread_done}
-use Rattle.restore_tool.proofs.Unread.{misses_kept, none_missed}
+use Rattle.restore_tool.proofs.Answered.{created_by, data_done, kept_by, unheld_done, unread_done}
+use Rattle.restore_tool.proofs.Failures.{any_missed, data_faulty, data_unread, misses_since, missed_there, unopened_unread}
+use Rattle.restore_tool.proofs.Unread.{none_missed}
 use Rattle.restore_tool.proofs.named.restore_data.Goals as goal
 
 pub returns-in_default-clause-done : goal.returns-in_default-clause-done
@@ -48,8 +50,9 @@ returns-clause-causes g c =
     let start = g.D.Folder.counts c.args.folder.now in
     let last = g.D.Folder.counts c.restore-end.new.folder in
     let long : length now ≡ c.open_files.new.files.len = omega (arith, c.as_mut_slice.ensures.len, c.restore-end.auto.files) in
-    subst (λ (xs : List g.row.D-In.Denot). Causes c.answer_of.result (Rose start.reading last.reading ⊎ SomeFaulty (map f xs)) (Rose start.writing last.writing)) (sym (take_at now _ c.open_files.new.files.len long))
-    (data_causes (map f slice) (map f now) start (g.D.Folder.counts c.open_files.new.folder) last c.restore-end.result c.answer_of.result c.answer_of.ensures
+    let failed = Rose start.reading last.reading in
+    subst (λ (xs : List g.row.D-In.Denot). Causes c.answer_of.result (IfRead c.answer_of.result (IsFaulty failed (map f xs))) (Rose start.writing last.writing)) (sym (take_at now _ c.open_files.new.files.len long))
+    (data_faulty (map f slice) (map f now) failed start (g.D.Folder.counts c.open_files.new.folder) last c.restore-end.result c.answer_of.result c.answer_of.ensures
     (omega (arith, length-map slice f, length-map now f, c.restore-end.auto.files)) c.open_files.ensures.counts.writing c.restore-end.ensures.cause)
 
 pub returns-clause-kept : goal.returns-clause-kept
@@ -64,5 +67,34 @@ returns-clause-created g c = created_by c.restore-end.result c.answer_of.result 
 
 pub returns-clause-misses : goal.returns-clause-misses
 returns-clause-misses g c =
-    misses_kept (λ (named : NamedFiles). AreThere named (names_view c.args.names.now).files) (g.D.Folder.files c.args.folder.now) (g.D.Folder.counts c.args.folder.now).misses
-    (g.D.Folder.counts c.open_files.new.folder).misses (g.D.Folder.counts c.restore-end.new.folder).misses c.restore-end.ensures.counts.misses c.open_files.ensures.misses
+    let told = g.D.Folder.files c.args.folder.now in
+    any_missed (λ (named : NamedFiles). AreThere named (names_view c.args.names.now).files) told _ _
+    (misses_since told _ (g.D.Folder.counts c.open_files.new.folder).misses _ c.restore-end.ensures.counts.misses c.in-Ok.ensures.unmissed)
+
+pub returns-clause-unread : goal.returns-clause-unread
+returns-clause-unread g c =
+    let f = seen g.D.In.File.bytes g.D.In.File.size g.D.In.File.faults g.D.In.File.reads in
+    let names = (names_view c.args.names.now).files in
+    let slice = c.as_mut_slice.result.now in
+    let told = g.D.Folder.files c.args.folder.now in
+    data_unread told names (map f slice) (map f c.restore-end.new.files) _ _ _ _ c.restore-end.result c.answer_of.result c.answer_of.ensures
+    (omega (arith, length-map slice f, ap length c.as_mut_slice.ensures.value, c.in-Ok.ensures.all, length-map c.args.names.now.files.now (λ name. name.now)))
+    (subst (λ (xs : List g.row.D-In.Denot). AreFilesOf told names (map f xs)) (sym c.as_mut_slice.ensures.value) c.open_files.ensures.told) c.restore-end.ensures.cause
+    (misses_since told _ (g.D.Folder.counts c.open_files.new.folder).misses _ c.restore-end.ensures.counts.misses c.in-Ok.ensures.unmissed)
+
+pub returns-in-Err-clause-causes : goal.returns-in-Err-clause-causes
+returns-in-Err-clause-causes g c =
+    let f = seen g.D.In.File.bytes g.D.In.File.size g.D.In.File.faults g.D.In.File.reads in
+    inl (omega (arith, length-map c.open_files.new.files.items f), c.in-Err.ensures.failed)
+
+pub returns-in-Err-clause-misses : goal.returns-in-Err-clause-misses
+returns-in-Err-clause-misses g c =
+    missed_there (g.D.Folder.files c.args.folder.now) (names_view c.args.names.now).files (length c.open_files.new.files.items) _ _
+    (omega (arith, c.in-Err.ensures.fewer, length-map c.args.names.now.files.now (λ name. name.now))) c.in-Err.ensures.missed
+
+pub returns-in-Err-clause-unread : goal.returns-in-Err-clause-unread
+returns-in-Err-clause-unread g c =
+    let f = seen g.D.In.File.bytes g.D.In.File.size g.D.In.File.faults g.D.In.File.reads in
+    let items = c.open_files.new.files.items in
+    unopened_unread (g.D.Folder.files c.args.folder.now) (names_view c.args.names.now).files (map f items) (length items) _ _ _ (sym (length-map items f)) (omega arith)
+    (omega (arith, c.in-Err.ensures.fewer, length-map c.args.names.now.files.now (λ name. name.now))) c.open_files.ensures.told c.in-Err.ensures.missed

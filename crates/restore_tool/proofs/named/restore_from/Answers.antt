@@ -3,6 +3,7 @@ use Rattle.trace_outside.specs.Names.{NamedFiles}
 use Rattle.dat_header.specs.Partial.{partial_of}
 use Rattle.restore_tool.specs.Meaning.{IsDone, Task, missing, names_view, with_header}
 use Rattle.restore_tool.proofs.Answered.{causes_more, header_done}
+use Rattle.restore_tool.proofs.Failures.{header_unread}
 use Rattle.restore_tool.proofs.Unread.{closes_nothing, partial_unread, same_misses, texts_misses, unread_causes, unread_created, unread_kept}
 use Rattle.restore_tool.proofs.named.restore_from.Goals as goal
 
@@ -45,3 +46,7 @@ returns-in-Err-clause-counts g c = closes_nothing _ (g.D.Folder.counts c.args.fo
 
 pub returns-in-Err-clause-kept : goal.returns-in-Err-clause-kept
 returns-in-Err-clause-kept g c = unread_kept _ c.unread_of.result (g.D.Folder.files c.args.folder.now) c.unread_of.ensures
+
+pub returns-in-Err-clause-unread : goal.returns-in-Err-clause-unread
+returns-in-Err-clause-unread g c =
+    header_unread _ c.unread_of.result (g.D.Folder.files c.args.folder.now) (names_view c.args.names.now).files (g.D.Folder.counts c.args.folder.now).misses c.unread_of.ensures

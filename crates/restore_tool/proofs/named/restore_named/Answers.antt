@@ -6,6 +6,7 @@ use Rattle.trace_outside.specs.Names.{NamedFiles}
 use Rattle.restore_tool.specs.declared.named.Source.TheVariants.{Partial}
 use Rattle.restore_tool.specs.Meaning.{IsDone, Task, missing, names_view, task_of}
 use Rattle.restore_tool.proofs.Answered.{all_closed, causes_more, created_since, created_then, done_opened, kept_around, misses_then, one_closed_counts, opened_misses, partial_done, unopened_misses, unread_done}
+use Rattle.restore_tool.proofs.Failures.{partial_unopened, unread_behind}
 use Rattle.restore_tool.proofs.Unread.{one_rose, unopened_counts}
 use Rattle.restore_tool.proofs.named.restore_named.Goals as goal
 
@@ -82,3 +83,18 @@ returns-in-Ok-clause-counts g c =
 pub returns-in-Ok-clause-kept : goal.returns-in-Ok-clause-kept
 returns-in-Ok-clause-kept g c =
     kept_around c.restore_from-answer.result _ (g.D.Folder.files c.open_file.new.self) (g.D.Folder.files c.restore_from-answer.new.folder) _ c.open_file.ensures.files c.close_file.ensures.files c.restore_from-answer.ensures.kept
+
+pub returns-in-Err-clause-unread : goal.returns-in-Err-clause-unread
+returns-in-Err-clause-unread g c = partial_unopened (g.D.Folder.files c.args.folder.now) (names_view c.args.names.now) _ _ c.open_file.ensures.counts.misses
+
+pub returns-in-Ok-clause-unread : goal.returns-in-Ok-clause-unread
+returns-in-Ok-clause-unread g c =
+    let names = names_view c.args.names.now in
+    let before = (g.D.Folder.counts c.args.folder.now).misses in
+    let opened = (g.D.Folder.counts c.open_file.new.self).misses in
+    let worked = (g.D.Folder.counts c.restore_from-answer.new.folder).misses in
+    let old = g.D.Folder.files c.args.folder.now in
+    let bytes = g.D.In.File.bytes c.in-Ok.partial in
+    unread_behind names bytes before opened worked _ c.close_file.ensures.counts.misses c.restore_from-answer.result old (g.D.Folder.files c.open_file.new.self)
+    c.open_file.ensures.files c.in-Ok.ensures.given (opened_misses names.partial old bytes before opened c.in-Ok.ensures.given c.open_file.ensures.counts.misses)
+    c.restore_from-answer.ensures.unread

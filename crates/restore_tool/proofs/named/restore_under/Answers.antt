@@ -1,12 +1,13 @@
-use Rattle.std.proofs.Common.{refl, sym, ap, map, length, ◌≡◌, ◌≤◌, arith}
+use Rattle.std.proofs.Common.{refl, sym, map, length, subst, ℕ, arith}
 use Rattle.std.proofs.lemmas.List.{length-map}
 use Rattle.trace_outside.specs.Causes.{Rose}
 use Rattle.trace_outside.specs.Names.{NamedFiles}
-use Rattle.restore_tool.specs.Answers.{ClosesAll}
 use Rattle.restore_tool.specs.Copying.{seen}
+use Rattle.restore_tool.specs.Failing.{IfRead, IsUnreadBehind}
 use Rattle.restore_tool.specs.Meaning.{names_view, texts_of, with_texts}
 use Rattle.restore_tool.specs.Open.{AreThere}
-use Rattle.restore_tool.proofs.Answered.{all_closed, all_closed_counts, causes_more, closed_rose, created_then, kept_around, unheld_done}
+use Rattle.restore_tool.proofs.Answered.{all_closed, all_closed_counts, closed_rose, created_then, kept_around, unheld_done}
+use Rattle.restore_tool.proofs.Failures.{causes_faulty}
 use Rattle.restore_tool.proofs.Unread.{closes_nothing, misses_kept, none_missed}
 use Rattle.restore_tool.proofs.named.restore_under.Goals as goal
 
@@ -36,7 +37,7 @@ returns-clause-causes g c =
     let mid = g.D.Folder.counts c.restore_data-answer.new.folder in
     let now = g.D.Folder.counts c.close_files.new.folder in
     let closes = c.close_files.ensures.counts in
-    causes_more c.restore_data-answer.result _ (Rose start.reading now.reading) _ (Rose start.writing now.writing)
+    causes_faulty c.restore_data-answer.result (Rose start.reading mid.reading) files (Rose start.reading now.reading) _ (Rose start.writing now.writing)
     (λ cause. closed_rose files start mid now c.restore_data-answer.ensures.counts.reading closes cause) (λ rose. omega (arith, rose, closes.writing)) c.restore_data-answer.ensures.causes
 
 pub returns-clause-created : goal.returns-clause-created
@@ -55,3 +56,8 @@ pub returns-clause-misses : goal.returns-clause-misses
 returns-clause-misses g c =
     misses_kept (λ (named : NamedFiles). AreThere named (names_view c.args.names.now).files) (g.D.Folder.files c.args.folder.now) (g.D.Folder.counts c.args.folder.now).misses
     (g.D.Folder.counts c.restore_data-answer.new.folder).misses (g.D.Folder.counts c.close_files.new.folder).misses c.close_files.ensures.counts.misses c.restore_data-answer.ensures.misses
+
+pub returns-clause-unread : goal.returns-clause-unread
+returns-clause-unread g c =
+    subst (λ (n : ℕ). IfRead c.restore_data-answer.result (IsUnreadBehind (g.D.Folder.files c.args.folder.now) (names_view c.args.names.now).files (g.D.Folder.counts c.args.folder.now).misses n))
+    (sym c.close_files.ensures.counts.misses) c.restore_data-answer.ensures.unread
