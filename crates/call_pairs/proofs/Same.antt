@@ -1,6 +1,7 @@
 -- Equal threads.
 use Rattle.std.proofs.Common.{◌≡◌, Bool, true, false, refl, sym, ap, subst, ◌∙◌}
-use Rattle.std.specs.Cmp.{signed_Decides, Equal-is}
+use Rattle.std.specs.Cmp.{signed_Decides, Equal-is, int_cmp_is, nat_cmp_is}
+use Rattle.std.specs.declared.cmp.Ordering.TheVariants.{Equal}
 use Rattle.std.specs.Ordering.{is_eq, int_cmp, nat_cmp}
 use Rattle.std.specs.FinMap.{int_cmp-IsAntisymmetric, nat_cmp-IsAntisymmetric}
 use Rattle.std.proofs.lemmas.Bool.{eqb-true, eq-eqb, false≢true}
@@ -30,7 +31,7 @@ same_sym a b = by_truth (is_same a b) (is_same b a) (λ e. is_same_from b a (sym
     by_truth false true f g = g refl
     by_truth false false f g = refl
 
-order_is : (a b : Thread) → is_eq (order a b) ≡ true → a ≡ b
+pub order_is : (a b : Thread) → is_eq (order a b) ≡ true → a ≡ b
 order_is (Task a) (Task b) e = ap Task (int_cmp-IsAntisymmetric a b ((Equal-is (int_cmp a b)).0 e))
 order_is (Task a) (Idle b) e = absurd (false≢true e)
 order_is (Idle a) (Task b) e = absurd (false≢true e)
@@ -43,3 +44,10 @@ order_apart a b apart = by_order (is_eq (order a b)) refl
     by_order : (x : Bool) → is_eq (order a b) ≡ x → is_eq (order a b) ≡ false
     by_order true e = absurd (false≢true (sym apart ∙ is_same_from a b (order_is a b e)))
     by_order false e = e
+
+pub same_order : (a b : Thread) → a ≡ b → is_eq (order a b) ≡ true
+same_order a b e = subst (λ (t : Thread). is_eq (order a t) ≡ true) e (self a)
+  where
+    self : (t : Thread) → is_eq (order t t) ≡ true
+    self (Task n) = ap is_eq (sym (int_cmp_is n n Equal refl))
+    self (Idle n) = ap is_eq (sym (nat_cmp_is n n Equal refl))

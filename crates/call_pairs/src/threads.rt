@@ -1,45 +1,135 @@
-ghost use Rattle.std.specs.Prelude.{◌≡◌, OnOk, None, Some, false};
-ghost use Rattle.call_pairs.specs.Threads.{is_same};
-ghost use Rattle.call_pairs.specs.StackMap.{stack_of};
+ghost use Rattle.std.specs.Prelude.{◌≡◌, ◌+◌, ℕ, true, None, Some, length, reverse, OnOk, IfOk};
+ghost use Rattle.std.specs.BTreeMap.{get};
+ghost use Rattle.call_pairs.specs.Stacks.{closing, last_in, opens_in, shallower};
+ghost use Rattle.call_pairs.specs.StackMap.{ArePlaces, IsEntered, IsLeft, KeepsTold, order, stack_of, thread_at};
+ghost use Rattle.call_pairs.specs.Threads.{thread_of};
 ghost use Rattle.call_pairs.specs.declared.thread.Thread.{Thread};
 
-use crate::stacks::Stack;
+use crate::seen::GraphEvent;
+use crate::stacks::{Open, Stack};
 use crate::thread::Thread;
 use std::alloc::{AllocError, Global};
 use std::collections::BTreeMap;
 
-/// The stack of each thread that was seen. What a look costs does not depend on which threads a file chooses.
+/// The stack of each thread that was seen. What a look costs does not depend on which threads a file chooses, and is least where
+/// a thread goes on.
 #[derive(Drop)]
 pub struct Threads {
-    map: BTreeMap<Thread, Stack>,
+    /// One for each thread.
+    pub stacks: Vec<Stack>,
+    /// Where they stand.
+    pub map: BTreeMap<Thread, usize>,
+    /// Where that of the latest thread stands.
+    latest: usize,
+    alloc: Global,
+}
+
+/// What an exit left.
+#[derive(Clone, Copy)]
+pub struct Left {
+    /// The entry that it ends.
+    pub top: Option<Open>,
+    /// Where its thread's latest entry or exit before it stands.
+    pub last: Option<usize>,
 }
 
 impl Threads {
     /// None was seen.
     pub fn new(alloc: Global) -> Threads
-        ensures { (q : Thread) → stack_of result q ≡ None }
+        ensures places { ArePlaces result }
+        ensures none { (q : Thread) → stack_of result q ≡ None }
     {
         Threads {
+            stacks: Vec::new(alloc),
             map: BTreeMap::new(alloc),
+            latest: 0,
+            alloc,
         }
     }
 
-    /// Takes a thread's stack.
-    #[tactic(auto, using(crate::proofs::Same::order_apart))]
-    pub fn take(&mut self, thread: Thread) -> Option<Stack>
-        ensures taken { result ≡ stack_of self.old thread }
-        ensures others { (q : Thread) → is_same thread q ≡ false → stack_of self.new q ≡ stack_of self.old q }
+    /// An entry begins, the latest loss behind which is this place.
+    pub fn enter(
+        &mut self,
+        since: usize,
+        place: usize,
+        entry: &GraphEvent,
+    ) -> Result<(), AllocError>
+        requires places { ArePlaces self.old }
+        ensures places { OnOk result (ArePlaces self.new) }
+        ensures entered { OnOk result (IsEntered since place entry.now self.old self.new) }
     {
-        self.map.remove(&thread)
+        let i = self.place(Thread::of(entry))?;
+        let stack = &mut self.stacks[i];
+        stack.forget(since);
+        stack.enter(place, entry)
     }
 
-    /// Puts a thread's stack.
-    #[tactic(auto, using(crate::proofs::Same::order_apart))]
-    pub fn put(&mut self, thread: Thread, stack: Stack) -> Result<(), AllocError>
-        ensures put { OnOk result (stack_of self.new thread ≡ Some stack) }
-        ensures others { OnOk result ((q : Thread) → is_same thread q ≡ false → stack_of self.new q ≡ stack_of self.old q) }
+    /// An exit comes.
+    pub fn leave(
+        &mut self,
+        since: usize,
+        place: usize,
+        exit: &GraphEvent,
+    ) -> Result<Left, AllocError>
+        requires places { ArePlaces self.old }
+        ensures places { OnOk result (ArePlaces self.new) }
+        ensures left { IfOk result (λ left. IsLeft since place exit.now left self.old self.new) }
     {
-        let _ = self.map.insert(thread, stack)?;
-        Ok(())
+        let i = self.place(Thread::of(exit))?;
+        let stack = &mut self.stacks[i];
+        stack.forget(since);
+        let last = stack.last;
+        let top = stack.leave(place, exit);
+        Ok(Left { top, last })
+    }
+
+    // Where a thread's stack stands. A thread that is new gets one.
+    fn place(&mut self, thread: Thread) -> Result<usize, AllocError>
+        requires places { ArePlaces self.old }
+        ensures places { OnOk result (ArePlaces self.new) }
+        ensures there { IfOk result (λ i. thread_at self.new.stacks.items i ≡ Some thread) }
+        ensures told { OnOk result (KeepsTold self.old self.new) }
+    {
+        if self.is_at(self.latest, thread) {
+            return Ok(self.latest);
+        }
+        let place = self.any_place(thread)?;
+        self.latest = place;
+        Ok(place)
+    }
+
+    // Whether the stack at a place is the thread's.
+    fn is_at(&self, place: usize, thread: Thread) -> bool
+        ensures { result ≡ true → thread_at self.now.stacks.items place ≡ Some thread }
+    {
+        match self.stacks.get(place) {
+            Some(stack) => stack.thread.is_same(thread),
+            None => false,
+        }
+    }
+
+    fn any_place(&mut self, thread: Thread) -> Result<usize, AllocError>
+        requires places { ArePlaces self.old }
+        ensures places { OnOk result (ArePlaces self.new) }
+        ensures there { IfOk result (λ i. thread_at self.new.stacks.items i ≡ Some thread) }
+        ensures told { OnOk result (KeepsTold self.old self.new) }
+    {
+        match self.map.get(&thread) {
+            Some(place) => Ok(*place),
+            None => self.add(thread),
+        }
+    }
+
+    fn add(&mut self, thread: Thread) -> Result<usize, AllocError>
+        requires places { ArePlaces self.old }
+        requires new { get order self.old.map thread ≡ None }
+        ensures places { OnOk result (ArePlaces self.new) }
+        ensures there { IfOk result (λ i. thread_at self.new.stacks.items i ≡ Some thread) }
+        ensures told { OnOk result (KeepsTold self.old self.new) }
+    {
+        let place = self.stacks.len();
+        self.stacks.push(Stack::new(self.alloc, thread))?;
+        self.map.insert(thread, place)?;
+        Ok(place)
     }
 }

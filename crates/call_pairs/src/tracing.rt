@@ -1,32 +1,27 @@
-ghost use Rattle.std.specs.Prelude.{◌≡◌, ◌≢◌, ◌<◌, List, [], ◌∷◌, ◌++◌, length, reverse, Option, None, Some, OnOk, IfSome};
+ghost use Rattle.std.specs.Prelude.{◌≡◌, ◌<◌, List, [], ◌∷◌, ◌++◌, length, reverse, OnOk, IfSome};
 ghost use Rattle.call_pairs.specs.declared.seen.Seen.{Seen};
 ghost use Rattle.call_pairs.specs.declared.seen.Seen.TheVariants as code;
 ghost use Rattle.call_pairs.specs.Calls.{calls_of, ended, is_last};
 ghost use Rattle.call_pairs.specs.Durations.{duration};
 ghost use Rattle.call_pairs.specs.Marked.{with_leaf, leaf_open};
-ghost use Rattle.call_pairs.specs.Stacks.{opens_in, last_in};
-ghost use Rattle.call_pairs.specs.StackMap.{stack_of};
 ghost use Rattle.call_pairs.specs.Tracings.{IsTracing, WasSeen};
 
 use crate::call::{Call, entry_call, exit_call};
 use crate::seen::{GraphEvent, Seen};
-use crate::stacks::{Open, Stack};
-use crate::thread::Thread;
-use crate::threads::Threads;
+use crate::stacks::Open;
+use crate::threads::{Left, Threads};
 use std::alloc::{AllocError, Global};
 
 /// The calls of what was seen so far, and what each thread has open.
 ///
-/// It keeps a call of 64 bytes for each that was seen, and an entry of 48 bytes while it is open. A loss costs no more than
-/// any other: it moves the place before which nothing is open, and a stack from before it is emptied when its thread comes
-/// again.
+/// It keeps 64 bytes for each that was seen, and 56 for an entry while it is open. A loss costs no more than any other: it
+/// moves the place before which nothing is open, and a stack from before it is emptied when its thread comes again.
 #[derive(Drop)]
 pub struct Tracing {
     calls: Vec<Call>,
     /// The place behind the latest loss: what stands before it is open no more.
     since: usize,
     threads: Threads,
-    alloc: Global,
 }
 
 /// The time from an entry to its exit.
@@ -39,18 +34,14 @@ fn duration(entry: &GraphEvent, exit: &GraphEvent, ran: Option<u64>) -> u64
     }
 }
 
-// A stack of which nothing is kept that stands before the latest loss.
-fn live(alloc: Global, since: usize, stack: Option<Stack>) -> Stack
-    ensures opens { reverse result.opens.items ≡ opens_in since stack }
-    ensures last { opens_in since stack ≢ [] → last_in since stack ≡ Some result.last }
+/// Whether an entry is the last that a thread did.
+fn is_last(open: &Open, last: Option<usize>) -> bool
+    ensures { result ≡ is_last open.now last }
 {
-    let Some(mut stack) = stack else {
-        return Stack::new(alloc);
-    };
-    if stack.last < since {
-        stack.opens.clear();
+    match last {
+        Some(last) => open.place == last,
+        None => false,
     }
-    stack
 }
 
 // Puts the call of an exit, and what it tells of its leaf's entry.
@@ -58,18 +49,17 @@ fn end_call(
     calls: &mut Vec<Call>,
     exit: &GraphEvent,
     ran: Option<u64>,
-    last: usize,
-    top: Option<Open>,
+    left: Left,
 ) -> Result<(), AllocError>
-    requires inside { IfSome top (λ top. top.place < length calls.old.items) }
-    ensures { OnOk result (calls.new.items ≡ with_leaf exit.now ran (leaf_open (Some last) top) calls.old.items ++ ended exit.now ran (Some last) top ∷ []) }
+    requires inside { IfSome left.top (λ top. top.place < length calls.old.items) }
+    ensures { OnOk result (calls.new.items ≡ with_leaf exit.now ran (leaf_open left.last left.top) calls.old.items ++ ended exit.now ran left.last left.top ∷ []) }
 {
-    let Some(open) = top else {
+    let Some(open) = left.top else {
         calls.push(exit_call(exit, None, false))?;
         return Ok(());
     };
     let took = duration(&open.entry, exit, ran);
-    let leaf = open.place == last;
+    let leaf = is_last(&open, left.last);
     if leaf {
         calls[open.place] = entry_call(&open.entry, Some(took));
     }
@@ -86,7 +76,6 @@ impl Tracing {
             calls: Vec::new(alloc),
             since: 0,
             threads: Threads::new(alloc),
-            alloc,
         }
     }
 
@@ -108,11 +97,9 @@ impl Tracing {
         ensures known { OnOk result (WasSeen self.new) }
         ensures seen { (past : List Seen) → IsTracing past self.old → OnOk result (IsTracing (code.Entry entry.now ∷ past) self.new) }
     {
-        let thread = Thread::of(entry);
-        let mut stack = live(self.alloc, self.since, self.threads.take(thread));
-        stack.enter(self.calls.len(), entry)?;
+        self.threads.enter(self.since, self.calls.len(), entry)?;
         self.calls.push(entry_call(entry, None))?;
-        self.threads.put(thread, stack)
+        Ok(())
     }
 
     fn leave(&mut self, exit: &GraphEvent, ran: Option<u64>) -> Result<(), AllocError>
@@ -120,12 +107,8 @@ impl Tracing {
         ensures known { OnOk result (WasSeen self.new) }
         ensures seen { (past : List Seen) → IsTracing past self.old → OnOk result (IsTracing (code.Exit exit.now ran ∷ past) self.new) }
     {
-        let thread = Thread::of(exit);
-        let mut stack = live(self.alloc, self.since, self.threads.take(thread));
-        let last = stack.last;
-        let top = stack.leave(self.calls.len(), exit);
-        end_call(&mut self.calls, exit, ran, last, top)?;
-        self.threads.put(thread, stack)
+        let left = self.threads.leave(self.since, self.calls.len(), exit)?;
+        end_call(&mut self.calls, exit, ran, left)
     }
 
     fn lose(&mut self, cpu: u32, count: Option<u64>) -> Result<(), AllocError>
@@ -146,7 +129,6 @@ impl Tracing {
             calls,
             since: _,
             threads: _,
-            alloc: _,
         } = self;
         calls
     }

@@ -1,4 +1,4 @@
-ghost use Rattle.std.specs.Prelude.{◌≡◌, ◌≤◌, Err, All, IfOk, IfSome, map, sum_by};
+ghost use Rattle.std.specs.Prelude.{◌≡◌, ◌≤◌, Err, All, IfOk, IfSome, length, map, sum_by};
 ghost use Rattle.trace_outside.specs.Causes.{Rose, raised};
 ghost use Rattle.trace_base.specs.Layout.{IsLayout};
 ghost use Rattle.subpage.specs.Arrangement.{CpusRise};
@@ -14,10 +14,12 @@ use crate::noting::note_head;
 use crate::role::{Role, roles_of};
 use call_pairs::{Call, Tracing};
 use event_cursor::step;
+use format_places::FormatPlaces;
+use least_tree::LeastTree;
 use page_pool::Lane;
 use report_print::Context;
 use std::alloc::Global;
-use time_merge::{Next, next_lane};
+use time_merge::{Next, next_lane_by};
 use trace_base::Layout;
 use trace_outside::{Failed, File};
 
@@ -73,9 +75,30 @@ pub fn gather_calls<F: File>(
     ensures bytes { F.bytes file.new ≡ F.bytes file.old }
     ensures size { F.size file.new ≡ F.size file.old }
 {
-    match roles_of(alloc, context.formats()) {
-        Ok(roles) => gather(alloc, context, &roles, layout, file, lanes),
-        Err(_) => Err(CallsFault::Memory),
+    let Ok(places) = FormatPlaces::of(alloc, context.formats()) else {
+        return Err(CallsFault::Memory);
+    };
+    let Ok(roles) = roles_of(alloc, context.formats()) else {
+        return Err(CallsFault::Memory);
+    };
+    let Some(mut nexts) = tree_for(alloc, lanes) else {
+        return Err(CallsFault::Memory);
+    };
+    gather(
+        alloc, context, &places, &roles, layout, file, lanes, &mut nexts,
+    )
+}
+
+// A tree with a slot for each lane. For more lanes than 32 bits count there is no memory.
+fn tree_for(alloc: Global, lanes: &[Lane]) -> Option<LeastTree>
+    ensures { IfSome result (λ nexts. length nexts ≡ length lanes.now) }
+{
+    let Ok(slots) = u32::try_from(lanes.len()) else {
+        return None;
+    };
+    match LeastTree::new(alloc, slots) {
+        Ok(nexts) => Some(nexts),
+        Err(_) => None,
     }
 }
 
@@ -83,11 +106,14 @@ pub fn gather_calls<F: File>(
 fn gather<F: File>(
     alloc: Global,
     context: &Context,
+    places: &FormatPlaces,
     roles: &[Role],
     layout: &Layout,
     file: &mut F,
     lanes: &mut [Lane],
+    nexts: &mut LeastTree,
 ) -> Result<Calls, CallsFault>
+    requires slots { length nexts.old ≡ length lanes.old }
     requires roles { roles.now ≡ map role_of context.now.formats }
     requires allowed { IsLayout layout.now }
     requires fresh { All (λ lane. IsFresh lane.cursor) lanes.old }
@@ -103,14 +129,16 @@ fn gather<F: File>(
     ensures bytes { F.bytes file.new ≡ F.bytes file.old }
     ensures size { F.size file.new ≡ F.size file.old }
 {
+    let mut used = None;
     let mut tracing = Tracing::new(alloc);
     loop {
-        match next_lane(layout, file, lanes)? {
+        match next_lane_by(layout, file, lanes, nexts, used)? {
             Next::Lane(i) => {
-                if note_head(context, roles, layout, &lanes[i], &mut tracing).is_err() {
+                if note_head(context, places, roles, layout, &lanes[i], &mut tracing).is_err() {
                     return Err(CallsFault::Memory);
                 }
                 step(layout, &mut lanes[i]);
+                used = Some(i);
             }
             Next::Done => {
                 return Ok(Calls {

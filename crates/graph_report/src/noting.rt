@@ -13,19 +13,26 @@ use crate::role::Role;
 use crate::seeing::see;
 use call_pairs::{Seen, Tracing};
 use event_cursor::head;
+use format_places::FormatPlaces;
 use page_pool::Lane;
 use report_print::Context;
 use std::alloc::AllocError;
 use trace_base::Layout;
 
 // What a lane's head is for the calls.
-fn look_at(context: &Context, roles: &[Role], layout: &Layout, lane: &Lane) -> Option<Seen>
+fn look_at(
+    context: &Context,
+    places: &FormatPlaces,
+    roles: &[Role],
+    layout: &Layout,
+    lane: &Lane,
+) -> Option<Seen>
     requires roles { roles.now ≡ map role_of context.now.formats }
     requires in_order { IsInOrder layout.now lane.now }
     ensures { (x : Keyed) → first_of (keyed_held layout.now lane.now) ≡ Some x → x.cpu ≡ lane.now.cpu → result ≡ seen_of context.now x.cpu x.item }
 {
     match head(layout, lane) {
-        Some((_, item)) => see(context, roles, lane.cpu, &item),
+        Some((_, item)) => see(context, places, roles, lane.cpu, &item),
         None => None,
     }
 }
@@ -45,6 +52,7 @@ fn note(seen: Option<Seen>, tracing: &mut Tracing) -> Result<(), AllocError>
 /// A lane's head is seen.
 pub(crate) fn note_head(
     context: &Context,
+    places: &FormatPlaces,
     roles: &[Role],
     layout: &Layout,
     lane: &Lane,
@@ -57,5 +65,5 @@ pub(crate) fn note_head(
     ensures noted { (before : List Seen) (x : Keyed) → HasSeen before tracing.old → first_of (keyed_held layout.now lane.now) ≡ Some x → x.cpu ≡ lane.now.cpu
         → OnOk result (HasSeen (before ++ seen_at context.now x) tracing.new) }
 {
-    note(look_at(context, roles, layout, lane), tracing)
+    note(look_at(context, places, roles, layout, lane), tracing)
 }

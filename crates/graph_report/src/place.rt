@@ -37,8 +37,24 @@ impl Place {
         }
     }
 
-    /// The exact number, and 0 where one of its bytes is missing.
+    /// The exact number, and 0 where one of its bytes is missing. The usual sizes are named, so that each is one read.
+    #[inline(always)]
     pub(crate) fn number(self, order: Order, payload: &[u8]) -> i128
+        ensures { result ≡ number_at order payload.now self }
+    {
+        let at = self.offset as usize;
+        if self.size == 8 {
+            return sized(self.signed, 8, unsigned_at(order, payload, at, 8));
+        }
+        if self.size == 4 {
+            return sized(self.signed, 4, unsigned_at(order, payload, at, 4));
+        }
+        self.any_number(order, payload)
+    }
+
+    /// The same of any size.
+    #[inline(never)]
+    fn any_number(self, order: Order, payload: &[u8]) -> i128
         ensures { result ≡ number_at order payload.now self }
     {
         let number = unsigned_at(order, payload, self.offset as usize, self.size);

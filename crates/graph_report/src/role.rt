@@ -8,6 +8,7 @@ ghost use Rattle.graph_report.specs.Roles.{of_number, of_counted, called_in, tim
 
 use crate::place::Place;
 use format_parse::{EventFormat, FormatTable};
+use format_places::FormatPlaces;
 use std::alloc::{AllocError, Global};
 use trace_base::{Field, FieldKind, field_named};
 
@@ -153,11 +154,11 @@ pub(crate) fn roles_of(alloc: Global, formats: &FormatTable) -> Result<Vec<Role>
 
 /// The role of the format with this number. The roles are those of the formats.
 #[tactic(auto, using(crate::proofs::RolePlaces::role_none, crate::proofs::RolePlaces::role_past))]
-pub(crate) fn role_at(formats: &FormatTable, roles: &[Role], id: u32) -> Role
+pub(crate) fn role_at(formats: &FormatTable, places: &FormatPlaces, roles: &[Role], id: u32) -> Role
     requires { roles.now ≡ map role_of formats.now }
     ensures { result ≡ role_by (format_at id formats.now) }
 {
-    let Some(place) = formats.by_id(id) else {
+    let Some(place) = places.place(formats, id) else {
         return Role::Other;
     };
     match roles.get(place) {

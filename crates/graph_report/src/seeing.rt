@@ -8,6 +8,7 @@ ghost use Rattle.graph_report.specs.Roles.{graph_event, ran_by, role_by, role_of
 
 use crate::role::{Called, Role, Times, role_at};
 use call_pairs::{GraphEvent, Seen, clipped};
+use format_places::FormatPlaces;
 use report_print::Context;
 use subpage::Item;
 use trace_base::Order;
@@ -38,11 +39,18 @@ fn ran_by(order: Order, payload: &[u8], times: Option<Times>) -> Option<u64>
     }
 }
 
-fn see_event(context: &Context, roles: &[Role], cpu: u32, time: u64, payload: &[u8]) -> Option<Seen>
+fn see_event(
+    context: &Context,
+    places: &FormatPlaces,
+    roles: &[Role],
+    cpu: u32,
+    time: u64,
+    payload: &[u8],
+) -> Option<Seen>
     requires { roles.now ≡ map role_of context.now.formats }
     ensures { result ≡ seen_as context.now cpu time payload.now (role_by (format_at (id_of context.now payload.now) context.now.formats)) }
 {
-    match role_at(context.formats(), roles, context.id(payload)) {
+    match role_at(context.formats(), places, roles, context.id(payload)) {
         Role::Enters(called) => Some(Seen::Entry(graph_event(context, cpu, time, payload, called))),
         Role::Leaves(called, times) => Some(Seen::Exit(
             graph_event(context, cpu, time, payload, called),
@@ -54,12 +62,18 @@ fn see_event(context: &Context, roles: &[Role], cpu: u32, time: u64, payload: &[
 
 /// What an item of this processor is for the calls, by the roles of the formats.
 #[tactic(auto, unfolding(crate::specs::Roles::seen_of))]
-pub(crate) fn see(context: &Context, roles: &[Role], cpu: u32, item: &Item<'_>) -> Option<Seen>
+pub(crate) fn see(
+    context: &Context,
+    places: &FormatPlaces,
+    roles: &[Role],
+    cpu: u32,
+    item: &Item<'_>,
+) -> Option<Seen>
     requires { roles.now ≡ map role_of context.now.formats }
     ensures { result ≡ seen_of context.now cpu (item_view item.now) }
 {
     match item {
-        Item::Event { time, payload } => see_event(context, roles, cpu, *time, payload),
+        Item::Event { time, payload } => see_event(context, places, roles, cpu, *time, payload),
         Item::Loss { time: _, count } => Some(Seen::Loss { cpu, count: *count }),
     }
 }

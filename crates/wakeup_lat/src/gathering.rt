@@ -15,10 +15,12 @@ use crate::role::Role;
 use crate::seeing::roles_of;
 use crate::skipping::use_up;
 use crate::taking::take_in;
+use format_places::FormatPlaces;
+use least_tree::LeastTree;
 use page_pool::{Lane, Pool};
 use report_print::Context;
 use std::alloc::Global;
-use time_merge::{Next, next_lane};
+use time_merge::{Next, next_lane_by};
 use trace_base::{Layout, Part};
 use trace_outside::{Failed, File};
 use wakeup_pairs::Wakeups;
@@ -64,24 +66,35 @@ pub fn gather<F: File>(
     let Ok(roles) = roles_of(alloc, context.formats()) else {
         return Err(GatherFault::Memory);
     };
+    let Ok(places) = FormatPlaces::of(alloc, context.formats()) else {
+        return Err(GatherFault::Memory);
+    };
     // No lines are kept.
     let Ok(mut pool) = Pool::new(alloc, parts.len() as u32, layout.page, 0) else {
         return Err(GatherFault::Memory);
     };
+    let Ok(mut nexts) = LeastTree::new(alloc, parts.len() as u32) else {
+        return Err(GatherFault::Memory);
+    };
     let lanes = pool.lanes();
     set_lanes(lanes, parts);
-    gather_by(alloc, context, &roles, layout, file, lanes)
+    gather_by(
+        alloc, context, &places, &roles, layout, file, lanes, &mut nexts,
+    )
 }
 
 // The same over lanes, where it is known what the events of each format are.
 fn gather_by<F: File>(
     alloc: Global,
     context: &Context,
+    places: &FormatPlaces,
     roles: &[Role],
     layout: &Layout,
     file: &mut F,
     lanes: &mut [Lane],
+    nexts: &mut LeastTree,
 ) -> Result<Wakeups, GatherFault>
+    requires slots { length nexts.old ≡ length lanes.old }
     requires roles { roles.now ≡ map role_of context.now.formats }
     requires allowed { IsLayout layout.now }
     requires fresh { All (λ lane. IsFresh lane.cursor) lanes.old }
@@ -96,11 +109,22 @@ fn gather_by<F: File>(
     ensures bytes { F.bytes file.new ≡ F.bytes file.old }
     ensures size { F.size file.new ≡ F.size file.old }
 {
+    let mut used = None;
     let mut wakeups = Wakeups::new(alloc);
     loop {
-        match next_lane(layout, file, lanes)? {
-            Next::Lane(i) => match take_in(context, roles, layout, &lanes[i], &mut wakeups) {
-                Ok(()) => use_up(context, roles, layout, &mut lanes[i]),
+        match next_lane_by(layout, file, lanes, nexts, used)? {
+            Next::Lane(i) => match take_in(
+                context,
+                places,
+                roles,
+                layout,
+                &lanes[i],
+                &mut wakeups,
+            ) {
+                Ok(()) => {
+                    use_up(context, places, roles, layout, &mut lanes[i]);
+                    used = Some(i);
+                }
                 Err(_) => return Err(GatherFault::Memory),
             },
             Next::Done => return Ok(wakeups),

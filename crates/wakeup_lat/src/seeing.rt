@@ -9,6 +9,7 @@ ghost use Rattle.wakeup_lat.specs.Roles.{role_by, role_in, role_of, seen_as, see
 
 use crate::role::Role;
 use format_parse::{EventFormat, FormatTable};
+use format_places::FormatPlaces;
 use report_print::Context;
 use std::alloc::{AllocError, Global};
 use subpage::Item;
@@ -38,11 +39,11 @@ fn put_role(format: Option<&EventFormat>, roles: &mut Vec<Role>) -> Result<(), A
 
 // What the events with this number of a format are.
 #[tactic(auto, using(crate::proofs::RolePlaces::role_none, crate::proofs::RolePlaces::role_past))]
-fn role_by_id(context: &Context, roles: &[Role], id: u32) -> Role
+fn role_by_id(context: &Context, places: &FormatPlaces, roles: &[Role], id: u32) -> Role
     requires { roles.now ≡ map role_of context.now.formats }
     ensures { result ≡ role_by (format_at id context.now.formats) }
 {
-    let Some(place) = context.formats().by_id(id) else {
+    let Some(place) = places.place(context.formats(), id) else {
         return Role::Other;
     };
     match roles.get(place) {
@@ -51,11 +52,18 @@ fn role_by_id(context: &Context, roles: &[Role], id: u32) -> Role
     }
 }
 
-fn see_event(context: &Context, roles: &[Role], cpu: u32, time: u64, payload: &[u8]) -> Seen
+fn see_event(
+    context: &Context,
+    places: &FormatPlaces,
+    roles: &[Role],
+    cpu: u32,
+    time: u64,
+    payload: &[u8],
+) -> Seen
     requires { roles.now ≡ map role_of context.now.formats }
     ensures { result ≡ seen_as context.now cpu time payload.now (role_in context.now payload.now) }
 {
-    match role_by_id(context, roles, context.id(payload)) {
+    match role_by_id(context, places, roles, context.id(payload)) {
         Role::Wakes(field) => Seen::Wakes(Wake {
             task: field.signed(context.order(), payload),
             time,
@@ -72,12 +80,18 @@ fn see_event(context: &Context, roles: &[Role], cpu: u32, time: u64, payload: &[
 
 /// What an item of a processor is. `roles` are those of the context's formats.
 #[tactic(auto, unfolding(crate::specs::Roles::seen_in))]
-pub(crate) fn see(context: &Context, roles: &[Role], cpu: u32, item: &Item<'_>) -> Seen
+pub(crate) fn see(
+    context: &Context,
+    places: &FormatPlaces,
+    roles: &[Role],
+    cpu: u32,
+    item: &Item<'_>,
+) -> Seen
     requires { roles.now ≡ map role_of context.now.formats }
     ensures { result ≡ seen_in context.now cpu (item_view item.now) }
 {
     match item {
-        Item::Event { time, payload } => see_event(context, roles, cpu, *time, payload),
+        Item::Event { time, payload } => see_event(context, places, roles, cpu, *time, payload),
         Item::Loss { .. } => Seen::Lost,
     }
 }

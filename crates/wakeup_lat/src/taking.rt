@@ -8,6 +8,7 @@ ghost use Rattle.wakeup_lat.specs.Roles.{role_of, seen_of};
 use crate::role::Role;
 use crate::seeing::see;
 use event_cursor::head;
+use format_places::FormatPlaces;
 use page_pool::Lane;
 use report_print::Context;
 use std::alloc::AllocError;
@@ -17,6 +18,7 @@ use wakeup_pairs::Wakeups;
 /// Takes in the first item of a lane that is not used up.
 pub(crate) fn take_in(
     context: &Context,
+    places: &FormatPlaces,
     roles: &[Role],
     layout: &Layout,
     lane: &Lane,
@@ -29,7 +31,7 @@ pub(crate) fn take_in(
     ensures kept { OnErr result (wakeups.new ≡ wakeups.old) }
 {
     match head(layout, lane) {
-        Some((_, item)) => wakeups.see(see(context, roles, lane.cpu, &item)),
+        Some((_, item)) => wakeups.see(see(context, places, roles, lane.cpu, &item)),
         None => Ok(()),
     }
 }

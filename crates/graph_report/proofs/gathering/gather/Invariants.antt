@@ -1,9 +1,10 @@
-use Rattle.std.proofs.Common.{◌≡◌, ◌-◌, ◌≤◌, sum_by}
+use Rattle.std.proofs.Common.{◌≡◌, ◌-◌, ◌≤◌, length, sum_by}
 use Rattle.std.specs.Option.{IfSome}
 use Rattle.std.specs.List.{All}
 use Rattle.trace_outside.specs.Causes.{raised}
 use Rattle.event_cursor.specs.Standing.{IsInOrder, most_left}
 use Rattle.time_merge.specs.LaneRows.{parts_of}
+use Rattle.time_merge.specs.Nexts.{IsInStep}
 use Rattle.time_merge.specs.Reads.{all_unread}
 use Rattle.call_pairs.specs.Tracings.{WasSeen}
 use Rattle.graph_report.proofs.Taking.{Gathering}
@@ -13,6 +14,8 @@ abbrev pub invariant-loop-tracing : goal.invariant-loop-tracing
 invariant-loop-tracing g l = record {
   in_order : All (IsInOrder l.layout) l.lanes;
   parts : parts_of l.lanes ≡ parts_of l.fn.lanes;
+  in_step : IsInStep l.layout l.lanes l.nexts l.used;
+  slots : length l.nexts ≡ length l.lanes;
   known : WasSeen l.tracing;
   gathers : IfSome (g.F.File.bytes l.fn.file) (λ file. Gathering l.context l.layout file l.fn.lanes l.lanes l.tracing);
   reads : g.F.File.reads l.file

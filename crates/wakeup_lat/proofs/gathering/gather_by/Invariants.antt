@@ -1,9 +1,10 @@
-use Rattle.std.proofs.Common.{◌≡◌, ◌-◌, ◌≤◌, sum_by}
+use Rattle.std.proofs.Common.{◌≡◌, ◌-◌, ◌≤◌, length, sum_by}
 use Rattle.std.specs.Option.{IfSome}
 use Rattle.std.specs.List.{All}
 use Rattle.trace_outside.specs.Causes.{raised}
 use Rattle.event_cursor.specs.Standing.{IsInOrder, most_left}
 use Rattle.time_merge.specs.LaneRows.{parts_of}
+use Rattle.time_merge.specs.Nexts.{IsInStep}
 use Rattle.time_merge.specs.Reads.{all_unread}
 use Rattle.wakeup_lat.proofs.GatherSteps.{Gathers}
 use Rattle.wakeup_lat.proofs.gathering.gather_by.Given as goal
@@ -12,6 +13,8 @@ abbrev pub invariant-loop-wakeups : goal.invariant-loop-wakeups
 invariant-loop-wakeups g l = record {
   in_order : All (IsInOrder l.layout) l.lanes;
   parts : parts_of l.lanes ≡ parts_of l.fn.lanes;
+  in_step : IsInStep l.layout l.lanes l.nexts l.used;
+  slots : length l.nexts ≡ length l.lanes;
   gathers : IfSome (g.F.File.bytes l.fn.file) (λ file. Gathers l.context l.layout file l.fn.lanes l.lanes l.wakeups);
   reads : g.F.File.reads l.file
       ≤ raised (g.F.File.reads l.fn.file)

@@ -11,5 +11,5 @@ returns-in-Some-get c =
     let got : slice_get c.args.roles.now c.in-Some.place ≡ Some c.in-Some-get.role.now =
     slice_get_read c.args.roles.now (length c.args.roles.now) c.in-Some.place c.in-Some-get.role.now refl found.3.0 found.1 in
     role_here c.args.context.now.formats c.args.roles.now c.args.id c.in-Some.place c.in-Some-get.role.now c.requires
-    (sym c.in-Some.is ∙ c.by_id.ensures.place ∙ ap (λ (formats : List EventFormat). position (has_id c.args.id) formats) c.formats.ensures)
+    (sym c.in-Some.is ∙ c.place.ensures ∙ ap (λ (formats : List EventFormat). position (has_id c.args.id) formats) c.formats.ensures)
     (sym got)
