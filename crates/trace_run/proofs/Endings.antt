@@ -19,7 +19,8 @@ use Rattle.trace_run.specs.declared.status.Status.{Status}
 use Rattle.trace_run.specs.declared.status.Status.TheVariants.{Done, Usage, Refused, Malformed, ReadFault, WriteFault, NoMemory}
 use Rattle.trace_run.specs.declared.usage.UsageFault.{UsageFault}
 use Rattle.trace_run.specs.Ending.{Ended, Ends, Finished, IsCaused, IsComplete, IsUnasked, LeavesAll, Prints, Untouched, Unwritten}
-use Rattle.trace_run.specs.Job.{FileCommand, Report, Dump, Split, Job, OnFile, SelfTest, Restore}
+use Rattle.trace_run.specs.Input.{ReadsInputs, progress}
+use Rattle.trace_run.specs.Job.{FileCommand, Report, Dump, Split, Job, OnFile, OnFiles, SelfTest, Restore}
 use Rattle.trace_run.specs.Meaning.{Meaning, Target, on_nothing, on_out, on_folder, only, header_means, file_means, input_means, command_means, command_meaning, meaning_read, input_of, target_of, target_read}
 use Rattle.trace_run.specs.Outside.{FolderSeen, Outside, SinkSeen, beside}
 use Rattle.trace_run.specs.Ran.{KeepsOff, MissesNothingElse, Ran, Unread}
@@ -163,7 +164,7 @@ header_unread command means unread seen rose = record {
 pub header_unheld : (command : FileCommand) (means : Option Meaning) (unread : Type 0) (seen : Outside) → Worked command unread means NoMemory seen seen
 header_unheld command means unread seen = record { ended = unheld (target_of command) unread means seen; counts = unmoved seen.folder.counts }
 
-refused_by : (fault : OpenFault) (expected : Result Header OpenFault) → IsRefusal fault → AnswersUnlessFaulty (Err fault) expected → expected ≡ Err fault
+pub refused_by : (fault : OpenFault) (expected : Result Header OpenFault) → IsRefusal fault → AnswersUnlessFaulty (Err fault) expected → expected ≡ Err fault
 refused_by Read expected refusal answers = absurd refusal
 refused_by Memory expected refusal answers = absurd refusal
 refused_by (NotTrace place) expected refusal answers = answers
@@ -299,7 +300,7 @@ module _ (before opened worked now : Outside) (around : Around before opened wor
   caused_around target unread other WriteFault so caused = unwritten_around target caused
   caused_around target unread other NoMemory so caused = tt
 
-  ended_around : (target : Target) (unread other : Type 0) (means : Option Meaning) (status : Status) → (unread → other)
+  pub ended_around : (target : Target) (unread other : Type 0) (means : Option Meaning) (status : Status) → (unread → other)
       → Ended target unread means status opened worked → Ended target other means status before now
   ended_around target unread other means status so ended = record {
     ends = known_so (λ m. Ends m status opened worked) (λ m. Ends m status before now) means
@@ -375,6 +376,7 @@ ran_unasked fault before =
       closes = λ opened closed. omega arith;
       opens = omega arith;
       reads = tt;
+      reads_all = tt;
     }
 
 -- there was no memory to read the words, and nothing was touched
@@ -389,10 +391,19 @@ ran_unread read before =
       closes = λ opened closed. omega arith;
       opens = omega arith;
       reads = tt;
+      reads_all = nothing read;
     }
   where
+    nothing : (r : Result Job UsageFault) → ReadsInputs r before.folder.files NoMemory (progress before) (progress before)
+    nothing (Ok (OnFile command)) = tt
+    nothing (Ok (OnFiles words)) = tt
+    nothing (Ok (SelfTest words)) = tt
+    nothing (Ok (Restore words)) = tt
+    nothing (Err fault) = tt
+
     keeps_off : (r : Result Job UsageFault) → KeepsOff r NoMemory before before
     keeps_off (Ok (OnFile command)) = λ is. cc
+    keeps_off (Ok (OnFiles words)) = ((λ is. cc), refl)
     keeps_off (Ok (SelfTest words)) = ((λ is. cc), refl)
     keeps_off (Ok (Restore words)) = ((λ is. cc), refl)
     keeps_off (Err fault) = (inr refl, refl)

@@ -4,13 +4,13 @@ use Rattle.trace_args.specs.declared.fault.WordFault.{WordFault}
 use Rattle.trace_args.specs.Command as asked
 use Rattle.trace_args.specs.Command.{CommandData, ReportData, DumpData, SelfData, SplitData, RestoreData}
 use Rattle.trace_args.specs.Reading.{reading}
-use Rattle.trace_run.specs.Job.{OnFile, SelfTest, Restore, Report, Dump, Split, job_of, job_read}
+use Rattle.trace_run.specs.Job.{OnFile, SelfTest, Restore, Dump, Split, job_of, job_read, report_job}
 
 job_is : (words : List (List ℕ)) (read : Result CommandData WordFault) → reading words ≡ read → job_of words ≡ job_read read
 unfolding job_of
 job_is words read is = ap (λ (r : Result CommandData WordFault). job_read r) is
 
-pub report_asked : (words : List (List ℕ)) (report : ReportData) → reading words ≡ Ok (asked.Report report) → job_of words ≡ Ok (OnFile (Report report))
+pub report_asked : (words : List (List ℕ)) (report : ReportData) → reading words ≡ Ok (asked.Report report) → job_of words ≡ Ok (report_job report)
 report_asked words report is = job_is words (Ok (asked.Report report)) is
 
 pub dump_asked : (words : List (List ℕ)) (dump : DumpData) → reading words ≡ Ok (asked.Dump dump) → job_of words ≡ Ok (OnFile (Dump dump))

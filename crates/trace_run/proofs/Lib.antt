@@ -26,4 +26,13 @@ pub mod Usages
 pub mod Shared
 pub mod DueReading
 pub mod Restorings
+pub mod FewValues
+pub mod UnreadNames
 pub mod RestoreWords
+pub mod InputWords
+pub mod InputNames
+pub mod InputLists
+pub mod Opening
+pub mod OpenInputs
+pub mod FilesShown
+pub mod FilesRan

@@ -15,7 +15,7 @@ use Rattle.trace_run.specs.Outside.{FolderSeen, Outside, SinkSeen, beside}
 use Rattle.trace_run.specs.Output.{Shows, Writes, WritesFor}
 use Rattle.trace_run.specs.Split.{status_of}
 use Rattle.trace_run.specs.Text.{text}
-use Rattle.trace_run.proofs.Endings.{stored_none, stored_first_none}
+use Rattle.trace_run.proofs.Endings.{known_so, stored_none, stored_first_none}
 
 module _ (unread : Type 0) (folder : FolderSeen) (before now : SinkSeen) where
   abbrev was : Outside
@@ -89,6 +89,16 @@ pub printed : (unread : Type 0) (m : Meaning) (status : Status) (before now : Si
     → Writes m status before.written now.written → Shows unread status before now → Prints unread (Some m) status before now
 printed unread m status before now none writes shows = λ folder. record {
   ends = ends unread folder before now m status none writes shows;
+  untouched = leaves unread folder before now status shows;
+  causes = caused unread folder before now status shows;
+}
+
+-- by what is meant, where that is known
+pub printed_known : (unread : Type 0) (means : Option Meaning) (status : Status) (before now : SinkSeen)
+    → IfSome means (λ m. (m.files ≡ []) × Writes m status before.written now.written) → Shows unread status before now → Prints unread means status before now
+printed_known unread means status before now writes shows = λ folder. record {
+  ends = known_so (λ m. (m.files ≡ []) × Writes m status before.written now.written) (λ m. Ends m status (beside folder before) (beside folder now)) means
+      (λ m written. ends unread folder before now m status written.0 written.1 shows) writes;
   untouched = leaves unread folder before now status shows;
   causes = caused unread folder before now status shows;
 }

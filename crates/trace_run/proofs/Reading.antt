@@ -24,7 +24,7 @@ behind_header_map ReadFault follows claim = tt
 behind_header_map NoMemory follows claim = tt
 
 -- what holds for any answer
-any_answer : {claim : Type 0} → (status : Status) → claim → BehindHeader status claim
+pub any_answer : {claim : Type 0} → (status : Status) → claim → BehindHeader status claim
 any_answer Done holds = holds
 any_answer (Malformed cpu page) holds = holds
 any_answer WriteFault holds = holds
@@ -32,6 +32,16 @@ any_answer Usage holds = tt
 any_answer (Refused fault) holds = tt
 any_answer ReadFault holds = tt
 any_answer NoMemory holds = tt
+
+-- what follows from two claims for the same answers
+pub both_behind : {one two three : Type 0} → (status : Status) → (one → two → three) → BehindHeader status one → BehindHeader status two → BehindHeader status three
+both_behind Done follows a b = follows a b
+both_behind (Malformed cpu page) follows a b = follows a b
+both_behind WriteFault follows a b = follows a b
+both_behind Usage follows a b = tt
+both_behind (Refused fault) follows a b = tt
+both_behind ReadFault follows a b = tt
+both_behind NoMemory follows a b = tt
 
 -- where a run works on nothing
 pub no_input : (status : Status) (before now : Progress) → ReadsInput None status before now

@@ -127,6 +127,7 @@ restored_ran words answer status out before now told done causes kept created mi
       closes = λ opened closed. omega (arith, counts.opened, counts.closed);
       opens = omega (arith, counts.opened, counts.few);
       reads = no_input (status_of answer) (progress (beside before out)) (progress (beside now out));
+      reads_all = tt;
     })
   where
     unread : Type 0

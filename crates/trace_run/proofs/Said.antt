@@ -4,13 +4,14 @@ use Rattle.trace_outside.specs.Causes.{HasCause}
 use Rattle.trace_outside.specs.Writing.{Gained, GainedPrefix}
 use Rattle.trace_outside.proofs.Gains.{prefix_whole}
 use Rattle.trace_run.specs.declared.usage.UsageFault.{UsageFault}
-use Rattle.trace_run.specs.Job.{Job, OnFile, SelfTest, Restore}
+use Rattle.trace_run.specs.Job.{Job, OnFile, OnFiles, SelfTest, Restore}
 use Rattle.trace_run.specs.declared.status.Status.TheVariants.{Usage, NoMemory}
 use Rattle.trace_run.specs.declared.status.Status.{Status}
 use Rattle.std.proofs.lemmas.List.{append-nil}
 use Rattle.std.specs.Prelude.{codes}
 use Rattle.trace_run.specs.Text.{text}
 use Rattle.trace_run.specs.Meaning.{input_of}
+use Rattle.trace_run.proofs.InputNames.{first_of}
 use Rattle.trace_run.specs.Messages.{IsLineRead, IsNameOf, Says, message, usage_line}
 
 pub says_of : {T E : Type 0} (result : Result T E) (line : List ℕ) (before now : Option (List ℕ)) (faults_before faults_now : ℕ)
@@ -24,6 +25,7 @@ says_of (Err error) line before now faults_before faults_now gained prefix cause
 -- want of memory says the same, whatever the words are
 pub wanting : (read : Result Job UsageFault) → IsLineRead read NoMemory (message [] NoMemory)
 wanting (Ok (OnFile command)) = (input_of command, refl, refl)
+wanting (Ok (OnFiles words)) = (words.input, first_of words, refl)
 wanting (Ok (SelfTest words)) = ([], refl, refl)
 wanting (Ok (Restore words)) = (words.input, refl, refl)
 wanting (Err fault) = refl

@@ -1,11 +1,12 @@
 -- Lanes that are given their processors, one after another.
 use Rattle.std.proofs.Common.{◌≡◌, ℕ, ◌+◌, ◌<◌, ◌≤◌, arith, List, [], ◌∷◌, ◌++◌, length, get_or, set, take, refl, sym, ap, subst, ◌∙◌}
 use Rattle.std.specs.List.{All}
-use Rattle.std.proofs.lemmas.List.{length-replicate, map-append, take_all, take_more, take_more_set}
+use Rattle.std.proofs.lemmas.List.{append-nil, drop_all, length-replicate, map-append, take_all, take_more, take_more_set}
 use Rattle.std.proofs.lemmas.List.Elements.{All-set, All-get_or, All-weaker}
 use Rattle.trace_base.specs.declared.layout.Layout.{Layout}
 use Rattle.trace_base.specs.declared.part.Part.{Part}
 use Rattle.page_pool.specs.Fresh.{IsFresh, IsNew}
+use Rattle.page_pool.specs.Lending.{written}
 use Rattle.page_pool.specs.declared.lane.Lane.{Lane}
 use Rattle.event_cursor.specs.Standing.{IsInOrder}
 use Rattle.time_merge.specs.LaneRows.{parts_of}
@@ -65,3 +66,9 @@ pub unused_room : (given : Given) (len room : ℕ) (lanes : List Lane) → All (
 unused_room given len room lanes all wide =
     All-weaker (λ (lane : Lane). lane.region.room ≡ room) (HasRoom (item_line given)) (λ a is cpu item. omega (arith, line_short given cpu item, is, wide)) lanes
     (all_room len room lanes (unused_open len room lanes all))
+
+-- lanes that were lent as a whole
+pub all_written : (lanes now : List Lane) → length now ≡ length lanes → written lanes now ≡ now
+all_written lanes now same =
+    ap (λ (rest : List Lane). take (length lanes) (now ++ rest)) (drop_all (length now) lanes (omega (arith, same)))
+    ∙ ap (take (length lanes)) (append-nil now) ∙ take_all (length lanes) now (omega (arith, same))

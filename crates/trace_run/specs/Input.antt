@@ -1,5 +1,5 @@
 -- What a run works on, and how much of it is read.
-use Rattle.std.specs.Prelude.{Option, None, Some, Result, Ok, Err, ◌+◌, ◌-◌, ◌*◌, ◌≤◌, ℕ, Bool, true, false, List, [], drop, length, sum_by, nat_eq, if◌then◌else◌, IfSome}
+use Rattle.std.specs.Prelude.{Option, None, Some, Result, Ok, Err, ◌+◌, ◌-◌, ◌*◌, ◌≤◌, ℕ, Bool, true, false, List, [], drop, length, sum_by, nat_eq, if◌then◌else◌, IfOk, IfSome}
 use Rattle.std.specs.FinMap.{get}
 use Rattle.std.specs.List.{starts_with}
 use Rattle.std.specs.Option.{option_and_then}
@@ -13,11 +13,13 @@ use Rattle.dat_header.specs.declared.header.Body.{Body}
 use Rattle.dat_header.specs.declared.header.Body.TheVariants.{Latency, Fly}
 use Rattle.dat_header.specs.Header.{header_of}
 use Rattle.report_rounds.specs.Due.{due_bytes}
+use Rattle.trace_args.specs.Command.{ReportData}
 use Rattle.trace_run.specs.declared.list.Listed.{Listed}
 use Rattle.trace_run.specs.declared.status.Status.{Status}
 use Rattle.trace_run.specs.declared.status.Status.TheVariants.{Done, Malformed, WriteFault}
 use Rattle.trace_run.specs.declared.usage.UsageFault.{UsageFault}
-use Rattle.trace_run.specs.Job.{FileCommand, Report, Dump, Split, Job, OnFile, SelfTest, Restore}
+use Rattle.trace_run.specs.Job.{FileCommand, Report, Dump, Split, Job, OnFile, OnFiles, SelfTest, Restore}
+use Rattle.trace_run.specs.Inputs.{NamedInput, inputs_in, names_in, shown_parts}
 use Rattle.trace_run.specs.Lists.{listed_in}
 use Rattle.trace_run.specs.Meaning.{input_of}
 use Rattle.trace_run.specs.Outside.{Outside}
@@ -48,6 +50,7 @@ input_told command told = option_and_then (input_in command) told
 -- what a run works on, if anything: the words ask for a command on a file, and the folder has that file
 abbrev pub input_of_run : Result Job UsageFault → Option NamedFiles → Option Input
 input_of_run (Ok (OnFile command)) told = option_and_then (λ files. input_told command (get files (input_of command))) told
+input_of_run (Ok (OnFiles words)) told = None
 input_of_run (Ok (SelfTest words)) told = None
 input_of_run (Ok (Restore words)) told = None
 input_of_run (Err fault) told = None
@@ -131,3 +134,16 @@ BehindHeader status claim = Unit {0}
 -- then no more is read than the header and what the command needs
 abbrev pub ReadsInput : Option Input → Status → Progress → Progress → Type 0
 ReadsInput known status before now = BehindHeader status (IfSome known (λ input. ReadsNoMore input.header.end input before now))
+
+-- of one of several files in one report its header is needed, and the parts that are shown of it
+abbrev pub shown_share : List (ℕ × Part) → ℕ
+shown_share parts = sum_by (λ part. part.1.size) parts
+
+abbrev pub input_share : ReportData → NamedInput → ℕ
+input_share words input = input.header.end + shown_share (shown_parts words.cpus input.header.body)
+
+-- then no more is read of several files than each of them needs
+abbrev pub ReadsInputs : Result Job UsageFault → Option NamedFiles → Status → Progress → Progress → Type 0
+ReadsInputs (Ok (OnFiles words)) told status before now = BehindHeader status
+    (IfSome told (λ files. IfOk (inputs_in files (names_in words)) (λ inputs. now.reads ≤ raised before.reads (sum_by (input_share words) inputs))))
+ReadsInputs read told status before now = Unit {0}

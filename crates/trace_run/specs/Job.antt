@@ -1,6 +1,6 @@
 -- What the words of a command line ask a run for, by what it works on.
 -- Source: trace-cmd(1).
-use Rattle.std.specs.Prelude.{Result, Ok, Err, ◌≡◌, ◌≢◌, List, ℕ, MatchResult}
+use Rattle.std.specs.Prelude.{Result, Ok, Err, ◌≡◌, ◌≢◌, List, [], ◌∷◌, ℕ, MatchResult}
 use Rattle.trace_args.specs.declared.fault.WordFault.{WordFault}
 use Rattle.trace_args.specs.declared.fault.WordKind.TheVariants as kind
 use Rattle.trace_args.specs.Command as asked
@@ -17,14 +17,24 @@ pub data FileCommand : Type 0 where
   Dump : DumpData → FileCommand
   Split : SplitData → FileCommand
 
+-- a command on one file, a report of several, a self-test, or a restore
 pub data Job : Type 0 where
   OnFile : FileCommand → Job
+  OnFiles : ReportData → Job
   SelfTest : SelfData → Job
   Restore : RestoreData → Job
 
+-- a report, by the inputs after its first
+abbrev pub report_by_more : List (List ℕ) → ReportData → Job
+report_by_more [] report = OnFile (Report report)
+report_by_more (name ∷ names) report = OnFiles report
+
+abbrev pub report_job : ReportData → Job
+report_job report = report_by_more report.more report
+
 -- the job that a reading asks for
 abbrev pub job_read : Result CommandData WordFault → Result Job WordFault
-job_read (Ok (asked.Report report)) = Ok (OnFile (Report report))
+job_read (Ok (asked.Report report)) = Ok (report_job report)
 job_read (Ok (asked.Dump dump)) = Ok (OnFile (Dump dump))
 job_read (Ok (asked.Split split)) = Ok (OnFile (Split split))
 job_read (Ok (asked.SelfTest words)) = Ok (SelfTest words)
@@ -42,6 +52,7 @@ command_view (code_command.Split split) = Split (split_view split)
 
 abbrev pub job_view : CodeJob → Job
 job_view (code_job.OnFile command) = OnFile (command_view command)
+job_view (code_job.OnFiles report) = OnFiles (report_view report)
 job_view (code_job.SelfTest words) = SelfTest (self_view words)
 job_view (code_job.Restore words) = Restore (restore_view words)
 

@@ -12,6 +12,7 @@ pub mod Lanes
 pub mod Usage
 pub mod UsageView
 pub mod Selftest
+pub mod Inputs
 pub mod Meaning
 pub mod Outside
 pub mod Ending
@@ -20,5 +21,8 @@ pub mod Work
 pub mod Input
 pub mod Ran
 pub mod Messages
+pub mod Naming
+pub mod Sources
+pub mod Unread
 pub mod StatusNumber
 pub mod Answers

@@ -18,13 +18,17 @@ use Rattle.trace_args.specs.Command.{ReportData, DumpData, SelfData, SplitData, 
 use Rattle.trace_run.specs.declared.list.Listed.{Listed}
 use Rattle.trace_run.specs.Context.{formats_of, symbols_of}
 use Rattle.trace_run.specs.Lists.{list_text, listed_in}
-use Rattle.trace_run.specs.Job.{FileCommand, Report, Dump, Split, Job, OnFile, SelfTest, Restore}
+use Rattle.trace_run.specs.Job.{FileCommand, Report, Dump, Split, Job, OnFile, OnFiles, SelfTest, Restore}
 use Rattle.graph_report.specs.Gathered.{reached_calls}
 use Rattle.trace_run.specs.Report.{Events, call_pieces, cpus_line, parts_events, report_pieces, waits_section}
 use Rattle.trace_run.specs.Selftest.{self_test_line}
 use Rattle.trace_run.specs.Split.{split_end, split_files, status_of}
 use Rattle.dump_tool.specs.Dump.{dump_text}
 use Rattle.new_files.specs.Stored.{NewFile}
+use Rattle.multi_report.specs.Order as several
+use Rattle.multi_report.specs.Order.{FileCut, cut_of_files}
+use Rattle.multi_report.specs.Reports as several_text
+use Rattle.trace_run.specs.Inputs.{NamedInput, WrongInput, given_in, inputs_in, names_in}
 use Rattle.restore_tool.specs.Meaning.{NamesData, Task, missing, refused, made, task_of}
 
 -- what a command writes to, whose fault a fault of writing is; words without a reading write to nothing
@@ -127,6 +131,23 @@ names_of words = record { partial = words.input; files = words.files; output = w
 abbrev pub restore_meaning : RestoreData → NamedFiles → Meaning
 restore_meaning words files = task_means (task_of files (names_of words))
 
+-- a report of several files ends at the first malformed sub-buffer of all of them
+abbrev pub ended_in : Option FileCut → Status
+ended_in None = Done
+ended_in (Some cut) = Malformed cut.cut.cpu cut.cut.page
+
+-- first a line for each file, and then the lines of the reached items of all, in the order in which these happened
+abbrev pub files_report : List several.Given → Meaning
+files_report files = prints (several_text.pieces files) (ended_in (cut_of_files files))
+
+-- the report of inputs that have headers, or the answer for the first that is wrong
+abbrev pub inputs_mean : ReportData → Result (List NamedInput) WrongInput → Meaning
+inputs_mean words (Ok inputs) = files_report (map (given_in words) inputs)
+inputs_mean words (Err wrong) = only wrong.status
+
+abbrev pub files_meaning : ReportData → NamedFiles → Meaning
+files_meaning words files = inputs_mean words (inputs_in files (names_in words))
+
 -- what a command writes to
 abbrev pub target_of : FileCommand → Target
 target_of (Report words) = on_out
@@ -164,12 +185,14 @@ command_meaning command files = command_means command (get files (input_of comma
 
 abbrev pub job_target : Job → Target
 job_target (OnFile command) = target_of command
+job_target (OnFiles words) = on_out
 job_target (SelfTest words) = on_out
 job_target (Restore words) = on_folder
 
--- the name of a job's input, of which a self-test has none, and which is the partial file of a restore
+-- the name of a job's input, of which a self-test has none, and which is the first of several, and the partial file of a restore
 abbrev pub job_input : Job → List ℕ
 job_input (OnFile command) = input_of command
+job_input (OnFiles words) = words.input
 job_input (SelfTest words) = []
 job_input (Restore words) = words.input
 
@@ -177,9 +200,10 @@ abbrev pub target_read : Result Job UsageFault → Target
 target_read (Ok job) = job_target job
 target_read (Err fault) = on_nothing
 
--- What a run means, by what its words ask for. A command on a file and a restore need a folder that tells its files.
+-- What a run means, by what its words ask for. A command on files and a restore need a folder that tells its files.
 abbrev pub meaning_read : Result Job UsageFault → Option NamedFiles → Option Meaning
 meaning_read (Ok (OnFile command)) told = option_map (command_meaning command) told
+meaning_read (Ok (OnFiles words)) told = option_map (files_meaning words) told
 meaning_read (Ok (SelfTest words)) told = Some (self_test words)
 meaning_read (Ok (Restore words)) told = option_map (restore_meaning words) told
 meaning_read (Err fault) told = Some (only Usage)

@@ -12,7 +12,8 @@ use Rattle.trace_run.specs.declared.usage.UsageFault.{UsageFault}
 use Rattle.trace_run.specs.declared.usage.UsageFault.TheVariants.{Word, Filter}
 use Rattle.trace_run.specs.Usage.{asked}
 use Rattle.trace_args.specs.KindText.{kind_text}
-use Rattle.trace_run.specs.Job.{Job, OnFile, SelfTest, Restore}
+use Rattle.trace_run.specs.Inputs.{names_in}
+use Rattle.trace_run.specs.Job.{Job, OnFile, OnFiles, SelfTest, Restore}
 use Rattle.trace_run.specs.Meaning.{job_input}
 
 abbrev pub fault_text : OpenFault → List ℕ
@@ -66,9 +67,10 @@ message input ReadFault = text (codes "trace-cmd: " ∷ input ∷ codes ": read 
 message input WriteFault = codes "trace-cmd: write failed\n"
 message input NoMemory = codes "trace-cmd: out of memory\n"
 
--- the file that a message names: the input, of which a self-test has none, and where a restore could not read, one of the files
--- that it reads
+-- the file that a message names: the input, of which a self-test has none, one of several inputs, and where a restore could not
+-- read, one of the files that it reads
 abbrev pub IsNameOf : Job → Status → List ℕ → Type 0
+IsNameOf (OnFiles words) status name = Contains (names_in words) name
 IsNameOf (Restore words) ReadFault name = Contains (words.input ∷ words.files) name
 IsNameOf job status name = name ≡ job_input job
 

@@ -6,22 +6,24 @@ use Rattle.trace_run.specs.declared.status.Status.{Status}
 use Rattle.trace_run.specs.declared.status.Status.TheVariants.{Usage, ReadFault, NoMemory}
 use Rattle.trace_run.specs.declared.usage.UsageFault.{UsageFault}
 use Rattle.trace_run.specs.Ending.{Ended, IsComplete}
-use Rattle.trace_run.specs.Input.{ReadsInput, input_of_run, progress}
-use Rattle.trace_run.specs.Job.{Job, OnFile, SelfTest, Restore}
+use Rattle.trace_run.specs.Input.{ReadsInput, ReadsInputs, input_of_run, progress}
+use Rattle.trace_run.specs.Job.{Job, OnFile, OnFiles, SelfTest, Restore}
 use Rattle.trace_run.specs.Meaning.{Meaning, meaning_read, target_read}
 use Rattle.trace_run.specs.Outside.{Outside}
 
 -- That a read failed shows in the folder's count. A self-test reads no file.
 abbrev pub Unread : Result Job UsageFault → Outside → Outside → Type 0
 Unread (Ok (OnFile command)) before now = Rose before.folder.counts.reading now.folder.counts.reading
+Unread (Ok (OnFiles words)) before now = Rose before.folder.counts.reading now.folder.counts.reading
 Unread (Ok (SelfTest words)) before now = ⊥
 Unread (Ok (Restore words)) before now = Rose before.folder.counts.reading now.folder.counts.reading
 Unread (Err fault) before now = ⊥
 
 -- Usage is answered just where the words or a filter of theirs have no reading, unless there is no memory to read them.
--- Nothing is touched then; and a self-test leaves the folder alone.
+-- Nothing is touched then; a report of several files changes no file, and a self-test leaves the folder alone.
 abbrev pub KeepsOff : Result Job UsageFault → Status → Outside → Outside → Type 0
 KeepsOff (Ok (OnFile command)) status before now = status ≢ Usage
+KeepsOff (Ok (OnFiles words)) status before now = (status ≢ Usage) × (now.folder.files ≡ before.folder.files)
 KeepsOff (Ok (SelfTest words)) status before now = (status ≢ Usage) × (now.folder ≡ before.folder)
 KeepsOff (Ok (Restore words)) status before now = (status ≢ Usage) × (now.out ≡ before.out)
 KeepsOff (Err fault) status before now = ((status ≡ Usage) ⊎ (status ≡ NoMemory)) × (now ≡ before)
@@ -34,9 +36,10 @@ MissesNothingElse m before now = m.status ≢ ReadFault → now.misses ≡ befor
 abbrev pub ClosesAll : Counts → Counts → Type 0
 ClosesAll before now = now.opened < 2 ^ 64 - 1 → now.closed < 2 ^ 64 - 1 → now.opened + before.closed ≡ now.closed + before.opened
 
--- how many files a run opens at most: the input, or all that a restore reads
+-- how many files a run opens at most: the input, or all of them
 abbrev pub most_opened : Result Job UsageFault → ℕ
 most_opened (Ok (OnFile command)) = 1
+most_opened (Ok (OnFiles words)) = length words.more + 1
 most_opened (Ok (SelfTest words)) = 0
 most_opened (Ok (Restore words)) = length words.files + 1
 most_opened (Err fault) = 0
@@ -49,3 +52,4 @@ pub record Ran (read : Result Job UsageFault) (status : Status) (before now : Ou
   pub closes : ClosesAll before.folder.counts now.folder.counts
   pub opens : now.folder.counts.opened ≤ raised before.folder.counts.opened (most_opened read)
   pub reads : ReadsInput (input_of_run read before.folder.files) status (progress before) (progress now)
+  pub reads_all : ReadsInputs read before.folder.files status (progress before) (progress now)

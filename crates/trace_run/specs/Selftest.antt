@@ -16,6 +16,7 @@ use Rattle.trace_run.specs.Text.{text}
 abbrev pub plain_report : ReportData
 plain_report = record {
   input = [];
+  more = [];
   filters = [];
   full = false;
   diff = false;

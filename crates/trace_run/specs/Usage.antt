@@ -7,7 +7,7 @@ use Rattle.trace_args.specs.declared.fault.WordFault.{WordFault}
 use Rattle.filter_lang.specs.Filter as lang
 use Rattle.filter_lang.specs.Reading as filter_text
 use Rattle.filter_truth.specs.Selection.{UseData}
-use Rattle.trace_run.specs.Job.{FileCommand, Report, Dump, Split, Job, OnFile, SelfTest, Restore, job_of}
+use Rattle.trace_run.specs.Job.{FileCommand, Report, Dump, Split, Job, OnFile, OnFiles, SelfTest, Restore, job_of}
 use Rattle.trace_run.specs.declared.usage.UsageFault.{UsageFault}
 use Rattle.trace_run.specs.declared.usage.UsageFault.TheVariants.{Word, Filter}
 
@@ -37,6 +37,7 @@ command_filters (Split words) = []
 
 abbrev pub job_filters : Job → List FilterData
 job_filters (OnFile command) = command_filters command
+job_filters (OnFiles words) = words.filters
 job_filters (SelfTest words) = []
 job_filters (Restore words) = []
 

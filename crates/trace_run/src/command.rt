@@ -13,6 +13,8 @@ ghost use Rattle.trace_run.specs.Job.{OnFile, command_view, job_view};
 ghost use Rattle.trace_run.specs.Meaning as spec;
 ghost use Rattle.trace_run.specs.Meaning.{header_means, input_means};
 ghost use Rattle.trace_run.specs.Messages.{IsNameOf};
+ghost use Rattle.trace_run.specs.Naming.{NamesInput};
+ghost use Rattle.trace_run.specs.Unread.{NamesUnread};
 ghost use Rattle.trace_run.specs.Outside.{beside, folder_seen, sink_seen};
 ghost use Rattle.trace_run.specs.Ran.{Ran};
 ghost use Rattle.trace_run.specs.Usage.{command_filters, job_filters, uses_in};
@@ -24,6 +26,7 @@ use crate::job::{FileCommand, Job};
 use crate::report::print_report;
 use crate::restore::restore_files;
 use crate::selftest::print_self_test;
+use crate::several::print_files;
 use crate::split::cut_file;
 use crate::status::Status;
 use dat_header::{Header, OpenFault, read_header};
@@ -66,6 +69,8 @@ pub(crate) fn run_job<'a, R: Threads + Sync, F: Folder, O: Sink, G: Gate>(
         (beside (folder_seen F.files F.counts folder.old) (sink_seen O.written O.faults out.old))
         (beside (folder_seen F.files F.counts folder.new) (sink_seen O.written O.faults out.new)) }
     ensures named { IsNameOf (job_view job.now) result.status result.file.now }
+    ensures input { NamesInput (job_view job.now) (F.files folder.old) result.status result.file.now }
+    ensures unread { NamesUnread (job_view job.now) result.status (folder_seen F.files F.counts folder.old) (folder_seen F.files F.counts folder.new) result.file.now }
 {
     match job {
         Job::OnFile(command) => {
@@ -73,6 +78,7 @@ pub(crate) fn run_job<'a, R: Threads + Sync, F: Folder, O: Sink, G: Gate>(
             let file = input_of(command);
             Outcome { status, file }
         }
+        Job::OnFiles(words) => print_files(alloc, words, folder, out),
         Job::SelfTest(words) => {
             let status = print_self_test(rt, alloc, words, out, gate);
             Outcome { status, file: "" }

@@ -131,8 +131,8 @@ pub(crate) fn print_waits<R: Threads + Sync, I: File, O: Sink, G: Gate>(
     }
 }
 
-// Room for the longest line.
-fn line_buffer(alloc: Global) -> Result<Vec<u8>, AllocError>
+/// Room for the longest line.
+pub(crate) fn line_buffer(alloc: Global) -> Result<Vec<u8>, AllocError>
     ensures { IfOk result (λ buffer. length buffer.items ≡ 65537) }
 {
     vec![in alloc; 0; 65_537]

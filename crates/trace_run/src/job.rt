@@ -1,8 +1,9 @@
 // What the words of a command line ask a run for, by what it works on.
 
-ghost use Rattle.std.specs.Prelude.{IfOk};
+ghost use Rattle.std.specs.Prelude.{◌≡◌, IfOk};
+ghost use Rattle.trace_args.specs.Command.{report_view};
 ghost use Rattle.trace_run.specs.Allowed.{IsAllowedJob};
-ghost use Rattle.trace_run.specs.Job.{IsJob, job_view};
+ghost use Rattle.trace_run.specs.Job.{IsJob, job_view, report_job};
 
 use std::alloc::Global;
 use trace_args::{
@@ -22,6 +23,8 @@ pub(crate) enum FileCommand<'a> {
 pub(crate) enum Job<'a> {
     /// A command on one file.
     OnFile(FileCommand<'a>),
+    /// A report of several files.
+    OnFiles(ReportWords<'a>),
     /// A self-test, which works on no file.
     SelfTest(SelfWords),
     /// A restore, which works on a partial file and on data files.
@@ -38,11 +41,22 @@ pub(crate) fn read_job<'a>(alloc: Global, words: &'a Words) -> Result<Job<'a>, W
     ensures allowed { IfOk result (λ job. IsAllowedJob (job_view job)) }
 {
     match read_words(alloc, words) {
-        Ok(Command::Report(report)) => Ok(Job::OnFile(FileCommand::Report(report))),
+        Ok(Command::Report(report)) => Ok(report_job(report)),
         Ok(Command::Dump(dump)) => Ok(Job::OnFile(FileCommand::Dump(dump))),
         Ok(Command::Split(split)) => Ok(Job::OnFile(FileCommand::Split(split))),
         Ok(Command::SelfTest(words)) => Ok(Job::SelfTest(words)),
         Ok(Command::Restore(words)) => Ok(Job::Restore(words)),
         Err(fault) => Err(fault),
+    }
+}
+
+// A report, by whether it is of several files.
+fn report_job<'a>(report: ReportWords<'a>) -> Job<'a>
+    ensures { job_view result ≡ report_job (report_view report.entry) }
+{
+    if report.more.is_empty() {
+        Job::OnFile(FileCommand::Report(report))
+    } else {
+        Job::OnFiles(report)
     }
 }

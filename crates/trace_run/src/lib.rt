@@ -16,6 +16,8 @@ mod report;
 mod restore;
 mod selection;
 mod selftest;
+mod several;
+mod sources;
 mod split;
 mod status;
 mod top;

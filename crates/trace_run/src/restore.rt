@@ -1,12 +1,14 @@
 // A restore: the files are opened, and the new one is made of them.
 
-ghost use Rattle.std.specs.Prelude.{◌≡◌, Ok, ◌≤◌, length};
+ghost use Rattle.std.specs.Prelude.{◌≡◌, Ok, ◌≤◌, length, suc};
+ghost use Rattle.restore_tool.specs.Failing.{IfRead, place_of};
 ghost use Rattle.trace_args.specs.Command.{restore_view};
 ghost use Rattle.trace_run.specs.Job.{Restore};
 ghost use Rattle.trace_run.specs.Messages.{IsNameOf};
 ghost use Rattle.trace_run.specs.Outside.{SinkSeen, beside, folder_seen};
 ghost use Rattle.trace_run.specs.Ran.{Ran};
 ghost use Rattle.trace_run.specs.Restore.{status_of};
+ghost use Rattle.trace_run.specs.Unread.{IsNameAt, NamesUnread};
 
 use crate::status::Status;
 use restore_tool::{Answer, Names, Source, restore_named};
@@ -24,6 +26,8 @@ pub(crate) fn restore_files<'a, F: Folder>(
     ensures ran { (out : SinkSeen) → Ran (Ok (Restore (restore_view words.now))) result.0
         (beside (folder_seen F.files F.counts folder.old) out) (beside (folder_seen F.files F.counts folder.new) out) }
     ensures named { IsNameOf (Restore (restore_view words.now)) result.0 result.1.now }
+    ensures unread { NamesUnread (Restore (restore_view words.now)) result.0
+        (folder_seen F.files F.counts folder.old) (folder_seen F.files F.counts folder.new) result.1.now }
 {
     let names = Names {
         partial: words.input,
@@ -49,18 +53,32 @@ fn status_of(answer: Answer) -> Status
 // The file that the message of an answer names.
 #[tactic(auto, using(crate::proofs::Restorings::input_named))]
 fn file_of<'a>(words: &RestoreWords<'a>, answer: Answer) -> &'a str
-    ensures { IsNameOf (Restore (restore_view words.now)) (status_of answer) result.now }
+    ensures named { IsNameOf (Restore (restore_view words.now)) (status_of answer) result.now }
+    ensures place { IfRead answer (λ source. IsNameAt (restore_view words.now) (place_of source) result.now) }
 {
     match answer {
-        Answer::Read(Source::File(file)) => name_at(words, file as usize),
+        Answer::Read(source) => source_name(words, source),
         _ => words.input,
+    }
+}
+
+// The name of one of the files that are read.
+#[tactic(auto, using(crate::proofs::Restorings::input_named))]
+fn source_name<'a>(words: &RestoreWords<'a>, source: Source) -> &'a str
+    ensures named { IsNameOf (Restore (restore_view words.now)) Status.ReadFault result.now }
+    ensures place { IsNameAt (restore_view words.now) (place_of source) result.now }
+{
+    match source {
+        Source::Partial => words.input,
+        Source::File(file) => name_at(words, file as usize),
     }
 }
 
 // The data file of this place.
 #[tactic(auto, using(crate::proofs::Restorings::input_named))]
 fn name_at<'a>(words: &RestoreWords<'a>, place: usize) -> &'a str
-    ensures { IsNameOf (Restore (restore_view words.now)) Status.ReadFault result.now }
+    ensures named { IsNameOf (Restore (restore_view words.now)) Status.ReadFault result.now }
+    ensures place { IsNameAt (restore_view words.now) (suc place) result.now }
 {
     if place < words.files.len() {
         words.files[place]

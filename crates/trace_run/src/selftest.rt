@@ -84,6 +84,7 @@ fn plain_words(alloc: Global, workers: u32) -> ReportWords<'static>
 {
     ReportWords {
         input: "",
+        more: Vec::new(alloc),
         filters: Vec::new(alloc),
         full: false,
         diff: false,

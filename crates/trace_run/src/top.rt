@@ -1,5 +1,7 @@
 ghost use Rattle.trace_run.specs.Usage.{asked};
-ghost use Rattle.trace_run.specs.Messages.{SaysOf};
+ghost use Rattle.trace_run.specs.Messages.{Says, SaysOf, message};
+ghost use Rattle.trace_run.specs.Naming.{SaysInput};
+ghost use Rattle.trace_run.specs.Unread.{SaysUnread};
 ghost use Rattle.trace_run.specs.Outside.{beside, folder_seen, sink_seen};
 ghost use Rattle.trace_run.specs.Ran.{Ran};
 
@@ -33,6 +35,10 @@ pub fn run<R: Threads + Sync, F: Folder, O: Sink, E: Sink, G: Gate>(
         (beside (folder_seen F.files F.counts folder.old) (sink_seen O.written O.faults out.old))
         (beside (folder_seen F.files F.counts folder.new) (sink_seen O.written O.faults out.new)) }
     ensures says { SaysOf words.now result (E.written err.old) (E.written err.new) (E.faults err.old) (E.faults err.new) }
+    ensures names { SaysInput (asked words.now) (F.files folder.old) result
+        (E.written err.old) (E.written err.new) (E.faults err.old) (E.faults err.new) }
+    ensures unread { SaysUnread (asked words.now) result (folder_seen F.files F.counts folder.old) (folder_seen F.files F.counts folder.new)
+        (λ name. Says (message name Status.ReadFault) (E.written err.old) (E.written err.new) (E.faults err.old) (E.faults err.new)) }
 {
     match ask(alloc, words) {
         Ok((job, filters)) => {

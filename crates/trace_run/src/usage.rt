@@ -73,6 +73,7 @@ fn filters_of<'a, 'b>(job: &'b Job<'a>) -> &'b [FilterWord<'a>]
 {
     match job {
         Job::OnFile(command) => command_filters(command),
+        Job::OnFiles(words) => words.filters.as_slice(),
         Job::SelfTest(_) | Job::Restore(_) => &[],
     }
 }
@@ -86,8 +87,11 @@ fn command_filters<'a, 'b>(command: &'b FileCommand<'a>) -> &'b [FilterWord<'a>]
     }
 }
 
-// All filters, or the first that is none.
-fn read_filters(alloc: Global, filters: &[FilterWord<'_>]) -> Result<Vec<FilterUse>, AskFault>
+/// All filters, or the first that is none.
+pub(crate) fn read_filters(
+    alloc: Global,
+    filters: &[FilterWord<'_>],
+) -> Result<Vec<FilterUse>, AskFault>
     ensures read { IfOk result (λ uses. filters_read (map filter_view filters.now) ≡ Ok (map use_of uses.items)) }
     ensures fault { IfErr result (λ why. IsFaultOf (filters_read (map filter_view filters.now)) why) }
 {

@@ -27,6 +27,7 @@ returns-in-Err g c =
       closes = λ opened closed. omega (arith, c.in-Err.ensures.counts.opened, opens.closed);
       opens = omega (arith, c.in-Err.ensures.counts.opened);
       reads = tt;
+      reads_all = tt;
     }
 
 pub returns-in-Ok : goal.returns-in-Ok
@@ -71,4 +72,5 @@ returns-in-Ok g c =
       reads = command_reads command _ _ status out.written out_now.written reads _ _ given
           (closes.bytes ∙ ap (λ (b : ℕ). raised b reads) (work.counts.bytes ∙ opens.bytes))
           (subst (λ (n : ℕ). ReadsInput (input_told command (g.F.In.File.bytes c.in-Ok.file)) status (progress_at out.written n) (progress_at out_now.written reads)) c.in-Ok.ensures.no_reads c.run_on_file-status.ensures.reads);
+      reads_all = tt;
     }

@@ -1,13 +1,16 @@
-use Rattle.std.proofs.Common.{rules}
+use Rattle.std.proofs.Common.{rules, subst, sym}
 use Rattle.trace_args.specs.Command.{report_view, restore_view, self_view, split_view}
 use Rattle.trace_run.proofs.Jobs.{restore_asked, split_asked}
 use Rattle.trace_run.proofs.RestoreWords.{restore_few}
 use Rattle.trace_run.proofs.SplitWords.{split_allowed}
-use Rattle.trace_run.proofs.Workers.{report_workers, self_test_workers}
+use Rattle.trace_run.proofs.InputWords.{report_allowed}
+use Rattle.trace_run.proofs.Workers.{self_test_workers}
+use Rattle.trace_run.specs.Allowed.{IsAllowedJob}
 use Rattle.trace_run.proofs.job.read_job.Goals as goal
 
 pub returns-in-Ok-Report-clause-allowed : goal.returns-in-Ok-Report-clause-allowed
-returns-in-Ok-Report-clause-allowed c = report_workers c.args.words.now (report_view c.in-Ok-Report.report) (search rules)
+returns-in-Ok-Report-clause-allowed c =
+    subst IsAllowedJob (sym c.report_job.ensures) (report_allowed c.args.words.now (report_view c.in-Ok-Report.report) (search rules))
 
 pub returns-in-Ok-SelfTest-clause-allowed : goal.returns-in-Ok-SelfTest-clause-allowed
 returns-in-Ok-SelfTest-clause-allowed c = self_test_workers c.args.words.now (self_view c.in-Ok-SelfTest.words) (search rules)

@@ -1,12 +1,18 @@
 use Rattle.std.proofs.Common.{Bor, List, ℕ, ◌+◌, Ok, map, subst, sym}
 use Rattle.std.proofs.lemmas.List.{length-map}
 use Rattle.restore_tool.specs.Answers.{ClosesAll}
-use Rattle.trace_args.specs.Command.{RestoreData}
+use Rattle.trace_args.specs.Command.{RestoreData, restore_view}
 use Rattle.trace_run.specs.Job.{Restore}
 use Rattle.trace_run.specs.Outside.{SinkSeen, beside, folder_seen}
 use Rattle.trace_run.specs.Ran.{Ran}
+use Rattle.restore_tool.specs.Failing.{IfRead, IsUnread, place_of}
+use Rattle.trace_run.specs.Unread.{restore_inputs}
 use Rattle.trace_run.proofs.Restorings.{restored_ran}
+use Rattle.trace_run.proofs.UnreadNames.{unread_named}
 use Rattle.trace_run.proofs.restore.restore_files.Goals as goal
+
+abbrev of : List ℕ → List ℕ → List (Bor (List ℕ)) → RestoreData
+of input output files = record { input = input; output = output; files = map (λ name. name.now) files }
 
 pub returns-clause-ran : goal.returns-clause-ran
 returns-clause-ran g c = λ out.
@@ -19,6 +25,14 @@ returns-clause-ran g c = λ out.
     (restored_ran (of words.input.now words.output.now files) c.restore_named-answer.result c.status_of.result out before now c.status_of.ensures
     did.done did.causes did.kept did.created did.misses
     (subst (λ (n : ℕ). ClosesAll (n + 1) (g.F.Folder.counts c.args.folder.now) (g.F.Folder.counts c.restore_named-answer.new.folder)) (sym (length-map files (λ name. name.now))) did.counts))
-  where
-    of : List ℕ → List ℕ → List (Bor (List ℕ)) → RestoreData
-    of input output files = record { input = input; output = output; files = map (λ name. name.now) files }
+
+pub returns-clause-unread : goal.returns-clause-unread
+returns-clause-unread g c =
+    let words = c.args.words.now in
+    let before = folder_seen g.F.Folder.files g.F.Folder.counts c.args.folder.now in
+    let now = folder_seen g.F.Folder.files g.F.Folder.counts c.restore_named-answer.new.folder in
+    let answer = c.restore_named-answer.result in
+    unread_named (restore_view words) answer c.status_of.result c.file_of.result.now before now c.status_of.ensures
+    (subst (λ (files : List (Bor (List ℕ))). IfRead answer (λ source. IsUnread before.files (restore_inputs (of words.input.now words.output.now files)) before.counts.misses now.counts.misses (place_of source)))
+    c.as_slice.ensures.value c.restore_named-answer.ensures.unread)
+    c.file_of.ensures.place

@@ -9,7 +9,9 @@ use Rattle.trace_run.specs.Ran.{Ran}
 use Rattle.trace_run.specs.Usage.{asked}
 use Rattle.trace_run.specs.UsageView.{IsFaultOf}
 use Rattle.trace_run.proofs.Endings.{ran_unasked, ran_unread}
+use Rattle.trace_run.proofs.InputNames.{input_said, none_named, wanting_said}
 use Rattle.trace_run.proofs.Said.{usage_said, job_said, wanting}
+use Rattle.trace_run.proofs.UnreadNames.{job_unread, none_unread}
 use Rattle.trace_run.proofs.top.run.Goals as goal
 
 pub returns-in-Ok : goal.returns-in-Ok
@@ -21,10 +23,17 @@ returns-in-Ok g c =
     record {
       ran = subst (λ (reading : Result Job UsageFault). Ran reading outcome.status before now) (sym read) c.run_job-outcome.ensures.ran;
       says = record { line = message outcome.file.now outcome.status; is = job_said _ _ outcome.file.now outcome.status read c.run_job-outcome.ensures.named; says = c.say.ensures };
+      names = input_said _ _ _ outcome.status outcome.file.now _ _ _ _ read c.run_job-outcome.ensures.input c.say.ensures;
+      unread = job_unread _ _ outcome.status before.folder now.folder outcome.file.now
+          (λ name status. Says (message name status) (g.E.Sink.written c.args.err.now) (g.E.Sink.written c.say.new.err) (g.E.Sink.faults c.args.err.now) (g.E.Sink.faults c.say.new.err))
+          read c.run_job-outcome.ensures.unread c.say.ensures;
     }
 
 pub returns-in-Err-Memory-clause-says : goal.returns-in-Err-Memory-clause-says
 returns-in-Err-Memory-clause-says g c = record { line = message [] NoMemory; is = wanting (asked c.args.words.now); says = c.say-in-Err-Memory.ensures }
+
+pub returns-in-Err-Memory-clause-names : goal.returns-in-Err-Memory-clause-names
+returns-in-Err-Memory-clause-names g c = wanting_said (asked c.args.words.now) _ _ _ _ _ c.say-in-Err-Memory.ensures
 
 pub returns-in-Err-Memory-clause-ran : goal.returns-in-Err-Memory-clause-ran
 returns-in-Err-Memory-clause-ran g c = ran_unread (asked c.args.words.now) _
@@ -41,4 +50,11 @@ returns-in-Err-Usage g c =
         is = usage_said fault (asked c.args.words.now) read;
         says = subst (λ (f : UsageFault). Says (usage_line f) (g.E.Sink.written c.args.err.now) (g.E.Sink.written c.say_usage.new.err) (g.E.Sink.faults c.args.err.now) (g.E.Sink.faults c.say_usage.new.err)) c.in-Err-Usage.fault-is c.say_usage.ensures;
       };
+      names = none_named fault (asked c.args.words.now) _ Usage _ _ _ _ read;
+      unread = none_unread (asked c.args.words.now) Usage before.folder before.folder _ (λ is. cc);
     }
+
+pub returns-in-Err-Memory-clause-unread : goal.returns-in-Err-Memory-clause-unread
+returns-in-Err-Memory-clause-unread g c =
+    let folder = folder_seen g.F.Folder.files g.F.Folder.counts c.args.folder.now in
+    none_unread (asked c.args.words.now) NoMemory folder folder _ (λ is. cc)

@@ -1,0 +1,13 @@
+pub mod Merging
+pub mod OneOrder
+pub mod LeastCut
+pub mod OneSource
+pub mod LaneNexts
+pub mod FileRows
+pub mod Files
+pub mod Loops
+pub mod Going
+pub mod TakenItems
+pub mod TurnLaws
+pub mod ReportLaws
+pub mod HeadLines

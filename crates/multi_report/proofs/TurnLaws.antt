@@ -1,0 +1,199 @@
+-- One turn of a report of several files.
+use Rattle.std.proofs.Common.{◌≡◌, ◌≢◌, ℕ, ◌+◌, ◌<◌, ◌≤◌, List, [], ◌∷◌, ◌++◌, length, get_or, set, map, Option, Some, None, refl, sym, ap, subst, ◌∙◌, arith, inl, inr, sum_by, get_or-set_same, get_or-set_other}
+use Rattle.std.specs.List.{All}
+use Rattle.std.proofs.lemmas.Bool.{cases_eq}
+use Rattle.std.proofs.lemmas.List.{length-map, length-set, map-set}
+use Rattle.std.proofs.lemmas.List.Elements.{All-get_or, All-set}
+use Rattle.std.proofs.lemmas.List.Sums.{sum_by-set, get_or-le-sum_by}
+use Rattle.std.proofs.Math.Seq.{map-set_same}
+use Rattle.trace_outside.specs.Causes.{Rose}
+use Rattle.trace_outside.specs.Pending.{Holds, OnWay}
+use Rattle.trace_outside.specs.Writing.{GainedPrefix}
+use Rattle.subpage.specs.Arrangement.{Keyed, key_of, cpu_of}
+use Rattle.subpage.specs.Cut.{Cut}
+use Rattle.time_merge.specs.Rows.{Each, bound_of}
+use Rattle.time_merge.specs.Nexts.{IsLeastOf, IsLeastAt}
+use Rattle.multi_report.specs.declared.report.FilesEnd.{FilesEnd}
+use Rattle.multi_report.specs.declared.report.FilesEnd.TheVariants as code
+use Rattle.multi_report.specs.declared.taking.Taken.{Taken}
+use Rattle.multi_report.specs.declared.taking.Taken.TheVariants as took
+use Rattle.multi_report.specs.Order.{Given, FileCut, cut_in, in_file, cut_of_files}
+use Rattle.multi_report.specs.Sources.{Seen, IsKnown, IsPrepared, IsSame, IsUsable, due, given_of, next_key, to_come_of, work}
+use Rattle.multi_report.specs.Reports.{AreSame, IsEnded, ReadRose, WriteRose, joined, line_in, line_of, lines}
+use Rattle.multi_report.specs.Taking.{ItemTaken, TakenFrom, TakenOf, cut_left}
+use Rattle.multi_report.specs.Turns.{AreReadied, EndsWith, Going, IsTold, IsUnderway, lines_left}
+use Rattle.multi_report.proofs.FileRows.{file_next, file_cut, file_first, file_none, file_some}
+use Rattle.multi_report.proofs.Files.{no_cut, one_cut_is, same_one}
+use Rattle.multi_report.proofs.Going.{end_read, end_whole, line_at, put_one, put_stopped}
+
+some_seen : (xs : List Seen) (j : ℕ) → j < length xs → Seen
+some_seen [] j lt = absurd (omega (arith, lt))
+some_seen (x ∷ xs) j lt = x
+
+-- a slot of the tree is a file
+pub slot_of : {S : Type 0} (f : S → Seen) (xs : List S) (keys : List (Option (Option ℕ))) (j : ℕ) → j < length keys → length keys ≡ length xs → j < length (map f xs)
+slot_of f xs keys j lt slots = omega (arith, lt, slots, length-map xs f)
+
+-- what is told at an end
+pub told_write : (end result : FilesEnd) (before now : ℕ) → WriteRose end before now → IsTold end result before now → WriteRose result before now
+told_write end result before now own told = elim told [
+  | inl e ↦ subst (λ (r : FilesEnd). WriteRose r before now) (sym e) own
+  | inr e ↦ subst (λ (r : FilesEnd). WriteRose r before now) (sym e.0) e.1
+]
+
+pub rose_from : (result : FilesEnd) (first before now : ℕ) → first ≤ before → WriteRose result before now → WriteRose result first now
+rose_from code.Done first before now le rose = tt
+rose_from (code.Malformed source cpu page) first before now le rose = tt
+rose_from (code.Read source) first before now le rose = tt
+rose_from code.Write first before now le rose = omega (arith, le, rose)
+
+pub told_read : (end result : FilesEnd) (before now : ℕ) (first after : List Seen) → ReadRose end first after → IsTold end result before now → ReadRose result first after
+told_read end result before now first after own told = elim told [
+  | inl e ↦ subst (λ (r : FilesEnd). ReadRose r first after) (sym e) own
+  | inr e ↦ subst (λ (r : FilesEnd). ReadRose r first after) (sym e.0) tt
+]
+
+none_left : (sources : List Seen) → to_come_of sources ≡ [] → lines_left sources ≡ []
+unfolding lines
+none_left sources e = ap (map (line_in (map given_of sources))) e
+
+-- nothing comes of any file
+pub turn_done : (before : Option (List ℕ)) (whole : List (List ℕ)) (sources : List Seen) (keys : List (Option (Option ℕ))) (old new : Option (List ℕ)) (waiting : List ℕ) (result : FilesEnd)
+    → IsLeastAt keys None
+    → ((b : Option (List ℕ)) (text : List ℕ) → Holds b old waiting text → EndsWith b new text code.Done result)
+    → IsUnderway before whole sources keys old waiting → IsEnded whole (cut_of_files (map given_of sources)) before new result
+turn_done before whole sources keys old new waiting result none ends under =
+    let law = file_none sources (subst (λ (ks : List (Option (Option ℕ))). IsLeastAt ks None) under.keys_are none) in
+    end_whole before whole (cut_of_files (map given_of sources)) old new waiting (lines_left sources) code.Done result ends under.going (none_left sources law.0) (λ gained. (gained, no_cut sources law.1))
+
+-- One of several files changed, and the others are as they were.
+module _ (sources : List Seen) (j : ℕ) (lt : j < length sources) (way way_now : OnWay) where
+  one_or_same : (R : Seen → Seen → Type 0) (one : Seen) → ((e : Seen) → R (get_or sources j e) one) → ((s : Seen) → R s s) → (i : ℕ) (e : Seen) → R (get_or sources i e) (get_or (set sources j one) i e)
+  one_or_same R one here self i e = elim (cases_eq i j) as (λ _. R (get_or sources i e) (get_or (set sources j one) i e)) [
+    | inl same ↦
+        let at : R (get_or sources j e) (get_or (set sources j one) j e) = subst (R (get_or sources j e)) (sym (get_or-set_same sources j one e lt)) (here e) in
+        subst (λ (k : ℕ). R (get_or sources k e) (get_or (set sources j one) k e)) (sym same) at
+    | inr other ↦ subst (R (get_or sources i e)) (sym (get_or-set_other sources j i one e other)) (self (get_or sources i e))
+  ]
+
+  pub same_taken : (now : List Seen) (result : Taken) → TakenFrom sources j way result now way_now → AreSame sources now
+  same_taken now result from = subst (AreSame sources) (sym from.set) (record {
+    count = length-set sources j from.one;
+    each = λ i e inside. one_or_same IsSame from.one (λ x. (from.is x).same) same_one i e;
+  })
+
+  pub readied_taken : (now : List Seen) (key : Option (Option ℕ)) → All IsUsable sources → All IsPrepared sources → TakenFrom sources j way (took.Item key) now way_now → AreReadied sources now
+  readied_taken now key usable prepared from =
+      let goes = (from.is (some_seen sources j lt)).goes in
+      subst (AreReadied sources) (sym from.set) (record {
+        usable = All-set IsUsable sources j from.one goes.usable usable;
+        prepared = All-set IsPrepared sources j from.one goes.readied.prepared prepared;
+        due = λ i e inside. one_or_same (λ a b. due b ≤ due a) from.one (λ x. (from.is x).goes.readied.due) (λ s. omega arith) i e;
+      })
+
+  pub less_taken : (now : List Seen) (key : Option (Option ℕ)) → TakenFrom sources j way (took.Item key) now way_now → sum_by work now < sum_by work sources
+  less_taken now key from =
+      let d = some_seen sources j lt in
+      let same : sum_by work now ≡ sum_by work (set sources j from.one) = ap (sum_by work) from.set in
+      omega (arith, same, sum_by-set work sources j from.one d lt, (from.is d).goes.less, get_or-le-sum_by work sources j d lt)
+
+  pub rose_taken : (now : List Seen) → TakenFrom sources j way took.Read now way_now → ReadRose (code.Read j) sources now
+  rose_taken now from = (
+    lt,
+    λ e.
+        subst (λ (ss : List Seen). Rose (get_or sources j e).faults (get_or ss j e).faults) (sym from.set)
+        (subst (λ (s : Seen). Rose (get_or sources j e).faults s.faults) (sym (get_or-set_same sources j from.one e lt)) (from.is e).read),
+  )
+
+module _ (before : Option (List ℕ)) (whole : List (List ℕ)) (sources : List Seen) (keys : List (Option (Option ℕ))) (j : ℕ) (lt : j < length sources) (way way_now : OnWay) where
+  abbrev d : Seen
+  d = some_seen sources j lt
+
+  same_givens : (one : Seen) → given_of one ≡ given_of (get_or sources j d) → map given_of (set sources j one) ≡ map given_of sources
+  same_givens one e = map-set_same given_of sources j one d e
+
+  -- the keys are those of what comes next of each file
+  least_here : (here : Option ℕ) → IsLeastOf keys j here → IsUnderway before whole sources keys way.written way.waiting → IsLeastOf (map next_key sources) j here
+  least_here here least under = subst (λ (ks : List (Option (Option ℕ))). IsLeastOf ks j here) under.keys_are least
+
+  one_known : IsUnderway before whole sources keys way.written way.waiting → IsKnown (get_or sources j d)
+  one_known under = All-get_or IsKnown sources j d lt under.known
+
+  -- the line of an item is on its way, and the others are left
+  going_one : (one : Seen) (here : Option ℕ) → IsLeastOf keys j here → IsUnderway before whole sources keys way.written way.waiting
+      → given_of one ≡ given_of (get_or sources j d) → ItemTaken (get_or sources j d) one way way_now
+      → Going before whole way_now.written way_now.waiting (lines_left (set sources j one))
+  unfolding lines
+  going_one one here least under given t =
+      let after = set sources j one in
+      let come : to_come_of sources ≡ in_file j t.item ∷ to_come_of after = file_next sources j here d one t.item lt (least_here here least under) t.come t.cut in
+      let givens : map given_of after ≡ map given_of sources = same_givens one given in
+      let piece : List ℕ = line_of (given_of (get_or sources j d)) t.item in
+      let rest : lines_left sources ≡ piece ∷ lines_left after =
+      ap (map (line_in (map given_of sources))) come
+      ∙ ap (λ (p : List ℕ). p ∷ map (line_in (map given_of sources)) (to_come_of after)) (line_at sources j d t.item lt)
+      ∙ ap (λ (gs : List Given). piece ∷ map (line_in gs) (to_come_of after)) (sym givens) in
+      put_one before whole way.written way_now.written way.waiting way_now.waiting piece (lines_left after) t.puts (subst (Going before whole way.written way.waiting) rest under.going)
+
+  -- an item was taken
+  pub turn_item : (now : List Seen) (here : Option ℕ) (key : Option (Option ℕ)) → IsLeastOf keys j here → TakenFrom sources j way (took.Item key) now way_now
+      → IsUnderway before whole sources keys way.written way.waiting → IsUnderway before whole now (set keys j key) way_now.written way_now.waiting
+  turn_item now here key least from under =
+      let is = from.is d in
+      let t = is.taken (one_known under) in
+      let same_keys : set keys j key ≡ map next_key (set sources j from.one) =
+      ap (λ (ks : List (Option (Option ℕ))). set ks j key) under.keys_are ∙ ap (set (map next_key sources) j) t.1 ∙ sym (map-set next_key sources j from.one) in
+      subst (λ (ss : List Seen). IsUnderway before whole ss (set keys j key) way_now.written way_now.waiting) (sym from.set) (record {
+        known = All-set IsKnown sources j from.one t.0.known under.known;
+        keys_are = same_keys;
+        going = going_one from.one here least under is.same.given t.0;
+      })
+
+  -- an item was taken, and then a read failed
+  pub turn_read : (now : List Seen) (here : Option ℕ) (new : Option (List ℕ)) (result : FilesEnd) → IsLeastOf keys j here → TakenFrom sources j way took.Read now way_now
+      → ((b : Option (List ℕ)) (text : List ℕ) → Holds b way_now.written way_now.waiting text → EndsWith b new text (code.Read j) result)
+      → IsUnderway before whole sources keys way.written way.waiting → IsEnded whole (cut_of_files (map given_of now)) before new result
+  turn_read now here new result least from ends under =
+      let is = from.is d in
+      end_read before whole (cut_of_files (map given_of now)) way_now.written new way_now.waiting (lines_left (set sources j from.one)) j result ends
+      (going_one from.one here least under is.same.given (is.taken (one_known under)))
+
+  -- its line could not be written
+  pub turn_stopped : (now : List Seen) (here : Option ℕ) → IsLeastOf keys j here → TakenFrom sources j way took.Write now way_now
+      → IsUnderway before whole sources keys way.written way.waiting → GainedPrefix before way_now.written (joined whole)
+  unfolding lines
+  turn_stopped now here least from under =
+      let t = (from.is d).taken (one_known under) in
+      let s = get_or sources j d in
+      let first = file_first sources j here d t.item t.rest lt (least_here here least under) t.come in
+      let rest : lines_left sources ≡ line_of (given_of s) t.item ∷ map (line_in (map given_of sources)) first.0 =
+      ap (map (line_in (map given_of sources))) first.1 ∙ ap (λ (p : List ℕ). p ∷ map (line_in (map given_of sources)) first.0) (line_at sources j d t.item lt) in
+      put_stopped before whole way.written way_now.written way.waiting (line_of (given_of s) t.item) (map (line_in (map given_of sources)) first.0) t.puts
+      (subst (Going before whole way.written way.waiting) rest under.going)
+
+  -- the cut of a file
+  pub turn_cut : (now : List Seen) (here : Option ℕ) (cpu page : ℕ) (new : Option (List ℕ)) (result : FilesEnd) → IsLeastOf keys j here
+      → TakenFrom sources j way (took.Cut cpu page) now way_now
+      → ((b : Option (List ℕ)) (text : List ℕ) → Holds b way_now.written way_now.waiting text → EndsWith b new text (code.Malformed j cpu page) result)
+      → IsUnderway before whole sources keys way.written way.waiting → IsEnded whole (cut_of_files (map given_of now)) before new result
+  turn_cut now here cpu page new result least from ends under =
+      let is = from.is d in
+      let t = is.taken (one_known under) in
+      let cut : Cut = record { key = t.1.0; cpu = cpu; page = page } in
+      let law = file_cut sources j here d cut lt (least_here here least under) t.0.none t.1.1 in
+      let found : cut_of_files (map given_of sources) ≡ Some (cut_in j cut) = one_cut_is sources j d cut lt law.1 t.1.1 in
+      let givens : map given_of now ≡ map given_of sources = ap (map given_of) from.set ∙ same_givens from.one is.same.given in
+      subst (λ (gs : List Given). IsEnded whole (cut_of_files gs) before new result) (sym givens)
+      (end_whole before whole (cut_of_files (map given_of sources)) way_now.written new way_now.waiting (lines_left sources) (code.Malformed j cpu page) result ends
+      (subst (λ (w : OnWay). Going before whole w.written w.waiting (lines_left sources)) (sym t.0.nothing_put) under.going) (none_left sources law.0) (λ gained. (gained, (t.1.0, found))))
+
+  -- nothing is left of the file of which the least comes next: that is not so
+  pub turn_nothing : (now : List Seen) (here : Option ℕ) → IsLeastOf keys j here → TakenFrom sources j way took.Done now way_now
+      → IsUnderway before whole sources keys way.written way.waiting → ⊥
+  turn_nothing now here least from under =
+      let s = get_or sources j d in
+      let t = (from.is d).taken (one_known under) in
+      let some : next_key s ≡ Some here = file_some sources j here d lt (least_here here least under) in
+      let none : next_key s ≡ None = ap (λ (xs : List Keyed). bound_of key_of cpu_of xs (cut_left s)) t.0.none ∙ ap (bound_of key_of cpu_of []) t.1 in
+      let never : None ≡ Some here = sym none ∙ some in
+      absurd cc

@@ -1,0 +1,142 @@
+-- Several files that are gone through at once, each with its lanes.
+use Rattle.std.specs.Prelude.{◌≡◌, ◌<◌, ◌≤◌, ℕ, List, [], length, map, slice_index_or, Option, IsSome, unwrap_or, sum_by}
+use Rattle.std.specs.List.{All}
+use Rattle.trace_base.specs.Layout.{IsLayout}
+use Rattle.trace_base.specs.declared.layout.Layout.{Layout}
+use Rattle.trace_outside.specs.Causes.{raised}
+use Rattle.trace_outside.specs.declared.outside.File as file
+use Rattle.line_holes.specs.Holes.{LineText}
+use Rattle.subpage.specs.ItemData.{ItemData}
+use Rattle.subpage.specs.Arrangement.{CpusRise, key_of, cpu_of}
+use Rattle.page_pool.specs.declared.lane.Lane.{Lane}
+use Rattle.page_pool.specs.Fresh.{IsFresh}
+use Rattle.event_cursor.specs.Standing.{IsInOrder, Stands, most_left}
+use Rattle.time_merge.specs.Rows.{Row, bound_of, coming, least_cut}
+use Rattle.time_merge.specs.LaneRows.{IsReady, next_of, parts_of, rows_of, to_come}
+use Rattle.time_merge.specs.Reads.{all_unread}
+use Rattle.multi_report.specs.declared.source.Source.{Source}
+use Rattle.multi_report.specs.Order.{Given, FileItem, key_in, file_in, numbered}
+use Rattle.multi_report.specs.Merge.{row_with}
+
+-- a source at one moment
+pub record Seen : Type 0 where
+  pub name : List ℕ
+  pub cpus : ℕ
+  pub layout : Layout
+  pub text : ℕ → ItemData → LineText
+  pub told : Option (List ℕ)
+  pub size : ℕ
+  pub faults : ℕ
+  pub reads : ℕ
+  pub lanes : List Lane
+  pub nexts : List (Option (Option ℕ))
+
+abbrev pub seen : {F L : Type 0} → file.Ghosts F → (L → ℕ → ItemData → LineText) → Source F L → Seen
+seen f text source = record {
+  name = source.name.now;
+  cpus = source.cpus;
+  layout = source.layout;
+  text = text source.form;
+  told = f.bytes source.file;
+  size = f.size source.file;
+  faults = f.faults source.file;
+  reads = f.reads source.file;
+  lanes = source.pool;
+  nexts = source.nexts;
+}
+
+-- The lanes are those of processors whose numbers rise, what their cursors say is so, and the tree has a slot for each.
+pub record IsUsable (source : Seen) : Type 0 where
+  pub layout : IsLayout source.layout
+  pub in_order : All (IsInOrder source.layout) source.lanes
+  pub rise : CpusRise (parts_of source.lanes)
+  pub slots : length source.nexts ≡ length source.lanes
+
+-- its lanes stand before their first items
+abbrev pub IsFreshSource : Seen → Type 0
+IsFreshSource source = All (λ lane. IsFresh lane.cursor) source.lanes
+
+-- a buffer of this length has room for each line of a file
+abbrev pub HasRoom : ℕ → Seen → Type 0
+HasRoom room source = (cpu : ℕ) (item : ItemData) → length (source.text cpu item).bytes ≤ room
+
+-- the bytes of a file that tells them
+abbrev pub bytes_of : Seen → List ℕ
+bytes_of source = unwrap_or source.told []
+
+-- it tells its bytes, and its lanes stand where they should
+pub record IsKnown (source : Seen) : Type 0 where
+  pub told : IsSome source.told
+  pub stands : All (Stands source.layout (bytes_of source)) source.lanes
+
+-- the file, as a definition over whole files sees it
+abbrev pub given_of : Seen → Given
+given_of source = record {
+  name = source.name;
+  cpus = source.cpus;
+  layout = source.layout;
+  bytes = bytes_of source;
+  parts = parts_of source.lanes;
+  text = source.text;
+}
+
+-- the bytes that were not read of the parts of a source's lanes
+abbrev pub unread_of : Seen → ℕ
+unread_of source = all_unread source.layout source.size source.lanes
+
+-- its count of bytes once all of these are read
+abbrev pub due : Seen → ℕ
+due source = raised source.reads (unread_of source)
+
+-- It is the same file, its count of faults did not fall, and no more was read than had not been read before.
+pub record IsSame (before now : Seen) : Type 0 where
+  pub given : given_of now ≡ given_of before
+  pub told : now.told ≡ before.told
+  pub size : now.size ≡ before.size
+  pub faults : before.faults ≤ now.faults
+  pub reads : now.reads ≤ due before
+
+-- no more of a file was read than the parts of its lanes have
+abbrev pub ReadsItsParts : Seen → Seen → Type 0
+ReadsItsParts before now = now.reads ≤ raised before.reads (sum_by (λ part. part.1.size) (parts_of before.lanes))
+
+-- what a file has left, and its least cut, as a row
+abbrev pub left_row : ℕ × Seen → Row FileItem
+left_row source = row_with source.0 (to_come source.1.layout (bytes_of source.1) source.1.lanes)
+    (least_cut (rows_of source.1.layout (bytes_of source.1) source.1.lanes))
+
+-- what comes next of a file: its first item's key, or that of its cut
+abbrev pub next_key : Seen → Option (Option ℕ)
+next_key source = bound_of key_of cpu_of (to_come source.layout (bytes_of source) source.lanes)
+    (least_cut (rows_of source.layout (bytes_of source) source.lanes))
+
+-- what all files have left, in its order
+unfoldable pub to_come_of : List Seen → List FileItem
+to_come_of sources = coming key_in file_in (map left_row (numbered sources))
+
+-- no more items than this are left, whatever the file
+abbrev pub work : Seen → ℕ
+work source = sum_by (most_left source.layout) source.lanes
+
+-- All lanes are ready, and the tree has what comes next of each.
+pub record IsPrepared (source : Seen) : Type 0 where
+  pub ready : All (IsReady source.layout) source.lanes
+  pub nexts : source.nexts ≡ map (next_of source.layout) source.lanes
+
+-- Nothing of the file was used up, whether its lanes are ready now or a read failed.
+pub record Keeps (before now : Seen) : Type 0 where
+  pub same : IsSame before now
+  pub usable : IsUsable now
+  pub most : work now ≤ work before
+  pub rows : IsKnown before
+      → rows_of now.layout (bytes_of now) now.lanes ≡ rows_of before.layout (bytes_of before) before.lanes
+  pub known : IsKnown before → IsKnown now
+
+-- Its lanes are ready, and what was read of it is not to be read again.
+pub record IsReadied (before now : Seen) : Type 0 where
+  pub prepared : IsPrepared now
+  pub due : due now ≤ due before
+
+-- so are several files, one by one
+abbrev pub AllKeep : List Seen → List Seen → Type 0
+AllKeep before now = (i : ℕ) (d : Seen) → i < length before → Keeps (slice_index_or before i d) (slice_index_or now i d)

@@ -1,0 +1,109 @@
+ghost use Rattle.std.specs.Prelude.{◌≡◌, ◌≤◌, ◌<◌, [], length, take, slice_index_or, unwrap_or, option_map};
+ghost use Rattle.std.specs.List.{flat_map};
+ghost use Rattle.trace_outside.specs.Causes.{HasCause};
+ghost use Rattle.trace_outside.specs.Keeping.{KeepsSink};
+ghost use Rattle.trace_outside.specs.Pending.{PutsText, on_way};
+ghost use Rattle.subpage.specs.ItemView.{item_view};
+ghost use Rattle.event_cursor.specs.Keys.{first_of};
+ghost use Rattle.event_cursor.specs.Standing.{keyed_held};
+ghost use Rattle.page_pool.specs.declared.lane.Lane.{Lane};
+ghost use Rattle.multi_report.specs.Reports.{head_line, labelled, line_of};
+ghost use Rattle.multi_report.specs.Sources.{HasRoom, IsUsable, given_of, seen};
+
+use crate::source::Source;
+use cpu_workers::Form;
+use event_cursor::head;
+use itoa::Buffer;
+use subpage::Item;
+use trace_base::Tail;
+use trace_outside::{Failed, File, Pending, Sink};
+
+/// Puts the first line of a file.
+fn put_head<F: File, L: Form, O: Sink>(
+    source: &Source<'_, F, L>,
+    pending: &mut Pending,
+    out: &mut O,
+) -> Result<(), Failed>
+    ensures { PutsText (head_line (given_of (seen F.File L.text source.now)))
+        (on_way O.written O.name O.faults out.old pending.old)
+        (on_way O.written O.name O.faults out.new pending.new) result }
+{
+    let name = source.name.as_bytes();
+    pending.put_parts(out, &[name, b": "])?;
+    let mut digits = Buffer::new();
+    let cpus = digits.format(source.cpus).as_bytes();
+    pending.put_parts(out, &[b"cpus=", cpus, b"\n"])
+}
+
+/// Puts the first lines of all files.
+pub(crate) fn put_heads<F: File, L: Form, O: Sink>(
+    sources: &[Source<'_, F, L>],
+    pending: &mut Pending,
+    out: &mut O,
+) -> Result<(), Failed>
+    ensures { PutsText (flat_map (λ source. head_line (given_of (seen F.File L.text source))) sources.now)
+        (on_way O.written O.name O.faults out.old pending.old)
+        (on_way O.written O.name O.faults out.new pending.new) result }
+{
+    for source in sources {
+        put_head(source, pending, out)?;
+    }
+    Ok(())
+}
+
+/// Forms the line of an item at the front of a slice that has room for it, and answers its length. Its hole is let go.
+fn line_into<L: Form>(form: &L, cpu: u32, item: &Item<'_>, into: &mut [u8]) -> u32
+    requires room { length (L.text form.now cpu (item_view item.now)).bytes ≤ length into.old }
+    ensures long { length into.new ≡ length into.old }
+    ensures length { result ≡ length (L.text form.now cpu (item_view item.now)).bytes }
+    ensures line { take result into.new ≡ (L.text form.now cpu (item_view item.now)).bytes }
+{
+    let mut tail = Tail::new(into);
+    let (len, _) = form.line(cpu, item, &mut tail);
+    len
+}
+
+/// Puts a line with a file's name before it. An empty one is left out.
+fn put_labelled<O: Sink>(
+    name: &[u8],
+    line: &[u8],
+    pending: &mut Pending,
+    out: &mut O,
+) -> Result<(), Failed>
+    ensures { PutsText (labelled name.now line.now) (on_way O.written O.name O.faults out.old pending.old)
+        (on_way O.written O.name O.faults out.new pending.new) result }
+{
+    if line.is_empty() {
+        return Ok(());
+    }
+    pending.put_parts(out, &[name, b": ", line])
+}
+
+/// Puts the line of the item that a lane of a file holds.
+pub(crate) fn put_item<F: File, L: Form, O: Sink>(
+    source: &Source<'_, F, L>,
+    i: usize,
+    buffer: &mut [u8],
+    pending: &mut Pending,
+    out: &mut O,
+) -> Result<(), Failed>
+    requires usable { IsUsable (seen F.File L.text source.now) }
+    requires inside { i < length source.now.pool }
+    requires room { HasRoom (length buffer.old) (seen F.File L.text source.now) }
+    ensures long { length buffer.new ≡ length buffer.old }
+    ensures cause { HasCause (O.faults out.old) (O.faults out.new) result }
+    ensures keeps_out { KeepsSink O.Sink out.old out.new }
+    ensures puts { (d : Lane) → PutsText (unwrap_or (option_map (line_of (given_of (seen F.File L.text source.now)))
+        (first_of (keyed_held source.now.layout (slice_index_or source.now.pool i d)))) [])
+        (on_way O.written O.name O.faults out.old pending.old)
+        (on_way O.written O.name O.faults out.new pending.new) result }
+{
+    let lane = &source.pool.all()[i];
+    match head(&source.layout, lane) {
+        Some((_, item)) => {
+            let len = line_into(&source.form, lane.cpu, &item, buffer) as usize;
+            put_labelled(source.name.as_bytes(), &buffer[..len], pending, out)
+        }
+        None => Ok(()),
+    }
+}

@@ -1,0 +1,161 @@
+ghost use Rattle.std.specs.Prelude.{◌≡◌, ◌≤◌, ◌<◌, [], List, ℕ, Option, All, length, map, IfSome, IfNone, IsSome, sum_by};
+ghost use Rattle.trace_outside.specs.Keeping.{KeepsSink};
+ghost use Rattle.trace_outside.specs.Pending.{Holds};
+ghost use Rattle.multi_report.specs.Reports.{AllReadTheirParts, AreSame, IsFilesReport, ReadRose, WriteRose, pieces};
+ghost use Rattle.multi_report.specs.Sources.{HasRoom, IsFreshSource, IsPrepared, IsUsable, given_of, seen, work};
+ghost use Rattle.multi_report.specs.Turns.{AreReadied, EndsWith, IsTold, IsTurned, IsUnderway};
+
+use crate::printing::put_heads;
+use crate::source::Source;
+use crate::sources::make_sources_ready;
+use crate::taking::{Taken, take_from};
+use cpu_workers::Form;
+use least_tree::LeastTree;
+use trace_outside::{Failed, File, Pending, Sink};
+
+/// How a report of several files ends.
+#[derive(Clone, Copy, Debug, PartialEq, Eq)]
+pub enum FilesEnd {
+    /// All items were used up.
+    Done,
+    /// The items end before this malformed sub-buffer of this file.
+    Malformed { source: u32, cpu: u32, page: u64 },
+    /// A read of this file failed.
+    Read { source: u32 },
+    /// A write failed.
+    Write,
+}
+
+/// Writes what waits at an end.
+fn end_with<O: Sink>(end: FilesEnd, pending: &mut Pending, out: &mut O) -> FilesEnd
+    ensures ended { (before : Option (List ℕ)) (text : List ℕ) → Holds before (O.written out.old) pending.old text
+        → EndsWith before (O.written out.new) text end result }
+    ensures told { IsTold end result (O.faults out.old) (O.faults out.new) }
+    ensures keeps_out { KeepsSink O.Sink out.old out.new }
+{
+    match pending.flush(out) {
+        Ok(()) => end,
+        Err(Failed) => FilesEnd::Write,
+    }
+}
+
+/// Puts the files' first lines and makes all lanes ready.
+fn begin<F: File, L: Form, O: Sink>(
+    sources: &mut [Source<'_, F, L>],
+    nexts: &mut LeastTree,
+    pending: &mut Pending,
+    out: &mut O,
+) -> Option<FilesEnd>
+    requires few { length sources.old ≤ 8 }
+    requires usable { All IsUsable (map (seen F.File L.text) sources.old) }
+    requires fresh { All IsFreshSource (map (seen F.File L.text) sources.old) }
+    requires slots { length nexts.old ≡ length sources.old }
+    requires empty { pending.old ≡ [] }
+    ensures slots { length nexts.new ≡ length nexts.old }
+    ensures same { AreSame (map (seen F.File L.text) sources.old) (map (seen F.File L.text) sources.new) }
+    ensures readied { IfNone result
+        (AreReadied (map (seen F.File L.text) sources.old) (map (seen F.File L.text) sources.new)) }
+    ensures turned { All (λ source. IsSome source.told) (map (seen F.File L.text) sources.old)
+        → IsTurned (O.written out.old) (pieces (map given_of (map (seen F.File L.text) sources.old)))
+        (map (seen F.File L.text) sources.new) nexts.new (O.written out.new) pending.new result }
+    ensures read { IfSome result (λ end. ReadRose end (map (seen F.File L.text) sources.old)
+        (map (seen F.File L.text) sources.new)) }
+    ensures write { IfSome result (λ end. WriteRose end (O.faults out.old) (O.faults out.new)) }
+    ensures keeps_out { KeepsSink O.Sink out.old out.new }
+{
+    match put_heads(sources, pending, out) {
+        Ok(()) => match make_sources_ready(sources, nexts) {
+            None => None,
+            Some(j) => Some(end_with(FilesEnd::Read { source: j as u32 }, pending, out)),
+        },
+        Err(Failed) => Some(FilesEnd::Write),
+    }
+}
+
+/// One turn: puts the line of the item that comes next of all files, with which it is used up. `None`: there may be more to
+/// come.
+fn turn<F: File, L: Form, O: Sink>(
+    sources: &mut [Source<'_, F, L>],
+    nexts: &mut LeastTree,
+    buffer: &mut [u8],
+    pending: &mut Pending,
+    out: &mut O,
+) -> Option<FilesEnd>
+    requires few { length sources.old ≤ 8 }
+    requires usable { All IsUsable (map (seen F.File L.text) sources.old) }
+    requires prepared { All IsPrepared (map (seen F.File L.text) sources.old) }
+    requires room { All (HasRoom (length buffer.old)) (map (seen F.File L.text) sources.old) }
+    requires slots { length nexts.old ≡ length sources.old }
+    ensures long { length buffer.new ≡ length buffer.old }
+    ensures slots { length nexts.new ≡ length nexts.old }
+    ensures same { AreSame (map (seen F.File L.text) sources.old) (map (seen F.File L.text) sources.new) }
+    ensures readied { IfNone result
+        (AreReadied (map (seen F.File L.text) sources.old) (map (seen F.File L.text) sources.new)) }
+    ensures less { IfNone result (sum_by work (map (seen F.File L.text) sources.new)
+        < sum_by work (map (seen F.File L.text) sources.old)) }
+    ensures turned { (before : Option (List ℕ)) (whole : List (List ℕ))
+        → IsUnderway before whole (map (seen F.File L.text) sources.old) nexts.old (O.written out.old) pending.old
+        → IsTurned before whole (map (seen F.File L.text) sources.new) nexts.new (O.written out.new) pending.new result }
+    ensures read { IfSome result (λ end. ReadRose end (map (seen F.File L.text) sources.old)
+        (map (seen F.File L.text) sources.new)) }
+    ensures write { IfSome result (λ end. WriteRose end (O.faults out.old) (O.faults out.new)) }
+    ensures keeps_out { KeepsSink O.Sink out.old out.new }
+{
+    let Some(j) = nexts.least() else {
+        return Some(end_with(FilesEnd::Done, pending, out));
+    };
+    let source = j as u32;
+    match take_from(sources, j, buffer, pending, out) {
+        Taken::Item(key) => {
+            nexts.set(j, key);
+            None
+        }
+        Taken::Cut { cpu, page } => {
+            let end = FilesEnd::Malformed { source, cpu, page };
+            Some(end_with(end, pending, out))
+        }
+        Taken::Done => Some(end_with(FilesEnd::Done, pending, out)),
+        Taken::Read => Some(end_with(FilesEnd::Read { source }, pending, out)),
+        Taken::Write => Some(FilesEnd::Write),
+    }
+}
+
+/// Writes the report of several files: for each file its name and its number of processors, and then the lines of their
+/// items by key, then file, then processor, then position, each with its file's name before it: all items up to the first
+/// malformed sub-buffer in that order. `Malformed` tells that sub-buffer, `Done` that there is none.
+///
+/// The lanes stand before their first items, nothing waits in `pending`, the buffer has room for any line without its
+/// file's name, and `nexts` is a tree with a slot for each file, whatever is in it. Files are counted from 0. After `Read`
+/// whole lines are written, the first few, after `Write` a prefix of the text. Of each file each sub-buffer is read at most
+/// once. It takes no memory.
+pub fn report_files<F: File, L: Form, O: Sink>(
+    sources: &mut [Source<'_, F, L>],
+    nexts: &mut LeastTree,
+    buffer: &mut [u8],
+    pending: &mut Pending,
+    out: &mut O,
+) -> FilesEnd
+    requires few { length sources.old ≤ 8 }
+    requires usable { All IsUsable (map (seen F.File L.text) sources.old) }
+    requires fresh { All IsFreshSource (map (seen F.File L.text) sources.old) }
+    requires room { All (HasRoom (length buffer.old)) (map (seen F.File L.text) sources.old) }
+    requires slots { length nexts.old ≡ length sources.old }
+    requires empty { pending.old ≡ [] }
+    ensures report { All (λ source. IsSome source.told) (map (seen F.File L.text) sources.old)
+        → IsFilesReport (map given_of (map (seen F.File L.text) sources.old))
+        (O.written out.old) (O.written out.new) result }
+    ensures read { ReadRose result (map (seen F.File L.text) sources.old) (map (seen F.File L.text) sources.new) }
+    ensures write { WriteRose result (O.faults out.old) (O.faults out.new) }
+    ensures reads { AllReadTheirParts (map (seen F.File L.text) sources.old) (map (seen F.File L.text) sources.new) }
+    ensures same { AreSame (map (seen F.File L.text) sources.old) (map (seen F.File L.text) sources.new) }
+    ensures keeps_out { KeepsSink O.Sink out.old out.new }
+{
+    if let Some(end) = begin(sources, nexts, pending, out) {
+        return end;
+    }
+    loop {
+        if let Some(end) = turn(sources, nexts, buffer, pending, out) {
+            return end;
+        }
+    }
+}
