@@ -129,6 +129,7 @@ CASES = {
     "brackets of a filter": (25_000, lambda n: trace(), lambda n: R + ["-F", "sum:" + "(" * n]),
     "events of a filter": (10_000, lambda n: trace(ftrace=[text_format(FIELD, b'"x"')]), lambda n: R + ["-F", "no," * n + "sum"]),
     "flags": (25_000, lambda n: trace(), lambda n: R + ["-t"] * n),
+    "flags that are asked for": (12_500, lambda n: trace(), lambda n: R + ["-R", "-l", "-I"] * n),
     "raw names": (12_500, lambda n: trace(), lambda n: R + ["-r", "x"] * n),
     "filters": (12_500, lambda n: trace(), lambda n: R + ["-F", "x"] * n),
     "filters behind flags": (12_500, lambda n: trace(), lambda n: R + ["-t"] * n + ["-F", "x"] * n),
