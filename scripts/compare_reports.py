@@ -12,6 +12,7 @@ It ends with 0 where all lines agree but for differences of the kinds below, and
 
 - bprint: the original expands the binary arguments of trace_printk, and PROGRAM shows the format text;
 - unread: PROGRAM says `[FAILED TO PARSE]`, for a print fmt with enum constants, variables or a conversion that is not read;
+- brackets: the original reads `A & (B | C)` in a print fmt as `A & B | C`, and so shows flags of `timer_start` that are not set;
 - null: the original prints `(nil)` for the address 0, and PROGRAM `0x0`;
 - escape: the original resolves the `\\n` that a stored printk format ends in, and PROGRAM shows it as it is stored.
 """
@@ -23,6 +24,7 @@ from collections import Counter
 from pathlib import Path
 
 PLACE = re.compile(rb"^ *(?P<task>.{1,16})-(?P<pid>-?\d+) +\[(?P<cpu>\d{3,})\] +(?P<time>\d+\.\d{6}): (?P<event>[^:]*:)? *(?P<text>.*)$", re.S)
+FLAGS = re.compile(rb" flags=[MDPI|]*$")
 LOSS = re.compile(rb"^CPU:\d+ \[(?:\d+ )?EVENTS DROPPED\]$")
 
 
@@ -50,6 +52,8 @@ def kind(ours, theirs):
         return f"{event} bprint"
     if our["text"].startswith(b"[FAILED TO PARSE]"):
         return f"{event} unread"
+    if event == "timer_start:" and FLAGS.sub(b"", our["text"]) == FLAGS.sub(b"", their["text"]):
+        return f"{event} brackets"
     if our["text"].replace(b"0x0", b"(nil)") == their["text"]:
         return f"{event} null"
     if our["text"].replace(b"\\n", b"") == their["text"]:
