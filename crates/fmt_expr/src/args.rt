@@ -13,6 +13,7 @@ use crate::expr::Expr;
 use crate::print_fmt::PrintFmt;
 use crate::reader::Reader;
 use crate::stop::Stop;
+use field_names::FieldNames;
 use fmt_lexer::Token;
 use std::alloc::{AllocError, Global};
 use trace_base::{Field, ListOf};
@@ -66,11 +67,12 @@ fn given(
     requires long { (long ≡ 4) ⊎ (long ≡ 8) }
     ensures { IfOk result (λ o. option_map fmt_of o ≡ fmt_in (source_of text.now tokens.now fields.now long)) }
 {
+    let fields = FieldNames::of(alloc, fields)?;
     let reader = Reader {
         alloc,
         text,
         tokens,
-        fields,
+        fields: &fields,
         long,
     };
     match reader.fmt() {

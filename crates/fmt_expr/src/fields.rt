@@ -10,7 +10,7 @@ use crate::expr::Expr;
 use crate::head::Got;
 use crate::reader::Reader;
 use std::alloc::{AllocError, Global};
-use trace_base::{Field, FieldKind, FieldPlace, field_named};
+use trace_base::{Field, FieldKind, FieldPlace};
 
 /// Whether a field of this kind has elements, by the size of one.
 pub fn is_indexed(kind: FieldKind, element: u32) -> bool
@@ -62,7 +62,7 @@ impl<'a> Reader<'a> {
             return None;
         }
         let name = self.name(at + 2)?;
-        field_named(name, self.fields)
+        self.fields.field(name)
     }
 
     /// The dynamic field that is named in the brackets of a call, whose name stands at a place.
@@ -76,7 +76,7 @@ impl<'a> Reader<'a> {
             return None;
         }
         let name = self.name(at + 2)?;
-        let field = field_named(name, self.fields)?;
+        let field = self.fields.field(name)?;
         if !is_dynamic(field.place) || !self.is_mark(at + 3, b")") {
             return None;
         }

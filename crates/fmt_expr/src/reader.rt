@@ -2,9 +2,9 @@
 
 ghost use Rattle.std.specs.Prelude.{All, ◌≡◌, ◌≤◌, ◌||◌, ◌==◌, IsTrue, length};
 
+use field_names::FieldNames;
 use fmt_lexer::Token;
 use std::alloc::Global;
-use trace_base::Field;
 
 /// The tokens of a print fmt, with what the kinds of its trees depend on. Nothing in it changes: each production is a
 /// method from a place in the tokens to what stands there.
@@ -13,7 +13,7 @@ pub struct Reader<'a> {
     pub alloc: Global,
     pub text: &'a [u8],
     pub tokens: &'a [Token],
-    pub fields: &'a [Field],
+    pub fields: &'a FieldNames<'a>,
     /// The size of the kernel's long.
     pub long: u32,
     ghost sized: { IsTrue (long == 4 || long == 8) },

@@ -1,0 +1,10 @@
+//! The fields of a record by their names.
+//!
+//! A print fmt may name each of thousands of fields: with [`FieldNames`] a name costs the logarithm of their number.
+#![tactic(auto)]
+
+mod names;
+#[cfg(test)]
+mod tests;
+
+pub use names::FieldNames;
