@@ -1,12 +1,9 @@
 -- Several files gone through: what they keep, and what is left of them.
-use Rattle.std.proofs.Common.{◌≡◌, ◌≢◌, ℕ, zero, suc, ◌+◌, ◌<◌, ◌≤◌, List, [], ◌∷◌, ◌++◌, length, get_or, set, map, Option, Some, None, refl, sym, ap, subst, ◌∙◌, inl, inr, arith, get_or-set_same, get_or-set_other, sum_by}
-use Rattle.std.specs.Option.{IfSome, IsSome, option_map}
+use Rattle.std.proofs.Common.{◌≡◌, ℕ, zero, suc, ◌+◌, ◌<◌, ◌≤◌, List, [], ◌∷◌, length, get_or, map, Option, Some, None, refl, sym, ap, subst, ◌∙◌, arith}
+use Rattle.std.specs.Option.{IsSome, option_map}
 use Rattle.std.specs.List.{All, fold, filter_map, cons_option}
-use Rattle.std.proofs.lemmas.Bool.{cases_eq}
-use Rattle.std.proofs.lemmas.List.{ext_get_or, get_or_default, get_or-map, length-map, length-set}
-use Rattle.std.proofs.lemmas.List.Elements.{All-get_or, All-from_get_or, All-set, All-head, All-tail}
-use Rattle.std.proofs.lemmas.List.Sums.{sum_by-set, sum_by-cons}
-use Rattle.trace_base.specs.declared.layout.Layout.{Layout}
+use Rattle.std.proofs.lemmas.List.{get_or-map, length-map}
+use Rattle.std.proofs.lemmas.List.Elements.{All-get_or, All-from_get_or, All-head, All-tail}
 use Rattle.line_holes.specs.Holes.{LineText}
 use Rattle.subpage.specs.Arrangement.{Keyed, key_of, cpu_of}
 use Rattle.subpage.specs.ItemData.{ItemData}
@@ -15,12 +12,12 @@ use Rattle.subpage.specs.Cut.{Cut, earlier}
 use Rattle.page_pool.specs.declared.lane.Lane.{Lane}
 use Rattle.event_cursor.specs.Standing.{Stands}
 use Rattle.time_merge.specs.Rows.{Each, Row, coming, least_cut}
-use Rattle.time_merge.specs.LaneRows.{parts_of, rows_of, to_come}
+use Rattle.time_merge.specs.LaneRows.{rows_of}
 use Rattle.time_merge.proofs.PartReads.{all_inside}
 use Rattle.time_merge.proofs.Starting.{cut_of_rows as one_cut, fresh_come, fresh_stands}
-use Rattle.multi_report.specs.Order.{Given, FileItem, FileCut, in_file, cut_in, key_in, file_in, numbered, numbered_from, own_cut, cut_of_files, reached}
+use Rattle.multi_report.specs.Order.{Given, FileItem, FileCut, cut_in, key_in, file_in, numbered, numbered_from, own_cut, cut_of_files, reached}
 use Rattle.multi_report.specs.Merge.{row_cut, row_with, file_row}
-use Rattle.multi_report.specs.Sources.{Seen, HasRoom, IsSame, IsUsable, IsKnown, IsFreshSource, Keeps, bytes_of, due, given_of, left_row, to_come_of, work}
+use Rattle.multi_report.specs.Sources.{Seen, HasRoom, IsSame, IsUsable, IsKnown, IsFreshSource, Keeps, bytes_of, due, given_of, left_row, to_come_of}
 use Rattle.multi_report.specs.Reports.{AllReadTheirParts, AreSame}
 use Rattle.multi_report.proofs.Merging.{Fits, fits_of, mark, cut_of_rows, reached_merged}
 use Rattle.multi_report.proofs.FileRows.{rows_from}

@@ -1,5 +1,5 @@
 -- The first lines of several files, one behind another.
-use Rattle.std.proofs.Common.{Option, ◌≡◌, ℕ, ◌≤◌, List, [], ◌∷◌, ◌++◌, map, refl, ap, ◌∙◌, subst, sym, append_assoc, arith, Result, Ok, Err, IsErr}
+use Rattle.std.proofs.Common.{Option, ◌≡◌, ℕ, ◌≤◌, List, [], ◌∷◌, ◌++◌, map, refl, ap, ◌∙◌, subst, append_assoc, arith, Result, Ok, Err, IsErr}
 use Rattle.std.specs.List.{flat_map}
 use Rattle.trace_outside.specs.Pending.{Holds, OnWay, Puts, PutsText}
 use Rattle.trace_outside.specs.Writing.{GainedPrefix}

@@ -1,11 +1,11 @@
 -- The least of the cuts of several files.
 use Rattle.std.proofs.Common.{◌≡◌, ℕ, zero, suc, ◌+◌, ◌<◌, ◌≤◌, Bool, true, false, ltb, eqb, ◌||◌, ◌&&◌, List, [], ◌∷◌, ◌++◌, length, map, Option, Some, None, refl, sym, ap, subst, ◌∙◌, ◌⊎◌, inl, inr, arith}
 use Rattle.std.specs.Prelude.{slice_index_or}
-use Rattle.std.specs.Option.{IfSome, IfNone, option_map}
-use Rattle.std.specs.List.{All, Contains, fold, filter_map, flat_map, cons_option}
+use Rattle.std.specs.Option.{IfSome, IfNone}
+use Rattle.std.specs.List.{All, Contains, filter_map, flat_map}
 use Rattle.std.proofs.lemmas.Bool.{cases_Bool, cases_order, eqb-true, ltb-true, eq-eqb, lt-ltb, le-ltb, and_parts}
 use Rattle.std.proofs.lemmas.List.Elements.{Contains-append_left, Contains-append_right}
-use Rattle.subpage.specs.Cut.{Cut, is_before, is_earlier, IsLeast as IsLeastOne, cut_of, cuts_of, earlier}
+use Rattle.subpage.specs.Cut.{Cut, is_before, is_earlier, IsLeast as IsLeastOne, cut_of, cuts_of}
 use Rattle.subpage.proofs.Cuts.{when_none, when_some}
 use Rattle.time_merge.specs.Rows.{Each, rank}
 use Rattle.time_merge.proofs.Choosing.{each_of_all}

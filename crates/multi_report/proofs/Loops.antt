@@ -1,13 +1,13 @@
 -- Several files in a slice, one after another.
-use Rattle.std.proofs.Common.{◌≡◌, ◌≢◌, ℕ, ◌+◌, ◌<◌, ◌≤◌, List, [], ◌∷◌, length, get_or, set, map, Option, Some, None, refl, sym, ap, subst, ◌∙◌, arith, inl, inr, get_or-set_same, get_or-set_other}
+use Rattle.std.proofs.Common.{◌≡◌, ◌≢◌, ℕ, ◌+◌, ◌<◌, ◌≤◌, List, [], ◌∷◌, length, get_or, set, map, Option, None, refl, sym, ap, subst, ◌∙◌, arith, inl, inr, get_or-set_same, get_or-set_other}
 use Rattle.std.specs.List.{All}
 use Rattle.std.proofs.lemmas.Bool.{cases_eq, cases_lt}
-use Rattle.std.proofs.lemmas.List.{ext_get_or, get_or-map, length-map, map-set, length-set}
+use Rattle.std.proofs.lemmas.List.{ext_get_or, get_or-map, length-map, map-set}
 use Rattle.std.proofs.lemmas.List.Elements.{All-from_get_or, All-get_or}
 use Rattle.trace_outside.specs.Causes.{Rose}
 use Rattle.multi_report.specs.Sources.{Seen, IsKnown, IsPrepared, IsReadied, IsUsable, Keeps, next_key}
 use Rattle.multi_report.specs.Turns.{AreReadied}
-use Rattle.multi_report.proofs.Files.{Tied, all_at, same_one, usable_all}
+use Rattle.multi_report.proofs.Files.{Tied, same_one, usable_all}
 
 pub keeps_self : (s : Seen) → IsUsable s → Keeps s s
 keeps_self s usable = record { same = same_one s; usable = usable; most = omega arith; rows = λ known. refl; known = λ known. known }

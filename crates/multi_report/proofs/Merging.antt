@@ -2,15 +2,15 @@
 use Rattle.std.proofs.Common.{◌≡◌, ℕ, ◌+◌, ◌<◌, ◌≤◌, Bool, true, false, ltb, leb, eqb, ◌&&◌, List, [], ◌∷◌, ◌++◌, map, Option, Some, None, refl, sym, ap, subst, ◌∙◌, ◌⊎◌, inl, inr, arith}
 use Rattle.std.specs.Option.{IfSome, IfNone, option_map}
 use Rattle.std.specs.List.{filter, filter_map, fold, cons_option, flat_map}
-use Rattle.std.proofs.lemmas.Bool.{lt-ltb, le-ltb, le-leb, lt-leb, eq-eqb, ne_eqb, ltb-true, ltb-false, cases_Bool, cases_order}
+use Rattle.std.proofs.lemmas.Bool.{lt-ltb, le-ltb, le-leb, lt-leb, eq-eqb, ne_eqb, ltb-false, cases_Bool, cases_order}
 use Rattle.std.proofs.lemmas.List.Elements.{filter_agree}
-use Rattle.subpage.specs.Arrangement.{Keyed, key_of, cpu_of, with_key, by_key, all_keyed, arranged as arranged_one}
+use Rattle.subpage.specs.Arrangement.{Keyed, key_of, with_key, by_key, all_keyed, arranged as arranged_one}
 use Rattle.subpage.specs.Cut.{Cut, is_before, earlier, is_up_to as is_up_to_one, lists_of, reached_of}
 use Rattle.subpage.proofs.Arranging.{one_rising, by_key-rising, by_key-with_key}
 use Rattle.subpage.proofs.Filters.{filter-yes, filter-not, filter-filter, filter-append, filter-rising}
-use Rattle.time_merge.specs.Rows.{Each, Row, rank, up_to, up_to_key, least_cut, together, coming}
-use Rattle.multi_report.specs.Order.{Given, FileItem, FileCut, in_file, cut_in, key_in, file_in, numbered, numbered_from, items_of, all_items, arranged, own_cut, own_cut_in, sooner, cut_of_files, is_up_to, reached}
-use Rattle.multi_report.specs.Merge.{row_cut, row_with, file_row, merged}
+use Rattle.time_merge.specs.Rows.{Each, Row, rank, up_to, up_to_key, least_cut, together}
+use Rattle.multi_report.specs.Order.{Given, FileItem, FileCut, in_file, cut_in, key_in, file_in, numbered, numbered_from, items_of, arranged, own_cut, own_cut_in, sooner, cut_of_files, is_up_to, reached}
+use Rattle.multi_report.specs.Merge.{row_cut, file_row, merged}
 
 -- filters of lists that were made by a function, or joined
 pub filter_mapped : {X Y : Type 0} (p : Y → Bool) (f : X → Y) (xs : List X) → filter p (map f xs) ≡ map f (filter (λ x. p (f x)) xs)

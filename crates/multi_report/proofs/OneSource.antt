@@ -1,6 +1,6 @@
 -- One file of several, made ready or with an item used up.
 use Rattle.std.proofs.Common.{◌≡◌, ℕ, ◌+◌, ◌-◌, ◌<◌, ◌≤◌, List, ◌++◌, length, take, drop, get_or, set, map, Option, Some, None, refl, sym, ap, subst, ◌∙◌, arith, sum_by}
-use Rattle.std.specs.Option.{IfSome, IsSome}
+use Rattle.std.specs.Option.{IfSome}
 use Rattle.std.specs.List.{All}
 use Rattle.std.proofs.lemmas.List.{take_all, drop_all, append-nil, get_or_default, length-set}
 use Rattle.std.proofs.lemmas.List.Elements.{All-set}

@@ -1,18 +1,17 @@
 -- A whole report of several files, from its first lines on.
-use Rattle.std.proofs.Common.{◌≡◌, ℕ, ◌+◌, ◌<◌, ◌≤◌, List, [], ◌∷◌, ◌++◌, length, get_or, map, Option, Some, None, refl, sym, ap, subst, ◌∙◌, arith, inl, inr}
+use Rattle.std.proofs.Common.{◌≡◌, ℕ, ◌<◌, List, [], ◌++◌, length, map, Option, refl, sym, ap, subst, ◌∙◌, arith}
 use Rattle.std.specs.Option.{IsSome}
 use Rattle.std.specs.List.{All}
 use Rattle.std.proofs.lemmas.List.{length-map}
-use Rattle.trace_outside.specs.Causes.{Rose}
 use Rattle.trace_outside.specs.Pending.{Holds}
 use Rattle.trace_outside.specs.Writing.{GainedPrefix}
 use Rattle.trace_outside.proofs.PendingLemmas.{holds_nothing}
 use Rattle.multi_report.specs.declared.report.FilesEnd.{FilesEnd}
 use Rattle.multi_report.specs.declared.report.FilesEnd.TheVariants as code
 use Rattle.multi_report.specs.Order.{Given, cut_of_files, reached}
-use Rattle.multi_report.specs.Sources.{Seen, IsFreshSource, IsKnown, IsSame, IsUsable, Keeps, given_of, next_key, to_come_of}
+use Rattle.multi_report.specs.Sources.{Seen, IsFreshSource, IsKnown, Keeps, given_of, next_key, to_come_of}
 use Rattle.multi_report.specs.Reports.{AreSame, IsEnded, IsFilesReport, ReadRose, head_line, joined, lines, pieces}
-use Rattle.multi_report.specs.Turns.{EndsWith, Going, IsTurned, IsUnderway, lines_left}
+use Rattle.multi_report.specs.Turns.{EndsWith, Going, IsUnderway, lines_left}
 use Rattle.multi_report.proofs.Files.{Tied, all_fresh_known, fresh_left, keeps_same, known_all, left_keeps, same_given}
 use Rattle.multi_report.proofs.Going.{end_read, prefix_of_whole}
 

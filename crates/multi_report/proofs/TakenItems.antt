@@ -1,5 +1,5 @@
 -- What comes next of a file, taken.
-use Rattle.std.proofs.Common.{◌≡◌, ℕ, ◌<◌, ◌≤◌, List, [], ◌∷◌, ◌++◌, length, get_or, set, map, Option, Some, None, refl, sym, ap, subst, ◌∙◌, arith, Ok, Err}
+use Rattle.std.proofs.Common.{◌≡◌, ℕ, ◌<◌, List, [], ◌∷◌, ◌++◌, length, get_or, set, map, Option, Some, refl, sym, ap, subst, ◌∙◌, arith, Ok, Err}
 use Rattle.std.specs.Option.{IsSome, option_map, unwrap_or}
 use Rattle.std.specs.List.{All}
 use Rattle.std.proofs.lemmas.List.{get_or_default, get_or-map, map-set}
@@ -14,7 +14,7 @@ use Rattle.page_pool.specs.declared.lane.Lane.{Lane}
 use Rattle.event_cursor.specs.Keys.{first_of}
 use Rattle.event_cursor.specs.Standing.{Stands, keyed_held}
 use Rattle.event_cursor.proofs.Standing.{stands_stepped}
-use Rattle.time_merge.specs.LaneRows.{parts_of, rows_of, to_come}
+use Rattle.time_merge.specs.LaneRows.{parts_of, to_come}
 use Rattle.time_merge.specs.Rows.{coming, least_cut}
 use Rattle.time_merge.specs.Nexts.{IsNextLane}
 use Rattle.time_merge.proofs.Going.{still_parts}
@@ -22,7 +22,7 @@ use Rattle.time_merge.proofs.Starting.{cut_of_rows as one_cut}
 use Rattle.multi_report.specs.declared.taking.Taken.{Taken}
 use Rattle.multi_report.specs.declared.taking.Taken.TheVariants as took
 use Rattle.multi_report.specs.Order.{Given, own_cut}
-use Rattle.multi_report.specs.Sources.{Seen, IsKnown, IsReadied, IsSame, Keeps, bytes_of, due, given_of, next_key, unread_of, work}
+use Rattle.multi_report.specs.Sources.{Seen, IsKnown, IsReadied, IsSame, Keeps, bytes_of, due, given_of, next_key}
 use Rattle.multi_report.specs.Nexts.{IsLaneStepped, cut_at}
 use Rattle.multi_report.specs.Reports.{line_of}
 use Rattle.multi_report.specs.Taking.{IsGoing, IsStill, ItemTaken, LineStopped, TakenFrom, TakenOf, cut_left, left_in}

@@ -1,5 +1,5 @@
 -- One turn of a report of several files.
-use Rattle.std.proofs.Common.{◌≡◌, ◌≢◌, ℕ, ◌+◌, ◌<◌, ◌≤◌, List, [], ◌∷◌, ◌++◌, length, get_or, set, map, Option, Some, None, refl, sym, ap, subst, ◌∙◌, arith, inl, inr, sum_by, get_or-set_same, get_or-set_other}
+use Rattle.std.proofs.Common.{◌≡◌, ℕ, ◌<◌, ◌≤◌, List, [], ◌∷◌, length, get_or, set, map, Option, Some, None, sym, ap, subst, ◌∙◌, arith, inl, inr, sum_by, get_or-set_same, get_or-set_other}
 use Rattle.std.specs.List.{All}
 use Rattle.std.proofs.lemmas.Bool.{cases_eq}
 use Rattle.std.proofs.lemmas.List.{length-map, length-set, map-set}
@@ -11,16 +11,16 @@ use Rattle.trace_outside.specs.Pending.{Holds, OnWay}
 use Rattle.trace_outside.specs.Writing.{GainedPrefix}
 use Rattle.subpage.specs.Arrangement.{Keyed, key_of, cpu_of}
 use Rattle.subpage.specs.Cut.{Cut}
-use Rattle.time_merge.specs.Rows.{Each, bound_of}
+use Rattle.time_merge.specs.Rows.{bound_of}
 use Rattle.time_merge.specs.Nexts.{IsLeastOf, IsLeastAt}
 use Rattle.multi_report.specs.declared.report.FilesEnd.{FilesEnd}
 use Rattle.multi_report.specs.declared.report.FilesEnd.TheVariants as code
 use Rattle.multi_report.specs.declared.taking.Taken.{Taken}
 use Rattle.multi_report.specs.declared.taking.Taken.TheVariants as took
-use Rattle.multi_report.specs.Order.{Given, FileCut, cut_in, in_file, cut_of_files}
+use Rattle.multi_report.specs.Order.{Given, cut_in, in_file, cut_of_files}
 use Rattle.multi_report.specs.Sources.{Seen, IsKnown, IsPrepared, IsSame, IsUsable, due, given_of, next_key, to_come_of, work}
 use Rattle.multi_report.specs.Reports.{AreSame, IsEnded, ReadRose, WriteRose, joined, line_in, line_of, lines}
-use Rattle.multi_report.specs.Taking.{ItemTaken, TakenFrom, TakenOf, cut_left}
+use Rattle.multi_report.specs.Taking.{ItemTaken, TakenFrom, cut_left}
 use Rattle.multi_report.specs.Turns.{AreReadied, EndsWith, Going, IsTold, IsUnderway, lines_left}
 use Rattle.multi_report.proofs.FileRows.{file_next, file_cut, file_first, file_none, file_some}
 use Rattle.multi_report.proofs.Files.{no_cut, one_cut_is, same_one}

@@ -1,5 +1,5 @@
 -- Which lane of a file is next, told with its place among the lanes.
-use Rattle.std.specs.Prelude.{◌≡◌, ℕ, ◌<◌, ◌≤◌, List, [], length, slice_set, slice_index_or, Option, Some, None}
+use Rattle.std.specs.Prelude.{◌≡◌, ℕ, ◌<◌, List, [], length, slice_set, slice_index_or, Some, None}
 use Rattle.trace_base.specs.declared.layout.Layout.{Layout}
 use Rattle.subpage.specs.Cut.{Cut}
 use Rattle.page_pool.specs.declared.lane.Lane.{Lane}

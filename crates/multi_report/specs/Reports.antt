@@ -1,6 +1,6 @@
 -- What a report of several files writes, and how it ends.
 -- Source: trace-cmd-report(1), which puts a file's name before each of its lines where there are several.
-use Rattle.std.specs.Prelude.{◌≡◌, ◌<◌, ◌≤◌, ℕ, ◌++◌, List, [], ◌∷◌, codes, length, map, take, Option, Some, None, option_map, unwrap_or, slice_get, slice_index_or}
+use Rattle.std.specs.Prelude.{◌≡◌, ◌<◌, ℕ, ◌++◌, List, [], ◌∷◌, codes, length, map, take, Option, Some, None, option_map, unwrap_or, slice_get, slice_index_or}
 use Rattle.std.specs.List.{flat_map}
 use Rattle.std.specs.Fmt.{decimal}
 use Rattle.trace_outside.specs.Causes.{Rose}
@@ -9,7 +9,7 @@ use Rattle.subpage.specs.Arrangement.{Keyed}
 use Rattle.multi_report.specs.declared.report.FilesEnd.{FilesEnd}
 use Rattle.multi_report.specs.declared.report.FilesEnd.TheVariants as code
 use Rattle.multi_report.specs.Order.{Given, FileItem, FileCut, cut_of_files, reached}
-use Rattle.multi_report.specs.Sources.{Seen, IsSame, ReadsItsParts, given_of}
+use Rattle.multi_report.specs.Sources.{Seen, IsSame, ReadsItsParts}
 
 -- a file's name, a colon and a space
 abbrev pub label : List ℕ → List ℕ

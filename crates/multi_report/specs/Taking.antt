@@ -1,5 +1,5 @@
 -- What comes next of a file, taken.
-use Rattle.std.specs.Prelude.{◌≡◌, ◌<◌, ◌≤◌, ◌++◌, ℕ, List, [], ◌∷◌, Option, Some, None, slice_set, slice_index_or}
+use Rattle.std.specs.Prelude.{◌≡◌, ◌<◌, ◌++◌, ℕ, List, [], ◌∷◌, Option, Some, None, slice_set, slice_index_or}
 use Rattle.trace_outside.specs.Causes.{Rose}
 use Rattle.trace_outside.specs.Pending.{Holds, OnWay}
 use Rattle.trace_outside.specs.Writing.{GainedPrefix}
@@ -9,7 +9,7 @@ use Rattle.time_merge.specs.Rows.{least_cut}
 use Rattle.time_merge.specs.LaneRows.{rows_of, to_come}
 use Rattle.multi_report.specs.declared.taking.Taken.{Taken}
 use Rattle.multi_report.specs.declared.taking.Taken.TheVariants as code
-use Rattle.multi_report.specs.Sources.{Seen, IsKnown, IsPrepared, IsReadied, IsSame, IsUsable, bytes_of, given_of, next_key, work}
+use Rattle.multi_report.specs.Sources.{Seen, IsKnown, IsReadied, IsSame, IsUsable, bytes_of, given_of, next_key, work}
 use Rattle.multi_report.specs.Reports.{line_of}
 
 -- what a file has left, and its least cut

@@ -1,5 +1,5 @@
 -- A report of files on its way, turn after turn.
-use Rattle.std.specs.Prelude.{◌≡◌, ◌<◌, ◌≤◌, ◌⊎◌, ◌++◌, ℕ, List, length, map, slice_index_or, sum_by, Option, Some, None, IsSome}
+use Rattle.std.specs.Prelude.{◌≡◌, ◌<◌, ◌≤◌, ◌⊎◌, ◌++◌, ℕ, List, length, map, slice_index_or, Option, Some, None}
 use Rattle.std.specs.List.{All}
 use Rattle.trace_outside.specs.Causes.{Rose}
 use Rattle.trace_outside.specs.Pending.{Holds}
@@ -7,8 +7,8 @@ use Rattle.trace_outside.specs.Writing.{Gained, GainedPrefix}
 use Rattle.multi_report.specs.declared.report.FilesEnd.{FilesEnd}
 use Rattle.multi_report.specs.declared.report.FilesEnd.TheVariants as code
 use Rattle.multi_report.specs.Order.{cut_of_files}
-use Rattle.multi_report.specs.Sources.{Seen, IsKnown, IsPrepared, IsUsable, due, given_of, next_key, to_come_of, work}
-use Rattle.multi_report.specs.Reports.{AreSame, IsEnded, joined, lines}
+use Rattle.multi_report.specs.Sources.{Seen, IsKnown, IsPrepared, IsUsable, due, given_of, next_key, to_come_of}
+use Rattle.multi_report.specs.Reports.{IsEnded, joined, lines}
 
 -- what is left of the files, as lines
 abbrev pub lines_left : List Seen → List (List ℕ)

@@ -1,4 +1,4 @@
-ghost use Rattle.std.specs.Prelude.{◌≡◌, ◌≤◌, ◌<◌, [], length, take, slice_index_or, unwrap_or, option_map};
+ghost use Rattle.std.specs.Prelude.{◌≡◌, ◌≤◌, ◌<◌, ◌+◌, [], length, take, slice_index_or, unwrap_or, option_map, IfSome};
 ghost use Rattle.std.specs.List.{flat_map};
 ghost use Rattle.trace_outside.specs.Causes.{HasCause};
 ghost use Rattle.trace_outside.specs.Keeping.{KeepsSink};
@@ -7,7 +7,7 @@ ghost use Rattle.subpage.specs.ItemView.{item_view};
 ghost use Rattle.event_cursor.specs.Keys.{first_of};
 ghost use Rattle.event_cursor.specs.Standing.{keyed_held};
 ghost use Rattle.page_pool.specs.declared.lane.Lane.{Lane};
-ghost use Rattle.multi_report.specs.Reports.{head_line, labelled, line_of};
+ghost use Rattle.multi_report.specs.Reports.{head_line, label, labelled, line_of};
 ghost use Rattle.multi_report.specs.Sources.{HasRoom, IsUsable, given_of, seen};
 
 use crate::source::Source;
@@ -51,16 +51,54 @@ pub(crate) fn put_heads<F: File, L: Form, O: Sink>(
     Ok(())
 }
 
-/// Forms the line of an item at the front of a slice that has room for it, and answers its length. Its hole is let go.
+/// Forms the line of an item at the front of a slice, as far as there is room, and answers its length. Its hole is let go.
 fn line_into<L: Form>(form: &L, cpu: u32, item: &Item<'_>, into: &mut [u8]) -> u32
-    requires room { length (L.text form.now cpu (item_view item.now)).bytes ≤ length into.old }
     ensures long { length into.new ≡ length into.old }
     ensures length { result ≡ length (L.text form.now cpu (item_view item.now)).bytes }
-    ensures line { take result into.new ≡ (L.text form.now cpu (item_view item.now)).bytes }
+    ensures line { result ≤ length into.old → take result into.new ≡ (L.text form.now cpu (item_view item.now)).bytes }
 {
     let mut tail = Tail::new(into);
     let (len, _) = form.line(cpu, item, &mut tail);
     len
+}
+
+/// Writes a file's name and what stands behind it.
+fn label_into(name: &[u8], into: &mut [u8])
+    requires { length into.old ≡ length name.now + 2 }
+    ensures { into.new ≡ label name.now }
+{
+    let (front, behind) = into.split_at_mut(name.len());
+    front.copy_from_slice(name);
+    behind.copy_from_slice(b": ");
+}
+
+/// Forms the line of an item with a file's name before it at the front of a slice, and answers the length of both: 0 of an
+/// empty line, which has no name. `None` where they have no room.
+fn labelled_into<L: Form>(
+    name: &[u8],
+    form: &L,
+    cpu: u32,
+    item: &Item<'_>,
+    into: &mut [u8],
+) -> Option<usize>
+    ensures long { length into.new ≡ length into.old }
+    ensures inside { IfSome result (λ len. len ≤ length into.old) }
+    ensures text { IfSome result (λ len. take len into.new ≡ labelled name.now (L.text form.now cpu (item_view item.now)).bytes) }
+{
+    let front = name.len() + 2;
+    if front > into.len() {
+        return None;
+    }
+    let (before, behind) = into.split_at_mut(front);
+    let len = line_into(form, cpu, item, behind) as usize;
+    if len > behind.len() {
+        return None;
+    }
+    if len == 0 {
+        return Some(0);
+    }
+    label_into(name, before);
+    Some(front + len)
 }
 
 /// Puts a line with a file's name before it. An empty one is left out.
@@ -77,6 +115,33 @@ fn put_labelled<O: Sink>(
         return Ok(());
     }
     pending.put_parts(out, &[name, b": ", line])
+}
+
+/// Puts the line of an item with a file's name before it. The line has room in the buffer. Where its name has room too, both
+/// are put as one piece, for what a piece costs.
+fn put_line<L: Form, O: Sink>(
+    name: &[u8],
+    form: &L,
+    cpu: u32,
+    item: &Item<'_>,
+    buffer: &mut [u8],
+    pending: &mut Pending,
+    out: &mut O,
+) -> Result<(), Failed>
+    requires room { length (L.text form.now cpu (item_view item.now)).bytes ≤ length buffer.old }
+    ensures long { length buffer.new ≡ length buffer.old }
+    ensures puts { PutsText (labelled name.now (L.text form.now cpu (item_view item.now)).bytes)
+        (on_way O.written O.name O.faults out.old pending.old)
+        (on_way O.written O.name O.faults out.new pending.new) result }
+{
+    match labelled_into(name, form, cpu, item, buffer) {
+        Some(0) => Ok(()),
+        Some(len) => pending.put(out, &buffer[..len]),
+        None => {
+            let len = line_into(form, cpu, item, buffer) as usize;
+            put_labelled(name, &buffer[..len], pending, out)
+        }
+    }
 }
 
 /// Puts the line of the item that a lane of a file holds.
@@ -101,8 +166,8 @@ pub(crate) fn put_item<F: File, L: Form, O: Sink>(
     let lane = &source.pool.all()[i];
     match head(&source.layout, lane) {
         Some((_, item)) => {
-            let len = line_into(&source.form, lane.cpu, &item, buffer) as usize;
-            put_labelled(source.name.as_bytes(), &buffer[..len], pending, out)
+            let name = source.name.as_bytes();
+            put_line(name, &source.form, lane.cpu, &item, buffer, pending, out)
         }
         None => Ok(()),
     }

@@ -7,6 +7,8 @@ use trace_samples::TraceFile;
 pub(super) enum Sub {
     /// Its time, and its events by their delta, id and pid.
     Of(u64, &'static [(u32, u16, u32)]),
+    /// The same behind a loss of events.
+    Lossy(u64, &'static [(u32, u16, u32)]),
     /// One that claims more data than it has room for.
     Malformed,
 }
@@ -19,6 +21,8 @@ pub(super) enum File {
     Named(&'static str, &'static [&'static [Sub]]),
     /// The same, big end first and in sub-buffers of 8,192 bytes.
     Big(&'static [&'static [Sub]]),
+    /// One event of pid 1 at time 5, whose text is so many times `x`.
+    Long(usize),
     /// A file of a latency tracer.
     Latency,
     Bytes(&'static [u8]),
@@ -27,8 +31,9 @@ pub(super) enum File {
 impl File {
     pub(super) fn bytes(&self, alloc: Global) -> Result<Vec<u8>, AllocError> {
         match self {
-            File::Trace(processors) => little(alloc, None, processors),
-            File::Named(name, processors) => little(alloc, Some(name), processors),
+            File::Trace(processors) => little(alloc, b"", processors),
+            File::Named(name, processors) => named(alloc, name, processors),
+            File::Long(count) => long(alloc, *count),
             File::Big(processors) => big(alloc, processors),
             File::Latency => text(alloc, LATENCY),
             File::Bytes(bytes) => text(alloc, bytes),
@@ -49,8 +54,7 @@ const FIELDS: &[u8] = b"\nID: 58\nformat:
 \tfield:unsigned char common_preempt_count;\toffset:3;\tsize:1;\tsigned:0;
 \tfield:int common_pid;\toffset:4;\tsize:4;\tsigned:1;
 
-print fmt: \"of %d\", REC->common_pid
-";
+print fmt: \"";
 
 fn text(alloc: Global, bytes: &[u8]) -> Result<Vec<u8>, AllocError> {
     let mut file = Vec::new(alloc);
@@ -86,18 +90,34 @@ fn put_event(
     put(file, is_big, 4, u64::from(pid))
 }
 
+// What a sub-buffer has, with what its number of bytes says beside it.
+fn put_data(
+    file: &mut Vec<u8>,
+    is_big: bool,
+    time: u64,
+    mark: u64,
+    events: &[(u32, u16, u32)],
+) -> Result<(), AllocError> {
+    put(file, is_big, 8, time)?;
+    put(
+        file,
+        is_big,
+        8,
+        (events.len() as u64).saturating_mul(12) | mark,
+    )?;
+    for (delta, id, pid) in events {
+        put_event(file, is_big, *delta, *id, *pid)?;
+    }
+    Ok(())
+}
+
 // Sub-buffers of this length.
 fn put_subs(file: &mut Vec<u8>, is_big: bool, page: usize, subs: &[Sub]) -> Result<(), AllocError> {
     for sub in subs {
         let end = file.len().saturating_add(page);
         match sub {
-            Sub::Of(time, events) => {
-                put(file, is_big, 8, *time)?;
-                put(file, is_big, 8, (events.len() as u64).saturating_mul(12))?;
-                for (delta, id, pid) in *events {
-                    put_event(file, is_big, *delta, *id, *pid)?;
-                }
-            }
+            Sub::Of(time, events) => put_data(file, is_big, *time, 0, events)?,
+            Sub::Lossy(time, events) => put_data(file, is_big, *time, 1 << 31, events)?,
             Sub::Malformed => {
                 put(file, is_big, 8, 0)?;
                 put(file, is_big, 8, 9000)?;
@@ -108,13 +128,11 @@ fn put_subs(file: &mut Vec<u8>, is_big: bool, page: usize, subs: &[Sub]) -> Resu
     Ok(())
 }
 
-fn little(alloc: Global, name: Option<&str>, processors: &[&[Sub]]) -> Result<Vec<u8>, AllocError> {
+// A file with this format, unless it is empty.
+fn little(alloc: Global, format: &[u8], processors: &[&[Sub]]) -> Result<Vec<u8>, AllocError> {
     let mut trace = TraceFile::new(alloc);
-    if let Some(name) = name {
-        let mut format = text(alloc, b"name: ")?;
-        format.extend_from_slice(name.as_bytes())?;
-        format.extend_from_slice(FIELDS)?;
-        trace.add_sched(&format)?;
+    if !format.is_empty() {
+        trace.add_sched(format)?;
     }
     for subs in processors {
         let mut bytes = Vec::new(alloc);
@@ -122,6 +140,23 @@ fn little(alloc: Global, name: Option<&str>, processors: &[&[Sub]]) -> Result<Ve
         trace.add_processor(&bytes)?;
     }
     trace.bytes(alloc)
+}
+
+fn named(alloc: Global, name: &str, processors: &[&[Sub]]) -> Result<Vec<u8>, AllocError> {
+    let mut format = text(alloc, b"name: ")?;
+    format.extend_from_slice(name.as_bytes())?;
+    format.extend_from_slice(FIELDS)?;
+    format.extend_from_slice(b"of %d\", REC->common_pid\n")?;
+    little(alloc, &format, processors)
+}
+
+fn long(alloc: Global, count: usize) -> Result<Vec<u8>, AllocError> {
+    let mut format = text(alloc, b"name: one")?;
+    format.extend_from_slice(FIELDS)?;
+    let end = format.len().saturating_add(count);
+    format.resize(end, b'x')?;
+    format.extend_from_slice(b"\"\n")?;
+    little(alloc, &format, &[&[Sub::Of(5, &[(0, 58, 1)])]])
 }
 
 fn big(alloc: Global, processors: &[&[Sub]]) -> Result<Vec<u8>, AllocError> {

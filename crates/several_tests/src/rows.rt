@@ -17,7 +17,7 @@ pub(super) struct Row {
 const ONE: File = File::Trace(&[&[Sub::Of(5, &[(0, 58, 1)])]]);
 
 /// One of pid 2 at the same time.
-const TWO: File = File::Trace(&[&[Sub::Of(5, &[(0, 58, 2)])]]);
+pub(super) const TWO: File = File::Trace(&[&[Sub::Of(5, &[(0, 58, 2)])]]);
 
 /// A malformed sub-buffer alone.
 const CUT: File = File::Trace(&[&[Sub::Malformed]]);
@@ -45,6 +45,44 @@ pub(super) const ROWS: &[Row] = &[
         files: &[("a.dat", ONE), ("b.dat", TWO)],
         status: Status::Done,
         out: "b.dat: cpus=1\na.dat: cpus=1\nb.dat:            <...>-2     [000]     0.000000: [UNKNOWN EVENT 58]\na.dat:            <...>-1     [000]     0.000000: [UNKNOWN EVENT 58]\n",
+        err: "",
+    },
+    // of equal times an earlier file's later processor comes before a later file's earlier one, with workers too
+    Row {
+        line: "report -i a -i b -i c -t --workers 3",
+        files: &[
+            (
+                "a",
+                File::Trace(&[&[Sub::Of(3, &[(0, 58, 1)])], &[Sub::Of(5, &[(0, 58, 2)])]]),
+            ),
+            (
+                "b",
+                File::Trace(&[&[Sub::Of(5, &[(0, 58, 3)])], &[Sub::Of(5, &[(0, 58, 4)])]]),
+            ),
+            (
+                "c",
+                File::Trace(&[&[Sub::Of(4, &[(0, 58, 5), (1, 58, 6)])]]),
+            ),
+        ],
+        status: Status::Done,
+        out: "a: cpus=2\nb: cpus=2\nc: cpus=1\na:            <...>-1     [000]     0.000000003: [UNKNOWN EVENT 58]\nc:            <...>-5     [000]     0.000000004: [UNKNOWN EVENT 58]\na:            <...>-2     [001]     0.000000005: [UNKNOWN EVENT 58]\nb:            <...>-3     [000]     0.000000005: [UNKNOWN EVENT 58]\nb:            <...>-4     [001]     0.000000005: [UNKNOWN EVENT 58]\nc:            <...>-6     [000]     0.000000005: [UNKNOWN EVENT 58]\n",
+        err: "",
+    },
+    // a loss has its file's name too, and is ordered as an event is
+    Row {
+        line: "report -i a -i b -t",
+        files: &[
+            (
+                "a",
+                File::Trace(&[&[Sub::Of(10, &[(0, 58, 1)]), Sub::Lossy(30, &[(10, 58, 1)])]]),
+            ),
+            (
+                "b",
+                File::Trace(&[&[Sub::Of(20, &[(0, 58, 2), (10, 58, 2)])]]),
+            ),
+        ],
+        status: Status::Done,
+        out: "a: cpus=1\nb: cpus=1\na:            <...>-1     [000]     0.000000010: [UNKNOWN EVENT 58]\nb:            <...>-2     [000]     0.000000020: [UNKNOWN EVENT 58]\na: CPU:0 [EVENTS DROPPED]\nb:            <...>-2     [000]     0.000000030: [UNKNOWN EVENT 58]\na:            <...>-1     [000]     0.000000040: [UNKNOWN EVENT 58]\n",
         err: "",
     },
     // a cut at the start of each file
@@ -76,6 +114,27 @@ pub(super) const ROWS: &[Row] = &[
         status: Status::Malformed { cpu: 1, page: 1 },
         out: "a.dat: cpus=1\nl: cpus=1\nb.dat: cpus=2\na.dat:            <...>-1     [000]     0.000000010: [UNKNOWN EVENT 58]\nb.dat:            <...>-2     [000]     0.000000020: [UNKNOWN EVENT 58]\nb.dat:            <...>-3     [001]     0.000000025: [UNKNOWN EVENT 58]\n",
         err: "trace-cmd: b.dat: malformed sub-page 1 of processor 1\n",
+    },
+    // at the time of the cut an earlier file's events are reached, a later file's are not
+    Row {
+        line: "report -i a -i b -i c -t",
+        files: &[
+            (
+                "a",
+                File::Trace(&[&[Sub::Of(10, &[(0, 58, 1), (30, 58, 1), (5, 58, 1)])]]),
+            ),
+            (
+                "b",
+                File::Trace(&[&[Sub::Of(20, &[(0, 58, 2), (20, 58, 2)]), Sub::Malformed]]),
+            ),
+            (
+                "c",
+                File::Trace(&[&[Sub::Of(30, &[(0, 58, 3), (10, 58, 3)])]]),
+            ),
+        ],
+        status: Status::Malformed { cpu: 0, page: 1 },
+        out: "a: cpus=1\nb: cpus=1\nc: cpus=1\na:            <...>-1     [000]     0.000000010: [UNKNOWN EVENT 58]\nb:            <...>-2     [000]     0.000000020: [UNKNOWN EVENT 58]\nc:            <...>-3     [000]     0.000000030: [UNKNOWN EVENT 58]\na:            <...>-1     [000]     0.000000040: [UNKNOWN EVENT 58]\nb:            <...>-2     [000]     0.000000040: [UNKNOWN EVENT 58]\n",
+        err: "trace-cmd: b: malformed sub-page 1 of processor 0\n",
     },
     // the processors are chosen of each file
     Row {

@@ -1,7 +1,7 @@
 // Runs of the rows, and runs in which something fails.
 
 use super::files::{File, Sub};
-use super::rows::{ROWS, Row};
+use super::rows::{ROWS, Row, TWO};
 use std::alloc::{Alloc, AllocError, Global};
 use std::process::Abort;
 use std::test::Fail;
@@ -68,6 +68,56 @@ fn ends_so<R: Alloc<A = Global> + Abort + Threads + Sync>(rt: &R, row: &Row) -> 
 fn rows(rt: HostRuntime) -> Result<(), Fail> {
     for row in ROWS {
         ends_so(&rt, row)?;
+    }
+    Ok(())
+}
+
+/// Files with a long line, how many times `x` it has, and what stands behind. A line of 65,537 bytes is whole, and of a longer
+/// one as many bytes stay as of one file alone: its limit does not count the name.
+const LONG: &[(&[(&str, File)], usize, &str)] = &[
+    (
+        &[("a", File::Long(65_471)), ("b", TWO)],
+        65_471,
+        "\nb:            <...>-2     [000]     0.000000: [UNKNOWN EVENT 58]\n",
+    ),
+    (
+        &[("a", File::Long(65_472)), ("b", TWO)],
+        65_468,
+        "...\nb:            <...>-2     [000]     0.000000: [UNKNOWN EVENT 58]\n",
+    ),
+];
+
+const LONG_FRONT: &str =
+    "a: cpus=1\nb: cpus=1\na:            <...>-1     [000]     0.000000: one:                  ";
+
+// Whether so many times `x` stand between two texts.
+fn is_long(bytes: &[u8], count: usize, end: &str) -> bool {
+    let Some(rest) = bytes.strip_prefix(LONG_FRONT.as_bytes()) else {
+        return false;
+    };
+    let Some(text) = rest.strip_suffix(end.as_bytes()) else {
+        return false;
+    };
+    for byte in text {
+        if *byte != b'x' {
+            return false;
+        }
+    }
+    text.len() == count
+}
+
+#[test]
+fn long_lines(rt: HostRuntime) -> Result<(), Fail> {
+    let alloc = rt.alloc();
+    for (files, count, end) in LONG {
+        let mut folder = folder_of(alloc, files)?;
+        let mut out = MemSink::new(alloc);
+        let mut err = MemSink::new(alloc);
+        let status = run_line(&rt, "report -i a -i b", &mut folder, &mut out, &mut err)?;
+        assert!(rt;
+            status == Status::Done && is_long(out.bytes(), *count, end),
+            "{count}"
+        );
     }
     Ok(())
 }
@@ -147,8 +197,11 @@ fn reads_that_fail(rt: HostRuntime) -> Result<(), Fail> {
 #[test]
 fn writes_that_fail(rt: HostRuntime) -> Result<(), Fail> {
     let alloc = rt.alloc();
-    for most in [1, 13, 14, 27, 100] {
+    for (most, reads) in [(1, true), (13, true), (14, true), (27, false), (100, true)] {
         let mut folder = folder_of(alloc, LONGER)?;
+        if !reads {
+            folder.fail(MemFault::ReadAt(8192));
+        }
         let mut out = MemSink::new(alloc);
         out.short(most);
         out.fail_from(2);

@@ -1,4 +1,4 @@
-use Rattle.std.proofs.Common.{◌++◌, ℕ, List, map, length, subst, arith}
+use Rattle.std.proofs.Common.{◌++◌, ℕ, List, map, subst, arith}
 use Rattle.std.proofs.lemmas.List.{length-map}
 use Rattle.trace_outside.specs.Pending.{Holds}
 use Rattle.trace_outside.specs.Writing.{GainedPrefix}

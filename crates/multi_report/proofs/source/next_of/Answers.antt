@@ -1,4 +1,4 @@
-use Rattle.std.proofs.Common.{◌≡◌, ℕ, List, Option, Some, None, subst}
+use Rattle.std.proofs.Common.{ℕ, List, Option, Some, None, subst}
 use Rattle.time_merge.specs.Nexts.{IsLeastAt}
 use Rattle.time_merge.proofs.Choosing.{holds_next, lane_next_at, none_next}
 use Rattle.multi_report.proofs.LaneNexts.{cut_here, slot_inside, sound_here}
