@@ -25,7 +25,9 @@ pub fn key_behind(high: Option<u64>, item: &Item<'_>) -> u64
     }
 }
 
-/// The item at a place in a sub-buffer, behind items whose greatest time is `high`.
+/// The item at a place in a sub-buffer, behind items whose greatest time is `high`. It is put together right where the caller
+/// keeps it.
+#[inline(always)]
 pub(crate) fn ahead_at(layout: &Layout, page: &[u8], mark: Mark, high: Option<u64>) -> Option<Ahead>
     requires { IsMark layout.now page.now mark }
     ensures { TellsAhead layout.now page.now mark high result }
@@ -36,7 +38,7 @@ pub(crate) fn ahead_at(layout: &Layout, page: &[u8], mark: Mark, high: Option<u6
     let item = item_between(page, &mark, &behind, payload);
     Some(Ahead {
         key: key_behind(high, &item),
-        behind,
+        behind: behind.past_loss(),
         payload,
     })
 }

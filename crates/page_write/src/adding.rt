@@ -35,6 +35,7 @@ fn len_of_lost(layout: &Layout, lost: Lost) -> usize
 }
 
 // Opens a sub-buffer with an event, whose time is the timestamp.
+#[inline(never)]
 fn add_first(layout: &Layout, time: u64, payload: &[u8], into: &mut [u8]) -> OpenPage
     requires allowed { IsLayout layout.now }
     requires packable { IsPackable layout.now (EventAt time payload.now) }
@@ -52,6 +53,7 @@ fn add_first(layout: &Layout, time: u64, payload: &[u8], into: &mut [u8]) -> Ope
 }
 
 // Adds an event to an open sub-buffer, or none where it opens a further one.
+#[inline(always)]
 fn add_next(
     layout: &Layout,
     page: OpenPage,
@@ -88,6 +90,7 @@ fn add_next(
 }
 
 /// Adds an item to the open sub-buffer, or opens one with it; none where one is open and the item opens a further one.
+#[inline(always)]
 pub fn add_to(
     layout: &Layout,
     page: Option<OpenPage>,

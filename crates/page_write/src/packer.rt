@@ -64,6 +64,7 @@ impl<'a> Packer<'a> {
 
     /// Adds the item to the open sub-buffer, or opens the first one. `Full` exactly where one is open and the item opens a
     /// further one; the packer is unchanged then.
+    #[inline(always)]
     pub fn add(&mut self, item: &Item<'_>) -> Added
         requires packable { IsPackable self.old.layout (item_view item.now) }
         ensures layout { self.new.layout ≡ self.old.layout }

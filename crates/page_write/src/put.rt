@@ -1,6 +1,6 @@
 // Pieces put into a buffer at a place.
 
-ghost use Rattle.std.specs.Prelude.{◌≡◌, ◌+◌, ◌≤◌, ◌<◌, ◌^◌, ◌*◌, ◌⊎◌, length};
+ghost use Rattle.std.specs.Prelude.{◌≡◌, ◌+◌, ◌≤◌, ◌<◌, ◌^◌, ◌*◌, ◌⊎◌, ◌++◌, drop, length, false};
 ghost use Rattle.trace_base.specs.Number.{bytes_of};
 ghost use Rattle.page_write.specs.Record.{is_short, pair_word, first_word, event_text, extend_text, record_text, zeros};
 ghost use Rattle.page_write.specs.Fill.{event_len, record_len};
@@ -53,13 +53,24 @@ pub fn put_zeros(at: usize, count: usize, into: &mut [u8])
     into[at..at + count].fill(0);
 }
 
+// Sets the first four bytes to the number: in a given order that is one store, in any order it would be four of a byte each.
+fn set_word(order: Order, value: u32, into: &mut [u8])
+    requires { 4 ≤ length into.old }
+    ensures { into.new ≡ bytes_of order 4 value ++ drop 4 into.old }
+{
+    match order {
+        Order::Little => put_u32(Order::Little, value, into),
+        Order::Big => put_u32(Order::Big, value, into),
+    }
+}
+
 // Puts a word of 32 bits.
 fn put_word(order: Order, value: u32, at: usize, into: &mut [u8])
     requires { at + 4 ≤ length into.old }
     ensures { into.new ≡ put_at at (bytes_of order 4 value) into.old }
 {
     let (_, rest) = into.split_at_mut(at);
-    put_u32(order, value, rest);
+    set_word(order, value, rest);
 }
 
 /// Puts a kernel's long, which has 4 or 8 bytes.
@@ -100,7 +111,28 @@ fn put_first_word(order: Order, kind: u32, delta: u32, at: usize, into: &mut [u8
     put_word(order, pair_word_of(order, kind, delta), at, into);
 }
 
+// Puts an event whose first word does not tell the length of its payload, and gives the place behind it.
+#[inline(never)]
+#[tactic(auto, unfolding(crate::specs::Fill::event_len))]
+fn put_long_event(order: Order, delta: u32, payload: &[u8], at: usize, into: &mut [u8]) -> usize
+    requires long { is_short (length payload.now) ≡ false }
+    requires delta { delta < 2 ^ 27 }
+    requires few { length payload.now < 2 ^ 31 }
+    requires room { at + event_len (length payload.now) ≤ length into.old }
+    ensures put { into.new ≡ put_at at (event_text order delta payload.now) into.old }
+    ensures behind { result ≡ at + event_len (length payload.now) }
+{
+    let len = payload.len();
+    let filled = filled_up(len);
+    put_first_word(order, 0, delta, at, into);
+    put_word(order, len as u32 + 4, at + 4, into);
+    put_piece(at + 8, payload, into);
+    put_zeros(at + 8 + len, filled - len, into);
+    at + 8 + filled
+}
+
 // Puts an event, and gives the place behind it.
+#[inline(always)]
 #[tactic(auto, unfolding(crate::specs::Fill::event_len))]
 fn put_event(order: Order, delta: u32, payload: &[u8], at: usize, into: &mut [u8]) -> usize
     requires delta { delta < 2 ^ 27 }
@@ -115,12 +147,7 @@ fn put_event(order: Order, delta: u32, payload: &[u8], at: usize, into: &mut [u8
         put_piece(at + 4, payload, into);
         at + 4 + len
     } else {
-        let filled = filled_up(len);
-        put_first_word(order, 0, delta, at, into);
-        put_word(order, len as u32 + 4, at + 4, into);
-        put_piece(at + 8, payload, into);
-        put_zeros(at + 8 + len, filled - len, into);
-        at + 8 + filled
+        put_long_event(order, delta, payload, at, into)
     }
 }
 
@@ -134,8 +161,24 @@ fn put_extend(order: Order, step: u64, at: usize, into: &mut [u8])
     put_word(order, (step / (1 << DELTA_BITS)) as u32, at + 4, into);
 }
 
+// Puts an event behind a step of time that needs a time extend, and gives the place behind it.
+#[inline(never)]
+#[tactic(auto, using(crate::proofs::Putting::put_far), unfolding(crate::specs::Fill::record_len))]
+fn put_far_record(order: Order, step: u64, payload: &[u8], at: usize, into: &mut [u8]) -> usize
+    requires far { 2 ^ 27 ≤ step }
+    requires step { step < 2 ^ 59 }
+    requires few { length payload.now < 2 ^ 31 }
+    requires room { at + record_len step (length payload.now) ≤ length into.old }
+    ensures put { into.new ≡ put_at at (record_text order step payload.now) into.old }
+    ensures behind { result ≡ at + record_len step (length payload.now) }
+{
+    put_extend(order, step, at, into);
+    put_event(order, 0, payload, at + 8, into)
+}
+
 /// Puts an event behind a step of time, with a time extend where the step needs it, and gives the place behind it.
-#[tactic(auto, using(crate::proofs::Putting::put_near, crate::proofs::Putting::put_far), unfolding(crate::specs::Fill::record_len))]
+#[inline(always)]
+#[tactic(auto, using(crate::proofs::Putting::put_near), unfolding(crate::specs::Fill::record_len))]
 pub fn put_record(order: Order, step: u64, payload: &[u8], at: usize, into: &mut [u8]) -> usize
     requires step { step < 2 ^ 59 }
     requires few { length payload.now < 2 ^ 31 }
@@ -146,7 +189,6 @@ pub fn put_record(order: Order, step: u64, payload: &[u8], at: usize, into: &mut
     if step < 1 << DELTA_BITS {
         put_event(order, step as u32, payload, at, into)
     } else {
-        put_extend(order, step, at, into);
-        put_event(order, 0, payload, at + 8, into)
+        put_far_record(order, step, payload, at, into)
     }
 }

@@ -1,7 +1,7 @@
-use Rattle.std.proofs.Common.{◌≡◌, true, false, length, ◌∙◌, sym, arith}
+use Rattle.std.proofs.Common.{◌≡◌, true, length, ◌∙◌, sym, arith}
 use Rattle.page_write.specs.Record.{is_short}
-use Rattle.page_write.proofs.Filling.{event_len-short, event_len-long}
-use Rattle.page_write.proofs.Putting.{put_short, put_long_event}
+use Rattle.page_write.proofs.Filling.{event_len-short}
+use Rattle.page_write.proofs.Putting.{put_short}
 use Rattle.page_write.proofs.put.put_event.Goals as goal
 
 pub returns-then-is_in_first_word-clause-put : goal.returns-then-is_in_first_word-clause-put
@@ -10,10 +10,3 @@ returns-then-is_in_first_word-clause-put c =
     let short : is_short n ≡ true = sym c.is_in_first_word.ensures ∙ c.if-is_in_first_word.true in
     rw (c.put_piece.ensures, c.put_first_word.ensures)
     (put_short c.args.order c.args.delta c.args.payload.now c.args.at c.args.into.now short (omega (arith, c.requires.room, event_len-short n short)))
-
-pub returns-else-is_in_first_word-clause-put : goal.returns-else-is_in_first_word-clause-put
-returns-else-is_in_first_word-clause-put c =
-    let n = length c.args.payload.now in
-    let long : is_short n ≡ false = sym c.is_in_first_word.ensures ∙ c.if-is_in_first_word.false in
-    rw (c.put_zeros.ensures, c.put_piece-else-is_in_first_word.ensures, c.put_word.ensures, c.put_first_word-else-is_in_first_word.ensures, c.filled_up-filled.ensures)
-    (put_long_event c.args.order c.args.delta c.args.payload.now c.args.at c.args.into.now long (omega (arith, c.requires.room, event_len-long n long)))
