@@ -10,7 +10,7 @@ use std::test::Fail;
 use std::thread::Threads;
 use trace_outside::Gate;
 use trace_samples::Page::Of;
-use trace_samples::layout;
+use trace_samples::{Page, layout};
 
 /// A gate that counts who enters, and keeps each until so many are inside at once or its turns run out.
 #[derive(Drop)]
@@ -42,10 +42,11 @@ impl Gate for Meeting {
     }
 }
 
-/// Of six lanes all but that of processor 2 hold a sub-buffer. The entries, and whether so many were inside at once.
+/// Six lanes with these sub-buffers are formatted. The entries, and whether so many were inside at once.
 fn entries<R: Threads + Sync>(
     rt: &R,
     alloc: Global,
+    pages: &[Page<'_>],
     workers: u32,
     wanted: u64,
     turns: u32,
@@ -54,8 +55,7 @@ fn entries<R: Threads + Sync>(
         return Ok((0, false));
     }
     let layout = layout();
-    let one = Of(&[4]);
-    let mut file = file_of(alloc, &[one, one, Of(&[]), one, one, one])?;
+    let mut file = file_of(alloc, pages)?;
     let mut pool = Pool::new(alloc, 6, 4096, 16)?;
     let lanes = pool.lanes();
     open_lanes(&layout, &mut file, lanes, 16);
@@ -73,6 +73,8 @@ fn entries<R: Threads + Sync>(
 // As many lanes are inside at once as there are workers, where there are so many, and never more.
 #[test]
 fn each_lane_enters_once_and_no_more_at_once_than_workers(rt: HostRuntime) -> Result<(), Fail> {
+    let (one, none) = (Of(&[4]), Of(&[]));
+    let pages = [one, one, none, one, one, one];
     let (short, long) = (10_000_000, 1_000_000_000);
     for (workers, wanted, turns, met) in [
         (1, 2, short, false),
@@ -82,11 +84,26 @@ fn each_lane_enters_once_and_no_more_at_once_than_workers(rt: HostRuntime) -> Re
         (3, 4, short, false),
         (64, 5, long, true),
     ] {
-        let (entries, found) = entries(&rt, rt.alloc(), workers, wanted, turns)?;
+        let (entries, found) = entries(&rt, rt.alloc(), &pages, workers, wanted, turns)?;
         assert!(rt;
             entries == 0x11_1011 && found == met,
             "{workers} workers, {wanted} inside"
         );
+    }
+    Ok(())
+}
+
+// Two lanes that hold items are inside at once with two workers, wherever they stand among those that hold none.
+#[test]
+fn two_lanes_with_items_enter_at_once(rt: HostRuntime) -> Result<(), Fail> {
+    let (one, none) = (Of(&[4]), Of(&[]));
+    for (pages, wanted) in [
+        ([one, one, none, none, none, none], 0x11),
+        ([none, none, none, one, one, none], 0x1_1000),
+        ([one, none, none, none, none, one], 0x10_0001),
+    ] {
+        let (entries, met) = entries(&rt, rt.alloc(), &pages, 2, 2, 1_000_000_000)?;
+        assert!(rt; entries == wanted && met, "{entries} entries");
     }
     Ok(())
 }
