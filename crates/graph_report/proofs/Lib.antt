@@ -2,6 +2,4 @@ pub mod Spaces
 pub mod LineEnds
 pub mod CallLines
 pub mod RolePlaces
-pub mod PartReads
-pub mod Reading
 pub mod Taking

@@ -1,11 +1,12 @@
 -- What lanes read: each reads its sub-buffers once, and these are bytes of its part.
-use Rattle.std.proofs.Common.{◌≡◌, ℕ, zero, suc, ◌+◌, ◌-◌, ◌*◌, ◌<◌, ◌≤◌, true, List, [], ◌∷◌, length, get_or, set, sum_by, refl, ap, ◌∙◌, arith, ◌⊎◌, inl, inr}
+use Rattle.std.proofs.Common.{◌≡◌, ℕ, zero, suc, ◌+◌, ◌-◌, ◌*◌, ◌<◌, ◌≤◌, true, List, [], ◌∷◌, length, get_or, set, sum_by, refl, ap, subst, ◌∙◌, arith, ◌⊎◌, inl, inr}
 use Rattle.std.specs.List.{All, range_with_len}
 use Rattle.std.proofs.lemmas.Bool.{cases_Bool, cases_lt, leb-true, and_parts}
 use Rattle.std.proofs.lemmas.List.Elements.{All-head, All-tail}
 use Rattle.std.proofs.lemmas.List.Sums.{sum_by-cons, sum_by-set}
 use Rattle.trace_base.specs.declared.layout.Layout.{Layout}
 use Rattle.trace_base.specs.declared.part.Part.{Part}
+use Rattle.trace_outside.specs.Causes.{raised}
 use Rattle.subpage.specs.Processor.{page_count}
 use Rattle.page_pool.specs.declared.cursor.LaneState.{LaneState}
 use Rattle.page_pool.specs.declared.cursor.LaneState.TheVariants.{Fresh, Held, Ended, Malformed}
@@ -79,12 +80,44 @@ module _ (l : Layout) (len : ℕ) where
       let here : reading l len a ≡ 0 = ready_reads a.cursor.state (held_left l a) _ (All-head (IsReady l) a lanes ready) in
       omega (arith, sum_by-cons (reading l len) a lanes, here, none_reading lanes (All-tail (IsReady l) a lanes ready))
 
-  -- a step reads nothing
-  stepped_unread : (a now : Lane) → IsStepped l a now → unread l len now ≡ unread l len a
-  stepped_unread a now s =
-      ap (λ (q : Part). size_from l len q (first_unread now.cursor.state now.cursor.next)) s.page.part
-      ∙ ap (λ (t : LaneState). size_from l len a.part (first_unread t now.cursor.next)) s.page.state
-      ∙ ap (λ (k : ℕ). size_from l len a.part (first_unread a.cursor.state k)) s.page.next
+  -- a lane reads nothing where it stays at its sub-buffer, and so does a lane among several
+  pub same_unread : (a now : Lane) → now.part ≡ a.part → now.cursor.state ≡ a.cursor.state → now.cursor.next ≡ a.cursor.next → unread l len now ≡ unread l len a
+  same_unread a now part state next =
+      ap (λ (q : Part). size_from l len q (first_unread now.cursor.state now.cursor.next)) part
+      ∙ ap (λ (t : LaneState). size_from l len a.part (first_unread t now.cursor.next)) state
+      ∙ ap (λ (k : ℕ). size_from l len a.part (first_unread a.cursor.state k)) next
 
+  pub set_unread : (lanes : List Lane) (i : ℕ) (d now : Lane) → i < length lanes → unread l len now ≡ unread l len (get_or lanes i d) → all_unread l len (set lanes i now) ≡ all_unread l len lanes
+  set_unread lanes i d now lt same = omega (arith, sum_by-set (unread l len) lanes i now d lt, same)
+
+  -- a step reads nothing
   pub stepping_unread : (lanes : List Lane) (i : ℕ) (d now : Lane) → i < length lanes → IsStepped l (get_or lanes i d) now → all_unread l len (set lanes i now) ≡ all_unread l len lanes
-  stepping_unread lanes i d now lt s = omega (arith, sum_by-set (unread l len) lanes i now d lt, stepped_unread (get_or lanes i d) now s)
+  stepping_unread lanes i d now lt s = set_unread lanes i d now lt (same_unread (get_or lanes i d) now s.page.part s.page.state s.page.next)
+
+-- loading, after what was read before
+pub loading_reads : (l : Layout) (len now_len : ℕ) (lanes lanes1 : List Lane) (first before after all : ℕ) → now_len ≡ len → before ≤ raised first (all - all_unread l len lanes) → all_unread l len lanes ≤ all
+    → after ≤ raised before (all_unread l now_len lanes - all_unread l now_len lanes1 + all_reading l now_len lanes1) → all_unread l now_len lanes1 ≤ all_unread l now_len lanes
+    → (after ≤ raised first (all - all_unread l len lanes1 + all_reading l len lanes1)) × (all_unread l len lanes1 ≤ all)
+loading_reads l len now_len lanes lanes1 first before after all same read le more less =
+    let more_here = subst (λ (n : ℕ). after ≤ raised before (all_unread l n lanes - all_unread l n lanes1 + all_reading l n lanes1)) same more in
+    let less_here = subst (λ (n : ℕ). all_unread l n lanes1 ≤ all_unread l n lanes) same less in
+    (omega (arith, read, le, more_here, less_here), omega (arith, le, less_here))
+
+-- loading, and then what reads nothing
+pub going_reads : (l : Layout) (len now_len : ℕ) (lanes lanes1 lanes2 : List Lane) (first before after all : ℕ) → now_len ≡ len → all_unread l len lanes2 ≡ all_unread l len lanes1 → All (IsReady l) lanes1
+    → before ≤ raised first (all - all_unread l len lanes) → all_unread l len lanes ≤ all
+    → after ≤ raised before (all_unread l now_len lanes - all_unread l now_len lanes1 + all_reading l now_len lanes1) → all_unread l now_len lanes1 ≤ all_unread l now_len lanes
+    → (after ≤ raised first (all - all_unread l len lanes2)) × (all_unread l len lanes2 ≤ all)
+going_reads l len now_len lanes lanes1 lanes2 first before after all same still ready read le more less =
+    let loaded = loading_reads l len now_len lanes lanes1 first before after all same read le more less in
+    let none = none_reading l len lanes1 ready in
+    (omega (arith, loaded.0, none, still), omega (arith, loaded.1, still))
+
+-- whatever ended the lanes, no more was read than their parts have
+pub reads_inside : (l : Layout) (len now_len : ℕ) (first_lanes lanes lanes1 : List Lane) (first before after : ℕ) → 0 < l.page → now_len ≡ len
+    → before ≤ raised first (all_unread l len first_lanes - all_unread l len lanes) → all_unread l len lanes ≤ all_unread l len first_lanes
+    → after ≤ raised before (all_unread l now_len lanes - all_unread l now_len lanes1 + all_reading l now_len lanes1) → all_unread l now_len lanes1 ≤ all_unread l now_len lanes
+    → after ≤ raised first (sum_by (λ part. part.1.size) (parts_of first_lanes))
+reads_inside l len now_len first_lanes lanes lanes1 first before after some same read le more less =
+    let r = loading_reads l len now_len lanes lanes1 first before after (all_unread l len first_lanes) same read le more less in
+    omega (arith, r.0, r.1, all_reading_in l len lanes1 some, all_inside l len first_lanes)

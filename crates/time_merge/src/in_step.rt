@@ -50,92 +50,6 @@ fn next_in(layout: &Layout, lanes: &[Lane], nexts: &LeastTree) -> Next
     }
 }
 
-/// Makes all lanes ready, brings the tree in step with them, and tells what comes next. It looks at each lane.
-fn first_lane<F: File>(
-    layout: &Layout,
-    file: &mut F,
-    lanes: &mut [Lane],
-    nexts: &mut LeastTree,
-) -> Result<Next, Failed>
-    requires allowed { IsLayout layout.now }
-    requires in_order { All (IsInOrder layout.now) lanes.old }
-    requires rise { CpusRise (parts_of lanes.old) }
-    requires slots { length nexts.old ≡ length lanes.old }
-    ensures in_order { All (IsInOrder layout.now) lanes.new }
-    ensures parts { parts_of lanes.new ≡ parts_of lanes.old }
-    ensures nexts { OnOk result (nexts.new ≡ map (next_of layout.now) lanes.new) }
-    ensures slots { length nexts.new ≡ length nexts.old }
-    ensures holds { IfOk result (HoldsNext layout.now lanes.new) }
-    ensures ready { OnOk result (All (IsReady layout.now) lanes.new) }
-    ensures advance { (i : ℕ) (d : Lane) → i < length lanes.old
-        → Advances (slice_index_or lanes.old i d) (slice_index_or lanes.new i d) }
-    ensures rows { IfSome (F.bytes file.old) (λ bytes.
-        rows_of layout.now bytes lanes.new ≡ rows_of layout.now bytes lanes.old) }
-    ensures stands { IfSome (F.bytes file.old) (λ bytes.
-        All (Stands layout.now bytes) lanes.old → All (Stands layout.now bytes) lanes.new) }
-    ensures next { IfOk result (λ next. IfSome (F.bytes file.old) (λ bytes.
-        All (Stands layout.now bytes) lanes.old → IsNext layout.now bytes lanes.new next)) }
-    ensures most { sum_by (most_left layout.now) lanes.new ≤ sum_by (most_left layout.now) lanes.old }
-    ensures cause { HasCause (F.faults file.old) (F.faults file.new) result }
-    // Each sub-buffer is read once.
-    ensures reads { F.reads file.new ≤ raised (F.reads file.old)
-        (all_unread layout.now (F.size file.old) lanes.old - all_unread layout.now (F.size file.old) lanes.new
-        + all_reading layout.now (F.size file.old) lanes.new) }
-    ensures stops { OnErr result (HasStopped layout.now (F.size file.old) lanes.old lanes.new (F.reads file.old)
-        (F.reads file.new)) }
-    ensures unread { all_unread layout.now (F.size file.old) lanes.new
-        ≤ all_unread layout.now (F.size file.old) lanes.old }
-    ensures keeps { KeepsFile F.File file.old file.new }
-{
-    make_all_ready(layout, file, lanes)?;
-    take_nexts(layout, lanes, nexts);
-    Ok(next_in(layout, lanes, nexts))
-}
-
-/// Makes the lane ready of which an item was used, and tells what comes next of all. It looks at that lane alone.
-fn lane_behind<F: File>(
-    layout: &Layout,
-    file: &mut F,
-    lanes: &mut [Lane],
-    nexts: &mut LeastTree,
-    used: usize,
-) -> Result<Next, Failed>
-    requires allowed { IsLayout layout.now }
-    requires in_order { All (IsInOrder layout.now) lanes.old }
-    requires rise { CpusRise (parts_of lanes.old) }
-    requires slots { length nexts.old ≡ length lanes.old }
-    requires in_step { IsInStepBut layout.now lanes.old nexts.old used }
-    ensures in_order { All (IsInOrder layout.now) lanes.new }
-    ensures parts { parts_of lanes.new ≡ parts_of lanes.old }
-    ensures nexts { OnOk result (nexts.new ≡ map (next_of layout.now) lanes.new) }
-    ensures slots { length nexts.new ≡ length nexts.old }
-    ensures holds { IfOk result (HoldsNext layout.now lanes.new) }
-    ensures ready { OnOk result (All (IsReady layout.now) lanes.new) }
-    ensures advance { (i : ℕ) (d : Lane) → i < length lanes.old
-        → Advances (slice_index_or lanes.old i d) (slice_index_or lanes.new i d) }
-    ensures rows { IfSome (F.bytes file.old) (λ bytes.
-        rows_of layout.now bytes lanes.new ≡ rows_of layout.now bytes lanes.old) }
-    ensures stands { IfSome (F.bytes file.old) (λ bytes.
-        All (Stands layout.now bytes) lanes.old → All (Stands layout.now bytes) lanes.new) }
-    ensures next { IfOk result (λ next. IfSome (F.bytes file.old) (λ bytes.
-        All (Stands layout.now bytes) lanes.old → IsNext layout.now bytes lanes.new next)) }
-    ensures most { sum_by (most_left layout.now) lanes.new ≤ sum_by (most_left layout.now) lanes.old }
-    ensures cause { HasCause (F.faults file.old) (F.faults file.new) result }
-    // Each sub-buffer is read once.
-    ensures reads { F.reads file.new ≤ raised (F.reads file.old)
-        (all_unread layout.now (F.size file.old) lanes.old - all_unread layout.now (F.size file.old) lanes.new
-        + all_reading layout.now (F.size file.old) lanes.new) }
-    ensures stops { OnErr result (HasStopped layout.now (F.size file.old) lanes.old lanes.new (F.reads file.old)
-        (F.reads file.new)) }
-    ensures unread { all_unread layout.now (F.size file.old) lanes.new
-        ≤ all_unread layout.now (F.size file.old) lanes.old }
-    ensures keeps { KeepsFile F.File file.old file.new }
-{
-    make_one_ready(layout, file, lanes, used)?;
-    nexts.set(used, next_of(layout, &lanes[used]));
-    Ok(next_in(layout, lanes, nexts))
-}
-
 /// What [`crate::next_lane`] tells, by a tree that is in step with the lanes: after the first call it looks at one lane
 /// alone, however many there are.
 ///
@@ -184,7 +98,15 @@ pub fn next_lane_by<F: File>(
     ensures keeps { KeepsFile F.File file.old file.new }
 {
     match used {
-        None => first_lane(layout, file, lanes, nexts),
-        Some(used) => lane_behind(layout, file, lanes, nexts, used),
+        None => {
+            make_all_ready(layout, file, lanes)?;
+            take_nexts(layout, lanes, nexts);
+            Ok(next_in(layout, lanes, nexts))
+        }
+        Some(used) => {
+            make_one_ready(layout, file, lanes, used)?;
+            nexts.set(used, next_of(layout, &lanes[used]));
+            Ok(next_in(layout, lanes, nexts))
+        }
     }
 }

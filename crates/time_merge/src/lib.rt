@@ -13,6 +13,7 @@ mod in_step;
 pub mod laws;
 mod next_lanes;
 mod ready;
+mod setting;
 
 pub use best::better;
 pub use ending::End;
@@ -21,3 +22,4 @@ pub use horizons::Horizon;
 pub use in_step::next_lane_by;
 pub use next_lanes::{Next, next_lane};
 pub use ready::make_all_ready;
+pub use setting::set_lanes;

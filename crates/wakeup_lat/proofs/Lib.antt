@@ -5,4 +5,3 @@ pub mod RolePlaces
 pub mod Putting
 pub mod NoNewline
 pub mod ThreePuts
-pub mod UnusedLanes

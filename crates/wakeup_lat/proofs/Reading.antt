@@ -1,125 +1,17 @@
--- What gathering reads: each lane reads its sub-buffers once, and these are bytes of its part.
-use Rattle.std.proofs.Common.{◌≡◌, ℕ, zero, suc, ◌+◌, ◌-◌, ◌*◌, ◌<◌, ◌≤◌, true, List, [], ◌∷◌, length, get_or, set, sum_by, refl, ap, subst, ◌∙◌, arith, ◌⊎◌, inl, inr}
-use Rattle.std.specs.List.{All, range_with_len}
-use Rattle.std.proofs.lemmas.Bool.{cases_Bool, cases_lt, leb-true, and_parts}
-use Rattle.std.proofs.lemmas.List.Elements.{All-head, All-tail}
-use Rattle.std.proofs.lemmas.List.Sums.{sum_by-cons, sum_by-set}
+-- Lanes whose items are used up read nothing, and keep their parts.
+use Rattle.std.proofs.Common.{◌≡◌, ℕ, ◌<◌, List, length, get_or, set, ◌∙◌}
 use Rattle.trace_base.specs.declared.layout.Layout.{Layout}
-use Rattle.trace_base.specs.declared.part.Part.{Part}
-use Rattle.trace_outside.specs.Causes.{raised}
-use Rattle.subpage.specs.Processor.{page_count}
 use Rattle.page_pool.specs.declared.lane.Lane.{Lane}
-use Rattle.page_pool.specs.declared.cursor.LaneState.{LaneState}
-use Rattle.page_pool.specs.declared.cursor.LaneState.TheVariants.{Fresh, Held, Ended, Malformed}
-use Rattle.event_cursor.specs.Standing.{held_left}
-use Rattle.event_cursor.specs.Unread.{is_there_in, size_there, size_from, first_unread, unread, reading, reading_in}
-use Rattle.event_cursor.proofs.UnreadLaws.{size_step}
-use Rattle.event_cursor.proofs.UsedItems.{held_counts}
-use Rattle.time_merge.specs.LaneRows.{IsReady, parts_of}
-use Rattle.time_merge.specs.Reads.{all_unread, all_reading}
-use Rattle.time_merge.proofs.LaneReads.{ready_reads}
+use Rattle.time_merge.specs.LaneRows.{parts_of}
+use Rattle.time_merge.specs.Reads.{all_unread}
+use Rattle.time_merge.proofs.PartReads.{same_unread, set_unread}
 use Rattle.time_merge.proofs.Readying.{set_parts}
 use Rattle.report_print.specs.Given.{Given}
 use Rattle.wakeup_lat.specs.Skipping.{IsUsedUp}
 
-pub none_reading : (l : Layout) (len : ℕ) (lanes : List Lane) → All (IsReady l) lanes → all_reading l len lanes ≡ 0
-none_reading l len [] ready = refl
-none_reading l len (a ∷ lanes) ready =
-    let here : reading l len a ≡ 0 = ready_reads a.cursor.state (held_left l a) _ (All-head (IsReady l) a lanes ready) in
-    omega (arith, sum_by-cons (reading l len) a lanes, here, none_reading l len lanes (All-tail (IsReady l) a lanes ready))
+pub using_unread : (given : Given) (l : Layout) (len : ℕ) (lanes : List Lane) (i : ℕ) (d now : Lane) → i < length lanes → IsUsedUp given l (get_or lanes i d) now → all_unread l len (set lanes i now) ≡ all_unread l len lanes
+using_unread given l len lanes i d now lt s =
+    set_unread l len lanes i d now lt (same_unread l len (get_or lanes i d) now (s.skipped.part ∙ s.stepped.page.part) (s.skipped.state ∙ s.stepped.page.state) (s.skipped.next ∙ s.stepped.page.next))
 
--- loading, after what was read before
-pub loading_reads : (l : Layout) (len now_len : ℕ) (lanes lanes1 : List Lane) (first before after all : ℕ) → now_len ≡ len → before ≤ raised first (all - all_unread l len lanes) → all_unread l len lanes ≤ all
-    → after ≤ raised before (all_unread l now_len lanes - all_unread l now_len lanes1 + all_reading l now_len lanes1) → all_unread l now_len lanes1 ≤ all_unread l now_len lanes
-    → (after ≤ raised first (all - all_unread l len lanes1 + all_reading l len lanes1)) × (all_unread l len lanes1 ≤ all)
-loading_reads l len now_len lanes lanes1 first before after all same read le more less =
-    let more_here = subst (λ (n : ℕ). after ≤ raised before (all_unread l n lanes - all_unread l n lanes1 + all_reading l n lanes1)) same more in
-    let less_here = subst (λ (n : ℕ). all_unread l n lanes1 ≤ all_unread l n lanes) same less in
-    (omega (arith, read, le, more_here, less_here), omega (arith, le, less_here))
-
--- a lane whose items are used up reads nothing
-used_unread : (given : Given) (l : Layout) (len : ℕ) (a now : Lane) → IsUsedUp given l a now → unread l len now ≡ unread l len a
-used_unread given l len a now s =
-    ap (λ (q : Part). size_from l len q (first_unread now.cursor.state now.cursor.next)) (s.skipped.part ∙ s.stepped.page.part)
-    ∙ ap (λ (t : LaneState). size_from l len a.part (first_unread t now.cursor.next)) (s.skipped.state ∙ s.stepped.page.state)
-    ∙ ap (λ (k : ℕ). size_from l len a.part (first_unread a.cursor.state k)) (s.skipped.next ∙ s.stepped.page.next)
-
-using_unread : (given : Given) (l : Layout) (len : ℕ) (lanes : List Lane) (i : ℕ) (d now : Lane) → i < length lanes → IsUsedUp given l (get_or lanes i d) now → all_unread l len (set lanes i now) ≡ all_unread l len lanes
-using_unread given l len lanes i d now lt s = omega (arith, sum_by-set (unread l len) lanes i now d lt, used_unread given l len (get_or lanes i d) now s)
-
--- loading, and using up
-pub going_reads : (given : Given) (l : Layout) (len now_len : ℕ) (lanes lanes1 : List Lane) (i : ℕ) (d now : Lane) (first before after all : ℕ) → now_len ≡ len → i < length lanes1 → IsUsedUp given l (get_or lanes1 i d) now → All (IsReady l) lanes1
-    → before ≤ raised first (all - all_unread l len lanes) → all_unread l len lanes ≤ all
-    → after ≤ raised before (all_unread l now_len lanes - all_unread l now_len lanes1 + all_reading l now_len lanes1) → all_unread l now_len lanes1 ≤ all_unread l now_len lanes
-    → (after ≤ raised first (all - all_unread l len (set lanes1 i now))) × (all_unread l len (set lanes1 i now) ≤ all)
-going_reads given l len now_len lanes lanes1 i d now first before after all same lt s ready read le more less =
-    let loaded = loading_reads l len now_len lanes lanes1 first before after all same read le more less in
-    let none = none_reading l len lanes1 ready in
-    let still = using_unread given l len lanes1 i d now lt s in
-    (omega (arith, loaded.0, none, still), omega (arith, loaded.1, still))
-
--- it uses up no part
 pub used_parts : (given : Given) (l : Layout) (lanes : List Lane) (i : ℕ) (d now : Lane) → i < length lanes → IsUsedUp given l (get_or lanes i d) now → parts_of (set lanes i now) ≡ parts_of lanes
 used_parts given l lanes i d now lt s = set_parts lanes i d now lt (s.skipped.cpu ∙ s.stepped.page.cpu) (s.skipped.part ∙ s.stepped.page.part)
-
-module _ (l : Layout) (len : ℕ) where
-  pub size_none : (part : Part) (k : ℕ) → page_count l part ≤ k → size_from l len part k ≡ 0
-  unfolding size_from
-  size_none part k le = let none : page_count l part - k ≡ 0 = omega (arith, le) in ap (λ (n : ℕ). sum_by (size_there l len part) (range_with_len k n)) none
-
-  -- a sub-buffer that is there stands in its part
-  pub there_inside : (part : Part) (k : ℕ) → is_there_in l len part k ≡ true → (k + 1) * l.page ≤ part.size
-  there_inside part k there = leb-true _ _ (and_parts _ _ (and_parts _ _ there).0).0
-
-  there_size : (part : Part) (k : ℕ) → size_there l len part k + (part.size - (k + 1) * l.page) ≤ part.size - k * l.page
-  there_size part k = elim (cases_Bool (is_there_in l len part k)) as (λ _. size_there l len part k + (part.size - (k + 1) * l.page) ≤ part.size - k * l.page) [
-    | inl there ↦ rw there (omega (arith, there_inside part k there))
-    | inr not_there ↦ rw not_there (omega arith)
-  ]
-
-  pub size_inside : (n : ℕ) (part : Part) (k : ℕ) → page_count l part - k ≤ n → size_from l len part k ≤ part.size - k * l.page
-  size_inside zero part k le = omega (arith, size_none part k (omega (arith, le)))
-  size_inside (suc n) part k le = elim (cases_le k) as (λ _. size_from l len part k ≤ part.size - k * l.page) [
-    | inl lt ↦ omega (arith, size_step l len part k lt, there_size part k, size_inside n part (k + 1) (omega (arith, le)))
-    | inr past ↦ omega (arith, size_none part k past)
-  ]
-    where
-      cases_le : (k : ℕ) → (k < page_count l part) ⊎ (page_count l part ≤ k)
-      cases_le k = cases_lt k (page_count l part)
-
-  unread_inside : (a : Lane) → unread l len a ≤ a.part.size
-  unread_inside a =
-      let k : ℕ = first_unread a.cursor.state a.cursor.next in
-      let inside : unread l len a ≤ a.part.size - k * l.page = size_inside (page_count l a.part) a.part k (omega arith) in
-      omega (arith, inside)
-
-  pub all_inside : (lanes : List Lane) → all_unread l len lanes ≤ sum_by (λ part. part.1.size) (parts_of lanes)
-  all_inside [] = omega arith
-  all_inside (a ∷ lanes) =
-      omega (arith, unread_inside a, all_inside lanes, sum_by-cons (unread l len) a lanes, sum_by-cons (λ (part : ℕ × Part). part.1.size) (a.cpu, a.part) (parts_of lanes))
-
-  there_from : (part : Part) (k : ℕ) → 0 < l.page → size_there l len part k ≤ size_from l len part k
-  there_from part k some = elim (cases_Bool (is_there_in l len part k)) as (λ _. size_there l len part k ≤ size_from l len part k) [
-    | inl there ↦ omega (arith, size_step l len part k (held_counts part.size l.page k some (there_inside part k there)))
-    | inr not_there ↦ rw not_there (omega arith)
-  ]
-
-  reading_in_unread : (s : LaneState) (part : Part) (k : ℕ) → 0 < l.page → reading_in s (size_there l len part k) ≤ size_from l len part (first_unread s k)
-  reading_in_unread Fresh part k some = there_from part k some
-  reading_in_unread Held part k some = omega arith
-  reading_in_unread Ended part k some = omega arith
-  reading_in_unread Malformed part k some = omega arith
-
-  pub all_reading_in : (lanes : List Lane) → 0 < l.page → all_reading l len lanes ≤ all_unread l len lanes
-  all_reading_in [] some = omega arith
-  all_reading_in (a ∷ lanes) some =
-      omega (arith, reading_in_unread a.cursor.state a.part a.cursor.next some, all_reading_in lanes some, sum_by-cons (unread l len) a lanes, sum_by-cons (reading l len) a lanes)
-
--- the bytes of the lanes' parts bound what was read
-pub reads_end : (l : Layout) (len now_len : ℕ) (first lanes lanes1 : List Lane) (start before after : ℕ) → 0 < l.page → now_len ≡ len
-    → before ≤ raised start (all_unread l len first - all_unread l len lanes) → all_unread l len lanes ≤ all_unread l len first
-    → after ≤ raised before (all_unread l now_len lanes - all_unread l now_len lanes1 + all_reading l now_len lanes1) → all_unread l now_len lanes1 ≤ all_unread l now_len lanes
-    → after ≤ raised start (sum_by (λ part. part.1.size) (parts_of first))
-reads_end l len now_len first lanes lanes1 start before after some same read le more less =
-    let got = loading_reads l len now_len lanes lanes1 start before after (all_unread l len first) same read le more less in
-    omega (arith, got.0, got.1, all_reading_in l len lanes1 some, all_inside l len first)

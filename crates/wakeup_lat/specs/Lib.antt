@@ -1,4 +1,3 @@
-pub mod Lanes
 pub mod Roles
 pub mod Skipping
 pub mod Section

@@ -1,6 +1,7 @@
 ghost use Rattle.std.specs.Prelude.{◌≡◌, ◌≤◌, All, IfOk, IfSome, Err, length, map, sum_by};
 ghost use Rattle.trace_base.specs.Layout.{IsLayout};
 ghost use Rattle.trace_outside.specs.Causes.{Rose, raised};
+ghost use Rattle.trace_outside.specs.Keeping.{KeepsFile};
 ghost use Rattle.subpage.specs.Arrangement.{CpusRise};
 ghost use Rattle.subpage.specs.Cut.{reached_of};
 ghost use Rattle.page_pool.specs.Fresh.{IsFresh};
@@ -10,7 +11,6 @@ ghost use Rattle.wakeup_pairs.specs.Pairs.{ArePairs};
 ghost use Rattle.wakeup_lat.specs.Roles.{all_seen, role_of};
 ghost use Rattle.wakeup_lat.specs.declared.gathering.GatherFault.TheVariants.{Read};
 
-use crate::lanes::set_lanes;
 use crate::role::Role;
 use crate::seeing::roles_of;
 use crate::skipping::use_up;
@@ -20,7 +20,7 @@ use least_tree::LeastTree;
 use page_pool::{Lane, Pool};
 use report_print::Context;
 use std::alloc::Global;
-use time_merge::{Next, next_lane_by};
+use time_merge::{Next, next_lane_by, set_lanes};
 use trace_base::{Layout, Part};
 use trace_outside::{Failed, File};
 use wakeup_pairs::Wakeups;
@@ -103,11 +103,9 @@ fn gather_by<F: File>(
     ensures pairs { IfSome (F.bytes file.old) (λ bytes. IfOk result (λ wakeups.
         ArePairs (all_seen context.now (reached_of layout.now bytes (parts_of lanes.old))) wakeups.pairs)) }
     ensures read { result ≡ Err GatherFault.Read → Rose (F.faults file.old) (F.faults file.new) }
-    ensures later { F.faults file.old ≤ F.faults file.new }
     ensures reads { F.reads file.new
         ≤ raised (F.reads file.old) (sum_by (λ part. part.1.size) (parts_of lanes.old)) }
-    ensures bytes { F.bytes file.new ≡ F.bytes file.old }
-    ensures size { F.size file.new ≡ F.size file.old }
+    ensures keeps { KeepsFile F.File file.old file.new }
 {
     let mut used = None;
     let mut wakeups = Wakeups::new(alloc);

@@ -7,7 +7,6 @@
 #![tactic(auto)]
 
 mod gathering;
-mod lanes;
 mod lines;
 mod role;
 mod section;

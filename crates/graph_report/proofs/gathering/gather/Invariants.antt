@@ -2,6 +2,7 @@ use Rattle.std.proofs.Common.{◌≡◌, ◌-◌, ◌≤◌, length, sum_by}
 use Rattle.std.specs.Option.{IfSome}
 use Rattle.std.specs.List.{All}
 use Rattle.trace_outside.specs.Causes.{raised}
+use Rattle.trace_outside.specs.Keeping.{KeepsFile}
 use Rattle.event_cursor.specs.Standing.{IsInOrder, most_left}
 use Rattle.time_merge.specs.LaneRows.{parts_of}
 use Rattle.time_merge.specs.Nexts.{IsInStep}
@@ -22,9 +23,7 @@ invariant-loop-tracing g l = record {
       ≤ raised (g.F.File.reads l.fn.file)
       (all_unread l.layout (g.F.File.size l.fn.file) l.fn.lanes - all_unread l.layout (g.F.File.size l.fn.file) l.lanes);
   unread : all_unread l.layout (g.F.File.size l.fn.file) l.lanes ≤ all_unread l.layout (g.F.File.size l.fn.file) l.fn.lanes;
-  bytes : g.F.File.bytes l.file ≡ g.F.File.bytes l.fn.file;
-  size : g.F.File.size l.file ≡ g.F.File.size l.fn.file;
-  later : g.F.File.faults l.fn.file ≤ g.F.File.faults l.file;
+  keeps : KeepsFile g.F.File l.fn.file l.file;
 }
 
 abbrev pub decreases-loop-tracing : goal.decreases-loop-tracing

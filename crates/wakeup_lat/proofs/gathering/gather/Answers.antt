@@ -5,16 +5,16 @@ use Rattle.subpage.specs.Arrangement.{CpusRise}
 use Rattle.subpage.specs.Cut.{reached_of}
 use Rattle.wakeup_pairs.specs.Pairs.{ArePairs}
 use Rattle.wakeup_lat.specs.Roles.{all_seen}
-use Rattle.wakeup_lat.proofs.UnusedLanes.{new_unused, unused_fresh, unused_in_order}
+use Rattle.time_merge.proofs.UnusedLanes.{new_unused, unused_fresh, unused_in_order}
 use Rattle.wakeup_lat.proofs.gathering.gather.Goals as goal
 
 pub gather_by-requires-clause-fresh : goal.gather_by-requires-clause-fresh
 gather_by-requires-clause-fresh g c =
-    unused_fresh c.args.layout.now.page _ (c.set_lanes.ensures.unused _ (new_unused _ _ _ _ c.lanes-lanes.ensures.value c.in-Ok-new.ensures.lanes))
+    unused_fresh c.args.layout.now.page 0 _ (c.set_lanes.ensures.unused _ 0 (new_unused _ _ _ _ c.lanes-lanes.ensures.value c.in-Ok-new.ensures.lanes))
 
 pub gather_by-requires-clause-in_order : goal.gather_by-requires-clause-in_order
 gather_by-requires-clause-in_order g c =
-    unused_in_order c.args.layout.now _ (c.set_lanes.ensures.unused _ (new_unused _ _ _ _ c.lanes-lanes.ensures.value c.in-Ok-new.ensures.lanes))
+    unused_in_order c.args.layout.now 0 _ (c.set_lanes.ensures.unused _ 0 (new_unused _ _ _ _ c.lanes-lanes.ensures.value c.in-Ok-new.ensures.lanes))
 
 pub gather_by-requires-clause-rise : goal.gather_by-requires-clause-rise
 gather_by-requires-clause-rise g c =

@@ -1,7 +1,7 @@
 use Rattle.std.proofs.Common.{◌<◌, length, arith, ◌∙◌}
 use Rattle.std.proofs.lemmas.List.{length-set}
-use Rattle.wakeup_lat.proofs.UnusedLanes.{one_set, still_unused}
-use Rattle.wakeup_lat.proofs.lanes.set_lanes.Goals as goal
+use Rattle.time_merge.proofs.UnusedLanes.{one_set, still_unused}
+use Rattle.time_merge.proofs.setting.set_lanes.Goals as goal
 
 pub loop-i-preserved : goal.loop-i-preserved
 loop-i-preserved c =
@@ -11,5 +11,5 @@ loop-i-preserved c =
     record {
       same = length-set c.loop-i.lanes c.loop-i.i c.set_lane.new.lane ∙ so_far.same;
       parts = one_set c.loop-i.lanes c.args.parts.now c.loop-i.i c.set_lane.new.lane _ inside within c.set_lane.ensures.part.0 c.set_lane.ensures.part.1 so_far.parts;
-      unused = λ len all. still_unused len c.loop-i.lanes c.loop-i.i _ c.set_lane.new.lane inside c.set_lane.ensures.cursor c.set_lane.ensures.page (so_far.unused len all);
+      unused = λ len room all. still_unused len room c.loop-i.lanes c.loop-i.i _ c.set_lane.new.lane inside c.set_lane.ensures.cursor c.set_lane.ensures.page c.set_lane.ensures.region (so_far.unused len room all);
     }

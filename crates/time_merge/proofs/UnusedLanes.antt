@@ -10,7 +10,7 @@ use Rattle.page_pool.specs.declared.lane.Lane.{Lane}
 use Rattle.event_cursor.specs.Standing.{IsInOrder}
 use Rattle.time_merge.specs.LaneRows.{parts_of}
 use Rattle.time_merge.proofs.Starting.{fresh_in_order}
-use Rattle.wakeup_lat.specs.Lanes.{IsUnused}
+use Rattle.time_merge.specs.Unused.{IsUnused}
 
 -- one more lane has its processor and its part
 pub one_set : (lanes : List Lane) (parts : List (ℕ × Part)) (i : ℕ) (lane : Lane) (d : ℕ × Part) → i < length lanes → i < length parts
@@ -25,25 +25,25 @@ one_set lanes parts i lane d inside within cpu there so_far =
     ∙ sym (take_more parts i d within)
 
 -- and is as unused as before
-pub still_unused : (len : ℕ) (lanes : List Lane) (i : ℕ) (d lane : Lane) → i < length lanes → lane.cursor ≡ (get_or lanes i d).cursor → lane.page ≡ (get_or lanes i d).page
-    → All (IsUnused len) lanes → All (IsUnused len) (set lanes i lane)
-still_unused len lanes i d lane inside cursor page all =
-    let was : IsUnused len (get_or lanes i d) = All-get_or (IsUnused len) lanes i d inside all in
-    All-set (IsUnused len) lanes i lane record { fresh = subst IsFresh (sym cursor) was.fresh; page = page ∙ was.page } all
+pub still_unused : (len room : ℕ) (lanes : List Lane) (i : ℕ) (d lane : Lane) → i < length lanes → lane.cursor ≡ (get_or lanes i d).cursor → lane.page ≡ (get_or lanes i d).page
+    → lane.region ≡ (get_or lanes i d).region → All (IsUnused len room) lanes → All (IsUnused len room) (set lanes i lane)
+still_unused len room lanes i d lane inside cursor page region all =
+    let was : IsUnused len room (get_or lanes i d) = All-get_or (IsUnused len room) lanes i d inside all in
+    All-set (IsUnused len room) lanes i lane record { fresh = subst IsFresh (sym cursor) was.fresh; page = page ∙ was.page; region = region ∙ was.region } all
 
 pub all_set : (lanes : List Lane) (parts : List (ℕ × Part)) (i : ℕ) → length lanes ≡ length parts → length parts ≤ i → parts_of (take i lanes) ≡ take i parts → parts_of lanes ≡ parts
 all_set lanes parts i same past so_far =
     ap parts_of (sym (take_all i lanes (omega arith))) ∙ so_far ∙ take_all i parts past
 
 -- a pool's lanes are unused
-pub new_unused : (len room : ℕ) (made lanes : List Lane) → lanes ≡ made → All (IsNew len room) made → All (IsUnused len) lanes
+pub new_unused : (len room : ℕ) (made lanes : List Lane) → lanes ≡ made → All (IsNew len room) made → All (IsUnused len room) lanes
 new_unused len room made lanes are all =
-    subst (λ (xs : List Lane). All (IsUnused len) xs) (sym are)
-    (All-weaker (IsNew len room) (IsUnused len) (λ a new. record { fresh = new.cursor; page = new.page }) made all)
+    subst (λ (xs : List Lane). All (IsUnused len room) xs) (sym are)
+    (All-weaker (IsNew len room) (IsUnused len room) (λ a new. record { fresh = new.cursor; page = new.page; region = new.region }) made all)
 
-pub unused_fresh : (len : ℕ) (lanes : List Lane) → All (IsUnused len) lanes → All (λ (a : Lane). IsFresh a.cursor) lanes
-unused_fresh len lanes all = All-weaker (IsUnused len) (λ (a : Lane). IsFresh a.cursor) (λ a unused. unused.fresh) lanes all
+pub unused_fresh : (len room : ℕ) (lanes : List Lane) → All (IsUnused len room) lanes → All (λ (a : Lane). IsFresh a.cursor) lanes
+unused_fresh len room lanes all = All-weaker (IsUnused len room) (λ (a : Lane). IsFresh a.cursor) (λ a unused. unused.fresh) lanes all
 
-pub unused_in_order : (layout : Layout) (lanes : List Lane) → All (IsUnused layout.page) lanes → All (IsInOrder layout) lanes
-unused_in_order layout lanes all =
-    All-weaker (IsUnused layout.page) (IsInOrder layout) (λ a unused. fresh_in_order layout a unused.fresh (ap length unused.page ∙ length-replicate layout.page 0)) lanes all
+pub unused_in_order : (layout : Layout) (room : ℕ) (lanes : List Lane) → All (IsUnused layout.page room) lanes → All (IsInOrder layout) lanes
+unused_in_order layout room lanes all =
+    All-weaker (IsUnused layout.page room) (IsInOrder layout) (λ a unused. fresh_in_order layout a unused.fresh (ap length unused.page ∙ length-replicate layout.page 0)) lanes all

@@ -1,12 +1,12 @@
 use Rattle.std.proofs.Common.{◌≡◌, ℕ, length, take}
 use Rattle.std.specs.List.{All}
 use Rattle.time_merge.specs.LaneRows.{parts_of}
-use Rattle.wakeup_lat.specs.Lanes.{IsUnused}
-use Rattle.wakeup_lat.proofs.lanes.set_lanes.Given as goal
+use Rattle.time_merge.specs.Unused.{IsUnused}
+use Rattle.time_merge.proofs.setting.set_lanes.Given as goal
 
 abbrev pub invariant-loop-i : goal.invariant-loop-i
 invariant-loop-i l = record {
   same : length l.lanes ≡ length l.parts;
   parts : parts_of (take l.i l.lanes) ≡ take l.i l.parts;
-  unused : (len : ℕ) → All (IsUnused len) l.initial.lanes → All (IsUnused len) l.lanes;
+  unused : (len room : ℕ) → All (IsUnused len room) l.initial.lanes → All (IsUnused len room) l.lanes;
 }
