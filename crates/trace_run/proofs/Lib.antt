@@ -14,7 +14,7 @@ pub mod Endings
 pub mod SplitWords
 pub mod Taken
 pub mod Splits
-pub mod UnusedLanes
+pub mod LentLanes
 pub mod Jobs
 pub mod GeneratedReport
 pub mod SelfTested

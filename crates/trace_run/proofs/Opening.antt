@@ -36,7 +36,7 @@ use Rattle.trace_run.specs.Selection.{has, set_or_all}
 use Rattle.trace_run.specs.Sources.{IsBasis, IsInput, IsOpened, IsRead, IsReason, IsUnopened, IsUnread, seen_with}
 use Rattle.trace_run.proofs.Chosen.{chosen_rise}
 use Rattle.trace_run.proofs.Endings.{refused_by}
-use Rattle.trace_run.proofs.UnusedLanes.{unused_fresh, unused_in_order}
+use Rattle.time_merge.proofs.UnusedLanes.{unused_fresh, unused_in_order}
 
 shown_rise : (cpus : Option (List Bool)) (body : Body) → CpusRise (shown_parts cpus body)
 shown_rise cpus Latency = tt

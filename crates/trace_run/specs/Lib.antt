@@ -8,7 +8,6 @@ pub mod Restore
 pub mod Job
 pub mod Allowed
 pub mod Split
-pub mod Lanes
 pub mod Usage
 pub mod UsageView
 pub mod Selftest

@@ -28,7 +28,7 @@ use Rattle.trace_run.specs.Context.{context_of}
 use Rattle.trace_run.specs.Ending.{Ended}
 use Rattle.trace_run.specs.Input.{BehindHeader, input_share, shown_share}
 use Rattle.trace_run.specs.Inputs.{NamedInput, given_in, input_named, inputs_in, names_in, shown_parts}
-use Rattle.trace_run.specs.Lanes.{IsUnused}
+use Rattle.time_merge.specs.Unused.{IsUnused}
 use Rattle.trace_run.specs.Meaning.{files_meaning, on_out}
 use Rattle.trace_run.specs.Naming.{IsNameIn}
 use Rattle.trace_run.specs.Outside.{FolderSeen, Outside, SinkSeen, beside}

@@ -21,7 +21,6 @@ ghost use Rattle.trace_run.specs.Selection.{chosen, set_or_all};
 ghost use Rattle.trace_run.specs.Usage.{uses_in};
 
 use crate::context::context_of;
-use crate::lanes::set_lanes;
 use crate::lines::put_cpus;
 use crate::selection::Selection;
 use crate::status::Status;
@@ -32,6 +31,7 @@ use graph_report::{Calls, CallsFault, gather_calls, put_calls};
 use page_pool::Pool;
 use report_print::Context;
 use std::alloc::{AllocError, Global};
+use time_merge::set_lanes;
 use trace_args::ReportWords;
 use trace_base::{Layout, Part};
 use trace_outside::{Failed, File, Pending, Sink};

@@ -17,7 +17,7 @@ ghost use Rattle.trace_run.specs.Output.{Shows, WritesFor};
 ghost use Rattle.trace_run.specs.Report.{cpus_line, events_on};
 ghost use Rattle.trace_run.specs.Split as ends;
 
-use crate::lanes::{set_lanes, status_of};
+use crate::ends::status_of;
 use crate::lines::{ItemLines, LINES_ROOM, put_cpus};
 use crate::status::Status;
 use dat_header::Header;
@@ -27,7 +27,7 @@ use report_print::Context;
 use report_rounds::report_rounds;
 use std::alloc::{AllocError, Global};
 use std::thread::Threads;
-use time_merge::End;
+use time_merge::{End, set_lanes};
 use trace_base::Part;
 use trace_outside::{Failed, File, Gate, Pending, Sink};
 use wakeup_lat::{GatherFault, gather, put_wakeups};

@@ -18,8 +18,8 @@ ghost use Rattle.trace_run.specs.Usage.{uses_in};
 
 use crate::calls::print_calls;
 use crate::context::context_of;
+use crate::ends::status_of;
 use crate::events::{print_cpus, print_lines, print_waits};
-use crate::lanes::status_of;
 use crate::lines::ItemLines;
 use crate::list::{listed_in, print_list};
 use crate::selection::Selection;

@@ -14,13 +14,14 @@ ghost use Rattle.trace_run.specs.Meaning.{split_by};
 ghost use Rattle.trace_run.specs.Outside.{folder_seen};
 ghost use Rattle.trace_run.specs.Split.{taken_of};
 
-use crate::lanes::{set_lanes, status_of};
+use crate::ends::status_of;
 use crate::selection::Selection;
 use crate::status::Status;
 use dat_header::{Body, Header};
 use page_pool::Pool;
 use split_tool::{SplitPlan, SplitWork, split};
 use std::alloc::{AllocError, Global};
+use time_merge::set_lanes;
 use trace_args::SplitWords;
 use trace_base::Part;
 use trace_outside::Folder;

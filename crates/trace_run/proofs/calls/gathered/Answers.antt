@@ -4,7 +4,7 @@ use Rattle.trace_outside.specs.Causes.{raised}
 use Rattle.subpage.specs.Arrangement.{CpusRise}
 use Rattle.subpage.specs.Cut.{cut_of}
 use Rattle.graph_report.specs.Gathered.{cut_place, reached_calls}
-use Rattle.trace_run.proofs.UnusedLanes.{new_unused, unused_fresh, unused_in_order}
+use Rattle.time_merge.proofs.UnusedLanes.{new_unused, unused_fresh, unused_in_order}
 use Rattle.trace_run.proofs.calls.gathered.Goals as goal
 
 pub gather_calls-requires-clause-fresh : goal.gather_calls-requires-clause-fresh

@@ -8,7 +8,8 @@ use Rattle.report_rounds.specs.Due as rounds
 use Rattle.report_rounds.specs.Reports.{IsReport}
 use Rattle.trace_run.specs.Outside.{sink_seen}
 use Rattle.trace_run.specs.Report.{item_line}
-use Rattle.trace_run.proofs.UnusedLanes.{new_unused, unused_room, unused_start}
+use Rattle.time_merge.proofs.UnusedLanes.{new_unused}
+use Rattle.trace_run.proofs.LentLanes.{unused_room, unused_start}
 use Rattle.trace_run.proofs.DueReading.{parts_read, parts_unbegun_unread, parts_unread}
 use Rattle.trace_run.proofs.PartsPrinted.{parts_unbegun, parts_written}
 use Rattle.trace_run.proofs.Printed.{end_shows}

@@ -1,8 +1,9 @@
 use Rattle.std.proofs.Common.{◌≡◌, List, length, ap, subst, sym, arith}
 use Rattle.std.specs.List.{All}
 use Rattle.page_pool.specs.declared.lane.Lane.{Lane}
-use Rattle.trace_run.specs.Lanes.{IsUnused}
-use Rattle.trace_run.proofs.UnusedLanes.{all_written, new_unused}
+use Rattle.time_merge.specs.Unused.{IsUnused}
+use Rattle.time_merge.proofs.UnusedLanes.{new_unused}
+use Rattle.trace_run.proofs.LentLanes.{all_written}
 use Rattle.trace_run.proofs.sources.lanes_over.Goals as goal
 
 pub returns-clause-unused : goal.returns-clause-unused

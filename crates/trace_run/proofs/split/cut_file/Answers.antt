@@ -7,7 +7,7 @@ use Rattle.trace_args.specs.Command.{split_view}
 use Rattle.dat_header.specs.declared.header.Header.{Header}
 use Rattle.subpage.specs.Arrangement.{CpusRise}
 use Rattle.page_pool.specs.declared.lane.Lane.{Lane}
-use Rattle.trace_run.proofs.UnusedLanes.{new_unused, unused_fresh, unused_in_order}
+use Rattle.time_merge.proofs.UnusedLanes.{new_unused, unused_fresh, unused_in_order}
 use Rattle.trace_run.proofs.Splits.{cut}
 use Rattle.trace_run.proofs.Taken.{lanes_below, taken_rise}
 use Rattle.trace_run.proofs.split.cut_file.Goals as goal

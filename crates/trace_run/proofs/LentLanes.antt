@@ -1,0 +1,33 @@
+-- Lanes of which nothing was used, as a report is lent them.
+use Rattle.std.proofs.Common.{◌≡◌, ℕ, ◌≤◌, arith, List, ◌++◌, length, take, refl, ap, ◌∙◌}
+use Rattle.std.specs.List.{All}
+use Rattle.std.proofs.lemmas.List.{append-nil, drop_all, take_all}
+use Rattle.std.proofs.lemmas.List.Elements.{All-weaker}
+use Rattle.trace_base.specs.declared.layout.Layout.{Layout}
+use Rattle.page_pool.specs.Lending.{written}
+use Rattle.page_pool.specs.declared.lane.Lane.{Lane}
+use Rattle.time_merge.specs.Unused.{IsUnused}
+use Rattle.report_print.specs.Given.{Given}
+use Rattle.report_rounds.specs.Between.{HasRoom, IsAtStart}
+use Rattle.report_rounds.proofs.OpenLanes.{IsOpen, all_room, all_start}
+use Rattle.trace_run.specs.Report.{item_line}
+use Rattle.trace_run.proofs.LineLength.{line_short}
+
+unused_open : (len room : ℕ) (lanes : List Lane) → All (IsUnused len room) lanes → All (IsOpen len room) lanes
+unused_open len room lanes all =
+    All-weaker (IsUnused len room) (IsOpen len room) (λ a unused. record { cursor = unused.fresh; page = unused.page; region = unused.region }) lanes all
+
+pub unused_start : (layout : Layout) (room : ℕ) (lanes : List Lane) → All (IsUnused layout.page room) lanes → All (IsAtStart layout) lanes
+unused_start layout room lanes all = all_start layout layout.page room lanes refl (unused_open layout.page room lanes all)
+
+-- each has room for any line of a report
+pub unused_room : (given : Given) (len room : ℕ) (lanes : List Lane) → All (IsUnused len room) lanes → 65537 ≤ room → All (HasRoom (item_line given)) lanes
+unused_room given len room lanes all wide =
+    All-weaker (λ (lane : Lane). lane.region.room ≡ room) (HasRoom (item_line given)) (λ a is cpu item. omega (arith, line_short given cpu item, is, wide)) lanes
+    (all_room len room lanes (unused_open len room lanes all))
+
+-- lanes that were lent as a whole
+pub all_written : (lanes now : List Lane) → length now ≡ length lanes → written lanes now ≡ now
+all_written lanes now same =
+    ap (λ (rest : List Lane). take (length lanes) (now ++ rest)) (drop_all (length now) lanes (omega (arith, same)))
+    ∙ ap (take (length lanes)) (append-nil now) ∙ take_all (length lanes) now (omega (arith, same))
