@@ -48,14 +48,11 @@ fn put_event(context: &Context, cpu: u32, time: u64, payload: &[u8], into: &mut 
     match context.known(id) {
         Some(known) => {
             let label = known.head.label.as_bytes();
-            let until = put_start(context, cpu, time, common, label, into);
+            let until = put_start(context, cpu, time, &common, label, into);
             put_body(context, &known, payload, into);
             until
         }
-        None => {
-            let text = unknown(id);
-            put_front(context, cpu, time, common, text.as_bytes(), into)
-        }
+        None => put_unknown(context, cpu, time, &common, id, into),
     }
 }
 
@@ -65,13 +62,13 @@ fn put_start(
     context: &Context,
     cpu: u32,
     time: u64,
-    common: Common,
+    common: &Common,
     label: &[u8],
     into: &mut Tail<'_>,
 ) -> usize
     ensures same_slice { lent into.new ≡ lent into.old }
-    ensures value { held into.new ≡ put_held (put_held (held into.old) (prefix_text context.now cpu time common)) label.now }
-    ensures until { result + 2 ≡ length (prefix_text context.now cpu time common) }
+    ensures value { held into.new ≡ put_held (put_held (held into.old) (prefix_text context.now cpu time common.now)) label.now }
+    ensures until { result + 2 ≡ length (prefix_text context.now cpu time common.now) }
 {
     if label.len() <= LONGEST_BEHIND {
         put_front(context, cpu, time, common, label, into)
@@ -114,6 +111,24 @@ fn put_print(context: &Context, known: &Known<'_>, rec: &Rec<'_>, into: &mut Tai
         Some(plan) => print(plan, rec, context.symbols(), into),
         None => put_unread(rec, known.format.fields.as_slice(), into),
     }
+}
+
+/// Puts the columns of an event whose format is not known, and what is said of it. Gives where the time ends.
+#[inline(never)]
+fn put_unknown(
+    context: &Context,
+    cpu: u32,
+    time: u64,
+    common: &Common,
+    id: u32,
+    into: &mut Tail<'_>,
+) -> usize
+    ensures same_slice { lent into.new ≡ lent into.old }
+    ensures value { held into.new ≡ put_held (put_held (held into.old) (prefix_text context.now cpu time common.now)) (spec.unknown_text id) }
+    ensures until { result + 2 ≡ length (prefix_text context.now cpu time common.now) }
+{
+    let text = unknown(id);
+    put_front(context, cpu, time, common, text.as_bytes(), into)
 }
 
 /// What is said of an event whose format is not known.

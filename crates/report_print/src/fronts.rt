@@ -62,7 +62,7 @@ pub fn prefix(context: &Context, cpu: u32, time: u64, common: &Common, into: &mu
     ensures same_slice { lent into.new ≡ lent into.old }
     ensures value { held into.new ≡ put_held (held into.old) (spec.prefix_text context.now cpu time common.now) }
 {
-    put_front(context, cpu, time, *common, b"", into);
+    put_front(context, cpu, time, common, b"", into);
 }
 
 /// Puts the columns of a line, and a short text behind them. Gives where the time ends: behind it stand a colon and a space.
@@ -71,14 +71,14 @@ pub(crate) fn put_front(
     context: &Context,
     cpu: u32,
     time: u64,
-    common: Common,
+    common: &Common,
     behind: &[u8],
     into: &mut Tail<'_>,
 ) -> usize
     requires short { length behind.now ≤ LONGEST_BEHIND }
     ensures same_slice { lent into.new ≡ lent into.old }
-    ensures value { held into.new ≡ put_held (put_held (held into.old) (spec.prefix_text context.now cpu time common)) behind.now }
-    ensures until { result + 2 ≡ length (spec.prefix_text context.now cpu time common) }
+    ensures value { held into.new ≡ put_held (put_held (held into.old) (spec.prefix_text context.now cpu time common.now)) behind.now }
+    ensures until { result + 2 ≡ length (spec.prefix_text context.now cpu time common.now) }
 {
     let name = context.symbols().comm_of(common.pid);
     let mut front = Front::new();
@@ -125,9 +125,9 @@ fn task_width(show: &Show) -> usize
 
 // Puts the columns behind the task's name in front.
 #[tactic(auto, unfolding(crate::specs::Prefix::columns_of))]
-fn put_columns(show: &Show, cpu: u32, time: u64, common: Common, front: &mut Front)
+fn put_columns(show: &Show, cpu: u32, time: u64, common: &Common, front: &mut Front)
     requires room { length front.old ≤ LONGEST_BEHIND }
-    ensures value { front.new ≡ spec.columns_of show.now cpu time common ++ front.old }
+    ensures value { front.new ≡ spec.columns_of show.now cpu time common.now ++ front.old }
     ensures longer { length front.new ≤ length front.old + LONGEST_COLUMNS }
 {
     front.byte(b' ');

@@ -3,6 +3,7 @@ ghost use Rattle.std.specs.Option.{option_map};
 ghost use Rattle.symbols.specs.NameMap.{first_at, nearest, IsNearest, NoneUpTo};
 ghost use Rattle.symbols.specs.Maps.{AreMapsOf, maps_of, task_name};
 
+use crate::guide::Guide;
 use crate::lines::Form;
 use crate::read::names_in;
 use crate::table::NameTable;
@@ -14,6 +15,7 @@ use std::marker::Model;
 #[derive(Drop)]
 pub struct Symbols {
     symbols: NameTable,
+    symbol_guide: Guide,
     printk: NameTable,
     tasks: NameTable,
     task_places: Places,
@@ -47,6 +49,7 @@ impl Symbols {
         ensures exact { IfOk result (λ symbols. symbols ≡ maps_of kallsyms.now printk.now cmdlines.now) }
     {
         let symbols = NameTable::build(alloc, names_in(alloc, Form::Kallsyms, kallsyms)?)?;
+        let symbol_guide = symbols.guide(alloc)?;
         let printk = NameTable::build(alloc, names_in(alloc, Form::Printk, printk)?)?;
         let mut found = names_in(alloc, Form::Tasks, cmdlines)?;
         found.reverse();
@@ -54,6 +57,7 @@ impl Symbols {
         let task_places = tasks.places(alloc)?;
         Ok(Symbols {
             symbols,
+            symbol_guide,
             printk,
             tasks,
             task_places,
@@ -67,7 +71,8 @@ impl Symbols {
         ensures none { IfNone result (NoneUpTo address self.now.symbols) }
         ensures exact { option_map (λ r. (r.0.now, r.1)) result ≡ nearest address self.now.symbols }
     {
-        self.symbols.nearest(address)
+        self.symbols
+            .nearest(self.symbol_guide.near(address), address)
     }
 
     /// The printk format of this address. None exactly where no line has it.

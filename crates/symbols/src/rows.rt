@@ -6,6 +6,7 @@ ghost use Rattle.symbols.specs.NameMap.{RisesFrom, IsNearest, NoneUpTo, last_up_
 ghost use Rattle.symbols.specs.Names.{text_in, spots_view};
 ghost use Rattle.symbols.specs.RowsView.{rows_view, IsSound, is_key, firsts};
 
+use crate::guide::Near;
 use crate::names::{Span, Spot};
 use crate::search::place_up_to;
 use std::alloc::{AllocError, Global};
@@ -74,8 +75,8 @@ impl Rows {
         self.keys.len()
     }
 
-    /// The greatest number that is at most this one, and its name.
-    pub fn row_up_to(&self, address: u64) -> Option<(u64, &[u8])>
+    /// The greatest number that is at most this one, and its name. It is looked for first where it may stand.
+    pub fn row_up_to(&self, near: Near, address: u64) -> Option<(u64, &[u8])>
         requires sound { IsSound self.now }
         requires rises { RisesFrom 0 (rows_view self.now) }
         ensures found { IfSome result (λ r. r.0 ≤ address) }
@@ -83,7 +84,7 @@ impl Rows {
         ensures none { IfNone result (NoneUpTo address (rows_view self.now)) }
         ensures exact { option_map (λ r. (r.0, r.1.now)) result ≡ last_up_to address (rows_view self.now) }
     {
-        match place_up_to(&self.keys, address) {
+        match place_up_to(&self.keys, near, address) {
             Some(place) => Some(self.row_at(place)),
             None => None,
         }

@@ -7,6 +7,7 @@ ghost use Rattle.std.specs.Map.{keys_of};
 ghost use Rattle.symbols.specs.Names.{names_view, AreInside};
 ghost use Rattle.noted_places.specs.Noted.{noted};
 
+use crate::guide::{Guide, Near};
 use crate::names::Names;
 use crate::rows::{Rows, gather};
 use noted_places::Places;
@@ -76,14 +77,20 @@ impl NameTable {
         Places::noted(alloc, &self.rows.keys)
     }
 
-    /// The name of the greatest number that is at most this one, and how far it is behind.
+    /// A guide to the numbers.
+    pub fn guide(&self, alloc: Global) -> Result<Guide, AllocError> {
+        Guide::to(alloc, &self.rows.keys)
+    }
+
+    /// The name of the greatest number that is at most this one, and how far it is behind. It is looked for first where it may
+    /// stand.
     #[tactic(auto, unfolding(crate::specs::NameMap::nearest))]
-    pub fn nearest(&self, address: u64) -> Option<(&[u8], u64)>
+    pub fn nearest(&self, near: Near, address: u64) -> Option<(&[u8], u64)>
         ensures found { IfSome result (λ r. IsNearest self.now address r.0.now r.1) }
         ensures none { IfNone result (NoneUpTo address self.now) }
         ensures exact { option_map (λ r. (r.0.now, r.1)) result ≡ nearest address self.now }
     {
-        match self.rows.row_up_to(address) {
+        match self.rows.row_up_to(near, address) {
             Some((key, name)) => Some((name, address - key)),
             None => None,
         }
@@ -94,7 +101,7 @@ impl NameTable {
     pub fn name(&self, key: u64) -> Option<&[u8]>
         ensures { option_map (λ r. r.now) result ≡ first_at key self.now }
     {
-        match self.nearest(key) {
+        match self.nearest(Near::NOWHERE, key) {
             Some((name, 0)) => Some(name),
             Some((_, _)) => None,
             None => None,

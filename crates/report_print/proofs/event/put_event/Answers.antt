@@ -1,7 +1,8 @@
-use Rattle.std.proofs.Common.{◌≡◌, ◌∙◌, sym, ap, ℕ}
+use Rattle.std.proofs.Common.{◌≡◌, ◌∙◌, sym, ap, refl, ℕ}
 use Rattle.std.specs.Option.{option_map}
 use Rattle.trace_base.specs.TailView.{held}
 use Rattle.report_print.specs.HeadView.{known_view}
+use Rattle.report_print.specs.Line.{unknown_text}
 use Rattle.report_print.specs.Prefix.{prefix_text}
 use Rattle.report_print.proofs.FrontLemmas.{known_put, unknown_put}
 use Rattle.report_print.proofs.TimeEnds.{end_is}
@@ -23,10 +24,10 @@ pub returns-in-None-clause-value : goal.returns-in-None-clause-value
 returns-in-None-clause-value c =
     unknown_put c.args.context.now c.args.cpu c.args.time c.args.payload.now (prefix_text c.args.context.now c.args.cpu c.args.time c.shown_common-common.result) c.id-id.result
     (c.shown_common-common.ensures c.args.cpu c.args.time) c.id-id.ensures
-    (held c.args.into.now) (held c.put_front.new.into) c.as_bytes.result.now (c.as_bytes.ensures ∙ c.unknown-text.ensures.value)
-    (ap (option_map known_view) (sym c.in-None.is) ∙ c.known.ensures) c.put_front.ensures.value
+    (held c.args.into.now) (held c.put_unknown.new.into) (unknown_text c.id-id.result) refl
+    (ap (option_map known_view) (sym c.in-None.is) ∙ c.known.ensures) c.put_unknown.ensures.value
 
 pub returns-in-None-clause-until : goal.returns-in-None-clause-until
 returns-in-None-clause-until c =
-    end_is c.args.context.now c.args.cpu c.args.time c.args.payload.now (prefix_text c.args.context.now c.args.cpu c.args.time c.shown_common-common.result) c.put_front.result
-    (c.shown_common-common.ensures c.args.cpu c.args.time) c.put_front.ensures.until
+    end_is c.args.context.now c.args.cpu c.args.time c.args.payload.now (prefix_text c.args.context.now c.args.cpu c.args.time c.shown_common-common.result) c.put_unknown.result
+    (c.shown_common-common.ensures c.args.cpu c.args.time) c.put_unknown.ensures.until

@@ -1,7 +1,7 @@
 use Rattle.std.proofs.Common.{rules, Err}
 use Rattle.std.proofs.lemmas.List.Sorted.{searched}
 use Rattle.symbols.proofs.SearchLemmas.{not_falls, before_place}
-use Rattle.symbols.proofs.search.place_up_to.Goals as goal
+use Rattle.symbols.proofs.search.place_among.Goals as goal
 
 pub returns-in-Err-eq0-clause-none : goal.returns-in-Err-eq0-clause-none
 returns-in-Err-eq0-clause-none c = λ k less. (searched c.args.keys.now c.args.key (Err c.in-Err-eq0.field-0) c.in-Err-eq0.ensures.position (not_falls c.args.keys.now c.requires)).2 k (search rules) less
