@@ -1,17 +1,19 @@
 -- Binding changes no truth.
-use Rattle.std.proofs.Common.{◌≡◌, ℕ, zero, suc, ◌+◌, ◌<◌, ◌≤◌, length, Bool, true, false, ◌&&◌, ◌||◌, if◌then◌else◌, List, [], ◌∷◌, ◌++◌, map, take, Option, Some, None, slice_get, refl, ap, ap₂, sym, ◌∙◌, arith}
+use Rattle.std.proofs.Common.{◌≡◌, ℕ, zero, suc, ◌≤◌, length, Bool, true, false, ◌&&◌, ◌||◌, if◌then◌else◌, List, [], ◌∷◌, map, take, Option, Some, None, slice_get, refl, ap, ◌∙◌}
 use Rattle.trace_base.specs.declared.field.Field.{Field}
 use Rattle.format_parse.specs.declared.format.EventFormat.{EventFormat}
 use Rattle.filter_lang.specs.Filter.{FilterData}
 use Rattle.std.specs.List.{list_any}
-use Rattle.std.proofs.lemmas.List.{map-append, take_all}
+use Rattle.std.proofs.lemmas.List.{take_all}
 use Rattle.filter_lang.specs.declared.filter.EventName.{EventName}
 use Rattle.filter_lang.specs.FilterView.{name_of}
 use Rattle.filter_lang.specs.Tree.{Tree}
 use Rattle.filter_truth.specs.Values.{is_true}
 use Rattle.filter_truth.specs.Naming.{EventData, is_named_by, names_format, condition_holds, filter_holds, holds_at}
-use Rattle.filter_truth.specs.BoundFilter.{BoundCondition, unnamed, condition_true, bound_holds, bind_cond, bind_format, bind_at, bind_filter}
-use Rattle.filter_truth.specs.BoundView.{condition_of, conditions_of}
+use Rattle.filter_truth.specs.BoundFilter.{BoundCondition, unnamed, condition_true, bound_holds, bind_cond, bind_format, bind_filter}
+use Rattle.filter_truth.specs.BoundView.{conditions_of}
+use Rattle.filter_truth.specs.NamedView.{formats_of}
+use Rattle.filter_truth.specs.declared.named_format.NamedFormat.{NamedFormat}
 use Rattle.filter_truth.specs.declared.bound_expr.Condition.{Condition}
 use Rattle.filter_truth.proofs.BoundRows.{same_value}
 
@@ -36,22 +38,14 @@ pub same_truth : (f : FilterData) (formats : List EventFormat) (i : ℕ) (e : Ev
 unfolding bind_filter
 same_truth f formats i e = at_each f formats i e
 
--- the next format
-taken_next : (f : FilterData) (formats : List EventFormat) (i : ℕ) → i < length formats → map (bind_format f) (take (suc i) formats) ≡ map (bind_format f) (take i formats) ++ bind_at f (slice_get formats i) ∷ []
-taken_next f [] i lt = absurd (omega arith)
-taken_next f (y ∷ formats) zero lt = refl
-taken_next f (y ∷ formats) (suc i) lt = ap (λ (zs : List BoundCondition). bind_format f y ∷ zs) (taken_next f formats i (omega arith))
+each_bound : (f : FilterData) (named : List NamedFormat) → map (λ n. bind_format f n.format.now) named ≡ map (bind_format f) (formats_of named)
+each_bound f [] = refl
+each_bound f (n ∷ named) = ap (λ (cs : List BoundCondition). bind_format f n.format.now ∷ cs) (each_bound f named)
 
-pub bound_next : (f : FilterData) (formats : List EventFormat) (i : ℕ) (done all : List Condition) (c : Condition) → i < length formats → conditions_of done ≡ map (bind_format f) (take i formats) → all ≡ done ++ c ∷ []
-    → condition_of c ≡ bind_at f (slice_get formats i) → conditions_of all ≡ map (bind_format f) (take (i + 1) formats)
-bound_next f formats i done all c lt so_far pushed is =
-    let next : suc i ≡ i + 1 = omega arith in
-    ap conditions_of pushed ∙ map-append condition_of done (c ∷ []) ∙ ap₂ (λ (xs : List BoundCondition) (x : BoundCondition). xs ++ x ∷ []) so_far is ∙ sym (taken_next f formats i lt)
-    ∙ ap (λ k. map (bind_format f) (take k formats)) next
-
-pub all_bound : (f : FilterData) (formats : List EventFormat) (i : ℕ) (done : List Condition) → length formats ≤ i → conditions_of done ≡ map (bind_format f) (take i formats) → conditions_of done ≡ bind_filter f formats
+pub all_bound : (f : FilterData) (named : List NamedFormat) (i : ℕ) (done : List Condition) → length named ≤ i → conditions_of done ≡ map (λ n. bind_format f n.format.now) (take i named)
+    → conditions_of done ≡ bind_filter f (formats_of named)
 unfolding bind_filter
-all_bound f formats i done le so_far = so_far ∙ ap (map (bind_format f)) (take_all i formats le)
+all_bound f named i done le so_far = so_far ∙ ap (map (λ n. bind_format f n.format.now)) (take_all i named le) ∙ each_bound f named
 
 pub named_each : (format : EventFormat) (events : List EventName) → list_any (is_named_by format) (map name_of events) ≡ list_any (λ e. is_named_by format (name_of e)) events
 named_each format [] = refl

@@ -5,7 +5,7 @@ use Rattle.std.proofs.lemmas.List.Folds.{Any-from_list_any, list_any-from_Any}
 use Rattle.format_parse.specs.declared.format.EventFormat.{EventFormat}
 use Rattle.filter_lang.specs.FilterView.{filter_of}
 use Rattle.filter_truth.specs.Naming.{EventData, holds_at}
-use Rattle.filter_truth.specs.BoundFilter.{BoundCondition, unnamed, always, where_true, option_true, bound_holds, bind_filter}
+use Rattle.filter_truth.specs.BoundFilter.{BoundCondition, unnamed, always, where_true, option_true, bind_filter}
 use Rattle.filter_truth.specs.BoundView.{conditions_of}
 use Rattle.filter_truth.specs.Selection.{UseData, AreShowing, are_showing, filters_show}
 use Rattle.filter_truth.specs.SelectionView.{use_of, format_at_place, option_holds, bound_show, option_open, is_open_at, some_open}

@@ -34,9 +34,5 @@ bind_cond (Some t) fields = where_true (bind_tree fields t)
 abbrev pub bind_format : FilterData → EventFormat → BoundCondition
 bind_format f format = if names_format f.events format then bind_cond f.cond format.fields else unnamed
 
-abbrev pub bind_at : FilterData → Option EventFormat → BoundCondition
-bind_at f None = unnamed
-bind_at f (Some format) = bind_format f format
-
 unfoldable pub bind_filter : FilterData → List EventFormat → List BoundCondition
 bind_filter f formats = map (bind_format f) formats

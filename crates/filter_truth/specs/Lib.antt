@@ -5,5 +5,6 @@ pub mod EventView
 pub mod Bound
 pub mod BoundFilter
 pub mod BoundView
+pub mod NamedView
 pub mod Selection
 pub mod SelectionView

@@ -7,9 +7,10 @@ ghost use Rattle.filter_truth.specs.Bound.{bind_field, bind_name, bind_tree, bin
 ghost use Rattle.filter_truth.specs.BoundView.{bound_of, bound_row};
 
 use crate::bound_expr::{BoundExpr, BoundOperand};
+use field_names::FieldNames;
 use filter_lang::{FilterExpr, FilterOperand, FilterPrefix};
 use std::alloc::{AllocError, Global};
-use trace_base::{ByteText, Field, field_named};
+use trace_base::{ByteText, Field};
 
 fn bound_number(alloc: Global, n: u64) -> Result<Box<BoundExpr>, AllocError>
     ensures { IfOk result (λ e. bound_of e.value ≡ b_number n) }
@@ -54,7 +55,11 @@ fn bind_field(alloc: Global, field: Option<&Field>) -> Result<BoundExpr, AllocEr
 }
 
 /// What a name stands for in the events with these fields.
-fn bind_name(alloc: Global, fields: &[Field], name: &[u8]) -> Result<Box<BoundExpr>, AllocError>
+fn bind_name(
+    alloc: Global,
+    fields: &FieldNames<'_>,
+    name: &[u8],
+) -> Result<Box<BoundExpr>, AllocError>
     ensures { IfOk result (λ e. bound_of e.value ≡ bind_name fields.now name.now) }
 {
     let expr = if name == b"COMM".as_slice() {
@@ -62,7 +67,7 @@ fn bind_name(alloc: Global, fields: &[Field], name: &[u8]) -> Result<Box<BoundEx
     } else if name == b"CPU".as_slice() {
         BoundExpr::Cpu
     } else {
-        bind_field(alloc, field_named(name, fields))?
+        bind_field(alloc, fields.field(name))?
     };
     Ok(Box::new(alloc, expr)?)
 }
@@ -71,7 +76,7 @@ fn bind_name(alloc: Global, fields: &[Field], name: &[u8]) -> Result<Box<BoundEx
 #[cycle(binder)]
 pub fn bind_expr(
     alloc: Global,
-    fields: &[Field],
+    fields: &FieldNames<'_>,
     expr: &FilterExpr,
 ) -> Result<Box<BoundExpr>, AllocError>
     ensures { IfOk result (λ e. bound_of e.value ≡ bind_tree fields.now (tree_of expr.now)) }
@@ -91,12 +96,12 @@ pub fn bind_expr(
 #[cycle(binder)]
 fn bind_operands(
     alloc: Global,
-    fields: &[Field],
+    fields: &FieldNames<'_>,
     rest: &[FilterOperand],
 ) -> Result<Vec<BoundOperand>, AllocError>
     ensures { IfOk result (λ v. bound_row v.items ≡ bind_row fields.now (operands_of rest.now)) }
 {
-    let mut bound = Vec::new(alloc);
+    let mut bound = Vec::with_capacity(alloc, rest.len())?;
     for operand in rest {
         let value = bind_expr(alloc, fields, &operand.value)?;
         bound.push(BoundOperand {

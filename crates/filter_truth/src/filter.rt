@@ -5,20 +5,24 @@ ghost use Rattle.std.specs.List.{list_any};
 ghost use Rattle.filter_lang.specs.FilterView.{name_of, filter_of};
 ghost use Rattle.filter_lang.specs.TreeView.{tree_of};
 ghost use Rattle.filter_truth.specs.Naming.{EventData, is_named_by, holds_at};
-ghost use Rattle.filter_truth.specs.BoundFilter.{bind_cond, bind_format, bind_at, bind_filter, bound_holds, condition_true};
+ghost use Rattle.filter_truth.specs.BoundFilter.{bind_cond, bind_format, bind_filter, bound_holds, condition_true};
 ghost use Rattle.filter_truth.specs.BoundView.{condition_of, conditions_of};
+ghost use Rattle.filter_truth.specs.NamedView.{formats_of};
 ghost use Rattle.filter_truth.specs.EventView.{event_of, event_with};
 ghost use Rattle.filter_truth.specs.SelectionView.{is_open, option_open};
 
 use crate::binding::bind_expr;
 use crate::bound_expr::Condition;
 use crate::evaluation::{Event, value};
+use crate::named::named_formats;
+use crate::named_format::NamedFormat;
 use crate::value::is_true;
+use field_names::FieldNames;
 use filter_lang::{EventName, Filter, FilterExpr};
 use format_parse::{EventFormat, FormatTable};
 use std::alloc::{AllocError, Global};
 use std::marker::Model;
-use trace_base::{Field, Rec};
+use trace_base::Rec;
 
 /// A filter that is bound to a table of formats: what it asks of the events of each.
 #[derive(Drop)]
@@ -105,7 +109,7 @@ fn names_format(events: &[EventName], format: &EventFormat) -> bool
 fn bind_cond(
     alloc: Global,
     cond: &Option<FilterExpr>,
-    fields: &[Field],
+    fields: &FieldNames<'_>,
 ) -> Result<Condition, AllocError>
     ensures { IfOk result (λ c. condition_of c ≡ bind_cond (option_map tree_of cond.now) fields.now) }
 {
@@ -123,30 +127,31 @@ fn bind_cond(
 fn bind_format(
     alloc: Global,
     filter: &Filter,
-    format: &EventFormat,
+    named: &NamedFormat<'_>,
 ) -> Result<Condition, AllocError>
-    ensures { IfOk result (λ c. condition_of c ≡ bind_format (filter_of filter.now) format.now) }
+    ensures { IfOk result (λ c. condition_of c ≡ bind_format (filter_of filter.now) named.now.format.now) }
 {
-    if names_format(filter.events.as_slice(), format) {
-        bind_cond(alloc, &filter.cond, format.fields.as_slice())
+    if names_format(filter.events.as_slice(), named.format) {
+        bind_cond(alloc, &filter.cond, &named.fields)
     } else {
         Ok(Condition::Unnamed)
     }
 }
 
-/// What a filter asks of the events of the format at a place.
-fn bind_at(
+/// The filter for the events of formats whose fields' names were read.
+pub(crate) fn bind_named(
     alloc: Global,
     filter: &Filter,
-    formats: &FormatTable,
-    i: usize,
-) -> Result<Condition, AllocError>
-    ensures { IfOk result (λ c. condition_of c ≡ bind_at (filter_of filter.now) (slice_get formats.now i)) }
+    formats: &[NamedFormat<'_>],
+) -> Result<Bound, AllocError>
+    ensures { IfOk result (λ b. conditions_of b ≡ bind_filter (filter_of filter.now) (formats_of formats.now)) }
 {
-    match formats.get(i) {
-        Some(format) => bind_format(alloc, filter, format),
-        None => Ok(Condition::Unnamed),
+    let mut conditions = Vec::with_capacity(alloc, formats.len())?;
+    for named in formats {
+        let condition = bind_format(alloc, filter, named)?;
+        conditions.push(condition)?;
     }
+    Ok(Bound { conditions })
 }
 
 /// The filter for the events of these formats. Names are looked up here, once.
@@ -158,12 +163,9 @@ pub fn bind(alloc: Global, filter: &Filter, formats: &FormatTable) -> Result<Bou
     ensures bound { IfOk result (λ b. conditions_of b ≡ bind_filter (filter_of filter.now) formats.now) }
     ensures truth { IfOk result (λ b. (i : ℕ) (e : EventData) → bound_holds (conditions_of b) i e ≡ holds_at (filter_of filter.now) (slice_get formats.now i) e) }
 {
-    let mut conditions = Vec::new(alloc);
-    for i in 0..formats.len() {
-        let condition = bind_at(alloc, filter, formats, i)?;
-        conditions.push(condition)?;
-    }
-    Ok(Bound { conditions })
+    let named = named_formats(alloc, formats)?;
+    let bound = bind_named(alloc, filter, &named)?;
+    Ok(bound)
 }
 
 /// Whether a filter holds at an event: whether it names the format at this place of the table that it was bound to, and

@@ -10,6 +10,8 @@ mod bound_expr;
 mod evaluation;
 mod filter;
 pub mod laws;
+mod named;
+mod named_format;
 mod select;
 mod value;
 

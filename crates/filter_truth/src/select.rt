@@ -9,7 +9,8 @@ ghost use Rattle.filter_truth.specs.BoundView.{conditions_of};
 ghost use Rattle.filter_truth.specs.EventView.{event_of};
 
 use crate::evaluation::Event;
-use crate::filter::{Bound, bind};
+use crate::filter::{Bound, bind_named};
+use crate::named::named_formats;
 use filter_lang::Filter;
 use format_parse::FormatTable;
 use std::alloc::{AllocError, Global};
@@ -62,11 +63,12 @@ impl Filters {
     ) -> Result<Filters, AllocError>
         ensures { IfOk result (λ f. (i : Option ℕ) (e : EventData) → bound_show f i e ≡ filters_show (map use_of uses.now) (format_at_place formats.now i) e) }
     {
+        let named = named_formats(alloc, formats)?;
         let mut bound = Vec::new(alloc);
         for filter_use in uses {
             bound.push(BoundUse {
                 hide: filter_use.hide,
-                bound: bind(alloc, &filter_use.filter, formats)?,
+                bound: bind_named(alloc, &filter_use.filter, &named)?,
             })?;
         }
         Ok(Filters { uses: bound })
