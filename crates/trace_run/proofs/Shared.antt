@@ -19,7 +19,6 @@ use Rattle.report_print.below.fmt_print.proofs.step.Step.TheSendSync as step
 use Rattle.report_print.below.fmt_print.specs.contracts.plan.PrintPlan.{the_row as plan_row}
 use Rattle.format_parse.proofs.table.FormatTable.TheSendSync as table
 use Rattle.symbols.proofs.maps.Symbols.TheSendSync as symbols
-use Rattle.symbols.proofs.guide.Guide.TheSendSync as guide
 use Rattle.report_print.below.noted_places.proofs.places.Places.TheSendSync as places
 use Rattle.trace_base.proofs.byte_text.ByteText.TheSendSync as text
 use Rattle.report_print.proofs.common.CommonFields.TheSendSync as common
@@ -50,7 +49,7 @@ bound_sync : IsSync filters_row
 bound_sync = search (crosses, bound_expr.crosses, sendable) depth 60 fits 20000
 
 context_sync : IsSync context_row
-context_sync = search (crosses, use_sync, head_sync, bound_sync, Vec-sync, table.the_sync, symbols.the_sync, guide.the_sync, places.the_sync, common.the_field_sync, show.the_field_sync, sendable) depth 100 fits 50000
+context_sync = search (crosses, use_sync, head_sync, bound_sync, Vec-sync, table.the_sync, symbols.the_sync, places.the_sync, common.the_field_sync, show.the_field_sync, sendable) depth 100 fits 50000
 
 pub lines_sync : IsSync the_row
 lines_sync = search (context_sync, sendable) depth 60 fits 20000
