@@ -31,7 +31,8 @@ fn the_first_of_equal_names_is_found(rt: HostRuntime) -> Result<(), Fail> {
         (300, b"t".as_slice(), None),
         (300, b"tee".as_slice(), None),
     ] {
-        let names = FieldNames::of(alloc, &fields[..count])?;
+        let some = fields.get(..count).ok_or("so many fields")?;
+        let names = FieldNames::of(alloc, some)?;
         assert_eq!(rt; names.field(name).map(|field| field.offset), offset);
     }
     Ok(())
