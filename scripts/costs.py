@@ -3,9 +3,9 @@
 
     scripts/costs.py PROGRAM [CASE ..]
 
-Each case is made with N and with 4 N parts, and the processor time and the greatest memory of both runs are printed. Where four
-times the length take more than six times the time, and more than half a second, the line is marked: the cost is more than
-the length times its logarithm.
+Each case is made with N and with 4 N parts, and the length and the processor time of both runs are printed. Where four times the
+length take more than six times the time, and more than half a second, the line is marked: the cost is more than the length times
+its logarithm.
 """
 
 import os

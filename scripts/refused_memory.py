@@ -65,10 +65,14 @@ LINES = [
     ["report", "-l"],
     ["report", "-E"],
     ["report", "-f"],
+    ["report", "-w", "woken.dat"],
+    ["report", "--calls", "called.dat"],
+    ["report", "-i", "trace.dat", "-i", "woken.dat"],
     ["split", "-o", "p"],
     ["split", "-e", "1", "-r", "-o", "p"],
     ["dump"],
     ["dump", "--all"],
+    ["restore", "-i", "trace.dat", "-o", "out.dat", "cpu0", "cpu1"],
     ["selftest", "7", "10"],
 ]
 
@@ -98,27 +102,78 @@ print fmt: "comm=%s %s", REC->comm, __print_symbolic(REC->common_pid, { 1234, "o
 """
 
 
-def trace():
-    number = lambda size, value: value.to_bytes(size, "little")
-    text = lambda size, bytes_of: number(size, len(bytes_of)) + bytes_of
-    common = lambda identity, pid: number(2, identity) + b"\0\0" + number(4, pid)
-    waking = number(4, 6) + common(316, 1234) + b"bash".ljust(16, b"\0")
-    function = number(4, 6) + common(1, 42) + number(8, 0xFFFFFFFF81000010) + number(8, 0xFFFFFFFF81000120)
+WAKEUP = b"name: sched_wakeup\nID: 20\nformat:\n\tfield:pid_t pid;\toffset:8;\tsize:4;\tsigned:1;\n\nprint fmt: \"pid=%d\", REC->pid\n"
+
+SWITCH = b"name: sched_switch\nID: 21\nformat:\n\tfield:pid_t next_pid;\toffset:8;\tsize:4;\tsigned:1;\n\nprint fmt: \"next=%d\", REC->next_pid\n"
+
+ENTRY = b"""name: funcgraph_entry
+ID: 11
+format:
+\tfield:unsigned long func;\toffset:8;\tsize:8;\tsigned:0;
+\tfield:int depth;\toffset:16;\tsize:4;\tsigned:1;
+
+print fmt: "--> %ps", (void *)REC->func
+"""
+
+EXIT = b"""name: funcgraph_exit
+ID: 10
+format:
+\tfield:unsigned long func;\toffset:8;\tsize:8;\tsigned:0;
+\tfield:int depth;\toffset:16;\tsize:4;\tsigned:1;
+
+print fmt: "<-- %ps", (void *)REC->func
+"""
+
+
+def number(size, value):
+    return value.to_bytes(size, "little")
+
+
+def text(size, bytes_of):
+    return number(size, len(bytes_of)) + bytes_of
+
+
+def event(identity, pid, rest):
+    """An event ten nanoseconds behind the one before it, whose payload is this behind its first eight bytes."""
+    return number(4, 32 * 10 + 2 + len(rest) // 4) + number(2, identity) + b"\0\0" + number(4, pid) + rest
+
+
+def sub_buffer(at, events):
+    return (number(8, at) + text(8, b"".join(events))).ljust(4096, b"\0")
+
+
+def trace(ftrace, sched, processors):
+    formats = lambda texts: number(4, len(texts)) + b"".join(text(8, it) for it in texts)
     header = b"\x17\x08\x44tracing6\0\0\x08" + number(4, 4096) + b"header_page\0" + text(8, b"") + b"header_event\0" + text(8, b"")
-    header += number(4, 1) + text(8, FUNCTION) + number(4, 1) + b"sched\0" + number(4, 1) + text(8, WAKING)
+    header += formats(ftrace) + number(4, 1) + b"sched\0" + formats(sched)
     header += text(4, b"ffffffff81000000 T schedule\nffffffff81000100 t do_idle\n") + text(4, b"") + text(8, b"1234 bash\n42 kworker/0:1\n")
-    header += number(4, 2) + b"options  \0\x01\0" + text(4, bytes(4)) + b"\0\0" + b"flyrecord\0"
+    header += number(4, len(processors)) + b"options  \0\x01\0" + text(4, bytes(4)) + b"\0\0" + b"flyrecord\0"
     table, body = b"", b""
-    for at, data in ((1000, waking + waking), (1500, function)):
-        table += number(8, 4096 + len(body)) + number(8, 4096)
-        body += (number(8, at) + text(8, data)).ljust(4096, b"\0")
+    for data in processors:
+        table += number(8, 4096 + len(body)) + number(8, len(data))
+        body += data
     return (header + table).ljust(4096, b"\0") + body
+
+
+WAKING_EVENT = event(316, 1234, b"bash".ljust(16, b"\0"))
+FUNCTION_EVENT = event(1, 42, number(8, 0xFFFFFFFF81000010) + number(8, 0xFFFFFFFF81000120))
+WOKEN = [event(20, 7, number(4, 42)), event(20, 7, number(4, 43)), event(21, 7, number(4, 42)), event(21, 7, number(4, 43))]
+CALLED = [event(identity, 7, number(8, 0xFFFFFFFF81000000) + number(4, depth)) for identity, depth in ((11, 0), (11, 1), (10, 1), (10, 0))]
+CPU0, CPU1 = sub_buffer(1000, [WAKING_EVENT, WAKING_EVENT]), sub_buffer(1500, [FUNCTION_EVENT])
+
+INPUTS = {
+    "trace.dat": trace([FUNCTION], [WAKING], [CPU0, CPU1]),
+    "woken.dat": trace([FUNCTION], [WAKEUP, SWITCH], [sub_buffer(1000, WOKEN[:2]), sub_buffer(2000, WOKEN[2:])]),
+    "called.dat": trace([ENTRY, EXIT], [WAKING], [sub_buffer(1000, CALLED), CPU0]),
+    "cpu0": CPU0,
+    "cpu1": CPU1,
+}
 
 
 def files_in(folder):
     found = {}
     for name in sorted(os.listdir(folder)):
-        if name not in ("trace.dat", "refuse.so", "count"):
+        if name not in (*INPUTS, "refuse.so", "count"):
             with open(f"{folder}/{name}", "rb") as file:
                 found[name] = file.read()
     return found
@@ -171,8 +226,9 @@ def main(program):
     program = os.path.abspath(program)
     all_ends, all_wrong = collections.Counter(), 0
     with tempfile.TemporaryDirectory() as folder:
-        with open(f"{folder}/trace.dat", "wb") as file:
-            file.write(trace())
+        for name, content in INPUTS.items():
+            with open(f"{folder}/{name}", "wb") as file:
+                file.write(content)
         subprocess.run(["cc", "-shared", "-fPIC", "-O1", "-o", f"{folder}/refuse.so", "-xc", "-"], input=LIBRARY.encode(), check=True)
         for words in LINES:
             ends, wrong = refuse_each(program, folder, words)
