@@ -79,6 +79,19 @@ def events_of(n, identity=7):
     return pages(n // 340 + 1, event(identity, 1, 1) * 340)
 
 
+PID = b"\tfield:int pid;\toffset:4;\tsize:4;\tsigned:1;\n"
+WOKEN = [text_format(PID, b'"x"', b"sched_wakeup", 7), text_format(PID.replace(b"pid", b"next_pid"), b'"x"', b"sched_switch", 8)]
+CALL = b"\tfield:int func;\toffset:4;\tsize:4;\tsigned:0;\n\tfield:int depth;\toffset:4;\tsize:4;\tsigned:1;\n"
+CALLED = [text_format(CALL, b'"x"', b"funcgraph_entry", 7), text_format(CALL, b'"x"', b"funcgraph_exit", 8)]
+LOSS = (u64(5) + u64(1 << 31)).ljust(PAGE, b"\0")
+
+
+def tasks(n, identities, behind=b""):
+    """Events of these formats for each of n tasks, and something behind each sub-buffer of them."""
+    found = [event(identity, i, 1) for i in range(n) for identity in identities]
+    return b"".join(sub_buffer(1000 * i, b"".join(found[i : i + 340])) + behind for i in range(0, len(found), 340))
+
+
 R = ["report"]
 # name: (N, the file of so many parts, the words of so many parts)
 CASES = {
@@ -139,8 +152,16 @@ CASES = {
     "events": (100_000, lambda n: trace(processors=(events_of(n),)), lambda n: R),
     "events of two processors": (50_000, lambda n: trace(processors=(events_of(n), events_of(n))), lambda n: R),
     "events of one processor, all at once": (100_000, lambda n: trace(processors=(pages(n // 340, event(7, 1) * 340), EVENT)), lambda n: R),
-    "losses": (1_000, lambda n: trace(processors=((u64(5) + u64(1 << 31)).ljust(PAGE, b"\0") * n,)), lambda n: R),
+    "losses": (1_000, lambda n: trace(processors=(LOSS * n,)), lambda n: R),
     "empty sub-buffers": (2_500, lambda n: trace(processors=(bytes(PAGE) * n, EVENT)), lambda n: R),
+    "tasks that wait": (50_000, lambda n: trace(sched=WOKEN, processors=(tasks(n, [7]),)), lambda n: R + ["-w"]),
+    "tasks that wait, and losses": (50_000, lambda n: trace(sched=WOKEN, processors=(tasks(n, [7], LOSS),)), lambda n: R + ["-w"]),
+    "tasks that waited": (25_000, lambda n: trace(sched=WOKEN, processors=(tasks(n, [7, 8]),)), lambda n: R + ["-w"]),
+    "calls": (25_000, lambda n: trace(ftrace=CALLED, processors=(tasks(n, [7, 8]),)), lambda n: R + ["--calls"]),
+    "calls without an end": (50_000, lambda n: trace(ftrace=CALLED, processors=(tasks(n, [7]),)), lambda n: R + ["--calls"]),
+    "calls without an end, and losses": (50_000, lambda n: trace(ftrace=CALLED, processors=(tasks(n, [7], LOSS),)), lambda n: R + ["--calls"]),
+    "events of eight files": (12_500, lambda n: trace(processors=(events_of(n),)), lambda n: R + ["-i", "trace.dat"] * 8),
+    "data files of a restore": (64, lambda n: trace(), lambda n: ["restore", "-i", "trace.dat", "-o", "p"] + ["trace.dat"] * n),
     "pieces of a split": (100, lambda n: trace(processors=(events_of(n),)), lambda n: ["split", "-e", "1", "-r", "-o", "p"]),
 }
 
