@@ -45,6 +45,21 @@ fn nothing_stands_after_a_fault(rt: HostRuntime) -> Result<(), Fail> {
     Ok(())
 }
 
+#[test]
+fn each_ninety_seventh_byte_of_the_new_file(rt: HostRuntime) -> Result<(), Fail> {
+    for i in 0..87_usize {
+        let place = i * 97;
+        let told = if place < 8292 {
+            "write"
+        } else {
+            "done 8292 4096+4096 8192+100"
+        };
+        let text = text_of(rt.alloc(), &TWO, Fails::Write(place), ALL)?;
+        assert!(rt; text.as_str() == told, "{place}: {text}");
+    }
+    Ok(())
+}
+
 // An older file of that name stands as it was.
 const OVER: Row = Row {
     partial: Partial::Cut(83),

@@ -83,6 +83,13 @@ const ROWS: &[Row] = &[
         output: "out.dat",
         told: "done 131079 65536+4096 131072+7",
     },
+    // data begin at a multiple of the page, whatever the length of a sub-buffer
+    Row {
+        partial: Partial::Large,
+        files: &[("c0", Data::Rising(8192)), ("c1", Data::Rising(7))],
+        output: "out.dat",
+        told: "done 12295 4096+8192 12288+7",
+    },
     Row {
         partial: Partial::Longer(20),
         files: &[("c0", Data::Event)],

@@ -16,6 +16,14 @@ const HEADER: &[u8; 83] =
     b"\x17\x08\x44tracing6\0\0\x08\0\x10\0\0header_page\0\0\0\0\0\0\0\0\0header_event\0\0\0\0\0\0\0\0\0\
 \0\0\0\0\0\0\0\0\0\0\0\0\0\0\0\0\0\0\0\0\0\0\0\0";
 
+/// The same with sub-buffers of 8,192 bytes, by its header_page text.
+const LARGE: &[u8] = b"\x17\x08\x44tracing6\0\0\x08\0\x10\0\0header_page\0\x9a\0\0\0\0\0\0\0\
+\tfield: u64 timestamp;\toffset:0;\tsize:8;\tsigned:0;\n\
+\tfield: local_t commit;\toffset:8;\tsize:8;\tsigned:1;\n\
+\tfield: char data;\toffset:16;\tsize:8176;\tsigned:1;\n\
+header_event\0\0\0\0\0\0\0\0\0\
+\0\0\0\0\0\0\0\0\0\0\0\0\0\0\0\0\0\0\0\0\0\0\0\0";
+
 /// One event of pid 1,234 at one second: the time, the commit field, and the event's word and fields.
 const EVENT: &[u8; 28] =
     b"\x00\xca\x9a\x3b\0\0\0\0\x0c\0\0\0\0\0\0\0\x02\0\0\0\x3a\0\0\0\xd2\x04\0\0";
@@ -30,6 +38,8 @@ pub(super) enum Partial {
     Big,
     /// The header of pages of 64 KiB.
     Wide,
+    /// The header of sub-buffers of two pages.
+    Large,
     /// The header with so many command lines' bytes and something behind them.
     Longer(u8),
 }
@@ -69,6 +79,7 @@ fn partial_bytes(alloc: Global, partial: Partial) -> Result<Option<Vec<u8>>, Fai
             bytes[15] = 0;
             bytes[16] = 1;
         }
+        Partial::Large => return Ok(Some(LARGE.to_vec(alloc)?)),
         Partial::Longer(count) => {
             bytes[75] = count;
             bytes.resize(200, 7)?;
