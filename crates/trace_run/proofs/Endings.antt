@@ -405,7 +405,7 @@ ran_unread read before =
     keeps_off (Ok (OnFile command)) = λ is. cc
     keeps_off (Ok (OnFiles words)) = ((λ is. cc), refl)
     keeps_off (Ok (SelfTest words)) = ((λ is. cc), refl)
-    keeps_off (Ok (Restore words)) = ((λ is. cc), refl)
+    keeps_off (Ok (Restore words)) = ((λ is. cc), refl, λ unread. refl)
     keeps_off (Err fault) = (inr refl, refl)
 
 -- the input could not be opened

@@ -104,6 +104,14 @@ module _ (output : List ℕ) (named : NamedFiles) (before now : FolderSeen) (out
   task_ends code.Write task created done = write_ends task created done.0 done.1
   task_ends code.NoMemory task created done = unheld_ends task created done
 
+-- after a fault of reading all files are as they were
+as_before : (answer : Answer) {told now : Option NamedFiles} → KeepsFiles answer told now → status_of answer ≡ ReadFault → now ≡ told
+as_before code.Done kept unread = absurd cc
+as_before (code.Refused fault) kept unread = absurd cc
+as_before (code.Read source) kept unread = kept
+as_before code.Write kept unread = absurd cc
+as_before code.NoMemory kept unread = absurd cc
+
 task_misses : (task : Task) (before now : ℕ) → (task ≢ missing → now ≡ before) → (task_means task).status ≢ ReadFault → now ≡ before
 task_misses missing before now some other = absurd (other refl)
 task_misses (refused fault) before now some other = some (λ is. cc)
@@ -122,7 +130,7 @@ restored_ran words answer status out before now told done causes kept created mi
     subst (λ (s : Status). Ran (Ok (Restore words)) s (beside before out) (beside now out)) (sym told) (record {
       ended = ended;
       complete = ended_complete on_folder unread means (status_of answer) (beside before out) (beside now out) ended;
-      usage = (not_usage on_folder unread (status_of answer) (beside before out) (beside now out) (λ unasked. unasked) ended.causes, refl);
+      usage = (not_usage on_folder unread (status_of answer) (beside before out) (beside now out) (λ unasked. unasked) ended.causes, refl, as_before answer kept);
       misses = missed before.files misses;
       closes = λ opened closed. omega (arith, counts.opened, counts.closed);
       opens = omega (arith, counts.opened, counts.few);

@@ -20,12 +20,13 @@ Unread (Ok (Restore words)) before now = Rose before.folder.counts.reading now.f
 Unread (Err fault) before now = ⊥
 
 -- Usage is answered just where the words or a filter of theirs have no reading, unless there is no memory to read them.
--- Nothing is touched then; a report of several files changes no file, and a self-test leaves the folder alone.
+-- Nothing is touched then; a report of several files changes no file, a self-test leaves the folder alone, and a restore the
+-- output, and after a fault of reading all files too.
 abbrev pub KeepsOff : Result Job UsageFault → Status → Outside → Outside → Type 0
 KeepsOff (Ok (OnFile command)) status before now = status ≢ Usage
 KeepsOff (Ok (OnFiles words)) status before now = (status ≢ Usage) × (now.folder.files ≡ before.folder.files)
 KeepsOff (Ok (SelfTest words)) status before now = (status ≢ Usage) × (now.folder ≡ before.folder)
-KeepsOff (Ok (Restore words)) status before now = (status ≢ Usage) × (now.out ≡ before.out)
+KeepsOff (Ok (Restore words)) status before now = (status ≢ Usage) × (now.out ≡ before.out) × (status ≡ ReadFault → now.folder.files ≡ before.folder.files)
 KeepsOff (Err fault) status before now = ((status ≡ Usage) ⊎ (status ≡ NoMemory)) × (now ≡ before)
 
 -- a name that is missing is asked for only where the meaning is a fault of reading
