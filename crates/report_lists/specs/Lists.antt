@@ -30,14 +30,17 @@ formats_list formats = flat_map format_lines formats
 abbrev pub numbered_line : List ℕ → List ℕ → List ℕ → List ℕ → List ℕ
 numbered_line mark digits between name = concat (mark ∷ replicate (16 - length digits) 48 ∷ digits ∷ between ∷ name ∷ codes "\n" ∷ [])
 
+abbrev pub row_line : List ℕ → List ℕ → Pair → List ℕ
+row_line mark between row = numbered_line mark (digits 16 Bool.false row.0) between row.1
+
 abbrev pub symbol_line : Pair → List ℕ
-symbol_line symbol = numbered_line [] (digits 16 Bool.false symbol.0) (codes " ") symbol.1
+symbol_line symbol = row_line [] (codes " ") symbol
 
 abbrev pub symbols_list : List Pair → List ℕ
 symbols_list symbols = flat_map symbol_line symbols
 
 abbrev pub printk_line : Pair → List ℕ
-printk_line format = numbered_line (codes "0x") (digits 16 Bool.false format.0) (codes " : ") format.1
+printk_line format = row_line (codes "0x") (codes " : ") format
 
 abbrev pub printk_list : List Pair → List ℕ
 printk_list formats = flat_map printk_line formats

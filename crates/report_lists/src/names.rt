@@ -22,7 +22,7 @@ pub fn put_symbols<O: Sink>(
     ensures cause { HasCause (O.faults out.old) (O.faults out.new) result }
 {
     for i in 0..symbols.symbol_count() {
-        put_symbol(pending, out, symbols.symbol(i))?;
+        put_row(pending, out, b"", b" ", symbols.symbol(i))?;
     }
     Ok(())
 }
@@ -39,47 +39,30 @@ pub fn put_printk_formats<O: Sink>(
     ensures cause { HasCause (O.faults out.old) (O.faults out.new) result }
 {
     for i in 0..symbols.printk_count() {
-        put_printk(pending, out, symbols.printk(i))?;
+        put_row(pending, out, b"0x", b" : ", symbols.printk(i))?;
     }
     Ok(())
 }
 
-fn put_symbol<O: Sink>(
+/// Puts a row, if there is one: its address behind a mark, and what stands at that.
+fn put_row<'a, O: Sink>(
     pending: &mut Pending,
     out: &mut O,
-    symbol: Option<(u64, &[u8])>,
+    mark: &'a [u8],
+    between: &'a [u8],
+    row: Option<(u64, &'a [u8])>,
 ) -> Result<(), Failed>
-    ensures puts { Puts (spec.entry spec.symbol_line (option_map (λ r. (r.0, r.1.now)) symbol.entry)) (O.written out.old) pending.old (O.written out.new) pending.new result }
+    ensures puts { Puts (spec.entry (spec.row_line mark.now between.now) (option_map (λ r. (r.0, r.1.now)) row.entry)) (O.written out.old) pending.old (O.written out.new) pending.new result }
     ensures name { O.name out.new ≡ O.name out.old }
     ensures cause { HasCause (O.faults out.old) (O.faults out.new) result }
 {
-    match symbol {
-        None => pending.put(out, b""),
-        Some((address, name)) => {
-            let mut buffer = [0; 64];
-            let at = write_digits(address, false, false, &mut buffer);
-            let digits = &buffer[at..];
-            put_numbered(pending, out, b"", digits, b" ", name)
-        }
-    }
-}
-
-fn put_printk<O: Sink>(
-    pending: &mut Pending,
-    out: &mut O,
-    format: Option<(u64, &[u8])>,
-) -> Result<(), Failed>
-    ensures puts { Puts (spec.entry spec.printk_line (option_map (λ r. (r.0, r.1.now)) format.entry)) (O.written out.old) pending.old (O.written out.new) pending.new result }
-    ensures name { O.name out.new ≡ O.name out.old }
-    ensures cause { HasCause (O.faults out.old) (O.faults out.new) result }
-{
-    match format {
+    match row {
         None => pending.put(out, b""),
         Some((address, text)) => {
             let mut buffer = [0; 64];
             let at = write_digits(address, false, false, &mut buffer);
             let digits = &buffer[at..];
-            put_numbered(pending, out, b"0x", digits, b" : ", text)
+            put_numbered(pending, out, mark, digits, between, text)
         }
     }
 }
