@@ -27,7 +27,7 @@ use Rattle.round_print.specs.Prints.{CpuLine}
 use Rattle.report_rounds.specs.Due.{due_count, has_line, is_page_due, is_of, items_before, none_before, unwritten_before}
 use Rattle.report_rounds.proofs.Before.{asked_in, before_left, sound_to}
 use Rattle.report_rounds.proofs.LineCounts.{count_cons, one_if}
-use Rattle.report_rounds.proofs.Reading.{size_inside, size_none, there_inside}
+use Rattle.time_merge.proofs.PartReads.{size_inside, size_none, there_inside}
 
 module _ (text : ℕ → ItemData → LineText) (l : Layout) (file : List ℕ) (written : List CpuLine) (a : Lane) where
   -- all lines of a lane's used items are kept or among these pieces

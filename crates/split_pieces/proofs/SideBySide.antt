@@ -56,7 +56,7 @@ file_is rules lists k file e =
 
 -- ALL FILES
 
-len_parts : (unit : PieceUnit) (lists : List (List Keyed)) → length (joined_lists lists) ≡ length (next_file unit lists) + length (joined_lists (behind_file unit lists))
+pub len_parts : (unit : PieceUnit) (lists : List (List Keyed)) → length (joined_lists lists) ≡ length (next_file unit lists) + length (joined_lists (behind_file unit lists))
 len_parts unit [] = omega arith
 len_parts unit (xs ∷ lists) =
     let one : length (piece unit xs ++ rest unit xs) ≡ length xs = ap length (whole unit xs) in
@@ -70,7 +70,7 @@ len_parts unit (xs ∷ lists) =
       len_parts unit lists,
     )
 
-some_next : (unit : PieceUnit) (lists : List (List Keyed)) → IsUnit unit → 0 < length (joined_lists lists) → 0 < length (next_file unit lists)
+pub some_next : (unit : PieceUnit) (lists : List (List Keyed)) → IsUnit unit → 0 < length (joined_lists lists) → 0 < length (next_file unit lists)
 some_next unit [] u some = absurd (omega (arith, some))
 some_next unit ([] ∷ lists) u some = omega (arith, length-append (piece unit []) (next_file unit lists), some_next unit lists u some)
 some_next unit ((x ∷ xs) ∷ lists) u some = omega (arith, length-append (piece unit (x ∷ xs)) (next_file unit lists), first_some unit x xs u)
@@ -109,7 +109,7 @@ used_step unit n i lists (y ∷ ys) some later =
     ap (λ (fs : List (List Keyed)). first_pieces unit (length fs) (get_or lists i [])) (one_more unit n lists y ys some)
     ∙ used_behind unit (length (files_within unit n (behind_file unit lists))) i lists later
 
-fewer : (unit : PieceUnit) (n : ℕ) (lists : List (List Keyed)) → IsUnit unit → length (joined_lists lists) ≤ suc n → length (joined_lists (behind_file unit lists)) ≤ n
+pub fewer : (unit : PieceUnit) (n : ℕ) (lists : List (List Keyed)) → IsUnit unit → length (joined_lists lists) ≤ suc n → length (joined_lists (behind_file unit lists)) ≤ n
 fewer unit n lists u le = by_len (length (joined_lists lists)) refl
   where
     by_len : (m : ℕ) → length (joined_lists lists) ≡ m → length (joined_lists (behind_file unit lists)) ≤ n

@@ -20,7 +20,7 @@ use Rattle.word_values.specs.declared.moment.Moment.{Moment}
 use Rattle.split_pieces.specs.declared.rules.Rules.{Rules}
 use Rattle.split_pieces.specs.Cuts.{is_apart, own_list, lists_to_cut, own_bad, cut_bad, bad_reached, first_of_all}
 use Rattle.split_pieces.specs.Pieces.{from_start, up_to_end, left_in, has_end, unit_closes}
-use Rattle.split_passes.proofs.OneLane.{one_lane}
+use Rattle.split_passes.proofs.OneLane.{one_cut, one_lane}
 use Rattle.split_tool.specs.Lists.{groups, come_of, left_in_rows, bad_in_rows, lists_left, bad_left}
 use Rattle.split_tool.specs.Started.{Started}
 
@@ -89,10 +89,6 @@ cut_at key cpu page = record { key = key; cpu = cpu; page = page }
 abbrev bad_with : Rules → List Keyed → Option (ℕ × ℕ) → Option (ℕ × ℕ)
 bad_with rules xs bad =
     if has_end rules.stop xs || (not rules.repeat && unit_closes rules.unit (up_to_end rules.stop xs)) then None else bad
-
-one_cut : (cut : Option Cut) (row : Row Keyed) → row.cut ≡ cut → least_cut (row ∷ []) ≡ cut
-one_cut None row e = rw e refl
-one_cut (Some c) row e = rw e refl
 
 page_by : (cpu : ℕ) (key : Option ℕ) (o : Option ℕ) → option_map place_of (option_map (cut_at key cpu) o) ≡ option_map (page_of cpu) o
 page_by cpu key None = refl

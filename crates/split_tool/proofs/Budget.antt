@@ -15,9 +15,9 @@ use Rattle.time_merge.specs.Reads.{all_reading, all_unread}
 use Rattle.split_passes.specs.Reads.{all_packing}
 use Rattle.split_passes.specs.Tallies.{IsTally}
 use Rattle.split_passes.specs.declared.tally.Tally.{Tally}
-use Rattle.split_passes.proofs.Going.{none_reading}
+use Rattle.time_merge.proofs.PartReads.{all_reading_in, none_reading}
 use Rattle.split_tool.specs.Reads.{Spent, to_read}
-use Rattle.split_tool.proofs.Spending.{all_advances, all_fresh, all_packed_again, all_reading_less}
+use Rattle.split_tool.proofs.Spending.{all_advances, all_fresh, all_packed_again}
 
 pub spent_more : (a b c start mid after : ℕ) → Spent a b start mid → Spent b c mid after → Spent a c start after
 spent_more a b c start mid after p q = record { less = omega (arith, p.less, q.less); reads = omega (arith, p.less, q.less, p.reads, q.reads) }
@@ -59,7 +59,7 @@ none_tallied l t none = (none (lit< tt)).count
 module _ (l : Layout) (len : ℕ) (some : 0 < l.page) where
   -- lanes that were loaded
   pub loaded_stops : (first lanes : List Lane) (start after : ℕ) → after ≤ raised start (all_unread l len first - all_unread l len lanes + all_reading l len lanes) → all_unread l len lanes ≤ all_unread l len first → after ≤ raised start (to_read l len first)
-  loaded_stops first lanes start after read le = omega (arith, read, le, all_reading_less l len some lanes)
+  loaded_stops first lanes start after read le = omega (arith, read, le, all_reading_in l len lanes some)
 
   pub loaded_out : (now_len : ℕ) (first lanes : List Lane) (start mid after : ℕ) → now_len ≡ len → All (IsReady l) lanes
       → mid ≤ raised start (all_unread l len first - all_unread l len lanes + all_reading l len lanes) → all_unread l len lanes ≤ all_unread l len first → after ≤ raised mid (all_unread l now_len lanes) → after ≤ raised start (to_read l len first)

@@ -43,11 +43,13 @@ use Rattle.split_file.proofs.ShortHeader.{still_header, text_short}
 use Rattle.split_tool.specs.Counted.{lists_of}
 use Rattle.split_tool.specs.NewFiles.{ReadBack, files_from, new_files}
 use Rattle.split_tool.specs.Rules.{rules_of}
-use Rattle.split_tool.proofs.FewItems.{Few, filter_few}
-use Rattle.split_tool.proofs.FileAfterFile.{len_parts}
+use Rattle.split_tool.proofs.FewItems.{Few}
+use Rattle.split_pieces.proofs.SideBySide.{len_parts}
 use Rattle.split_tool.proofs.Making.{cut_few, left_few}
 use Rattle.split_tool.proofs.Owning.{each_append, each_filter, each_piece, each_up, each_by_key}
 use Rattle.split_tool.proofs.Tables.{lists_more}
+use Rattle.time_merge.proofs.Choosing.{each_drop}
+use Rattle.split_passes.proofs.PieceLaws.{filter_few}
 
 abbrev Told : Layout → Keyed → Type 0
 Told l x = IsPackable l x.item
@@ -163,11 +165,6 @@ text_most header xs n allowed told few =
 record Fits (l : Layout) (most : ℕ) (xs : List Keyed) : Type 0 where
   few : Few (length xs) most
   told : Each (Told l) xs
-
-each_drop : {X : Type 0} (P : X → Type 0) (n : ℕ) (xs : List X) → Each P xs → Each P (drop n xs)
-each_drop P zero xs a = a
-each_drop P (suc n) [] a = tt
-each_drop P (suc n) (x ∷ xs) a = each_drop P n xs a.1
 
 module _ (P : Keyed → Type 0) where
   each_next : (unit : PieceUnit) (lists : List (List Keyed)) → Each (Each P) lists → Each P (next_file unit lists)

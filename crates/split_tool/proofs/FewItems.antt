@@ -16,6 +16,7 @@ use Rattle.subpage.specs.Arrangement.{Keyed, keyed_from, all_keyed, by_key, put,
 use Rattle.subpage.specs.Cut.{lists_of, cut_of, is_up_to, reached_of}
 use Rattle.subpage.proofs.PageItems.{items_are}
 use Rattle.subpage.proofs.Joining.{joined-some, joined-none}
+use Rattle.split_passes.proofs.PieceLaws.{filter_few}
 
 -- This many items stand in this many bytes: a sub-buffer of at most 2^18 bytes has less than 2^15 items, and takes four bytes more
 -- than eight an item.
@@ -160,13 +161,6 @@ put_long x (y ∷ ys) = elim (cases_Bool (leb x.key y.key)) [
 by_key_long : (xs : List Keyed) → length (by_key key_of xs) ≡ length xs
 by_key_long [] = refl
 by_key_long (x ∷ xs) = put_long x (by_key key_of xs) ∙ ap suc (by_key_long xs)
-
-pub filter_few : (p : Keyed → Bool) (xs : List Keyed) → length (filter p xs) ≤ length xs
-filter_few p [] = omega arith
-filter_few p (x ∷ xs) = elim (cases_Bool (p x)) [
-  | inl b ↦ let h = filter_few p xs in rw b (omega (arith, h))
-  | inr b ↦ let h = filter_few p xs in rw b (omega (arith, h))
-]
 
 pub few_reached : (l : Layout) (file : List ℕ) (parts : List (ℕ × Part)) → IsLayout l → Few (length (reached_of l file parts)) (length parts * length file)
 unfolding reached_of arranged

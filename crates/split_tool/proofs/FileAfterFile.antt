@@ -5,29 +5,10 @@ use Rattle.subpage.specs.Arrangement.{Keyed}
 use Rattle.word_values.specs.declared.piece.PieceUnit.{PieceUnit}
 use Rattle.split_pieces.specs.declared.rules.Rules.{Rules}
 use Rattle.split_pieces.specs.Pieces.{IsUnit, is_some_left, piece, rest, joined_lists, next_file, behind_file, files_when, files_within, files_left}
-use Rattle.split_pieces.proofs.Cutting.{whole, first_some}
+use Rattle.split_pieces.proofs.SideBySide.{fewer, len_parts, some_next}
 use Rattle.split_tool.specs.Lists.{files_behind, files_of}
 
 -- HOW MANY ITEMS ARE LEFT
-
-pub len_parts : (unit : PieceUnit) (lists : List (List Keyed)) → length (joined_lists lists) ≡ length (next_file unit lists) + length (joined_lists (behind_file unit lists))
-len_parts unit [] = omega arith
-len_parts unit (xs ∷ lists) =
-    let one : length (piece unit xs ++ rest unit xs) ≡ length xs = ap length (whole unit xs) in
-    omega (
-      arith,
-      one,
-      length-append (piece unit xs) (rest unit xs),
-      length-append xs (joined_lists lists),
-      length-append (piece unit xs) (next_file unit lists),
-      length-append (rest unit xs) (joined_lists (behind_file unit lists)),
-      len_parts unit lists,
-    )
-
-some_next : (unit : PieceUnit) (lists : List (List Keyed)) → IsUnit unit → 0 < length (joined_lists lists) → 0 < length (next_file unit lists)
-some_next unit [] u some = absurd (omega (arith, some))
-some_next unit ([] ∷ lists) u some = omega (arith, length-append (piece unit []) (next_file unit lists), some_next unit lists u some)
-some_next unit ((x ∷ xs) ∷ lists) u some = omega (arith, length-append (piece unit (x ∷ xs)) (next_file unit lists), first_some unit x xs u)
 
 -- a file leaves fewer items, where there was one
 pub fewer_left : (unit : PieceUnit) (lists : List (List Keyed)) → IsUnit unit → 0 < length (joined_lists (behind_file unit lists)) → length (joined_lists (behind_file unit lists)) < length (joined_lists lists)
@@ -58,18 +39,11 @@ nil_of : (xs : List Keyed) → length xs ≤ 0 → xs ≡ []
 nil_of [] le = refl
 nil_of (x ∷ xs) le = absurd (omega (arith, le))
 
-fewer_than : (unit : PieceUnit) (n : ℕ) (lists : List (List Keyed)) → IsUnit unit → length (joined_lists lists) ≤ suc n → length (joined_lists (behind_file unit lists)) ≤ n
-fewer_than unit n lists u le = by_len (length (joined_lists lists)) refl
-  where
-    by_len : (m : ℕ) → length (joined_lists lists) ≡ m → length (joined_lists (behind_file unit lists)) ≤ n
-    by_len zero e = omega (arith, e, len_parts unit lists)
-    by_len (suc m) e = omega (arith, e, le, len_parts unit lists, some_next unit lists u (omega (arith, e)))
-
 enough : (unit : PieceUnit) (n m : ℕ) (lists : List (List Keyed)) → IsUnit unit → length (joined_lists lists) ≤ n → length (joined_lists lists) ≤ m → files_within unit n lists ≡ files_within unit m lists
 enough unit zero m lists u le le2 = sym (none_within unit m lists (nil_of _ le))
 enough unit (suc n) zero lists u le le2 = none_within unit (suc n) lists (nil_of _ le2)
 enough unit (suc n) (suc m) lists u le le2 =
-    by_all unit n m lists (joined_lists lists) refl (enough unit n m (behind_file unit lists) u (fewer_than unit n lists u le) (fewer_than unit m lists u le2))
+    by_all unit n m lists (joined_lists lists) refl (enough unit n m (behind_file unit lists) u (fewer unit n lists u le) (fewer unit m lists u le2))
 
 -- ONE FILE, AND THOSE BEHIND IT
 
@@ -78,7 +52,7 @@ left_more : (unit : PieceUnit) (n : ℕ) (lists : List (List Keyed)) → IsUnit 
 left_more unit zero lists u is some = absurd (omega (arith, some))
 left_more unit (suc n) lists u is some =
     when_some (joined_lists lists) (omega (arith, is))
-    ∙ ap (λ (more : List (List Keyed)). next_file unit lists ∷ more) (enough unit n (length (joined_lists (behind_file unit lists))) (behind_file unit lists) u (fewer_than unit n lists u (omega (arith, is))) (omega arith))
+    ∙ ap (λ (more : List (List Keyed)). next_file unit lists ∷ more) (enough unit n (length (joined_lists (behind_file unit lists))) (behind_file unit lists) u (fewer unit n lists u (omega (arith, is))) (omega arith))
   where
     when_some : (all : List Keyed) → 0 < length all → files_when all (next_file unit lists ∷ files_within unit n (behind_file unit lists)) ≡ next_file unit lists ∷ files_within unit n (behind_file unit lists)
     when_some [] some = absurd (omega (arith, some))

@@ -3,6 +3,7 @@ pub mod Storing
 pub mod FewItems
 pub mod Spending
 pub mod OneLaneOn
+pub mod Through
 pub mod Budget
 pub mod Starting
 pub mod Owning

@@ -53,11 +53,13 @@ use Rattle.split_tool.specs.Rules.{rules_of}
 use Rattle.split_tool.specs.Started.{Started}
 use Rattle.new_files.specs.Stored.{NewFile, FilesStored}
 use Rattle.split_tool.proofs.Beginning.{started_lists, started_bad}
-use Rattle.split_tool.proofs.FewItems.{Few, few_keyed, few_reached, filter_few}
+use Rattle.split_tool.proofs.FewItems.{Few, few_keyed, few_reached}
 use Rattle.split_tool.proofs.FileAfterFile.{goes_on, ends as no_files, fewer_left, some_length}
-use Rattle.split_tool.proofs.Owning.{tail_rises, above, each_as}
+use Rattle.split_tool.proofs.Owning.{above, each_as}
 use Rattle.split_tool.proofs.Preparing.{left_still, first_cpu, other_parts}
 use Rattle.split_tool.proofs.Storing.{Stages, stages_none, stages_more, all_stored, some_stored, first_stored, unmade_since}
+use Rattle.split_passes.proofs.PieceLaws.{filter_few}
+use Rattle.split_passes.proofs.Running.{rises_tail}
 
 -- A FILE WAS FINISHED
 
@@ -118,7 +120,7 @@ lanes_few (suc n) k (a ∷ lanes) rise least most =
     let lt : a.cpu < k + suc n = All-head (λ (x : Lane). x.cpu < k + suc n) a lanes most in
     let later : Each (λ (x : Lane). k + 1 ≤ x.cpu) lanes = each_as (λ (x : Lane). a.cpu < x.cpu) (λ (x : Lane). k + 1 ≤ x.cpu) (λ x h. omega (arith, h, least.0)) lanes (above a lanes rise) in
     let more : All (λ (x : Lane). x.cpu < k + 1 + n) lanes = All-weaker (λ (x : Lane). x.cpu < k + suc n) (λ (x : Lane). x.cpu < k + 1 + n) (λ x h. omega (arith, h)) lanes (All-tail (λ (x : Lane). x.cpu < k + suc n) a lanes most) in
-    omega (arith, lanes_few n (k + 1) lanes (tail_rises a lanes rise) later more)
+    omega (arith, lanes_few n (k + 1) lanes (rises_tail a lanes rise) later more)
 
 pub few_lanes : (cpus : ℕ) (lanes : List Lane) → CpusRise (parts_of lanes) → All (λ (a : Lane). a.cpu < cpus) lanes → length lanes ≤ cpus
 few_lanes cpus lanes rise below =

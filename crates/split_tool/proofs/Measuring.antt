@@ -31,7 +31,8 @@ use Rattle.split_tool.specs.Lists.{come_of, left_in_rows, bad_in_rows, lists_lef
 use Rattle.split_tool.specs.Measured.{is_full, bad_of_end, PieceTaken, ListMeasured, taken_of, FileMeasured}
 use Rattle.split_tool.proofs.Beginning.{single, place_of, one_bad}
 use Rattle.split_tool.proofs.Owning.{each_at, own_apart}
-use Rattle.split_tool.proofs.OneByOne.{all_mid, still_mid, one_of, one_in_mid, first_more, put_more, put_others, Trios, trios_push, trio_at, trio_some, each_take, each_drop, each_from}
+use Rattle.split_tool.proofs.OneByOne.{all_mid, still_mid, one_of, one_in_mid, first_more, put_more, put_others, Trios, trios_push, trio_at, trio_some, each_from}
+use Rattle.time_merge.proofs.Choosing.{each_take, each_drop}
 
 -- ONE LIST
 

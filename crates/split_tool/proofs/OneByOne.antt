@@ -100,16 +100,6 @@ trio_some P (a ∷ xs) (b ∷ ys) (c ∷ zs) (suc i) d e ps lt = trio_some P xs 
 
 -- EACH OF A PART
 
-pub each_drop : {X : Type 0} (P : X → Type 0) (n : ℕ) (xs : List X) → Each P xs → Each P (drop n xs)
-each_drop P zero xs a = a
-each_drop P (suc n) [] a = tt
-each_drop P (suc n) (x ∷ xs) a = each_drop P n xs a.1
-
-pub each_take : {X : Type 0} (P : X → Type 0) (n : ℕ) (xs : List X) → Each P xs → Each P (take n xs)
-each_take P zero xs a = tt
-each_take P (suc n) [] a = tt
-each_take P (suc n) (x ∷ xs) a = (a.0, each_take P n xs a.1)
-
 pub each_from : {X : Type 0} (P : X → Type 0) (xs : List X) → ((i : ℕ) (d : X) → i < length xs → P (get_or xs i d)) → Each P xs
 each_from P [] f = tt
 each_from P (x ∷ xs) f = (f 0 x (omega arith), each_from P xs (λ i d lt. f (suc i) d (omega (arith, lt))))

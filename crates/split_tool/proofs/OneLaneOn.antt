@@ -16,9 +16,8 @@ use Rattle.time_merge.specs.LaneRows.{IsReady}
 use Rattle.time_merge.specs.Reads.{all_reading, all_unread}
 use Rattle.time_merge.proofs.Advancing.{advances_more}
 use Rattle.split_passes.specs.declared.tally.Tally.{Tally}
-use Rattle.split_passes.proofs.Going.{none_reading}
+use Rattle.time_merge.proofs.PartReads.{all_reading_in, none_reading}
 use Rattle.split_tool.proofs.OneByOne.{one_of}
-use Rattle.split_tool.proofs.Spending.{all_reading_less}
 
 -- a part of one element is that element
 mid_at : {X : Type 0} (i : ℕ) (xs : List X) (d : X) → i < length xs → take 1 (drop i xs) ≡ get_or xs i d ∷ []
@@ -135,4 +134,4 @@ pub ready_done : (l : Layout) (len : ℕ) (lanes : List Lane) (first after all :
 ready_done l len lanes first after all ready read = omega (arith, read, none_reading l len lanes ready)
 
 pub all_done : (l : Layout) (len : ℕ) (lanes : List Lane) (first after all : ℕ) → 0 < l.page → all_unread l len lanes ≤ all → after ≤ raised first (all - all_unread l len lanes + all_reading l len lanes) → after ≤ raised first all
-all_done l len lanes first after all some le read = omega (arith, read, le, all_reading_less l len some lanes)
+all_done l len lanes first after all some le read = omega (arith, read, le, all_reading_in l len lanes some)

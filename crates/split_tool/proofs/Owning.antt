@@ -19,6 +19,7 @@ use Rattle.split_pieces.specs.Moments.{is_past}
 use Rattle.split_pieces.specs.Cuts.{items_of_cpu, is_apart}
 use Rattle.split_pieces.specs.Pieces.{front_where, up_to_event, is_event, up_to_end, piece, next_file}
 use Rattle.split_tool.specs.Lists.{groups, come_of, left_in_rows, lists_left}
+use Rattle.split_passes.proofs.Running.{rises_tail}
 
 module _ {X : Type 0} (P : X → Type 0) where
   pub each_append : (xs ys : List X) → Each P xs → Each P ys → Each P (xs ++ ys)
@@ -133,10 +134,6 @@ later_not a (b ∷ lanes) r =
     let above : Each (λ (x : Lane). a.cpu < x.cpu) lanes = each_as (λ (x : Lane). b.cpu < x.cpu) (λ (x : Lane). a.cpu < x.cpu) (λ x lt. omega (arith, lt, r.0)) lanes more.1 in
     ((λ e. omega (arith, e, r.0), each_as (λ (x : Lane). a.cpu < x.cpu) (IsNotLane a.cpu) (λ x lt e. omega (arith, lt, e)) lanes above), (r.0, above))
 
-pub tail_rises : (a : Lane) (lanes : List Lane) → CpusRise (parts_of (a ∷ lanes)) → CpusRise (parts_of lanes)
-tail_rises a [] r = tt
-tail_rises a (b ∷ lanes) r = r.1
-
 pub above : (a : Lane) (lanes : List Lane) → CpusRise (parts_of (a ∷ lanes)) → Each (λ b. a.cpu < b.cpu) lanes
 above a lanes r = (later_not a lanes r).1
 
@@ -173,4 +170,4 @@ own_apart l file unit stop (a ∷ lanes) (suc i) d rise lt =
     let higher : a.cpu < c = each_at (λ (b : Lane). a.cpu < b.cpu) lanes i d (omega (arith, lt)) (later_not a lanes rise).1 in
     let none : items_of_cpu c here ≡ [] = none_own c here (each_as (λ (x : Keyed). x.cpu ≡ a.cpu) (IsNot c) (λ x e f. omega (arith, e, f, higher)) here (mine_of l file unit stop a)) in
     own_append c here more ∙ ap (λ (xs : List ItemData). xs ++ items_of_cpu c more) none
-    ∙ own_apart l file unit stop lanes i d (tail_rises a lanes rise) (omega (arith, lt))
+    ∙ own_apart l file unit stop lanes i d (rises_tail a lanes rise) (omega (arith, lt))

@@ -48,6 +48,7 @@ use Rattle.split_tool.specs.Made.{FileLeft, Prepared, IsWritten}
 use Rattle.split_tool.proofs.FewItems.{few_in_list}
 use Rattle.split_tool.proofs.Owning.{IsNotLane, none_else}
 use Rattle.split_tool.proofs.Tables.{same_data}
+use Rattle.split_passes.proofs.PieceLaws.{holds_some, same_part}
 
 -- FRONTS
 
@@ -64,25 +65,6 @@ few_each l file first now taken allowed small stands lefts i d lt =
     let own : length (left_of l file a) ≡ length (items_of_cpu a.cpu taken ++ left_of l file b) = ap length (lefts i d lt) in
     let whole : length (list_of l file a.part) ≡ length (s.used ++ left_of l file a) = ap length s.parted in
     omega (arith, few_in_list l file a.part allowed, whole, length-append s.used (left_of l file a), own, length-append (items_of_cpu a.cpu taken) (left_of l file b), small)
-
-same_part : (ks bs : List Lane) (i : ℕ) (d : Lane) → i < length ks → i < length bs → parts_of ks ≡ parts_of bs → (get_or ks i d).part ≡ (get_or bs i d).part
-same_part ks bs i d lt lt2 e =
-    ap (λ (p : ℕ × Part). p.1) (sym (get_or-map (λ (a : Lane). (a.cpu, a.part)) ks i d (d.cpu, d.part) lt) ∙ ap (λ (ps : List (ℕ × Part)). get_or ps i (d.cpu, d.part)) e ∙ get_or-map (λ (a : Lane). (a.cpu, a.part)) bs i d (d.cpu, d.part) lt2)
-
--- a lane that is ready and has an item left holds a sub-buffer
-holds_some : (l : Layout) (file : List ℕ) (a : Lane) (xs ys : List ItemData) → IsReady l a → Stands l file a → left_of l file a ≡ xs ++ ys → 0 < length xs → a.cursor.state ≡ Held
-holds_some l file a xs ys ready s left some = by_state a.cursor.state refl
-  where
-    not_empty : left_of l file a ≡ [] → ⊥
-    not_empty none =
-        let long : length (xs ++ ys) ≡ 0 = ap length (sym left ∙ none) in
-        omega (arith, long, length-append xs ys, some)
-
-    by_state : (t : LaneState) → a.cursor.state ≡ t → a.cursor.state ≡ Held
-    by_state Fresh e = absurd (subst (λ (t : LaneState). IsReadyIn t (if_held t (items_from l a.page a.cursor.mark))) e ready)
-    by_state Held e = e
-    by_state Ended e = absurd (not_empty (s.ended e).0)
-    by_state Malformed e = absurd (not_empty (s.malformed e).0)
 
 fronts_all : (l : Layout) (file : List ℕ) (first now : List Lane) (fronts : List Place) (tallies : List Tally) (taken : List Keyed) → All (IsInOrder l) first → All (IsReady l) first → All (Stands l file) first
     → parts_of now ≡ parts_of first → ((i : ℕ) (d : Lane) (p : Place) → i < length first → get_or fronts i p ≡ place_in (get_or first i d))

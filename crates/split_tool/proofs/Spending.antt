@@ -30,24 +30,6 @@ first_below Ended next = omega arith
 first_below Malformed next = omega arith
 
 module _ (l : Layout) (len : ℕ) (some : 0 < l.page) where
-  -- WHAT IS BEING READ
-
-  reading_less : (part : Part) (s : LaneState) (next : ℕ) → reading_in s (size_there l len part next) ≤ size_from l len part (first_unread s next)
-  reading_less part Fresh next = omega (arith, size_more l len part some next)
-  reading_less part Held next = omega arith
-  reading_less part Ended next = omega arith
-  reading_less part Malformed next = omega arith
-
-  pub all_reading_less : (lanes : List Lane) → all_reading l len lanes ≤ all_unread l len lanes
-  all_reading_less [] = omega arith
-  all_reading_less (a ∷ lanes) = omega (
-    arith,
-    sum_by-cons (reading l len) a lanes,
-    sum_by-cons (unread l len) a lanes,
-    reading_less a.part a.cursor.state a.cursor.next,
-    all_reading_less lanes,
-  )
-
   -- LANES THAT GO ON
 
   again_less : (part : Part) (s t : LaneState) (n m : ℕ) → (IsOver s → ⊥) → n ≤ m

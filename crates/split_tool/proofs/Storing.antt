@@ -94,11 +94,6 @@ first_stored news more f counts now_counts (Some files) now new unmade s = elim 
     Few after = (n : ℕ) × (middle : NamedFiles) × Stored (take n news) files middle
         × ((after ≡ middle) ⊎ (Rose counts.unfinished now_counts.unfinished × IsNextOpen (slice_get news n) middle after))
 
--- finishing a file failed
-pub unmade_finish : (first before now : ℕ) (name own : List ℕ) (old mid new : Option NamedFiles) → mid ≡ old → own ≡ name → before ≡ first → now ≡ raised before 1 → KeepsOthers mid new own → IsUnmade first now name old new
-unmade_finish first before now name own old mid new files named same one keeps =
-    inr (omega (arith, same, one), subst (λ (m : Option NamedFiles). KeepsOthers m new name) files (subst (KeepsOthers mid new) named keeps))
-
 -- a count that rose since then rose since before
 pub unmade_since : (first before now : ℕ) (name : List ℕ) (old new : Option NamedFiles) → first ≤ before → IsUnmade before now name old new → IsUnmade first now name old new
 unmade_since first before now name old new later unmade = elim unmade [

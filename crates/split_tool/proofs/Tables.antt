@@ -20,8 +20,9 @@ use Rattle.split_passes.specs.Tallies.{IsTally}
 use Rattle.split_passes.specs.declared.tally.Tally.{Tally}
 use Rattle.dat_header.specs.Tables.{in_table}
 use Rattle.split_tool.specs.Counted.{lists_of, AreCounted}
-use Rattle.split_tool.proofs.Owning.{IsNotLane, each_as, each_at, above, tail_rises}
+use Rattle.split_tool.proofs.Owning.{IsNotLane, each_as, each_at, above}
 use Rattle.split_tool.proofs.OneByOne.{each_from}
+use Rattle.split_passes.proofs.Running.{rises_tail}
 
 -- SIZES
 
@@ -130,7 +131,7 @@ same_data l xs (suc n) k (a ∷ lanes) rise least most none = elim (cases_Bool (
       let same : a.cpu ≡ k = eqb-true a.cpu k b in
       let higher = above a lanes rise in
       ap (λ (c : ℕ). pack l (items_of_cpu c xs) ++ flat_map (pack l) (owns lanes xs)) same
-      ∙ ap (λ (bytes : List ℕ). pack l (items_of_cpu k xs) ++ bytes) (same_data l xs n (k + 1) lanes (tail_rises a lanes rise)
+      ∙ ap (λ (bytes : List ℕ). pack l (items_of_cpu k xs) ++ bytes) (same_data l xs n (k + 1) lanes (rises_tail a lanes rise)
       (each_as (λ (x : Lane). a.cpu < x.cpu) (λ (x : Lane). k + 1 ≤ x.cpu) (λ x lt. omega (arith, lt, same)) lanes higher)
       (each_as (λ (x : Lane). x.cpu < k + suc n) (λ (x : Lane). x.cpu < k + 1 + n) (λ x lt. omega (arith, lt)) lanes most.1)
       (λ c le others. none c (omega (arith, le)) ((λ e. omega (arith, e, same, le)), others)))
@@ -157,7 +158,7 @@ pub rise_at : (lanes : List Lane) (i j : ℕ) (d : Lane) → CpusRise (parts_of 
 rise_at [] i j d rise lt inside = absurd (omega (arith, inside))
 rise_at (a ∷ lanes) i zero d rise lt inside = absurd (omega (arith, lt))
 rise_at (a ∷ lanes) zero (suc j) d rise lt inside = each_at (λ (b : Lane). a.cpu < b.cpu) lanes j d (omega (arith, inside)) (above a lanes rise)
-rise_at (a ∷ lanes) (suc i) (suc j) d rise lt inside = rise_at lanes i j d (tail_rises a lanes rise) (omega (arith, lt)) (omega (arith, inside))
+rise_at (a ∷ lanes) (suc i) (suc j) d rise lt inside = rise_at lanes i j d (rises_tail a lanes rise) (omega (arith, lt)) (omega (arith, inside))
 
 -- no lane is this processor's
 pub behind_more : (lanes : List Lane) (next cpu : ℕ) → CpusRise (parts_of lanes) → (next < length lanes → (d : Lane) → (get_or lanes next d).cpu ≡ cpu → ⊥)

@@ -4,11 +4,10 @@ ghost use Rattle.std.specs.Prelude.{◌≡◌, ◌-◌, ◌<◌, ◌≤◌, ◌&
 ghost use Rattle.std.specs.Option.{option_or};
 ghost use Rattle.trace_base.specs.Layout.{IsLayout};
 ghost use Rattle.trace_outside.specs.Causes.{HasCause, raised};
-ghost use Rattle.trace_outside.specs.Keeping.{KeepsFile};
 ghost use Rattle.subpage.specs.Arrangement.{CpusRise};
 ghost use Rattle.page_pool.specs.declared.lane.Lane.{Lane};
 ghost use Rattle.event_cursor.specs.Standing.{IsInOrder, Stands};
-ghost use Rattle.time_merge.specs.Advancing.{Advances, IsOver};
+ghost use Rattle.time_merge.specs.Advancing.{IsOver};
 ghost use Rattle.time_merge.specs.LaneRows.{IsReady, parts_of};
 ghost use Rattle.time_merge.specs.Reads.{all_unread};
 ghost use Rattle.split_pieces.specs.Gauging.{closes_by};
@@ -16,6 +15,7 @@ ghost use Rattle.split_passes.specs.Measures.{Tallied};
 ghost use Rattle.split_passes.specs.Tallies.{IsTally};
 ghost use Rattle.split_passes.specs.declared.tally.Tally.{Tally};
 ghost use Rattle.split_tool.specs.Measured.{FileMeasured, ListMeasured, bad_of_end, is_full};
+ghost use Rattle.split_tool.specs.Through.{GoThrough};
 
 use least_tree::LeastTree;
 use page_pool::Lane;
@@ -107,27 +107,19 @@ fn measure_list<F: File>(
     requires rise { CpusRise (parts_of lanes.old) }
     requires slots { length nexts.old ≡ length lanes.old }
     requires long { length tallies.old ≡ length lanes.old }
-    ensures in_order { All (IsInOrder layout.now) lanes.new }
-    ensures parts { parts_of lanes.new ≡ parts_of lanes.old }
+    ensures through { GoThrough F.File layout.now file.old file.new lanes.old lanes.new }
     ensures slots { length nexts.new ≡ length nexts.old }
     ensures long { length tallies.new ≡ length lanes.new }
     ensures told { IfOk result (λ ends. IfSome (F.bytes file.old) (λ bytes. All (Stands layout.now bytes) lanes.old
         → Tallied layout.now lanes.old [] tallies.old
         → ListMeasured layout.now bytes rules.now lanes.old lanes.new tallies.new before ends)) }
     ensures ready { OnOk result (All (IsReady layout.now) lanes.new) }
-    ensures advance { (i : ℕ) (d : Lane) → i < length lanes.old
-        → Advances (slice_index_or lanes.old i d) (slice_index_or lanes.new i d) }
     ensures over { (i : ℕ) (d : Lane) (t : Tally) → i < length lanes.old
         → IsOver (slice_index_or lanes.old i d).cursor.state
         → slice_index_or tallies.new i t ≡ slice_index_or tallies.old i t }
-    ensures reads { F.reads file.new
-        ≤ raised (F.reads file.old) (all_unread layout.now (F.size file.old) lanes.old) }
     ensures reads_done { OnOk result (F.reads file.new ≤ raised (F.reads file.old)
         (all_unread layout.now (F.size file.old) lanes.old - all_unread layout.now (F.size file.old) lanes.new)) }
-    ensures unread { all_unread layout.now (F.size file.old) lanes.new
-        ≤ all_unread layout.now (F.size file.old) lanes.old }
     ensures cause { HasCause (F.faults file.old) (F.faults file.new) result }
-    ensures keeps { KeepsFile F.File file.old file.new }
 {
     let mut gauge = Gauge::new(rules.unit);
     let end = measure(layout, file, lanes, rules.stop, &mut gauge, tallies, nexts)?;
@@ -154,8 +146,7 @@ pub(crate) fn measure_lists<F: File>(
     requires slots { length nexts.old ≡ length lanes.old }
     requires slot { length next.old ≡ 1 }
     requires long { length tallies.old ≡ length lanes.old }
-    ensures in_order { All (IsInOrder layout.now) lanes.new }
-    ensures parts { parts_of lanes.new ≡ parts_of lanes.old }
+    ensures through { GoThrough F.File layout.now file.old file.new lanes.old lanes.new }
     ensures slots { length nexts.new ≡ length nexts.old }
     ensures slot { length next.new ≡ 1 }
     ensures long { length tallies.new ≡ length lanes.new }
@@ -163,19 +154,12 @@ pub(crate) fn measure_lists<F: File>(
         → ((i : ℕ) (t : Tally) → i < length tallies.old → IsTally layout.now (slice_index_or tallies.old i t) [])
         → FileMeasured layout.now bytes rules.now lanes.old lanes.new tallies.new ends)) }
     ensures ready { OnOk result (All (IsReady layout.now) lanes.new) }
-    ensures advance { (i : ℕ) (d : Lane) → i < length lanes.old
-        → Advances (slice_index_or lanes.old i d) (slice_index_or lanes.new i d) }
     ensures over { (i : ℕ) (d : Lane) (t : Tally) → i < length lanes.old
         → IsOver (slice_index_or lanes.old i d).cursor.state
         → slice_index_or tallies.new i t ≡ slice_index_or tallies.old i t }
-    ensures reads { F.reads file.new
-        ≤ raised (F.reads file.old) (all_unread layout.now (F.size file.old) lanes.old) }
     ensures reads_done { OnOk result (F.reads file.new ≤ raised (F.reads file.old)
         (all_unread layout.now (F.size file.old) lanes.old - all_unread layout.now (F.size file.old) lanes.new)) }
-    ensures unread { all_unread layout.now (F.size file.old) lanes.new
-        ≤ all_unread layout.now (F.size file.old) lanes.old }
     ensures cause { HasCause (F.faults file.old) (F.faults file.new) result }
-    ensures keeps { KeepsFile F.File file.old file.new }
 {
     if !rules.is_apart() {
         return measure_list(layout, file, lanes, rules, tallies, nexts, Ends::none());

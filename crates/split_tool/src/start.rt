@@ -1,18 +1,17 @@
 // The items before the start.
 
-ghost use Rattle.std.specs.Prelude.{◌≡◌, ◌-◌, ◌<◌, ◌≤◌, ℕ, All, IfSome, OnOk, Some, length, slice_index_or};
+ghost use Rattle.std.specs.Prelude.{◌≡◌, ◌-◌, ◌≤◌, All, IfSome, OnOk, Some, length};
 ghost use Rattle.trace_base.specs.Layout.{IsLayout};
 ghost use Rattle.trace_outside.specs.Causes.{HasCause, raised};
-ghost use Rattle.trace_outside.specs.Keeping.{KeepsFile};
 ghost use Rattle.subpage.specs.Arrangement.{CpusRise, Keyed};
 ghost use Rattle.page_pool.specs.declared.lane.Lane.{Lane};
 ghost use Rattle.event_cursor.specs.Keys.{first_of};
 ghost use Rattle.event_cursor.specs.Standing.{IsInOrder, Stands, keyed_held};
-ghost use Rattle.time_merge.specs.Advancing.{Advances};
 ghost use Rattle.time_merge.specs.LaneRows.{parts_of};
 ghost use Rattle.time_merge.specs.Reads.{all_unread};
 ghost use Rattle.split_pieces.specs.Moments.{is_before};
 ghost use Rattle.split_tool.specs.Started.{ListStarted, Started};
+ghost use Rattle.split_tool.specs.Through.{GoThrough};
 
 use event_cursor::{head_key, step};
 use least_tree::LeastTree;
@@ -46,21 +45,13 @@ fn pass_list<F: File>(
     requires in_order { All (IsInOrder layout.now) lanes.old }
     requires rise { CpusRise (parts_of lanes.old) }
     requires slots { length nexts.old ≡ length lanes.old }
-    ensures in_order { All (IsInOrder layout.now) lanes.new }
-    ensures parts { parts_of lanes.new ≡ parts_of lanes.old }
+    ensures through { GoThrough F.File layout.now file.old file.new lanes.old lanes.new }
     ensures slots { length nexts.new ≡ length nexts.old }
     ensures told { OnOk result (IfSome (F.bytes file.old) (λ bytes. All (Stands layout.now bytes) lanes.old
         → ListStarted layout.now bytes (Some start) lanes.old lanes.new)) }
-    ensures advance { (i : ℕ) (d : Lane) → i < length lanes.old
-        → Advances (slice_index_or lanes.old i d) (slice_index_or lanes.new i d) }
-    ensures reads { F.reads file.new
-        ≤ raised (F.reads file.old) (all_unread layout.now (F.size file.old) lanes.old) }
     ensures reads_done { OnOk result (F.reads file.new ≤ raised (F.reads file.old)
         (all_unread layout.now (F.size file.old) lanes.old - all_unread layout.now (F.size file.old) lanes.new)) }
-    ensures unread { all_unread layout.now (F.size file.old) lanes.new
-        ≤ all_unread layout.now (F.size file.old) lanes.old }
     ensures cause { HasCause (F.faults file.old) (F.faults file.new) result }
-    ensures keeps { KeepsFile F.File file.old file.new }
 {
     let mut used = None;
     loop {
@@ -95,22 +86,14 @@ pub(crate) fn pass_start<F: File>(
     requires rise { CpusRise (parts_of lanes.old) }
     requires slots { length nexts.old ≡ length lanes.old }
     requires slot { length next.old ≡ 1 }
-    ensures in_order { All (IsInOrder layout.now) lanes.new }
-    ensures parts { parts_of lanes.new ≡ parts_of lanes.old }
+    ensures through { GoThrough F.File layout.now file.old file.new lanes.old lanes.new }
     ensures slots { length nexts.new ≡ length nexts.old }
     ensures slot { length next.new ≡ 1 }
     ensures told { OnOk result (IfSome (F.bytes file.old) (λ bytes. All (Stands layout.now bytes) lanes.old
         → Started layout.now bytes rules.now lanes.old lanes.new)) }
-    ensures advance { (i : ℕ) (d : Lane) → i < length lanes.old
-        → Advances (slice_index_or lanes.old i d) (slice_index_or lanes.new i d) }
-    ensures reads { F.reads file.new
-        ≤ raised (F.reads file.old) (all_unread layout.now (F.size file.old) lanes.old) }
     ensures reads_done { OnOk result (F.reads file.new ≤ raised (F.reads file.old)
         (all_unread layout.now (F.size file.old) lanes.old - all_unread layout.now (F.size file.old) lanes.new)) }
-    ensures unread { all_unread layout.now (F.size file.old) lanes.new
-        ≤ all_unread layout.now (F.size file.old) lanes.old }
     ensures cause { HasCause (F.faults file.old) (F.faults file.new) result }
-    ensures keeps { KeepsFile F.File file.old file.new }
 {
     let Some(start) = rules.start else {
         return Ok(());

@@ -1,5 +1,5 @@
 -- Which lane is next.
-use Rattle.std.specs.Prelude.{◌≡◌, ◌≢◌, ℕ, ◌+◌, ◌<◌, List, [], ◌∷◌, ◌++◌, length, slice_set, slice_index_or, Option, Some, None}
+use Rattle.std.specs.Prelude.{◌≡◌, ◌≢◌, ℕ, ◌<◌, List, [], ◌∷◌, length, slice_set, slice_index_or, Option, Some, None}
 pub use Rattle.least_tree.specs.Least.{IsLeastOf, IsLeastAt}
 use Rattle.trace_base.specs.declared.layout.Layout.{Layout}
 use Rattle.subpage.specs.Arrangement.{Keyed}
@@ -10,7 +10,7 @@ use Rattle.event_cursor.specs.Keys.{first_of}
 use Rattle.event_cursor.specs.Standing.{held_left, keyed_held}
 use Rattle.time_merge.specs.declared.next_lanes.Next.{Next}
 use Rattle.time_merge.specs.declared.next_lanes.Next.TheVariants as code
-use Rattle.time_merge.specs.Rows.{Each, rank, NotBefore, least_cut}
+use Rattle.time_merge.specs.Rows.{Each, least_cut}
 use Rattle.time_merge.specs.LaneRows.{IsReady, next_of, rows_of, to_come}
 
 abbrev pub IsBest : List (Option (Option ℕ)) → Option (ℕ × Option ℕ) → Type 0

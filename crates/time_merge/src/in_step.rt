@@ -1,16 +1,15 @@
-ghost use Rattle.std.specs.Prelude.{◌≡◌, ◌+◌, ◌-◌, ◌<◌, ◌≤◌, ℕ, List, length, map, slice_index_or, All, IfOk, IfSome, OnErr, OnOk, sum_by};
+ghost use Rattle.std.specs.Prelude.{◌≡◌, ℕ, List, length, map, All, IfOk, OnErr, OnOk, IfSome};
 ghost use Rattle.trace_base.specs.Layout.{IsLayout};
-ghost use Rattle.trace_outside.specs.Causes.{HasCause, raised};
-ghost use Rattle.trace_outside.specs.Keeping.{KeepsFile};
+ghost use Rattle.trace_outside.specs.Causes.{HasCause};
 ghost use Rattle.subpage.specs.Arrangement.{CpusRise};
 ghost use Rattle.page_pool.specs.declared.lane.Lane.{Lane};
-ghost use Rattle.event_cursor.specs.Standing.{IsInOrder, Stands, most_left};
-ghost use Rattle.time_merge.specs.Advancing.{Advances};
-ghost use Rattle.time_merge.specs.LaneRows.{IsReady, next_of, parts_of, rows_of};
+ghost use Rattle.event_cursor.specs.Standing.{IsInOrder, Stands};
+ghost use Rattle.time_merge.specs.LaneRows.{IsReady, next_of, parts_of};
+ghost use Rattle.time_merge.specs.Loading.{LoadsLanes};
 ghost use Rattle.time_merge.specs.Nexts.{HoldsNext, IsInStep, IsInStepBut, IsNext};
-ghost use Rattle.time_merge.specs.Reads.{HasStopped, all_reading, all_unread};
+ghost use Rattle.time_merge.specs.Reads.{HasStopped};
 
-use crate::next_lanes::{Next, is_malformed, next_of};
+use crate::next_lanes::{Next, next_at, next_of};
 use crate::ready::{make_all_ready, make_one_ready};
 use least_tree::LeastTree;
 use page_pool::Lane;
@@ -37,17 +36,7 @@ fn next_in(layout: &Layout, lanes: &[Lane], nexts: &LeastTree) -> Next
     ensures holds { HoldsNext layout.now lanes.now result }
     ensures next { (bytes : List ℕ) → All (Stands layout.now bytes) lanes.now → IsNext layout.now bytes lanes.now result }
 {
-    let Some(i) = nexts.least() else {
-        return Next::Done;
-    };
-    if is_malformed(&lanes[i]) {
-        Next::Malformed {
-            cpu: lanes[i].cpu,
-            page: lanes[i].cursor.next,
-        }
-    } else {
-        Next::Lane(i)
-    }
+    next_at(layout, lanes, nexts.least())
 }
 
 /// What [`crate::next_lane`] tells, by a tree that is in step with the lanes: after the first call it looks at one lane
@@ -71,31 +60,16 @@ pub fn next_lane_by<F: File>(
     requires rise { CpusRise (parts_of lanes.old) }
     requires slots { length nexts.old ≡ length lanes.old }
     requires in_step { IsInStep layout.now lanes.old nexts.old used }
-    ensures in_order { All (IsInOrder layout.now) lanes.new }
-    ensures parts { parts_of lanes.new ≡ parts_of lanes.old }
+    ensures loads { LoadsLanes F.File layout.now file.old file.new lanes.old lanes.new }
     ensures nexts { OnOk result (nexts.new ≡ map (next_of layout.now) lanes.new) }
     ensures slots { length nexts.new ≡ length nexts.old }
     ensures holds { IfOk result (HoldsNext layout.now lanes.new) }
     ensures ready { OnOk result (All (IsReady layout.now) lanes.new) }
-    ensures advance { (i : ℕ) (d : Lane) → i < length lanes.old
-        → Advances (slice_index_or lanes.old i d) (slice_index_or lanes.new i d) }
-    ensures rows { IfSome (F.bytes file.old) (λ bytes.
-        rows_of layout.now bytes lanes.new ≡ rows_of layout.now bytes lanes.old) }
-    ensures stands { IfSome (F.bytes file.old) (λ bytes.
-        All (Stands layout.now bytes) lanes.old → All (Stands layout.now bytes) lanes.new) }
     ensures next { IfOk result (λ next. IfSome (F.bytes file.old) (λ bytes.
         All (Stands layout.now bytes) lanes.old → IsNext layout.now bytes lanes.new next)) }
-    ensures most { sum_by (most_left layout.now) lanes.new ≤ sum_by (most_left layout.now) lanes.old }
     ensures cause { HasCause (F.faults file.old) (F.faults file.new) result }
-    // Each sub-buffer is read once.
-    ensures reads { F.reads file.new ≤ raised (F.reads file.old)
-        (all_unread layout.now (F.size file.old) lanes.old - all_unread layout.now (F.size file.old) lanes.new
-        + all_reading layout.now (F.size file.old) lanes.new) }
     ensures stops { OnErr result (HasStopped layout.now (F.size file.old) lanes.old lanes.new (F.reads file.old)
         (F.reads file.new)) }
-    ensures unread { all_unread layout.now (F.size file.old) lanes.new
-        ≤ all_unread layout.now (F.size file.old) lanes.old }
-    ensures keeps { KeepsFile F.File file.old file.new }
 {
     match used {
         None => {

@@ -1,8 +1,9 @@
 //! The order of several processors' items, over one held sub-buffer of each.
 //!
 //! Items stand by key, then processor, then position, and end before the least cut. What lanes have to come in that order
-//! is one list, `to_come` in `specs/LaneRows.antt`: [`next_lane`] tells its first item, and whoever steps that lane has
-//! its rest. Over fresh lanes it is the list of the reached items ([`laws`]).
+//! is one list, `to_come` in `specs/LaneRows.antt`: [`next_lane_by`] tells its first item, by a tree of what comes next of
+//! each lane, and whoever steps that lane has its rest. [`next_lane`] tells the same by a look at every lane: it is the
+//! plain call beside the fast one. Over fresh lanes the list is that of the reached items ([`laws`]).
 #![tactic(auto)]
 
 mod best;

@@ -1,14 +1,14 @@
-ghost use Rattle.std.specs.Prelude.{◌≡◌, ◌+◌, ◌-◌, ◌<◌, ◌≤◌, ℕ, length, map, slice_index_or, All, IfOk, IfSome, IsTrue, OnErr, OnOk, false, sum_by};
+ghost use Rattle.std.specs.Prelude.{◌≡◌, ◌<◌, ℕ, List, length, map, All, IfOk, IfSome, IsTrue, OnErr, OnOk, false};
+ghost use Rattle.std.specs.Option.{ForSome};
 ghost use Rattle.trace_base.specs.Layout.{IsLayout};
-ghost use Rattle.trace_outside.specs.Causes.{HasCause, raised};
-ghost use Rattle.trace_outside.specs.Keeping.{KeepsFile};
+ghost use Rattle.trace_outside.specs.Causes.{HasCause};
 ghost use Rattle.subpage.specs.Arrangement.{CpusRise};
 ghost use Rattle.page_pool.specs.declared.lane.Lane.{Lane};
-ghost use Rattle.event_cursor.specs.Standing.{IsInOrder, Stands, most_left};
-ghost use Rattle.time_merge.specs.Advancing.{Advances};
-ghost use Rattle.time_merge.specs.LaneRows.{IsReady, next_of, parts_of, rows_of};
+ghost use Rattle.event_cursor.specs.Standing.{IsInOrder, Stands};
+ghost use Rattle.time_merge.specs.LaneRows.{IsReady, next_of, parts_of};
+ghost use Rattle.time_merge.specs.Loading.{LoadsLanes};
 ghost use Rattle.time_merge.specs.Nexts.{HoldsNext, IsBest, IsLeastAt, IsNext};
-ghost use Rattle.time_merge.specs.Reads.{HasStopped, all_reading, all_unread};
+ghost use Rattle.time_merge.specs.Reads.{HasStopped};
 
 use crate::best::better;
 use crate::ready::make_all_ready;
@@ -60,13 +60,37 @@ fn least_of(layout: &Layout, lanes: &[Lane]) -> Option<usize>
 }
 
 /// Whether a lane stands before a malformed sub-buffer.
-pub(crate) fn is_malformed(lane: &Lane) -> bool
+fn is_malformed(lane: &Lane) -> bool
     ensures yes { IsTrue result → lane.now.cursor.state ≡ LaneState.Malformed }
     ensures never { result ≡ false → lane.now.cursor.state ≡ LaneState.Malformed → ⊥ }
 {
     match lane.cursor.state {
         LaneState::Malformed => true,
         LaneState::Fresh | LaneState::Held | LaneState::Ended => false,
+    }
+}
+
+/// What comes next of ready lanes, of which this is the one whose next is least, if anything comes.
+pub(crate) fn next_at(layout: &Layout, lanes: &[Lane], least: Option<usize>) -> Next
+    requires rise { CpusRise (parts_of lanes.now) }
+    requires ready { All (IsReady layout.now) lanes.now }
+    requires least { IsLeastAt (map (next_of layout.now) lanes.now) least }
+    requires inside { ForSome least (λ i. i < length lanes.now) }
+    ensures holds { HoldsNext layout.now lanes.now result }
+    ensures next { (bytes : List ℕ) → All (Stands layout.now bytes) lanes.now → IsNext layout.now bytes lanes.now result }
+{
+    match least {
+        None => Next::Done,
+        Some(i) => {
+            if is_malformed(&lanes[i]) {
+                Next::Malformed {
+                    cpu: lanes[i].cpu,
+                    page: lanes[i].cursor.next,
+                }
+            } else {
+                Next::Lane(i)
+            }
+        }
     }
 }
 
@@ -82,40 +106,15 @@ pub fn next_lane<F: File>(layout: &Layout, file: &mut F, lanes: &mut [Lane]) -> 
     requires allowed { IsLayout layout.now }
     requires in_order { All (IsInOrder layout.now) lanes.old }
     requires rise { CpusRise (parts_of lanes.old) }
-    ensures in_order { All (IsInOrder layout.now) lanes.new }
-    ensures parts { parts_of lanes.new ≡ parts_of lanes.old }
+    ensures loads { LoadsLanes F.File layout.now file.old file.new lanes.old lanes.new }
     ensures holds { IfOk result (HoldsNext layout.now lanes.new) }
     ensures ready { OnOk result (All (IsReady layout.now) lanes.new) }
-    ensures advance { (i : ℕ) (d : Lane) → i < length lanes.old
-        → Advances (slice_index_or lanes.old i d) (slice_index_or lanes.new i d) }
-    ensures rows { IfSome (F.bytes file.old) (λ bytes.
-        rows_of layout.now bytes lanes.new ≡ rows_of layout.now bytes lanes.old) }
-    ensures stands { IfSome (F.bytes file.old) (λ bytes.
-        All (Stands layout.now bytes) lanes.old → All (Stands layout.now bytes) lanes.new) }
     ensures next { IfOk result (λ next. IfSome (F.bytes file.old) (λ bytes.
         All (Stands layout.now bytes) lanes.old → IsNext layout.now bytes lanes.new next)) }
-    ensures most { sum_by (most_left layout.now) lanes.new ≤ sum_by (most_left layout.now) lanes.old }
     ensures cause { HasCause (F.faults file.old) (F.faults file.new) result }
-    // Each sub-buffer is read once.
-    ensures reads { F.reads file.new ≤ raised (F.reads file.old)
-        (all_unread layout.now (F.size file.old) lanes.old - all_unread layout.now (F.size file.old) lanes.new
-        + all_reading layout.now (F.size file.old) lanes.new) }
     ensures stops { OnErr result (HasStopped layout.now (F.size file.old) lanes.old lanes.new (F.reads file.old)
         (F.reads file.new)) }
-    ensures unread { all_unread layout.now (F.size file.old) lanes.new
-        ≤ all_unread layout.now (F.size file.old) lanes.old }
-    ensures keeps { KeepsFile F.File file.old file.new }
 {
     make_all_ready(layout, file, lanes)?;
-    let Some(i) = least_of(layout, lanes) else {
-        return Ok(Next::Done);
-    };
-    if is_malformed(&lanes[i]) {
-        Ok(Next::Malformed {
-            cpu: lanes[i].cpu,
-            page: lanes[i].cursor.next,
-        })
-    } else {
-        Ok(Next::Lane(i))
-    }
+    Ok(next_at(layout, lanes, least_of(layout, lanes)))
 }

@@ -6,14 +6,14 @@ returns-in_err-next_lane_by-clause-keeps g c =
     let s = c.args.source.now in
     let r = c.next_lane_by.ensures in
     keeps_lent s.name.now s.cpus s.layout (g.L.Form.text s.form) _ _ _ _ _ _ _ _ s.pool c.lanes.result.now c.next_lane_by.new.lanes s.nexts c.next_lane_by.new.nexts c.lanes.ensures.value
-    r.keeps.bytes r.keeps.size c.requires.usable r.keeps.later r.in_order r.parts r.slots r.most r.rows r.stands r.reads r.unread
+    r.loads.keeps.bytes r.loads.keeps.size c.requires.usable r.loads.keeps.later r.loads.in_order r.loads.parts r.slots r.loads.most r.loads.rows r.loads.stands r.loads.reads r.loads.unread
 
 pub returns-clause-keeps : goal.returns-clause-keeps
 returns-clause-keeps g c =
     let s = c.args.source.now in
     let r = c.next_lane_by.ensures in
     keeps_lent s.name.now s.cpus s.layout (g.L.Form.text s.form) _ _ _ _ _ _ _ _ s.pool c.lanes.result.now c.next_lane_by.new.lanes s.nexts c.next_lane_by.new.nexts c.lanes.ensures.value
-    r.keeps.bytes r.keeps.size c.requires.usable r.keeps.later r.in_order r.parts r.slots r.most r.rows r.stands r.reads r.unread
+    r.loads.keeps.bytes r.loads.keeps.size c.requires.usable r.loads.keeps.later r.loads.in_order r.loads.parts r.slots r.loads.most r.loads.rows r.loads.stands r.loads.reads r.loads.unread
 
 pub returns-clause-readied : goal.returns-clause-readied
 returns-clause-readied g c =
@@ -21,4 +21,4 @@ returns-clause-readied g c =
     let r = c.next_lane_by.ensures in
     let ok = c.in_ok-next_lane_by.ensures in
     readied_lent s.name.now s.cpus s.layout (g.L.Form.text s.form) _ _ _ _ _ _ _ _ s.pool c.lanes.result.now c.next_lane_by.new.lanes s.nexts c.next_lane_by.new.nexts c.lanes.ensures.value
-    r.keeps.bytes r.keeps.size r.parts ok.ready ok.nexts r.reads r.unread
+    r.loads.keeps.bytes r.loads.keeps.size r.loads.parts ok.ready ok.nexts r.loads.reads r.loads.unread

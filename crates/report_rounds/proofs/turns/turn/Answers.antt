@@ -13,7 +13,7 @@ print_round-requires-clause-rise g c =
     let f : IsFormed (g.L.Form.text c.args.form.now) c.args.layout.now (g.F.File.bytes c.args.file.now) c.args.lanes.now c.make_all_ready.new.lanes c.format_lanes.new.lanes = record {
       long_loaded = c.make_all_ready.auto.lanes;
       long_formed = c.format_lanes.ensures.count;
-      in_order = c.in-Ok.ensures.in_order;
+      in_order = c.in-Ok.ensures.loads.in_order;
       load = c.in-Ok.ensures.each;
       ready = c.in-Ok.ensures.ready;
       format = c.format_lanes.ensures.each;
@@ -25,7 +25,7 @@ print_round-requires-clause-rises g c =
     let f : IsFormed (g.L.Form.text c.args.form.now) c.args.layout.now (g.F.File.bytes c.args.file.now) c.args.lanes.now c.make_all_ready.new.lanes c.format_lanes.new.lanes = record {
       long_loaded = c.make_all_ready.auto.lanes;
       long_formed = c.format_lanes.ensures.count;
-      in_order = c.in-Ok.ensures.in_order;
+      in_order = c.in-Ok.ensures.loads.in_order;
       load = c.in-Ok.ensures.each;
       ready = c.in-Ok.ensures.ready;
       format = c.format_lanes.ensures.each;
@@ -37,7 +37,7 @@ returns-in-Ok-print_round-clause-between g c =
     let f : IsFormed (g.L.Form.text c.args.form.now) c.args.layout.now (g.F.File.bytes c.args.file.now) c.args.lanes.now c.make_all_ready.new.lanes c.format_lanes.new.lanes = record {
       long_loaded = c.make_all_ready.auto.lanes;
       long_formed = c.format_lanes.ensures.count;
-      in_order = c.in-Ok.ensures.in_order;
+      in_order = c.in-Ok.ensures.loads.in_order;
       load = c.in-Ok.ensures.each;
       ready = c.in-Ok.ensures.ready;
       format = c.format_lanes.ensures.each;
@@ -49,7 +49,7 @@ returns-in-Ok-print_round-clause-parts g c =
     let f : IsFormed (g.L.Form.text c.args.form.now) c.args.layout.now (g.F.File.bytes c.args.file.now) c.args.lanes.now c.make_all_ready.new.lanes c.format_lanes.new.lanes = record {
       long_loaded = c.make_all_ready.auto.lanes;
       long_formed = c.format_lanes.ensures.count;
-      in_order = c.in-Ok.ensures.in_order;
+      in_order = c.in-Ok.ensures.loads.in_order;
       load = c.in-Ok.ensures.each;
       ready = c.in-Ok.ensures.ready;
       format = c.format_lanes.ensures.each;
@@ -61,7 +61,7 @@ returns-in-Ok-print_round-clause-less g c =
     let f : IsFormed (g.L.Form.text c.args.form.now) c.args.layout.now (g.F.File.bytes c.args.file.now) c.args.lanes.now c.make_all_ready.new.lanes c.format_lanes.new.lanes = record {
       long_loaded = c.make_all_ready.auto.lanes;
       long_formed = c.format_lanes.ensures.count;
-      in_order = c.in-Ok.ensures.in_order;
+      in_order = c.in-Ok.ensures.loads.in_order;
       load = c.in-Ok.ensures.each;
       ready = c.in-Ok.ensures.ready;
       format = c.format_lanes.ensures.each;
@@ -73,7 +73,7 @@ returns-in-Ok-print_round-clause-stands g c =
     let f : IsFormed (g.L.Form.text c.args.form.now) c.args.layout.now (g.F.File.bytes c.args.file.now) c.args.lanes.now c.make_all_ready.new.lanes c.format_lanes.new.lanes = record {
       long_loaded = c.make_all_ready.auto.lanes;
       long_formed = c.format_lanes.ensures.count;
-      in_order = c.in-Ok.ensures.in_order;
+      in_order = c.in-Ok.ensures.loads.in_order;
       load = c.in-Ok.ensures.each;
       ready = c.in-Ok.ensures.ready;
       format = c.format_lanes.ensures.each;
@@ -85,7 +85,7 @@ returns-in-Ok-print_round-clause-turned g c =
     let f : IsFormed (g.L.Form.text c.args.form.now) c.args.layout.now (g.F.File.bytes c.args.file.now) c.args.lanes.now c.make_all_ready.new.lanes c.format_lanes.new.lanes = record {
       long_loaded = c.make_all_ready.auto.lanes;
       long_formed = c.format_lanes.ensures.count;
-      in_order = c.in-Ok.ensures.in_order;
+      in_order = c.in-Ok.ensures.loads.in_order;
       load = c.in-Ok.ensures.each;
       ready = c.in-Ok.ensures.ready;
       format = c.format_lanes.ensures.each;
@@ -97,7 +97,7 @@ returns-in-Err-clause-turned g c =
     let f : IsFormed (g.L.Form.text c.args.form.now) c.args.layout.now (g.F.File.bytes c.args.file.now) c.args.lanes.now c.make_all_ready.new.lanes c.format_lanes.new.lanes = record {
       long_loaded = c.make_all_ready.auto.lanes;
       long_formed = c.format_lanes.ensures.count;
-      in_order = c.in-Ok.ensures.in_order;
+      in_order = c.in-Ok.ensures.loads.in_order;
       load = c.in-Ok.ensures.each;
       ready = c.in-Ok.ensures.ready;
       format = c.format_lanes.ensures.each;
@@ -109,30 +109,30 @@ pub returns-in_default-clause-loaded : goal.returns-in_default-clause-loaded
 returns-in_default-clause-loaded g c = record {
   now = c.make_all_ready.new.lanes;
   long = c.make_all_ready.auto.lanes;
-  in_order = c.make_all_ready.ensures.in_order;
+  in_order = c.make_all_ready.ensures.loads.in_order;
   each = c.make_all_ready.ensures.each;
-  less = c.make_all_ready.ensures.unread;
-  reads = c.make_all_ready.ensures.reads;
+  less = c.make_all_ready.ensures.loads.unread;
+  reads = c.make_all_ready.ensures.loads.reads;
 }
 
 pub returns-in-Ok-print_round-clause-loaded : goal.returns-in-Ok-print_round-clause-loaded
 returns-in-Ok-print_round-clause-loaded g c = record {
   now = c.make_all_ready.new.lanes;
   long = c.make_all_ready.auto.lanes;
-  in_order = c.make_all_ready.ensures.in_order;
+  in_order = c.make_all_ready.ensures.loads.in_order;
   each = c.make_all_ready.ensures.each;
-  less = c.make_all_ready.ensures.unread;
-  reads = c.make_all_ready.ensures.reads;
+  less = c.make_all_ready.ensures.loads.unread;
+  reads = c.make_all_ready.ensures.loads.reads;
 }
 
 pub returns-in-Err-clause-loaded : goal.returns-in-Err-clause-loaded
 returns-in-Err-clause-loaded g c = record {
   now = c.make_all_ready.new.lanes;
   long = c.make_all_ready.auto.lanes;
-  in_order = c.make_all_ready.ensures.in_order;
+  in_order = c.make_all_ready.ensures.loads.in_order;
   each = c.make_all_ready.ensures.each;
-  less = c.make_all_ready.ensures.unread;
-  reads = c.make_all_ready.ensures.reads;
+  less = c.make_all_ready.ensures.loads.unread;
+  reads = c.make_all_ready.ensures.loads.reads;
 }
 
 pub returns-in-Ok-print_round-clause-reads : goal.returns-in-Ok-print_round-clause-reads
@@ -147,4 +147,4 @@ pub returns-in-Ok-print_round-clause-unread : goal.returns-in-Ok-print_round-cla
 returns-in-Ok-print_round-clause-unread g c =
     let all : ℕ = all_unread c.args.layout.now (g.F.File.size c.args.file.now) c.args.lanes.now in
     if_none c.end_at.result _
-    (subst (λ (n : ℕ). n ≤ all) (sym (unread_turned c.args.layout.now (g.F.File.size c.args.file.now) (g.L.Form.text c.args.form.now) c.horizon-known.result c.make_all_ready.new.lanes c.format_lanes.new.lanes c.print_round.new.lanes c.format_lanes.ensures.count c.print_round.auto.lanes c.format_lanes.ensures.each c.in-Ok-print_round.ensures.lanes)) c.in-Ok.ensures.unread)
+    (subst (λ (n : ℕ). n ≤ all) (sym (unread_turned c.args.layout.now (g.F.File.size c.args.file.now) (g.L.Form.text c.args.form.now) c.horizon-known.result c.make_all_ready.new.lanes c.format_lanes.new.lanes c.print_round.new.lanes c.format_lanes.ensures.count c.print_round.auto.lanes c.format_lanes.ensures.each c.in-Ok-print_round.ensures.lanes)) c.in-Ok.ensures.loads.unread)

@@ -5,7 +5,7 @@ use Rattle.split_passes.specs.AllAgain.{owns}
 use Rattle.split_tool.specs.Measured.{taken_of}
 use Rattle.split_tool.proofs.Budget.{written_stops, written_spent}
 use Rattle.split_tool.proofs.Making.{finished}
-use Rattle.split_tool.proofs.Storing.{unmade_finish}
+use Rattle.new_files.proofs.Unmade.{unmade_finish}
 use Rattle.split_tool.proofs.files.make_file.Goals as goal
 
 pub returns-in-Ok-finish_file-clause-told : goal.returns-in-Ok-finish_file-clause-told

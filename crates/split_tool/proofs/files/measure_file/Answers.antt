@@ -20,8 +20,8 @@ returns-clause-told g c =
     let header = c.args.plan.now.header.now in
     let l = header.layout in
     let work = c.args.work.now in
-    let lanes : length c.make_all_ready.new.lanes ≡ length c.args.lanes.now = same_length c.make_all_ready.new.lanes c.args.lanes.now c.make_all_ready.ensures.parts in
-    let later : length c.measure_lists.new.lanes ≡ length c.make_all_ready.new.lanes = same_length c.measure_lists.new.lanes c.make_all_ready.new.lanes c.measure_lists.ensures.parts in
+    let lanes : length c.make_all_ready.new.lanes ≡ length c.args.lanes.now = same_length c.make_all_ready.new.lanes c.args.lanes.now c.make_all_ready.ensures.loads.parts in
+    let later : length c.measure_lists.new.lanes ≡ length c.make_all_ready.new.lanes = same_length c.measure_lists.new.lanes c.make_all_ready.new.lanes c.measure_lists.ensures.through.parts in
     let front_room : length work.fronts.items ≡ work.fronts.len = ap length (sym c.as_mut_slice.ensures.value) ∙ c.as_mut_slice.ensures.len in
     let tally_room : length work.tallies.items ≡ work.tallies.len = ap length (sym c.as_mut_slice-2.ensures.value) ∙ c.as_mut_slice-2.ensures.len in
     let fronts_long : length c.note_fronts.new.fronts ≡ work.fronts.len = c.note_fronts.ensures.long ∙ lanes ∙ sym c.requires.work.fronts ∙ front_room in
@@ -34,12 +34,12 @@ returns-clause-told g c =
     prepared_back header c.args.rules.now c.args.lanes.now c.measure_lists.new.lanes c.note_fronts.new.fronts _ c.measure_lists.new.tallies _ c.fill_table.new.table _ c.in_ok-ends.ends (g.F.File.bytes c.args.file.now)
     (take_at c.note_fronts.new.fronts _ work.fronts.len fronts_long) (take_at c.measure_lists.new.tallies _ work.tallies.len tallies_long) (take_at c.fill_table.new.table _ work.table.len table_long)
     (prepared_told header c.args.rules.now c.args.lanes.now c.make_all_ready.new.lanes c.measure_lists.new.lanes c.note_fronts.new.fronts c.as_mut_slice-3.result.now c.measure_lists.new.tallies c.as_mut_slice-4.result.now c.fill_table.new.table
-    c.data_place-at.result c.in_ok-ends.ends (g.F.File.bytes c.args.file.now) (g.F.File.bytes c.make_all_ready.new.file) c.make_all_ready.ensures.keeps.bytes
-    c.requires.allowed c.requires.rise c.requires.cpus c.make_all_ready.ensures.parts c.measure_lists.ensures.parts c.make_all_ready.ensures.in_order c.in_ok-make_all_ready.ensures.ready
+    c.data_place-at.result c.in_ok-ends.ends (g.F.File.bytes c.args.file.now) (g.F.File.bytes c.make_all_ready.new.file) c.make_all_ready.ensures.loads.keeps.bytes
+    c.requires.allowed c.requires.rise c.requires.cpus c.make_all_ready.ensures.loads.parts c.measure_lists.ensures.through.parts c.make_all_ready.ensures.loads.in_order c.in_ok-make_all_ready.ensures.ready
     c.note_fronts.ensures.noted c.data_place-at.ensures (ap length table_is ∙ c.requires.work.table)
     (λ xs place at are. c.fill_table.ensures xs place at (subst (λ (ts : List Tally). AreCounted l c.measure_lists.new.lanes ts xs) (sym counted) are))
     (λ i t lt. subst (λ (ts : List Tally). IsTally l (get_or ts i t) []) (sym cleared) (c.clear.ensures.none l i t (omega (arith, lt, ap length cleared, c.clear.ensures.long))))
-    c.make_all_ready.ensures.rows c.make_all_ready.ensures.stands c.in_ok-ends.ensures.told)
+    c.make_all_ready.ensures.loads.rows c.make_all_ready.ensures.loads.stands c.in_ok-ends.ensures.told)
 
 pub returns-clause-spent : goal.returns-clause-spent
 returns-clause-spent g c =
@@ -48,8 +48,8 @@ returns-clause-spent g c =
     let size = g.F.File.size c.args.file.now in
     let some : 0 < l.page = omega (arith, (header_layout header c.requires.allowed).page_least) in
     let work = c.args.work.now in
-    let lanes : length c.make_all_ready.new.lanes ≡ length c.args.lanes.now = same_length c.make_all_ready.new.lanes c.args.lanes.now c.make_all_ready.ensures.parts in
-    let later : length c.measure_lists.new.lanes ≡ length c.make_all_ready.new.lanes = same_length c.measure_lists.new.lanes c.make_all_ready.new.lanes c.measure_lists.ensures.parts in
+    let lanes : length c.make_all_ready.new.lanes ≡ length c.args.lanes.now = same_length c.make_all_ready.new.lanes c.args.lanes.now c.make_all_ready.ensures.loads.parts in
+    let later : length c.measure_lists.new.lanes ≡ length c.make_all_ready.new.lanes = same_length c.measure_lists.new.lanes c.make_all_ready.new.lanes c.measure_lists.ensures.through.parts in
     let front_room : length work.fronts.items ≡ work.fronts.len = ap length (sym c.as_mut_slice.ensures.value) ∙ c.as_mut_slice.ensures.len in
     let tally_room : length work.tallies.items ≡ work.tallies.len = ap length (sym c.as_mut_slice-2.ensures.value) ∙ c.as_mut_slice-2.ensures.len in
     let fronts_long : length c.note_fronts.new.fronts ≡ work.fronts.len = c.note_fronts.ensures.long ∙ lanes ∙ sym c.requires.work.fronts ∙ front_room in
@@ -59,24 +59,24 @@ returns-clause-spent g c =
     measured_back l size some c.args.lanes.now c.measure_lists.new.lanes c.note_fronts.new.fronts _ c.measure_lists.new.tallies _ _ _
     (take_at c.note_fronts.new.fronts _ work.fronts.len fronts_long) (take_at c.measure_lists.new.tallies _ work.tallies.len tallies_long)
     (measured_spent l size some (g.F.File.size c.make_all_ready.new.file) c.args.lanes.now c.make_all_ready.new.lanes c.measure_lists.new.lanes c.note_fronts.new.fronts c.as_mut_slice-3.result.now c.measure_lists.new.tallies _ _ _
-    c.make_all_ready.ensures.keeps.size lanes later c.note_fronts.ensures.long (c.measure_lists.ensures.long ∙ later) c.make_all_ready.ensures.in_order c.in_ok-make_all_ready.ensures.ready c.in_ok-ends.ensures.ready
-    c.make_all_ready.ensures.advance c.measure_lists.ensures.advance c.note_fronts.ensures.noted
+    c.make_all_ready.ensures.loads.keeps.size lanes later c.note_fronts.ensures.long (c.measure_lists.ensures.long ∙ later) c.make_all_ready.ensures.loads.in_order c.in_ok-make_all_ready.ensures.ready c.in_ok-ends.ensures.ready
+    c.make_all_ready.ensures.loads.advance c.measure_lists.ensures.through.advance c.note_fronts.ensures.noted
     (λ i t lt. subst (λ (ts : List Tally). IsTally l (get_or ts i t) []) (sym cleared) (c.clear.ensures.none l i t (omega (arith, lt, lanes, c.requires.work.tallies, tally_room, c.as_mut_slice-2.ensures.len))))
-    c.measure_lists.ensures.over c.make_all_ready.ensures.reads c.make_all_ready.ensures.unread c.in_ok-ends.ensures.reads_done c.measure_lists.ensures.unread)
+    c.measure_lists.ensures.over c.make_all_ready.ensures.loads.reads c.make_all_ready.ensures.loads.unread c.in_ok-ends.ensures.reads_done c.measure_lists.ensures.through.unread)
 
 pub returns-clause-reads : goal.returns-clause-reads
 returns-clause-reads g c =
     let header = c.args.plan.now.header.now in
     loaded_out header.layout (g.F.File.size c.args.file.now) (omega (arith, (header_layout header c.requires.allowed).page_least)) (g.F.File.size c.make_all_ready.new.file) c.args.lanes.now c.make_all_ready.new.lanes _ _ _
-    c.make_all_ready.ensures.keeps.size c.in_ok-make_all_ready.ensures.ready c.make_all_ready.ensures.reads c.make_all_ready.ensures.unread c.measure_lists.ensures.reads
+    c.make_all_ready.ensures.loads.keeps.size c.in_ok-make_all_ready.ensures.ready c.make_all_ready.ensures.loads.reads c.make_all_ready.ensures.loads.unread c.measure_lists.ensures.through.reads
 
 pub returns-in_err-ends-clause-reads : goal.returns-in_err-ends-clause-reads
 returns-in_err-ends-clause-reads g c =
     let header = c.args.plan.now.header.now in
     loaded_out header.layout (g.F.File.size c.args.file.now) (omega (arith, (header_layout header c.requires.allowed).page_least)) (g.F.File.size c.make_all_ready.new.file) c.args.lanes.now c.make_all_ready.new.lanes _ _ _
-    c.make_all_ready.ensures.keeps.size c.in_ok-make_all_ready.ensures.ready c.make_all_ready.ensures.reads c.make_all_ready.ensures.unread c.measure_lists.ensures.reads
+    c.make_all_ready.ensures.loads.keeps.size c.in_ok-make_all_ready.ensures.ready c.make_all_ready.ensures.loads.reads c.make_all_ready.ensures.loads.unread c.measure_lists.ensures.through.reads
 
 pub returns-in_err-make_all_ready-clause-reads : goal.returns-in_err-make_all_ready-clause-reads
 returns-in_err-make_all_ready-clause-reads g c =
     let header = c.args.plan.now.header.now in
-    loaded_stops header.layout (g.F.File.size c.args.file.now) (omega (arith, (header_layout header c.requires.allowed).page_least)) c.args.lanes.now c.make_all_ready.new.lanes _ _ c.make_all_ready.ensures.reads c.make_all_ready.ensures.unread
+    loaded_stops header.layout (g.F.File.size c.args.file.now) (omega (arith, (header_layout header c.requires.allowed).page_least)) c.args.lanes.now c.make_all_ready.new.lanes _ _ c.make_all_ready.ensures.loads.reads c.make_all_ready.ensures.loads.unread

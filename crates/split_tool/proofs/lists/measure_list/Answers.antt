@@ -11,13 +11,25 @@ returns-clause-told g c =
     c.new-gauge.ensures.piece c.new-gauge.ensures.closes c.measure.ensures.parts c.is_closed-closed.ensures c.and.ensures.more c.and.ensures.bad (m s t))
     c.in_ok-end.ensures.measured
 
-pub returns-in_err-end-clause-reads : goal.returns-in_err-end-clause-reads
-returns-in_err-end-clause-reads g c =
-    all_done c.args.layout.now (g.F.File.size c.args.file.now) c.measure.new.lanes _ _ _ (omega (arith, c.requires.allowed.page_least)) c.measure.ensures.unread c.measure.ensures.reads
+pub returns-in_err-end-clause-through : goal.returns-in_err-end-clause-through
+returns-in_err-end-clause-through g c = record {
+  in_order = c.measure.ensures.in_order;
+  parts = c.measure.ensures.parts;
+  advance = c.measure.ensures.advance;
+  reads = all_done c.args.layout.now (g.F.File.size c.args.file.now) c.measure.new.lanes _ _ _ (omega (arith, c.requires.allowed.page_least)) c.measure.ensures.unread c.measure.ensures.reads;
+  unread = c.measure.ensures.unread;
+  keeps = c.measure.ensures.keeps;
+}
 
-pub returns-clause-reads : goal.returns-clause-reads
-returns-clause-reads g c =
-    all_done c.args.layout.now (g.F.File.size c.args.file.now) c.measure.new.lanes _ _ _ (omega (arith, c.requires.allowed.page_least)) c.measure.ensures.unread c.measure.ensures.reads
+pub returns-clause-through : goal.returns-clause-through
+returns-clause-through g c = record {
+  in_order = c.measure.ensures.in_order;
+  parts = c.measure.ensures.parts;
+  advance = c.measure.ensures.advance;
+  reads = all_done c.args.layout.now (g.F.File.size c.args.file.now) c.measure.new.lanes _ _ _ (omega (arith, c.requires.allowed.page_least)) c.measure.ensures.unread c.measure.ensures.reads;
+  unread = c.measure.ensures.unread;
+  keeps = c.measure.ensures.keeps;
+}
 
 pub returns-clause-reads_done : goal.returns-clause-reads_done
 returns-clause-reads_done g c =

@@ -7,9 +7,10 @@ use Rattle.event_cursor.specs.Standing.{IsInOrder}
 use Rattle.event_cursor.proofs.Told.{told_all, told_map, told_again}
 use Rattle.time_merge.specs.LaneRows.{IsReady}
 use Rattle.time_merge.proofs.Advancing.{advances_not, same_length}
-use Rattle.split_tool.proofs.OneLaneOn.{lane_on, tally_on, ready_on, on_reads, on_stops, on_unread}
+use Rattle.split_tool.proofs.OneLaneOn.{lane_on, tally_on, ready_on, on_reads, on_unread}
 use Rattle.split_tool.proofs.OneByOne.{map_put, all_put, all_mid, one_in_mid}
 use Rattle.split_tool.proofs.Measuring.{whole_measured, measured_none, measured_more, all_measured, clear_mid, still_stand}
+use Rattle.split_tool.proofs.Through.{through_all, through_one}
 use Rattle.split_tool.proofs.lists.measure_lists.Goals as goal
 
 pub returns-then-not-is_apart-clause-told : goal.returns-then-not-is_apart-clause-told
@@ -37,13 +38,6 @@ loop-i-init g c = record {
   keeps = file_still _ _;
 }
 
-pub returns-in_err-ends-clause-in_order : goal.returns-in_err-ends-clause-in_order
-returns-in_err-ends-clause-in_order g c =
-    all_put (IsInOrder c.args.layout.now) c.loop-i.i _ c.loop-i.lanes c.measure_list-in-loop-i.new.lanes c.loop-i.invariant.in_order c.measure_list-in-loop-i.ensures.in_order
-
-pub returns-in_err-ends-clause-parts : goal.returns-in_err-ends-clause-parts
-returns-in_err-ends-clause-parts g c = map_put _ c.loop-i.i _ c.loop-i.lanes c.measure_list-in-loop-i.new.lanes c.measure_list-in-loop-i.ensures.parts ∙ c.loop-i.invariant.parts
-
 pub measure_list-requires-in-loop-i-clause-slots : goal.measure_list-requires-in-loop-i-clause-slots
 measure_list-requires-in-loop-i-clause-slots g c =
     let lt : c.loop-i.i < length c.loop-i.lanes = search rules in
@@ -55,10 +49,10 @@ loop-i-preserved g c =
     let i = c.loop-i.i in
     let lt : i < length c.loop-i.lanes = search rules in
     let lt2 : i < length c.loop-i.tallies = omega (arith, lt, c.loop-i.invariant.long) in
-    let parts = map_put _ i _ c.loop-i.lanes c.measure_list-in-loop-i.new.lanes c.measure_list-in-loop-i.ensures.parts in
-    let one : length c.measure_list-in-loop-i.new.lanes ≡ 1 = same_length c.measure_list-in-loop-i.new.lanes _ c.measure_list-in-loop-i.ensures.parts ∙ one_in_mid i c.loop-i.lanes lt in
+    let parts = map_put _ i _ c.loop-i.lanes c.measure_list-in-loop-i.new.lanes c.measure_list-in-loop-i.ensures.through.parts in
+    let one : length c.measure_list-in-loop-i.new.lanes ≡ 1 = same_length c.measure_list-in-loop-i.new.lanes _ c.measure_list-in-loop-i.ensures.through.parts ∙ one_in_mid i c.loop-i.lanes lt in
     record {
-      in_order = all_put (IsInOrder l) i _ c.loop-i.lanes c.measure_list-in-loop-i.new.lanes c.loop-i.invariant.in_order c.measure_list-in-loop-i.ensures.in_order;
+      in_order = all_put (IsInOrder l) i _ c.loop-i.lanes c.measure_list-in-loop-i.new.lanes c.loop-i.invariant.in_order c.measure_list-in-loop-i.ensures.through.in_order;
       parts = parts ∙ c.loop-i.invariant.parts;
       long = same_len_mid i (i + 1 - i) c.loop-i.tallies c.measure_list-in-loop-i.new.tallies (c.measure_list-in-loop-i.ensures.long ∙ one ∙ sym (one_in_mid i c.loop-i.tallies lt2))
           ∙ c.loop-i.invariant.long ∙ sym (same_length _ c.loop-i.lanes parts);
@@ -66,15 +60,15 @@ loop-i-preserved g c =
       measured = told_again _ _ _ (g.F.File.bytes c.args.file.now) (g.F.File.bytes c.loop-i.file) c.loop-i.invariant.keeps.bytes (λ file p m s none.
           let q = p s none in
           measured_more l file c.args.rules.now i c.args.lanes.now c.loop-i.lanes c.measure_list-in-loop-i.new.lanes c.args.tallies.now c.loop-i.tallies c.measure_list-in-loop-i.new.tallies c.loop-i.ends c.in_ok-ends.ends lt lt2
-          c.measure_list-in-loop-i.ensures.parts c.measure_list-in-loop-i.ensures.long
+          c.measure_list-in-loop-i.ensures.through.parts c.measure_list-in-loop-i.ensures.long
           (m (still_stand l file c.args.rules.now i c.args.lanes.now c.loop-i.lanes c.args.tallies.now c.loop-i.tallies c.loop-i.ends s q) (clear_mid l file c.args.rules.now i c.args.lanes.now c.loop-i.lanes c.args.tallies.now c.loop-i.tallies c.loop-i.ends lt c.loop-i.invariant.long none q)) q)
           c.loop-i.invariant.measured c.in_ok-ends.ensures.told;
       ready = ready_on i c.loop-i.lanes c.measure_list-in-loop-i.new.lanes lt one l c.in_ok-ends.ensures.ready c.loop-i.invariant.ready;
-      advance = lane_on c.loop-i.i c.loop-i.lanes c.measure_list-in-loop-i.new.lanes lt one c.args.lanes.now (same_length c.loop-i.lanes c.args.lanes.now c.loop-i.invariant.parts) c.measure_list-in-loop-i.ensures.advance c.loop-i.invariant.advance;
+      advance = lane_on c.loop-i.i c.loop-i.lanes c.measure_list-in-loop-i.new.lanes lt one c.args.lanes.now (same_length c.loop-i.lanes c.args.lanes.now c.loop-i.invariant.parts) c.measure_list-in-loop-i.ensures.through.advance c.loop-i.invariant.advance;
       over = tally_on c.loop-i.i c.loop-i.lanes c.measure_list-in-loop-i.new.lanes lt one c.args.lanes.now c.args.tallies.now c.loop-i.tallies c.measure_list-in-loop-i.new.tallies lt2 (c.measure_list-in-loop-i.ensures.long ∙ one) c.loop-i.invariant.advance c.measure_list-in-loop-i.ensures.over c.loop-i.invariant.over;
-      reads = on_reads c.loop-i.i c.loop-i.lanes c.measure_list-in-loop-i.new.lanes lt one c.args.layout.now (g.F.File.size c.args.file.now) (g.F.File.size c.loop-i.file) _ _ _ _ c.loop-i.invariant.keeps.size c.loop-i.invariant.reads c.loop-i.invariant.unread c.measure_list-in-loop-i.ensures.unread c.in_ok-ends.ensures.reads_done;
-      unread = on_unread c.loop-i.i c.loop-i.lanes c.measure_list-in-loop-i.new.lanes lt one c.args.layout.now (g.F.File.size c.args.file.now) (g.F.File.size c.loop-i.file) _ _ 0 _ c.loop-i.invariant.keeps.size c.loop-i.invariant.reads c.loop-i.invariant.unread c.measure_list-in-loop-i.ensures.unread;
-      keeps = file_kept c.loop-i.invariant.keeps c.measure_list-in-loop-i.ensures.keeps;
+      reads = on_reads c.loop-i.i c.loop-i.lanes c.measure_list-in-loop-i.new.lanes lt one c.args.layout.now (g.F.File.size c.args.file.now) (g.F.File.size c.loop-i.file) _ _ _ _ c.loop-i.invariant.keeps.size c.loop-i.invariant.reads c.loop-i.invariant.unread c.measure_list-in-loop-i.ensures.through.unread c.in_ok-ends.ensures.reads_done;
+      unread = on_unread c.loop-i.i c.loop-i.lanes c.measure_list-in-loop-i.new.lanes lt one c.args.layout.now (g.F.File.size c.args.file.now) (g.F.File.size c.loop-i.file) _ _ 0 _ c.loop-i.invariant.keeps.size c.loop-i.invariant.reads c.loop-i.invariant.unread c.measure_list-in-loop-i.ensures.through.unread;
+      keeps = file_kept c.loop-i.invariant.keeps c.measure_list-in-loop-i.ensures.through.keeps;
     }
 
 pub returns-clause-told : goal.returns-clause-told
@@ -87,30 +81,21 @@ returns-clause-told g c =
     over (omega (arith, long, over)) (omega (arith, long, over, c.loop-i.invariant.long)) (p s none))
     c.loop-i.invariant.measured
 
-pub returns-in_err-ends-clause-advance : goal.returns-in_err-ends-clause-advance
-returns-in_err-ends-clause-advance g c =
-    let lt : c.loop-i.i < length c.loop-i.lanes = search rules in
-    let one : length c.measure_list-in-loop-i.new.lanes ≡ 1 = same_length c.measure_list-in-loop-i.new.lanes _ c.measure_list-in-loop-i.ensures.parts ∙ one_in_mid c.loop-i.i c.loop-i.lanes lt in
-    lane_on c.loop-i.i c.loop-i.lanes c.measure_list-in-loop-i.new.lanes lt one c.args.lanes.now (same_length c.loop-i.lanes c.args.lanes.now c.loop-i.invariant.parts) c.measure_list-in-loop-i.ensures.advance c.loop-i.invariant.advance
-
 pub returns-in_err-ends-clause-over : goal.returns-in_err-ends-clause-over
 returns-in_err-ends-clause-over g c =
     let lt : c.loop-i.i < length c.loop-i.lanes = search rules in
-    let one : length c.measure_list-in-loop-i.new.lanes ≡ 1 = same_length c.measure_list-in-loop-i.new.lanes _ c.measure_list-in-loop-i.ensures.parts ∙ one_in_mid c.loop-i.i c.loop-i.lanes lt in
+    let one : length c.measure_list-in-loop-i.new.lanes ≡ 1 = same_length c.measure_list-in-loop-i.new.lanes _ c.measure_list-in-loop-i.ensures.through.parts ∙ one_in_mid c.loop-i.i c.loop-i.lanes lt in
     let lt2 : c.loop-i.i < length c.loop-i.tallies = omega (arith, lt, c.loop-i.invariant.long) in
     tally_on c.loop-i.i c.loop-i.lanes c.measure_list-in-loop-i.new.lanes lt one c.args.lanes.now c.args.tallies.now c.loop-i.tallies c.measure_list-in-loop-i.new.tallies lt2 (c.measure_list-in-loop-i.ensures.long ∙ one) c.loop-i.invariant.advance c.measure_list-in-loop-i.ensures.over c.loop-i.invariant.over
 
-pub returns-in_err-ends-clause-reads : goal.returns-in_err-ends-clause-reads
-returns-in_err-ends-clause-reads g c =
+pub returns-in_err-ends-clause-through : goal.returns-in_err-ends-clause-through
+returns-in_err-ends-clause-through g c =
     let lt : c.loop-i.i < length c.loop-i.lanes = search rules in
-    let one : length c.measure_list-in-loop-i.new.lanes ≡ 1 = same_length c.measure_list-in-loop-i.new.lanes _ c.measure_list-in-loop-i.ensures.parts ∙ one_in_mid c.loop-i.i c.loop-i.lanes lt in
-    on_stops c.loop-i.i c.loop-i.lanes c.measure_list-in-loop-i.new.lanes lt one c.args.layout.now (g.F.File.size c.args.file.now) (g.F.File.size c.loop-i.file) _ _ _ _ c.loop-i.invariant.keeps.size c.loop-i.invariant.reads c.loop-i.invariant.unread c.measure_list-in-loop-i.ensures.unread c.measure_list-in-loop-i.ensures.reads
+    let before = c.loop-i.invariant in
+    through_one c.args.layout.now c.args.file.now c.loop-i.file c.measure_list-in-loop-i.new.file c.args.lanes.now c.loop-i.lanes c.measure_list-in-loop-i.new.lanes c.loop-i.i lt
+    before.in_order before.parts before.advance before.reads before.unread before.keeps c.measure_list-in-loop-i.ensures.through
 
-pub returns-in_err-ends-clause-unread : goal.returns-in_err-ends-clause-unread
-returns-in_err-ends-clause-unread g c =
-    let lt : c.loop-i.i < length c.loop-i.lanes = search rules in
-    let one : length c.measure_list-in-loop-i.new.lanes ≡ 1 = same_length c.measure_list-in-loop-i.new.lanes _ c.measure_list-in-loop-i.ensures.parts ∙ one_in_mid c.loop-i.i c.loop-i.lanes lt in
-    on_unread c.loop-i.i c.loop-i.lanes c.measure_list-in-loop-i.new.lanes lt one c.args.layout.now (g.F.File.size c.args.file.now) (g.F.File.size c.loop-i.file) _ _ 0 _ c.loop-i.invariant.keeps.size c.loop-i.invariant.reads c.loop-i.invariant.unread c.measure_list-in-loop-i.ensures.unread
-
-pub returns-clause-reads : goal.returns-clause-reads
-returns-clause-reads g c = omega (arith, c.loop-i.invariant.reads)
+pub returns-clause-through : goal.returns-clause-through
+returns-clause-through g c =
+    let done = c.loop-i.invariant in
+    through_all c.args.layout.now c.args.file.now c.loop-i.file c.args.lanes.now c.loop-i.lanes done.in_order done.parts done.advance done.reads done.unread done.keeps

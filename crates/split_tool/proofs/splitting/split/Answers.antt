@@ -26,10 +26,10 @@ returns-in_default-clause-told g c =
 pub loop-number-init : goal.loop-number-init
 loop-number-init g c =
     let size : g.F.File.size c.args.file.now < 2 ^ 64 = omega arith in
-    let long : length c.pass_start.new.lanes ≡ length c.args.lanes.now = same_length c.pass_start.new.lanes c.args.lanes.now c.pass_start.ensures.parts in
+    let long : length c.pass_start.new.lanes ≡ length c.args.lanes.now = same_length c.pass_start.new.lanes c.args.lanes.now c.pass_start.ensures.through.parts in
     record {
-      in_order = c.pass_start.ensures.in_order;
-      parts = c.pass_start.ensures.parts;
+      in_order = c.pass_start.ensures.through.in_order;
+      parts = c.pass_start.ensures.through.parts;
       work = record {
         fronts = c.requires.work.fronts ∙ sym long;
         tallies = c.requires.work.tallies ∙ sym long;
@@ -40,11 +40,11 @@ loop-number-init g c =
       };
       progress = told_both _ _ _ (g.F.File.bytes c.args.file.now) (λ file long started.
           progress_none c.args.plan.now.header.now (split_view c.args.plan.now.words.now) c.rules_of-rules.result file c.args.lanes.now c.pass_start.new.lanes (g.D.Folder.files c.args.folder.now) c.requires.allowed c.rules_of-rules.ensures c.requires.rise c.requires.cpus
-          c.requires.fresh c.pass_start.ensures.parts (omega (arith, long, size)) (started (fresh_stand c.args.plan.now.header.now.layout file c.args.lanes.now c.requires.fresh)))
+          c.requires.fresh c.pass_start.ensures.through.parts (omega (arith, long, size)) (started (fresh_stand c.args.plan.now.header.now.layout file c.args.lanes.now c.requires.fresh)))
           (g.met.F.File.size_is c.args.file.now) c.in-Ok.ensures.told;
       spent = passed_spent c.args.plan.now.header.now.layout (g.F.File.size c.args.file.now) (omega (arith, (header_layout c.args.plan.now.header.now c.requires.allowed).page_least)) c.args.lanes.now c.pass_start.new.lanes _ _
-          (same_length c.pass_start.new.lanes c.args.lanes.now c.pass_start.ensures.parts) c.pass_start.ensures.advance c.in-Ok.ensures.reads_done c.pass_start.ensures.unread;
-      keeps = c.pass_start.ensures.keeps;
+          (same_length c.pass_start.new.lanes c.args.lanes.now c.pass_start.ensures.through.parts) c.pass_start.ensures.through.advance c.in-Ok.ensures.reads_done c.pass_start.ensures.through.unread;
+      keeps = c.pass_start.ensures.through.keeps;
       counts = record { reading = omega arith; writing = omega arith; unfinished = omega arith; misses = refl; opened = refl; closed = refl; bytes = refl };
       unfinished = refl;
       created = omega arith;
@@ -182,7 +182,7 @@ returns-then-not-goes_on-clause-counts g c = kept_twice _ _ _ c.loop-number.inva
 pub returns-in_default-clause-reads : goal.returns-in_default-clause-reads
 returns-in_default-clause-reads g c =
     let header = c.args.plan.now.header.now in
-    start_less header.layout (g.F.File.size c.args.file.now) (omega (arith, (header_layout header c.requires.allowed).page_least)) c.args.lanes.now _ _ c.requires.fresh (omega (arith, c.pass_start.ensures.reads))
+    start_less header.layout (g.F.File.size c.args.file.now) (omega (arith, (header_layout header c.requires.allowed).page_least)) c.args.lanes.now _ _ c.requires.fresh (omega (arith, c.pass_start.ensures.through.reads))
 
 pub returns-then-not-goes_on-clause-reads : goal.returns-then-not-goes_on-clause-reads
 returns-then-not-goes_on-clause-reads g c =

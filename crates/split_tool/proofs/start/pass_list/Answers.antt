@@ -1,4 +1,4 @@
-use Rattle.std.proofs.Common.{refl, arith, ◌<◌, length, get_or, ◌∙◌}
+use Rattle.std.proofs.Common.{refl, arith, ◌<◌, length, get_or, set, ◌∙◌}
 use Rattle.std.proofs.lemmas.List.Elements.{All-set}
 use Rattle.trace_outside.proofs.Keeping.{file_kept, file_still}
 use Rattle.event_cursor.specs.Standing.{IsInOrder}
@@ -7,8 +7,10 @@ use Rattle.time_merge.specs.declared.next_lanes.Next.TheVariants as code
 use Rattle.time_merge.proofs.Advancing.{advances_not, same_length}
 use Rattle.time_merge.proofs.OneLane.{in_step_but}
 use Rattle.time_merge.proofs.Going.{holds_is, next_is, still_parts}
-use Rattle.split_passes.proofs.Going.{loading_reads, going_reads, advances_on, advances_stepped}
-use Rattle.split_tool.proofs.OneLaneOn.{ready_done, all_done}
+use Rattle.time_merge.proofs.PartReads.{going_reads, loading_reads, stepping_unread}
+use Rattle.split_passes.proofs.Going.{advances_on, advances_stepped}
+use Rattle.split_tool.proofs.Through.{through_loaded}
+use Rattle.split_tool.proofs.OneLaneOn.{ready_done}
 use Rattle.split_tool.proofs.Passing.{passing_none, passing_loaded, passing_on, passed_all, passed_out}
 use Rattle.split_tool.proofs.start.pass_list.Goals as goal
 
@@ -30,25 +32,26 @@ loop-i-preserved g c =
     let l = c.args.layout.now in
     let lt : c.in-Lane.i < length c.next_lane_by.new.lanes = (holds_is c.args.layout.now c.next_lane_by.new.lanes c.in-Lane.is c.in_ok-i.ensures.holds).0 in
     let long = same_length c.loop-i.lanes c.args.lanes.now c.loop-i.invariant.parts in
-    let long1 = same_length c.next_lane_by.new.lanes c.loop-i.lanes c.next_lane_by.ensures.parts in
-    let on = advances_on c.args.lanes.now c.loop-i.lanes c.next_lane_by.new.lanes long c.loop-i.invariant.advance c.next_lane_by.ensures.advance in
+    let long1 = same_length c.next_lane_by.new.lanes c.loop-i.lanes c.next_lane_by.ensures.loads.parts in
+    let on = advances_on c.args.lanes.now c.loop-i.lanes c.next_lane_by.new.lanes long c.loop-i.invariant.advance c.next_lane_by.ensures.loads.advance in
     let held = ((holds_is c.args.layout.now c.next_lane_by.new.lanes c.in-Lane.is c.in_ok-i.ensures.holds).1 c.index-lanes-i-in-Lane.result).0 in
-    let reads = going_reads l (g.F.File.size c.args.file.now) (g.F.File.size c.loop-i.file) c.loop-i.lanes c.next_lane_by.new.lanes c.in-Lane.i c.index-lanes-i-in-Lane.result c.step.new.lane _ _ _ _
-    c.loop-i.invariant.keeps.size lt c.step.ensures.used c.in_ok-i.ensures.ready c.loop-i.invariant.reads c.loop-i.invariant.unread c.next_lane_by.ensures.reads c.next_lane_by.ensures.unread in
+    let still = stepping_unread l (g.F.File.size c.args.file.now) c.next_lane_by.new.lanes c.in-Lane.i c.index-lanes-i-in-Lane.result c.step.new.lane lt c.step.ensures.used in
+    let reads = going_reads l (g.F.File.size c.args.file.now) (g.F.File.size c.loop-i.file) c.loop-i.lanes c.next_lane_by.new.lanes (set c.next_lane_by.new.lanes c.in-Lane.i c.step.new.lane) _ _ _ _
+    c.loop-i.invariant.keeps.size still c.in_ok-i.ensures.ready c.loop-i.invariant.reads c.loop-i.invariant.unread c.next_lane_by.ensures.loads.reads c.next_lane_by.ensures.loads.unread in
     record {
-      in_order = All-set (IsInOrder l) c.next_lane_by.new.lanes c.in-Lane.i c.step.new.lane c.step.ensures.in_order c.next_lane_by.ensures.in_order;
-      parts = still_parts l c.next_lane_by.new.lanes c.in-Lane.i c.index-lanes-i-in-Lane.result c.step.new.lane lt c.step.ensures.used ∙ c.next_lane_by.ensures.parts ∙ c.loop-i.invariant.parts;
+      in_order = All-set (IsInOrder l) c.next_lane_by.new.lanes c.in-Lane.i c.step.new.lane c.step.ensures.in_order c.next_lane_by.ensures.loads.in_order;
+      parts = still_parts l c.next_lane_by.new.lanes c.in-Lane.i c.index-lanes-i-in-Lane.result c.step.new.lane lt c.step.ensures.used ∙ c.next_lane_by.ensures.loads.parts ∙ c.loop-i.invariant.parts;
       in_step = in_step_but l c.next_lane_by.new.lanes c.next_lane_by.new.nexts c.in-Lane.i c.step.new.lane lt c.in_ok-i.ensures.ready c.in_ok-i.ensures.nexts;
       slots = c.next_lane_by.ensures.slots ∙ c.loop-i.invariant.slots;
       passing = told_map _ _ (g.F.File.bytes c.args.file.now) (λ file h s.
           let r = h s in
           passing_on l file c.args.start c.args.lanes.now c.next_lane_by.new.lanes c.in-Lane.i c.index-lanes-i-in-Lane.result c.index-lanes-i.result c.step.new.lane c.stands_before.result lt r.1 c.step.ensures.used c.stands_before.ensures c.if-not-stands_before.false r.0)
           (passing_loaded l (g.F.File.bytes c.args.file.now) (g.F.File.bytes c.loop-i.file) _ c.args.lanes.now c.loop-i.lanes c.next_lane_by.new.lanes (code.Lane c.in-Lane.i)
-          c.loop-i.invariant.keeps.bytes c.loop-i.invariant.passing c.next_lane_by.ensures.rows c.next_lane_by.ensures.stands (next_is c.args.layout.now _ _ c.next_lane_by.new.lanes c.in-Lane.is c.in_ok-i.ensures.next));
+          c.loop-i.invariant.keeps.bytes c.loop-i.invariant.passing c.next_lane_by.ensures.loads.rows c.next_lane_by.ensures.loads.stands (next_is c.args.layout.now _ _ c.next_lane_by.new.lanes c.in-Lane.is c.in_ok-i.ensures.next));
       advance = advances_stepped l c.args.lanes.now c.next_lane_by.new.lanes c.in-Lane.i c.index-lanes-i-in-Lane.result c.step.new.lane (long1 ∙ long) lt held c.step.ensures.used on;
       reads = reads.0;
       unread = reads.1;
-      keeps = file_kept c.loop-i.invariant.keeps c.next_lane_by.ensures.keeps;
+      keeps = file_kept c.loop-i.invariant.keeps c.next_lane_by.ensures.loads.keeps;
     }
 
 pub returns-then-not-stands_before-clause-told : goal.returns-then-not-stands_before-clause-told
@@ -58,7 +61,7 @@ returns-then-not-stands_before-clause-told g c =
     let r = h s in
     passed_all l file c.args.start c.args.lanes.now c.next_lane_by.new.lanes c.in-Lane.i c.index-lanes-i.result c.stands_before.result r.1 c.stands_before.ensures c.if-not-stands_before.true r.0)
     (passing_loaded l (g.F.File.bytes c.args.file.now) (g.F.File.bytes c.loop-i.file) _ c.args.lanes.now c.loop-i.lanes c.next_lane_by.new.lanes (code.Lane c.in-Lane.i)
-    c.loop-i.invariant.keeps.bytes c.loop-i.invariant.passing c.next_lane_by.ensures.rows c.next_lane_by.ensures.stands (next_is c.args.layout.now _ _ c.next_lane_by.new.lanes c.in-Lane.is c.in_ok-i.ensures.next))
+    c.loop-i.invariant.keeps.bytes c.loop-i.invariant.passing c.next_lane_by.ensures.loads.rows c.next_lane_by.ensures.loads.stands (next_is c.args.layout.now _ _ c.next_lane_by.new.lanes c.in-Lane.is c.in_ok-i.ensures.next))
 
 pub returns-in-Done-clause-told : goal.returns-in-Done-clause-told
 returns-in-Done-clause-told g c =
@@ -67,7 +70,7 @@ returns-in-Done-clause-told g c =
     let r = h s in
     passed_out l file _ c.args.lanes.now c.next_lane_by.new.lanes r.1.0 r.0)
     (passing_loaded l (g.F.File.bytes c.args.file.now) (g.F.File.bytes c.loop-i.file) _ c.args.lanes.now c.loop-i.lanes c.next_lane_by.new.lanes code.Done
-    c.loop-i.invariant.keeps.bytes c.loop-i.invariant.passing c.next_lane_by.ensures.rows c.next_lane_by.ensures.stands (next_is c.args.layout.now _ _ c.next_lane_by.new.lanes c.in-Done.is c.in_ok-i.ensures.next))
+    c.loop-i.invariant.keeps.bytes c.loop-i.invariant.passing c.next_lane_by.ensures.loads.rows c.next_lane_by.ensures.loads.stands (next_is c.args.layout.now _ _ c.next_lane_by.new.lanes c.in-Done.is c.in_ok-i.ensures.next))
 
 pub returns-in-Malformed-clause-told : goal.returns-in-Malformed-clause-told
 returns-in-Malformed-clause-told g c =
@@ -76,82 +79,42 @@ returns-in-Malformed-clause-told g c =
     let r = h s in
     passed_out l file _ c.args.lanes.now c.next_lane_by.new.lanes r.1.0 r.0)
     (passing_loaded l (g.F.File.bytes c.args.file.now) (g.F.File.bytes c.loop-i.file) _ c.args.lanes.now c.loop-i.lanes c.next_lane_by.new.lanes (code.Malformed c.in-Malformed.cpu c.in-Malformed.page)
-    c.loop-i.invariant.keeps.bytes c.loop-i.invariant.passing c.next_lane_by.ensures.rows c.next_lane_by.ensures.stands (next_is c.args.layout.now _ _ c.next_lane_by.new.lanes c.in-Malformed.is c.in_ok-i.ensures.next))
+    c.loop-i.invariant.keeps.bytes c.loop-i.invariant.passing c.next_lane_by.ensures.loads.rows c.next_lane_by.ensures.loads.stands (next_is c.args.layout.now _ _ c.next_lane_by.new.lanes c.in-Malformed.is c.in_ok-i.ensures.next))
 
-pub returns-then-not-stands_before-clause-advance : goal.returns-then-not-stands_before-clause-advance
-returns-then-not-stands_before-clause-advance g c =
-    advances_on c.args.lanes.now c.loop-i.lanes c.next_lane_by.new.lanes (same_length c.loop-i.lanes c.args.lanes.now c.loop-i.invariant.parts) c.loop-i.invariant.advance c.next_lane_by.ensures.advance
+pub returns-then-not-stands_before-clause-through : goal.returns-then-not-stands_before-clause-through
+returns-then-not-stands_before-clause-through g c =
+    through_loaded c.args.layout.now c.args.file.now c.loop-i.file c.next_lane_by.new.file c.args.lanes.now c.loop-i.lanes c.next_lane_by.new.lanes (omega (arith, c.requires.allowed.page_least))
+    c.loop-i.invariant.parts c.loop-i.invariant.advance c.loop-i.invariant.reads c.loop-i.invariant.unread c.loop-i.invariant.keeps c.next_lane_by.ensures.loads
 
-pub returns-then-not-stands_before-clause-reads : goal.returns-then-not-stands_before-clause-reads
-returns-then-not-stands_before-clause-reads g c =
-    let loaded = (loading_reads c.args.layout.now (g.F.File.size c.args.file.now) (g.F.File.size c.loop-i.file) c.loop-i.lanes c.next_lane_by.new.lanes _ _ _ _
-    c.loop-i.invariant.keeps.size c.loop-i.invariant.reads c.loop-i.invariant.unread c.next_lane_by.ensures.reads c.next_lane_by.ensures.unread) in
-    all_done c.args.layout.now (g.F.File.size c.args.file.now) c.next_lane_by.new.lanes _ _ _ (omega (arith, c.requires.allowed.page_least)) loaded.1 loaded.0
+pub returns-in-Done-clause-through : goal.returns-in-Done-clause-through
+returns-in-Done-clause-through g c =
+    through_loaded c.args.layout.now c.args.file.now c.loop-i.file c.next_lane_by.new.file c.args.lanes.now c.loop-i.lanes c.next_lane_by.new.lanes (omega (arith, c.requires.allowed.page_least))
+    c.loop-i.invariant.parts c.loop-i.invariant.advance c.loop-i.invariant.reads c.loop-i.invariant.unread c.loop-i.invariant.keeps c.next_lane_by.ensures.loads
 
-pub returns-then-not-stands_before-clause-unread : goal.returns-then-not-stands_before-clause-unread
-returns-then-not-stands_before-clause-unread g c =
-    (loading_reads c.args.layout.now (g.F.File.size c.args.file.now) (g.F.File.size c.loop-i.file) c.loop-i.lanes c.next_lane_by.new.lanes _ _ _ _
-    c.loop-i.invariant.keeps.size c.loop-i.invariant.reads c.loop-i.invariant.unread c.next_lane_by.ensures.reads c.next_lane_by.ensures.unread).1
+pub returns-in-Malformed-clause-through : goal.returns-in-Malformed-clause-through
+returns-in-Malformed-clause-through g c =
+    through_loaded c.args.layout.now c.args.file.now c.loop-i.file c.next_lane_by.new.file c.args.lanes.now c.loop-i.lanes c.next_lane_by.new.lanes (omega (arith, c.requires.allowed.page_least))
+    c.loop-i.invariant.parts c.loop-i.invariant.advance c.loop-i.invariant.reads c.loop-i.invariant.unread c.loop-i.invariant.keeps c.next_lane_by.ensures.loads
+
+pub returns-in_err-i-clause-through : goal.returns-in_err-i-clause-through
+returns-in_err-i-clause-through g c =
+    through_loaded c.args.layout.now c.args.file.now c.loop-i.file c.next_lane_by.new.file c.args.lanes.now c.loop-i.lanes c.next_lane_by.new.lanes (omega (arith, c.requires.allowed.page_least))
+    c.loop-i.invariant.parts c.loop-i.invariant.advance c.loop-i.invariant.reads c.loop-i.invariant.unread c.loop-i.invariant.keeps c.next_lane_by.ensures.loads
 
 pub returns-then-not-stands_before-clause-reads_done : goal.returns-then-not-stands_before-clause-reads_done
 returns-then-not-stands_before-clause-reads_done g c =
     ready_done c.args.layout.now (g.F.File.size c.args.file.now) c.next_lane_by.new.lanes _ _ _ c.in_ok-i.ensures.ready
     (loading_reads c.args.layout.now (g.F.File.size c.args.file.now) (g.F.File.size c.loop-i.file) c.loop-i.lanes c.next_lane_by.new.lanes _ _ _ _
-    c.loop-i.invariant.keeps.size c.loop-i.invariant.reads c.loop-i.invariant.unread c.next_lane_by.ensures.reads c.next_lane_by.ensures.unread).0
-
-pub returns-in-Done-clause-advance : goal.returns-in-Done-clause-advance
-returns-in-Done-clause-advance g c =
-    advances_on c.args.lanes.now c.loop-i.lanes c.next_lane_by.new.lanes (same_length c.loop-i.lanes c.args.lanes.now c.loop-i.invariant.parts) c.loop-i.invariant.advance c.next_lane_by.ensures.advance
-
-pub returns-in-Done-clause-reads : goal.returns-in-Done-clause-reads
-returns-in-Done-clause-reads g c =
-    let loaded = (loading_reads c.args.layout.now (g.F.File.size c.args.file.now) (g.F.File.size c.loop-i.file) c.loop-i.lanes c.next_lane_by.new.lanes _ _ _ _
-    c.loop-i.invariant.keeps.size c.loop-i.invariant.reads c.loop-i.invariant.unread c.next_lane_by.ensures.reads c.next_lane_by.ensures.unread) in
-    all_done c.args.layout.now (g.F.File.size c.args.file.now) c.next_lane_by.new.lanes _ _ _ (omega (arith, c.requires.allowed.page_least)) loaded.1 loaded.0
-
-pub returns-in-Done-clause-unread : goal.returns-in-Done-clause-unread
-returns-in-Done-clause-unread g c =
-    (loading_reads c.args.layout.now (g.F.File.size c.args.file.now) (g.F.File.size c.loop-i.file) c.loop-i.lanes c.next_lane_by.new.lanes _ _ _ _
-    c.loop-i.invariant.keeps.size c.loop-i.invariant.reads c.loop-i.invariant.unread c.next_lane_by.ensures.reads c.next_lane_by.ensures.unread).1
+    c.loop-i.invariant.keeps.size c.loop-i.invariant.reads c.loop-i.invariant.unread c.next_lane_by.ensures.loads.reads c.next_lane_by.ensures.loads.unread).0
 
 pub returns-in-Done-clause-reads_done : goal.returns-in-Done-clause-reads_done
 returns-in-Done-clause-reads_done g c =
     ready_done c.args.layout.now (g.F.File.size c.args.file.now) c.next_lane_by.new.lanes _ _ _ c.in_ok-i.ensures.ready
     (loading_reads c.args.layout.now (g.F.File.size c.args.file.now) (g.F.File.size c.loop-i.file) c.loop-i.lanes c.next_lane_by.new.lanes _ _ _ _
-    c.loop-i.invariant.keeps.size c.loop-i.invariant.reads c.loop-i.invariant.unread c.next_lane_by.ensures.reads c.next_lane_by.ensures.unread).0
-
-pub returns-in-Malformed-clause-advance : goal.returns-in-Malformed-clause-advance
-returns-in-Malformed-clause-advance g c =
-    advances_on c.args.lanes.now c.loop-i.lanes c.next_lane_by.new.lanes (same_length c.loop-i.lanes c.args.lanes.now c.loop-i.invariant.parts) c.loop-i.invariant.advance c.next_lane_by.ensures.advance
-
-pub returns-in-Malformed-clause-reads : goal.returns-in-Malformed-clause-reads
-returns-in-Malformed-clause-reads g c =
-    let loaded = (loading_reads c.args.layout.now (g.F.File.size c.args.file.now) (g.F.File.size c.loop-i.file) c.loop-i.lanes c.next_lane_by.new.lanes _ _ _ _
-    c.loop-i.invariant.keeps.size c.loop-i.invariant.reads c.loop-i.invariant.unread c.next_lane_by.ensures.reads c.next_lane_by.ensures.unread) in
-    all_done c.args.layout.now (g.F.File.size c.args.file.now) c.next_lane_by.new.lanes _ _ _ (omega (arith, c.requires.allowed.page_least)) loaded.1 loaded.0
-
-pub returns-in-Malformed-clause-unread : goal.returns-in-Malformed-clause-unread
-returns-in-Malformed-clause-unread g c =
-    (loading_reads c.args.layout.now (g.F.File.size c.args.file.now) (g.F.File.size c.loop-i.file) c.loop-i.lanes c.next_lane_by.new.lanes _ _ _ _
-    c.loop-i.invariant.keeps.size c.loop-i.invariant.reads c.loop-i.invariant.unread c.next_lane_by.ensures.reads c.next_lane_by.ensures.unread).1
+    c.loop-i.invariant.keeps.size c.loop-i.invariant.reads c.loop-i.invariant.unread c.next_lane_by.ensures.loads.reads c.next_lane_by.ensures.loads.unread).0
 
 pub returns-in-Malformed-clause-reads_done : goal.returns-in-Malformed-clause-reads_done
 returns-in-Malformed-clause-reads_done g c =
     ready_done c.args.layout.now (g.F.File.size c.args.file.now) c.next_lane_by.new.lanes _ _ _ c.in_ok-i.ensures.ready
     (loading_reads c.args.layout.now (g.F.File.size c.args.file.now) (g.F.File.size c.loop-i.file) c.loop-i.lanes c.next_lane_by.new.lanes _ _ _ _
-    c.loop-i.invariant.keeps.size c.loop-i.invariant.reads c.loop-i.invariant.unread c.next_lane_by.ensures.reads c.next_lane_by.ensures.unread).0
-
-pub returns-in_err-i-clause-advance : goal.returns-in_err-i-clause-advance
-returns-in_err-i-clause-advance g c =
-    advances_on c.args.lanes.now c.loop-i.lanes c.next_lane_by.new.lanes (same_length c.loop-i.lanes c.args.lanes.now c.loop-i.invariant.parts) c.loop-i.invariant.advance c.next_lane_by.ensures.advance
-
-pub returns-in_err-i-clause-reads : goal.returns-in_err-i-clause-reads
-returns-in_err-i-clause-reads g c =
-    let loaded = (loading_reads c.args.layout.now (g.F.File.size c.args.file.now) (g.F.File.size c.loop-i.file) c.loop-i.lanes c.next_lane_by.new.lanes _ _ _ _
-    c.loop-i.invariant.keeps.size c.loop-i.invariant.reads c.loop-i.invariant.unread c.next_lane_by.ensures.reads c.next_lane_by.ensures.unread) in
-    all_done c.args.layout.now (g.F.File.size c.args.file.now) c.next_lane_by.new.lanes _ _ _ (omega (arith, c.requires.allowed.page_least)) loaded.1 loaded.0
-
-pub returns-in_err-i-clause-unread : goal.returns-in_err-i-clause-unread
-returns-in_err-i-clause-unread g c =
-    (loading_reads c.args.layout.now (g.F.File.size c.args.file.now) (g.F.File.size c.loop-i.file) c.loop-i.lanes c.next_lane_by.new.lanes _ _ _ _
-    c.loop-i.invariant.keeps.size c.loop-i.invariant.reads c.loop-i.invariant.unread c.next_lane_by.ensures.reads c.next_lane_by.ensures.unread).1
+    c.loop-i.invariant.keeps.size c.loop-i.invariant.reads c.loop-i.invariant.unread c.next_lane_by.ensures.loads.reads c.next_lane_by.ensures.loads.unread).0

@@ -10,17 +10,17 @@ pub next_in-requires-in-Some-clause-nexts : goal.next_in-requires-in-Some-clause
 next_in-requires-in-Some-clause-nexts g c =
     let but = subst (λ (used : Option ℕ). IsInStep c.args.layout.now c.args.lanes.now c.args.nexts.now used) c.in-Some.is c.requires.in_step in
     c.set.ensures ∙ in_step_one (next_of c.args.layout.now) c.args.lanes.now c.make_one_ready.new.lanes c.args.nexts.now c.in-Some.used c.index-lanes-used.result c.next_of.result
-    c.requires.slots (same_length c.make_one_ready.new.lanes c.args.lanes.now c.make_one_ready.ensures.parts) but.inside c.make_one_ready.ensures.others but.keys_are c.next_of.ensures
+    c.requires.slots (same_length c.make_one_ready.new.lanes c.args.lanes.now c.make_one_ready.ensures.loads.parts) but.inside c.make_one_ready.ensures.others but.keys_are c.next_of.ensures
 
 pub returns-in_ok-make_one_ready-in-Some-clause-nexts : goal.returns-in_ok-make_one_ready-in-Some-clause-nexts
 returns-in_ok-make_one_ready-in-Some-clause-nexts g c =
     let but = subst (λ (used : Option ℕ). IsInStep c.args.layout.now c.args.lanes.now c.args.nexts.now used) c.in-Some.is c.requires.in_step in
     c.set.ensures ∙ in_step_one (next_of c.args.layout.now) c.args.lanes.now c.make_one_ready.new.lanes c.args.nexts.now c.in-Some.used c.index-lanes-used.result c.next_of.result
-    c.requires.slots (same_length c.make_one_ready.new.lanes c.args.lanes.now c.make_one_ready.ensures.parts) but.inside c.make_one_ready.ensures.others but.keys_are c.next_of.ensures
+    c.requires.slots (same_length c.make_one_ready.new.lanes c.args.lanes.now c.make_one_ready.ensures.loads.parts) but.inside c.make_one_ready.ensures.others but.keys_are c.next_of.ensures
 
 pub returns-in_ok-make_all_ready-in-None-clause-next : goal.returns-in_ok-make_all_ready-in-None-clause-next
-returns-in_ok-make_all_ready-in-None-clause-next g c = told_map _ _ (g.F.File.bytes c.args.file.now) (λ bytes stands h. c.next_in.ensures.next bytes (stands h)) c.make_all_ready.ensures.stands
+returns-in_ok-make_all_ready-in-None-clause-next g c = told_map _ _ (g.F.File.bytes c.args.file.now) (λ bytes stands h. c.next_in.ensures.next bytes (stands h)) c.make_all_ready.ensures.loads.stands
 
 pub returns-in_ok-make_one_ready-in-Some-clause-next : goal.returns-in_ok-make_one_ready-in-Some-clause-next
 returns-in_ok-make_one_ready-in-Some-clause-next g c =
-    told_map _ _ (g.F.File.bytes c.args.file.now) (λ bytes stands h. c.next_in-in-Some.ensures.next bytes (stands h)) c.make_one_ready.ensures.stands
+    told_map _ _ (g.F.File.bytes c.args.file.now) (λ bytes stands h. c.next_in-in-Some.ensures.next bytes (stands h)) c.make_one_ready.ensures.loads.stands

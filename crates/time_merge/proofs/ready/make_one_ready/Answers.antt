@@ -1,4 +1,4 @@
-use Rattle.std.proofs.Common.{refl, ◌≡◌, ◌≤◌, ◌<◌, ℕ, length, get_or, arith, ◌-◌}
+use Rattle.std.proofs.Common.{refl, ◌≤◌, ℕ, get_or, arith, ◌-◌}
 use Rattle.std.proofs.lemmas.Result.{on_ok_weaker}
 use Rattle.std.proofs.lemmas.List.Elements.{All-set}
 use Rattle.std.proofs.lemmas.List.Sums.{sum_by-set}
@@ -14,41 +14,34 @@ use Rattle.time_merge.proofs.Readying.{same_parts, same_rows, stand_still}
 use Rattle.time_merge.proofs.OneLane.{ready_set}
 use Rattle.time_merge.proofs.ready.make_one_ready.Goals as goal
 
-pub returns-clause-in_order : goal.returns-clause-in_order
-returns-clause-in_order g c = All-set (IsInOrder c.args.layout.now) c.args.lanes.now c.args.i c.make_ready.new.lane c.make_ready.ensures.in_order c.requires.in_order
-
-pub returns-clause-parts : goal.returns-clause-parts
-returns-clause-parts g c = same_parts c.args.lanes.now c.args.i c.index-lanes-i.result c.make_ready.new.lane c.requires.inside c.make_ready.ensures.place
+pub returns-clause-loads : goal.returns-clause-loads
+returns-clause-loads g c =
+    let l = c.args.layout.now in
+    let lanes = c.args.lanes.now in
+    let i = c.args.i in
+    let told = g.F.File.bytes c.args.file.now in
+    let size = g.F.File.size c.args.file.now in
+    let d = c.index-lanes-i.result in
+    let now = c.make_ready.new.lane in
+    let inside = c.requires.inside in
+    let here = c.make_ready.ensures in
+    let all : ℕ = all_unread l size lanes in
+    let none : g.F.File.reads c.args.file.now ≤ raised (g.F.File.reads c.args.file.now) (all - all) = omega arith in
+    record {
+      in_order = All-set (IsInOrder l) lanes i now here.in_order c.requires.in_order;
+      parts = same_parts lanes i d now inside here.place;
+      advance = advances_more lanes lanes i d now refl inside (advances_one l (get_or lanes i d) now here.place here.kept) (λ j d lt. advances_not (get_or lanes j d));
+      rows = same_rows l told told lanes lanes i d now refl inside here.place (told_all _ told (λ bytes. refl)) here.left;
+      stands = stand_still l told told lanes lanes i d now refl inside (told_all _ told (λ bytes h. h)) here.stands;
+      most = omega (arith, sum_by-set (most_left l) lanes i now d inside, here.most);
+      reads = one_read l size size lanes i d now refl inside _ _ _ _ none (omega arith) here.reads here.unread;
+      unread = less_unread l size size lanes i d now refl inside _ (omega arith) here.unread;
+      keeps = here.keeps;
+    }
 
 pub returns-clause-ready : goal.returns-clause-ready
 returns-clause-ready g c =
     on_ok_weaker c.make_ready.result (λ ready. ready_set (IsReady c.args.layout.now) c.args.lanes.now c.args.i c.make_ready.new.lane c.requires.inside ready c.requires.others) c.make_ready.ensures.ready
-
-pub returns-clause-advance : goal.returns-clause-advance
-returns-clause-advance g c =
-    advances_more c.args.lanes.now c.args.lanes.now c.args.i c.index-lanes-i.result c.make_ready.new.lane refl c.requires.inside
-    (advances_one c.args.layout.now (get_or c.args.lanes.now c.args.i c.index-lanes-i.result) c.make_ready.new.lane c.make_ready.ensures.place c.make_ready.ensures.kept)
-    (λ j d lt. advances_not (get_or c.args.lanes.now j d))
-
-pub returns-clause-rows : goal.returns-clause-rows
-returns-clause-rows g c =
-    same_rows c.args.layout.now (g.F.File.bytes c.args.file.now) (g.F.File.bytes c.args.file.now) c.args.lanes.now c.args.lanes.now c.args.i c.index-lanes-i.result c.make_ready.new.lane
-    refl c.requires.inside c.make_ready.ensures.place (told_all _ (g.F.File.bytes c.args.file.now) (λ bytes. refl)) c.make_ready.ensures.left
-
-pub returns-clause-stands : goal.returns-clause-stands
-returns-clause-stands g c =
-    stand_still c.args.layout.now (g.F.File.bytes c.args.file.now) (g.F.File.bytes c.args.file.now) c.args.lanes.now c.args.lanes.now c.args.i c.index-lanes-i.result c.make_ready.new.lane
-    refl c.requires.inside (told_all _ (g.F.File.bytes c.args.file.now) (λ bytes h. h)) c.make_ready.ensures.stands
-
-pub returns-clause-most : goal.returns-clause-most
-returns-clause-most g c = omega (arith, sum_by-set (most_left c.args.layout.now) c.args.lanes.now c.args.i c.make_ready.new.lane c.index-lanes-i.result c.requires.inside, c.make_ready.ensures.most)
-
-pub returns-clause-reads : goal.returns-clause-reads
-returns-clause-reads g c =
-    let all : ℕ = all_unread c.args.layout.now (g.F.File.size c.args.file.now) c.args.lanes.now in
-    let none : g.F.File.reads c.args.file.now ≤ raised (g.F.File.reads c.args.file.now) (all - all) = omega arith in
-    one_read c.args.layout.now (g.F.File.size c.args.file.now) (g.F.File.size c.args.file.now) c.args.lanes.now c.args.i c.index-lanes-i.result c.make_ready.new.lane refl c.requires.inside
-    _ _ _ _ none (omega arith) c.make_ready.ensures.reads c.make_ready.ensures.unread
 
 pub returns-clause-stops : goal.returns-clause-stops
 returns-clause-stops g c =
@@ -56,8 +49,3 @@ returns-clause-stops g c =
     let none : g.F.File.reads c.args.file.now ≤ raised (g.F.File.reads c.args.file.now) (all - all) = omega arith in
     on_err c.make_ready.result (stopped c.args.layout.now (g.F.File.size c.args.file.now) (g.F.File.size c.args.file.now) c.args.lanes.now c.args.i c.index-lanes-i.result c.make_ready.new.lane refl c.requires.inside
     c.args.lanes.now _ _ _ refl (λ j d le. refl) none (omega arith) c.make_ready.ensures.reads c.make_ready.ensures.unread)
-
-pub returns-clause-unread : goal.returns-clause-unread
-returns-clause-unread g c =
-    less_unread c.args.layout.now (g.F.File.size c.args.file.now) (g.F.File.size c.args.file.now) c.args.lanes.now c.args.i c.index-lanes-i.result c.make_ready.new.lane refl c.requires.inside
-    _ (omega arith) c.make_ready.ensures.unread

@@ -35,53 +35,53 @@ loop-wakeups-preserved g c =
     let d = c.index-lanes-i-in-Ok.result in
     let still = using_unread c.args.context.now l (g.F.File.size c.args.file.now) c.next_lane_by.new.lanes c.in-Lane.i d c.use_up.new.lane lt c.use_up.ensures.used in
     let reads = going_reads l (g.F.File.size c.args.file.now) (g.F.File.size c.loop-wakeups.file) c.loop-wakeups.lanes c.next_lane_by.new.lanes (set c.next_lane_by.new.lanes c.in-Lane.i c.use_up.new.lane) _ _ _ _
-    c.loop-wakeups.invariant.keeps.size still c.in_ok-i.ensures.ready c.loop-wakeups.invariant.reads c.loop-wakeups.invariant.unread c.next_lane_by.ensures.reads c.next_lane_by.ensures.unread in
+    c.loop-wakeups.invariant.keeps.size still c.in_ok-i.ensures.ready c.loop-wakeups.invariant.reads c.loop-wakeups.invariant.unread c.next_lane_by.ensures.loads.reads c.next_lane_by.ensures.loads.unread in
     record {
-      in_order = All-set (IsInOrder l) c.next_lane_by.new.lanes c.in-Lane.i c.use_up.new.lane c.use_up.ensures.in_order c.next_lane_by.ensures.in_order;
-      parts = used_parts c.args.context.now l c.next_lane_by.new.lanes c.in-Lane.i d c.use_up.new.lane lt c.use_up.ensures.used ∙ c.next_lane_by.ensures.parts ∙ c.loop-wakeups.invariant.parts;
+      in_order = All-set (IsInOrder l) c.next_lane_by.new.lanes c.in-Lane.i c.use_up.new.lane c.use_up.ensures.in_order c.next_lane_by.ensures.loads.in_order;
+      parts = used_parts c.args.context.now l c.next_lane_by.new.lanes c.in-Lane.i d c.use_up.new.lane lt c.use_up.ensures.used ∙ c.next_lane_by.ensures.loads.parts ∙ c.loop-wakeups.invariant.parts;
       in_step = in_step_but l c.next_lane_by.new.lanes c.next_lane_by.new.nexts c.in-Lane.i c.use_up.new.lane lt c.in_ok-i.ensures.ready c.in_ok-i.ensures.nexts;
-      slots = c.next_lane_by.ensures.slots ∙ c.loop-wakeups.invariant.slots ∙ sym (same_length c.next_lane_by.new.lanes c.loop-wakeups.lanes c.next_lane_by.ensures.parts) ∙ sym (length-set c.next_lane_by.new.lanes c.in-Lane.i c.use_up.new.lane);
+      slots = c.next_lane_by.ensures.slots ∙ c.loop-wakeups.invariant.slots ∙ sym (same_length c.next_lane_by.new.lanes c.loop-wakeups.lanes c.next_lane_by.ensures.loads.parts) ∙ sym (length-set c.next_lane_by.new.lanes c.in-Lane.i c.use_up.new.lane);
       gathers = gathers_on c.args.context.now l (g.F.File.bytes c.args.file.now) (g.F.File.bytes c.loop-wakeups.file) c.args.lanes.now c.loop-wakeups.lanes c.next_lane_by.new.lanes
           c.loop-wakeups.wakeups c.take_in.new.wakeups c.in-Lane.i d c.use_up.new.lane c.loop-wakeups.invariant.keeps.bytes c.loop-wakeups.invariant.gathers
-          c.next_lane_by.ensures.rows c.next_lane_by.ensures.stands (next_is c.args.layout.now _ _ c.next_lane_by.new.lanes c.in-Lane.is c.in_ok-i.ensures.next) lt c.use_up.ensures.used
+          c.next_lane_by.ensures.loads.rows c.next_lane_by.ensures.loads.stands (next_is c.args.layout.now _ _ c.next_lane_by.new.lanes c.in-Lane.is c.in_ok-i.ensures.next) lt c.use_up.ensures.used
           (λ x e. c.in-Ok.ensures.taken x (ap (λ (a : Lane). first_of (keyed_held l a)) (get_or_default c.next_lane_by.new.lanes c.in-Lane.i c.index-lanes-i.result d lt) ∙ e));
       reads = reads.0;
       unread = reads.1;
       keeps = record {
-        bytes = c.next_lane_by.ensures.keeps.bytes ∙ c.loop-wakeups.invariant.keeps.bytes;
-        size = c.next_lane_by.ensures.keeps.size ∙ c.loop-wakeups.invariant.keeps.size;
-        later = omega (arith, c.next_lane_by.ensures.keeps.later, c.loop-wakeups.invariant.keeps.later);
+        bytes = c.next_lane_by.ensures.loads.keeps.bytes ∙ c.loop-wakeups.invariant.keeps.bytes;
+        size = c.next_lane_by.ensures.loads.keeps.size ∙ c.loop-wakeups.invariant.keeps.size;
+        later = omega (arith, c.next_lane_by.ensures.loads.keeps.later, c.loop-wakeups.invariant.keeps.later);
       };
     }
 
 pub returns-in-Done-clause-pairs : goal.returns-in-Done-clause-pairs
 returns-in-Done-clause-pairs g c =
     all_gathered c.args.context.now c.args.layout.now (g.F.File.bytes c.args.file.now) (g.F.File.bytes c.loop-wakeups.file) c.args.lanes.now c.loop-wakeups.lanes c.next_lane_by.new.lanes c.loop-wakeups.wakeups
-    c.loop-wakeups.invariant.keeps.bytes c.loop-wakeups.invariant.gathers c.next_lane_by.ensures.rows
+    c.loop-wakeups.invariant.keeps.bytes c.loop-wakeups.invariant.gathers c.next_lane_by.ensures.loads.rows
     (told_map _ _ (g.F.File.bytes c.loop-wakeups.file) (λ file next stands. (next stands).0) (next_is c.args.layout.now _ _ c.next_lane_by.new.lanes c.in-Done.is c.in_ok-i.ensures.next))
 
 pub returns-in-Malformed-clause-pairs : goal.returns-in-Malformed-clause-pairs
 returns-in-Malformed-clause-pairs g c =
     all_gathered c.args.context.now c.args.layout.now (g.F.File.bytes c.args.file.now) (g.F.File.bytes c.loop-wakeups.file) c.args.lanes.now c.loop-wakeups.lanes c.next_lane_by.new.lanes c.loop-wakeups.wakeups
-    c.loop-wakeups.invariant.keeps.bytes c.loop-wakeups.invariant.gathers c.next_lane_by.ensures.rows
+    c.loop-wakeups.invariant.keeps.bytes c.loop-wakeups.invariant.gathers c.next_lane_by.ensures.loads.rows
     (told_map _ _ (g.F.File.bytes c.loop-wakeups.file) (λ file next stands. (next stands).0) (next_is c.args.layout.now _ _ c.next_lane_by.new.lanes c.in-Malformed.is c.in_ok-i.ensures.next))
 
 pub returns-in-Err-clause-reads : goal.returns-in-Err-clause-reads
 returns-in-Err-clause-reads g c =
     reads_inside c.args.layout.now (g.F.File.size c.args.file.now) (g.F.File.size c.loop-wakeups.file) c.args.lanes.now c.loop-wakeups.lanes c.next_lane_by.new.lanes _ _ _ (omega (arith, c.requires.allowed.page_least))
-    c.loop-wakeups.invariant.keeps.size c.loop-wakeups.invariant.reads c.loop-wakeups.invariant.unread c.next_lane_by.ensures.reads c.next_lane_by.ensures.unread
+    c.loop-wakeups.invariant.keeps.size c.loop-wakeups.invariant.reads c.loop-wakeups.invariant.unread c.next_lane_by.ensures.loads.reads c.next_lane_by.ensures.loads.unread
 
 pub returns-in-Done-clause-reads : goal.returns-in-Done-clause-reads
 returns-in-Done-clause-reads g c =
     reads_inside c.args.layout.now (g.F.File.size c.args.file.now) (g.F.File.size c.loop-wakeups.file) c.args.lanes.now c.loop-wakeups.lanes c.next_lane_by.new.lanes _ _ _ (omega (arith, c.requires.allowed.page_least))
-    c.loop-wakeups.invariant.keeps.size c.loop-wakeups.invariant.reads c.loop-wakeups.invariant.unread c.next_lane_by.ensures.reads c.next_lane_by.ensures.unread
+    c.loop-wakeups.invariant.keeps.size c.loop-wakeups.invariant.reads c.loop-wakeups.invariant.unread c.next_lane_by.ensures.loads.reads c.next_lane_by.ensures.loads.unread
 
 pub returns-in-Malformed-clause-reads : goal.returns-in-Malformed-clause-reads
 returns-in-Malformed-clause-reads g c =
     reads_inside c.args.layout.now (g.F.File.size c.args.file.now) (g.F.File.size c.loop-wakeups.file) c.args.lanes.now c.loop-wakeups.lanes c.next_lane_by.new.lanes _ _ _ (omega (arith, c.requires.allowed.page_least))
-    c.loop-wakeups.invariant.keeps.size c.loop-wakeups.invariant.reads c.loop-wakeups.invariant.unread c.next_lane_by.ensures.reads c.next_lane_by.ensures.unread
+    c.loop-wakeups.invariant.keeps.size c.loop-wakeups.invariant.reads c.loop-wakeups.invariant.unread c.next_lane_by.ensures.loads.reads c.next_lane_by.ensures.loads.unread
 
 pub returns-in_err-i-clause-reads : goal.returns-in_err-i-clause-reads
 returns-in_err-i-clause-reads g c =
     reads_inside c.args.layout.now (g.F.File.size c.args.file.now) (g.F.File.size c.loop-wakeups.file) c.args.lanes.now c.loop-wakeups.lanes c.next_lane_by.new.lanes _ _ _ (omega (arith, c.requires.allowed.page_least))
-    c.loop-wakeups.invariant.keeps.size c.loop-wakeups.invariant.reads c.loop-wakeups.invariant.unread c.next_lane_by.ensures.reads c.next_lane_by.ensures.unread
+    c.loop-wakeups.invariant.keeps.size c.loop-wakeups.invariant.reads c.loop-wakeups.invariant.unread c.next_lane_by.ensures.loads.reads c.next_lane_by.ensures.loads.unread

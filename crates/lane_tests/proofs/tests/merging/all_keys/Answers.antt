@@ -22,20 +22,20 @@ loop-i-preserved g c =
     let lt : c.in-Ok-Lane.i < length c.next_lane.new.lanes = (holds_is l c.next_lane.new.lanes c.in-Ok-Lane.field-0-is c.in-Ok-Lane.ensures.holds).0 in
     let more : c.push.new.self.items ≡ c.loop-i.keys.items ++ c.use_head-key.result ∷ [] = search rules in
     record {
-      in_order = All-set (IsInOrder l) c.next_lane.new.lanes c.in-Ok-Lane.i c.use_head-key.new.lane c.use_head-key.ensures.in_order c.next_lane.ensures.in_order;
-      parts = still_parts l c.next_lane.new.lanes c.in-Ok-Lane.i c.index-lanes-i.result c.use_head-key.new.lane lt c.use_head-key.ensures.used ∙ c.next_lane.ensures.parts ∙ c.loop-i.invariant.parts;
+      in_order = All-set (IsInOrder l) c.next_lane.new.lanes c.in-Ok-Lane.i c.use_head-key.new.lane c.use_head-key.ensures.in_order c.next_lane.ensures.loads.in_order;
+      parts = still_parts l c.next_lane.new.lanes c.in-Ok-Lane.i c.index-lanes-i.result c.use_head-key.new.lane lt c.use_head-key.ensures.used ∙ c.next_lane.ensures.loads.parts ∙ c.loop-i.invariant.parts;
       gone = going_on l (g.F.File.bytes c.args.file.now) (g.F.File.bytes c.loop-i.file) c.args.lanes.now c.loop-i.lanes c.next_lane.new.lanes c.in-Ok-Lane.i c.index-lanes-i.result c.use_head-key.new.lane
-          c.loop-i.keys.items c.push.new.self.items c.use_head-key.result c.loop-i.invariant.keeps.bytes c.loop-i.invariant.gone c.next_lane.ensures.rows c.next_lane.ensures.stands (next_is c.args.layout.now _ _ c.next_lane.new.lanes c.in-Ok-Lane.field-0-is c.in-Ok-Lane.ensures.next)
+          c.loop-i.keys.items c.push.new.self.items c.use_head-key.result c.loop-i.invariant.keeps.bytes c.loop-i.invariant.gone c.next_lane.ensures.loads.rows c.next_lane.ensures.loads.stands (next_is c.args.layout.now _ _ c.next_lane.new.lanes c.in-Ok-Lane.field-0-is c.in-Ok-Lane.ensures.next)
           lt c.use_head-key.ensures.used c.use_head-key.ensures.key more;
-      keeps = file_kept c.loop-i.invariant.keeps c.next_lane.ensures.keeps;
+      keeps = file_kept c.loop-i.invariant.keeps c.next_lane.ensures.loads.keeps;
     }
 
 pub returns-in-Ok-Done-clause-through : goal.returns-in-Ok-Done-clause-through
 returns-in-Ok-Done-clause-through g c =
     all_gone c.args.layout.now (g.F.File.bytes c.args.file.now) (g.F.File.bytes c.loop-i.file) c.args.lanes.now c.loop-i.lanes c.next_lane.new.lanes c.loop-i.keys.items code.Done
-    c.loop-i.invariant.keeps.bytes (λ i e. let h : code.Done ≡ code.Lane i = e in cc) c.next_lane.ensures.parts c.loop-i.invariant.parts c.loop-i.invariant.gone c.next_lane.ensures.rows (next_is c.args.layout.now _ _ c.next_lane.new.lanes c.in-Ok-Done.field-0-is c.in-Ok-Done.ensures.next)
+    c.loop-i.invariant.keeps.bytes (λ i e. let h : code.Done ≡ code.Lane i = e in cc) c.next_lane.ensures.loads.parts c.loop-i.invariant.parts c.loop-i.invariant.gone c.next_lane.ensures.loads.rows (next_is c.args.layout.now _ _ c.next_lane.new.lanes c.in-Ok-Done.field-0-is c.in-Ok-Done.ensures.next)
 
 pub returns-in-Ok-Malformed-clause-through : goal.returns-in-Ok-Malformed-clause-through
 returns-in-Ok-Malformed-clause-through g c =
     all_gone c.args.layout.now (g.F.File.bytes c.args.file.now) (g.F.File.bytes c.loop-i.file) c.args.lanes.now c.loop-i.lanes c.next_lane.new.lanes c.loop-i.keys.items (code.Malformed c.in-Ok-Malformed.cpu c.in-Ok-Malformed.page)
-    c.loop-i.invariant.keeps.bytes (λ i e. let h : code.Malformed c.in-Ok-Malformed.cpu c.in-Ok-Malformed.page ≡ code.Lane i = e in cc) c.next_lane.ensures.parts c.loop-i.invariant.parts c.loop-i.invariant.gone c.next_lane.ensures.rows (next_is c.args.layout.now _ _ c.next_lane.new.lanes c.in-Ok-Malformed.field-0-is c.in-Ok-Malformed.ensures.next)
+    c.loop-i.invariant.keeps.bytes (λ i e. let h : code.Malformed c.in-Ok-Malformed.cpu c.in-Ok-Malformed.page ≡ code.Lane i = e in cc) c.next_lane.ensures.loads.parts c.loop-i.invariant.parts c.loop-i.invariant.gone c.next_lane.ensures.loads.rows (next_is c.args.layout.now _ _ c.next_lane.new.lanes c.in-Ok-Malformed.field-0-is c.in-Ok-Malformed.ensures.next)

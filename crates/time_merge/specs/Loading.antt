@@ -1,0 +1,25 @@
+-- What loading does to lanes and their file.
+use Rattle.std.specs.Prelude.{◌≡◌, ℕ, ◌+◌, ◌-◌, ◌<◌, ◌≤◌, IfSome, All, List, length, slice_index_or, sum_by}
+use Rattle.trace_base.specs.declared.layout.Layout.{Layout}
+use Rattle.trace_outside.specs.declared.outside.File as file
+use Rattle.trace_outside.specs.Causes.{raised}
+use Rattle.trace_outside.specs.Keeping.{KeepsFile}
+use Rattle.page_pool.specs.declared.lane.Lane.{Lane}
+use Rattle.event_cursor.specs.Standing.{IsInOrder, Stands, most_left}
+use Rattle.time_merge.specs.Advancing.{Advances}
+use Rattle.time_merge.specs.LaneRows.{parts_of, rows_of}
+use Rattle.time_merge.specs.Reads.{all_reading, all_unread}
+
+-- Lanes loaded sub-buffers, maybe none: nothing of what they have left was used up, each went on or stayed as it was, and
+-- each sub-buffer was read once.
+pub record LoadsLanes {F : Type 0} (f : file.Ghosts F) (layout : Layout) (file_before file_now : F) (before now : List Lane) : Type 0 where
+  pub in_order : All (IsInOrder layout) now
+  pub parts : parts_of now ≡ parts_of before
+  pub advance : (i : ℕ) (d : Lane) → i < length before → Advances (slice_index_or before i d) (slice_index_or now i d)
+  pub rows : IfSome (f.bytes file_before) (λ bytes. rows_of layout bytes now ≡ rows_of layout bytes before)
+  pub stands : IfSome (f.bytes file_before) (λ bytes. All (Stands layout bytes) before → All (Stands layout bytes) now)
+  pub most : sum_by (most_left layout) now ≤ sum_by (most_left layout) before
+  pub reads : f.reads file_now ≤ raised (f.reads file_before)
+      (all_unread layout (f.size file_before) before - all_unread layout (f.size file_before) now + all_reading layout (f.size file_before) now)
+  pub unread : all_unread layout (f.size file_before) now ≤ all_unread layout (f.size file_before) before
+  pub keeps : KeepsFile f file_before file_now
