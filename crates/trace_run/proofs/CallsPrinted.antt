@@ -11,14 +11,11 @@ use Rattle.dat_header.specs.declared.header.Header.{Header}
 use Rattle.call_pairs.specs.declared.call.Call.{Call}
 use Rattle.graph_report.specs.CallText.{call_line}
 use Rattle.graph_report.specs.Gathered.{cut_place, reached_calls}
-use Rattle.trace_args.specs.Command.{ReportData}
 use Rattle.trace_run.specs.declared.status.Status.TheVariants.{ReadFault, WriteFault}
 use Rattle.trace_run.specs.Calls.{called_text, status_at}
-use Rattle.trace_run.specs.Context.{context_of}
 use Rattle.trace_run.specs.Meaning.{Meaning, calls_report, ended}
 use Rattle.trace_run.specs.Outside.{SinkSeen}
-use Rattle.trace_run.specs.Report.{call_pieces, cpus_line, parts_events}
-use Rattle.trace_run.specs.Selection.{chosen, set_or_all}
+use Rattle.trace_run.specs.Report.{call_pieces, cpus_line, events_on}
 use Rattle.trace_run.specs.Text.{text}
 use Rattle.trace_run.specs.Output.{Shows, Writes, WritesFor}
 
@@ -46,43 +43,29 @@ pub cut_shows : (unread : Type 0) (cut : Option (ℕ × ℕ)) (before now : Sink
 cut_shows unread None before now = tt
 cut_shows unread (Some place) before now = tt
 
-module _ (words : ReportData) (header : Header) (parts : List Part) where
+module _ (given : Given) (shown : List (ℕ × Part)) (header : Header) where
   abbrev means : List ℕ → Meaning
-  means bytes = calls_report (parts_events words header parts bytes)
-
-  abbrev shown_parts : List (ℕ × Part)
-  shown_parts = chosen (set_or_all words.cpus) parts
+  means bytes = calls_report (events_on given shown header bytes)
 
   -- the text that was put is that of the meaning
-  text_is : (shown : List (ℕ × Part)) (given : Given) (list : List Call) (bytes : List ℕ) → given ≡ context_of words header → shown ≡ shown_parts
-      → list ≡ reached_calls given header.layout bytes shown → called_text header.cpus given list ≡ text ((means bytes).pieces)
-  text_is shown given list bytes given_is shown_is list_is =
-      ap (called_text header.cpus given) (list_is ∙ ap (λ (ps : List (ℕ × Part)). reached_calls given header.layout bytes ps) shown_is)
-      ∙ ap (λ (by : Given). called_text header.cpus by (reached_calls by header.layout bytes shown_parts)) given_is
-      ∙ calls_text header.cpus (context_of words header) (reached_calls (context_of words header) header.layout bytes shown_parts)
+  text_is : (list : List Call) (bytes : List ℕ) → list ≡ reached_calls given header.layout bytes shown → called_text header.cpus given list ≡ text ((means bytes).pieces)
+  text_is list bytes list_is = calls_text header.cpus given list ∙ ap (λ (calls : List Call). text (call_pieces header.cpus given calls)) list_is
 
-  status_is : (shown : List (ℕ × Part)) (cut : Option (ℕ × ℕ)) (bytes : List ℕ) → shown ≡ shown_parts → cut ≡ cut_place (cut_of header.layout bytes shown)
-      → status_at cut ≡ (means bytes).status
-  status_is shown cut bytes shown_is cut_is =
-      ap status_at cut_is ∙ ended_at (cut_of header.layout bytes shown) ∙ ap (λ (ps : List (ℕ × Part)). ended (cut_of header.layout bytes ps)) shown_is
-
-  pub calls_written : (told : Option (List ℕ)) (shown : List (ℕ × Part)) (given : Given) (list put : List Call) (cut : Option (ℕ × ℕ)) (old now : Option (List ℕ))
-      → given ≡ context_of words header → shown ≡ shown_parts → put ≡ list
+  pub calls_written : (told : Option (List ℕ)) (list put : List Call) (cut : Option (ℕ × ℕ)) (old now : Option (List ℕ)) → put ≡ list
       → IfSome told (λ bytes. list ≡ reached_calls given header.layout bytes shown)
       → IfSome told (λ bytes. cut ≡ cut_place (cut_of header.layout bytes shown))
       → Gained old now (called_text header.cpus given put) → WritesFor means told (status_at cut) old now
-  calls_written None shown given list put cut old now given_is shown_is put_is list_is cut_is gained = tt
-  calls_written (Some bytes) shown given list put cut old now given_is shown_is put_is list_is cut_is gained =
-      writes_at (means bytes) cut old now (status_is shown cut bytes shown_is cut_is)
-      (subst (λ (t : List ℕ). Gained old now t) (text_is shown given put bytes given_is shown_is (put_is ∙ list_is)) gained)
+  calls_written None list put cut old now put_is list_is cut_is gained = tt
+  calls_written (Some bytes) list put cut old now put_is list_is cut_is gained =
+      writes_at (means bytes) cut old now (ap status_at cut_is ∙ ended_at (cut_of header.layout bytes shown))
+      (subst (λ (t : List ℕ). Gained old now t) (text_is put bytes (put_is ∙ list_is)) gained)
 
-  pub calls_unwritten : (told : Option (List ℕ)) (shown : List (ℕ × Part)) (given : Given) (list put : List Call) (old now : Option (List ℕ))
-      → given ≡ context_of words header → shown ≡ shown_parts → put ≡ list
+  pub calls_unwritten : (told : Option (List ℕ)) (list put : List Call) (old now : Option (List ℕ)) → put ≡ list
       → IfSome told (λ bytes. list ≡ reached_calls given header.layout bytes shown)
       → GainedPrefix old now (called_text header.cpus given put) → WritesFor means told WriteFault old now
-  calls_unwritten None shown given list put old now given_is shown_is put_is list_is prefix = tt
-  calls_unwritten (Some bytes) shown given list put old now given_is shown_is put_is list_is prefix =
-      subst (λ (t : List ℕ). GainedPrefix old now t) (text_is shown given put bytes given_is shown_is (put_is ∙ list_is)) prefix
+  calls_unwritten None list put old now put_is list_is prefix = tt
+  calls_unwritten (Some bytes) list put old now put_is list_is prefix =
+      subst (λ (t : List ℕ). GainedPrefix old now t) (text_is put bytes (put_is ∙ list_is)) prefix
 
   -- nothing was written
   pub calls_unread : (told : Option (List ℕ)) (old : Option (List ℕ)) → WritesFor means told ReadFault old old

@@ -11,13 +11,10 @@ use Rattle.trace_outside.specs.Causes.{raised}
 use Rattle.trace_outside.specs.Writing.{Gained, GainedPrefix}
 use Rattle.trace_outside.proofs.Gains.{gained_both, gained_nothing}
 use Rattle.dat_header.specs.declared.header.Header.{Header}
-use Rattle.dat_header.specs.declared.header.Body.{Body}
-use Rattle.dat_header.specs.declared.header.Body.TheVariants.{Fly}
 use Rattle.report_print.specs.Given.{Given}
 use Rattle.report_rounds.specs.Due.{due_bytes, ReadsDue as RoundsDue}
-use Rattle.trace_args.specs.Command.{ReportData}
 use Rattle.trace_run.specs.Input.{ReadsDue, behind_first, due_of, progress_at}
-use Rattle.trace_run.specs.Report.{Events, body_events, cpus_line, events_on, item_line, parts_events, unless_calls}
+use Rattle.trace_run.specs.Report.{Events, cpus_line, events_on, item_line}
 
 begins : (first rest : List ℕ) → starts_with nat_eq (first ++ rest) first ≡ true
 begins first rest = ap (pointwise nat_eq first) (take_at first rest (length first) refl) ∙ nat_list_eq_equiv.refl first
@@ -61,11 +58,3 @@ module _ (given : Given) (shown : List (ℕ × Part)) (header : Header) where
       → IfSome told (λ bytes. ReadsDue (events bytes) 0 (progress_at old before) (progress_at now reads))
   parts_read None old mid now before reads first due = tt
   parts_read (Some bytes) old mid now before reads first due = parts_read_of bytes old mid now before reads first due
-
-module _ (words : ReportData) (header : Header) where
-  pub body_read : (slice own : List Part) (told old now : Option (List ℕ)) (before reads : ℕ) → header.body ≡ Fly own → slice ≡ own
-      → IfSome told (λ bytes. IfSome (unless_calls words.calls words.wakeups (parts_events words header slice bytes)) (λ events. ReadsDue events 0 (progress_at old before) (progress_at now reads)))
-      → IfSome told (λ bytes. IfSome (body_events words header header.body bytes) (λ events. ReadsDue events 0 (progress_at old before) (progress_at now reads)))
-  body_read slice own told old now before reads body same due =
-      subst (λ (b : Body). IfSome told (λ bytes. IfSome (body_events words header b bytes) (λ events. ReadsDue events 0 (progress_at old before) (progress_at now reads)))) (sym body)
-      (subst (λ (ps : List Part). IfSome told (λ bytes. IfSome (unless_calls words.calls words.wakeups (parts_events words header ps bytes)) (λ events. ReadsDue events 0 (progress_at old before) (progress_at now reads)))) same due)

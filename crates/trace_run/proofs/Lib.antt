@@ -5,7 +5,6 @@ pub mod Printing
 pub mod Latency
 pub mod PartsPrinted
 pub mod CallsPrinted
-pub mod CallsShown
 pub mod Printed
 pub mod Waits
 pub mod Reports

@@ -1,12 +1,11 @@
 -- A report of events with the latencies behind its lines.
-use Rattle.std.proofs.Common.{◌≡◌, ◌≤◌, ◌<◌, ◌*◌, ◌+◌, ℕ, Bool, true, false, List, [], ◌∷◌, ◌++◌, length, take, sum_by, Option, None, Some, IfNone, IfSome, inl, inr, refl, sym, ap, subst, ◌∙◌, arith, append-nil}
+use Rattle.std.proofs.Common.{◌≡◌, ◌+◌, ℕ, true, false, List, [], ◌∷◌, ◌++◌, length, take, Option, None, Some, IfNone, IfSome, inl, inr, refl, sym, ap, subst, ◌∙◌, arith, append-nil}
 use Rattle.std.specs.Option.{option_map}
 use Rattle.std.proofs.lemmas.Bool.{cases_lt}
 use Rattle.std.proofs.lemmas.Grind.{flat_map-append}
 use Rattle.std.proofs.lemmas.List.{take_all, take_at, take-append-le}
 use Rattle.std.specs.Io.KnownBytes.{append_known}
 use Rattle.trace_base.specs.declared.part.Part.{Part}
-use Rattle.trace_outside.specs.Causes.{Rose, raised}
 use Rattle.trace_outside.specs.Writing.{Gained, GainedPrefix}
 use Rattle.trace_outside.proofs.Gains.{gained_both, gained_nothing, prefix_behind}
 use Rattle.trace_outside.proofs.PendingLemmas.{prefix_longer}
@@ -15,24 +14,19 @@ use Rattle.time_merge.specs.declared.ending.End.{End}
 use Rattle.time_merge.specs.declared.ending.End.TheVariants as code
 use Rattle.report_print.specs.Given.{Given}
 use Rattle.wakeup_pairs.specs.declared.seen.Pair.{Pair}
-use Rattle.wakeup_pairs.specs.Gathered.{Gathered, gathered}
+use Rattle.wakeup_pairs.specs.Gathered.{gathered}
 use Rattle.wakeup_pairs.specs.Pairs.{ArePairs}
 use Rattle.wakeup_pairs.proofs.Passing.{pass_pairs}
 use Rattle.wakeup_pairs.proofs.Partners.{one_list}
 use Rattle.wakeup_lat.specs.Roles.{all_seen}
 use Rattle.wakeup_lat.specs.Section.{section}
 use Rattle.dat_header.specs.declared.header.Header.{Header}
-use Rattle.trace_args.specs.Command.{ReportData}
-use Rattle.trace_run.specs.declared.status.Status.{Status}
 use Rattle.trace_run.specs.declared.status.Status.TheVariants.{NoMemory, ReadFault, WriteFault}
-use Rattle.trace_run.specs.Context.{context_of}
 use Rattle.trace_run.specs.Ending.{Prints}
-use Rattle.trace_run.specs.Input.{Progress, ReadsDue, parts_share}
-use Rattle.trace_run.specs.Meaning.{Meaning, events_report, parts_report, shown_report}
+use Rattle.trace_run.specs.Meaning.{Meaning, events_report, shown_report}
 use Rattle.trace_run.specs.Outside.{SinkSeen}
 use Rattle.trace_run.specs.Output.{Shows, Writes, WritesFor, is_whole, status_or_memory}
-use Rattle.trace_run.specs.Report.{Events, events_on, lines_alone, parts_due, parts_events, reached_items, waits_section}
-use Rattle.trace_run.specs.Selection.{chosen, set_or_all}
+use Rattle.trace_run.specs.Report.{Events, events_on, reached_items, waits_section}
 use Rattle.trace_run.specs.Split.{status_of}
 use Rattle.trace_run.specs.Text.{text}
 use Rattle.trace_run.proofs.Endings.{unprinted}
@@ -150,28 +144,3 @@ pub lines_prints : (unread : Type 0) (means : List ℕ → Meaning) (told : Opti
 lines_prints unread means told None before now none writes shows same =
     subst (λ (seen : SinkSeen). Prints unread (option_map means told) NoMemory before seen) (sym same) (unprinted unread (option_map means told) before)
 lines_prints unread means told (Some end) before now none writes shows same = printed_of unread means told (status_of end) before now none writes shows
-
-module _ (words : ReportData) (header : Header) (parts : List Part) (given : Given) (shown : List (ℕ × Part)) where
-  module _ (given_is : given ≡ context_of words header) (shown_is : shown ≡ chosen (set_or_all words.cpus) parts) where
-    -- what is meant of these events, by whether the latencies are asked for
-    pub shown_prints : (wakeups : Bool) (unread : Type 0) (told : Option (List ℕ)) (status : Status) (before now : SinkSeen) → words.wakeups ≡ wakeups
-        → Prints unread (option_map (λ bytes. shown_report wakeups (events_on given shown header bytes)) told) status before now
-        → Prints unread (option_map (parts_report words header parts) told) status before now
-    shown_prints wakeups unread told status before now is prints =
-        subst (λ (asked : Bool). Prints unread (option_map (λ bytes. shown_report asked (parts_events words header parts bytes)) told) status before now) (sym is)
-        (subst (λ (by : Given). Prints unread (option_map (λ bytes. shown_report wakeups (events_on by (chosen (set_or_all words.cpus) parts) header bytes)) told) status before now) given_is
-        (subst (λ (ps : List (ℕ × Part)). Prints unread (option_map (λ bytes. shown_report wakeups (events_on given ps header bytes)) told) status before now) shown_is prints))
-
-    pub shown_reads : (wakeups : Bool) (before now : ℕ) → words.wakeups ≡ wakeups → now ≤ raised before (parts_share wakeups shown)
-        → now ≤ raised before (parts_share words.wakeups (chosen (set_or_all words.cpus) parts))
-    shown_reads wakeups before now is reads =
-        subst (λ (asked : Bool). now ≤ raised before (parts_share asked (chosen (set_or_all words.cpus) parts))) (sym is)
-        (subst (λ (ps : List (ℕ × Part)). now ≤ raised before (parts_share wakeups ps)) shown_is reads)
-
-    pub shown_due : (wakeups : Bool) (told : Option (List ℕ)) (before now : Progress) → words.wakeups ≡ wakeups
-        → IfSome told (λ bytes. IfSome (lines_alone wakeups (events_on given shown header bytes)) (λ events. ReadsDue events 0 before now))
-        → IfSome told (λ bytes. IfSome (parts_due words header parts bytes) (λ events. ReadsDue events 0 before now))
-    shown_due wakeups told before now is due =
-        subst (λ (asked : Bool). IfSome told (λ bytes. IfSome (lines_alone asked (parts_events words header parts bytes)) (λ events. ReadsDue events 0 before now))) (sym is)
-        (subst (λ (by : Given). IfSome told (λ bytes. IfSome (lines_alone wakeups (events_on by (chosen (set_or_all words.cpus) parts) header bytes)) (λ events. ReadsDue events 0 before now))) given_is
-        (subst (λ (ps : List (ℕ × Part)). IfSome told (λ bytes. IfSome (lines_alone wakeups (events_on given ps header bytes)) (λ events. ReadsDue events 0 before now))) shown_is due))

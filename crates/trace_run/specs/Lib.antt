@@ -18,6 +18,7 @@ pub mod Ending
 pub mod Output
 pub mod Work
 pub mod Input
+pub mod Reported
 pub mod Ran
 pub mod Messages
 pub mod Naming

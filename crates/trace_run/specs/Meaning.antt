@@ -71,9 +71,6 @@ abbrev pub shown_report : Bool → Events → Meaning
 shown_report false events = events_report events
 shown_report true events = with_piece (events_report events) (waits_section events)
 
-abbrev pub parts_report : ReportData → Header → List Part → List ℕ → Meaning
-parts_report words header parts bytes = shown_report words.wakeups (parts_events words header parts bytes)
-
 -- the report of calls: the lines of those of the reached items
 abbrev pub calls_report : Events → Meaning
 calls_report events =

@@ -72,9 +72,6 @@ abbrev pub lines_alone : Bool → Events → Option Events
 lines_alone false events = Some events
 lines_alone true events = None
 
-abbrev pub parts_due : ReportData → Header → List Part → List ℕ → Option Events
-parts_due words header parts bytes = lines_alone words.wakeups (parts_events words header parts bytes)
-
 -- events of which no calls are shown
 abbrev pub unless_calls : Bool → Bool → Events → Option Events
 unless_calls true wakeups events = None

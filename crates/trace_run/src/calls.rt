@@ -1,87 +1,65 @@
 // The function graph, printed in place of the events.
 
 ghost use Rattle.std.specs.Option.{option_map};
-ghost use Rattle.std.specs.Prelude.{◌≡◌, ◌≤◌, [], Err, map, length, sum_by, IfOk, IfSome, OnOk, OnErr};
+ghost use Rattle.std.specs.Prelude.{◌≡◌, ◌≤◌, [], Err, length, sum_by, IfOk, IfSome, OnOk, OnErr};
 ghost use Rattle.trace_base.specs.Layout.{IsLayout};
 ghost use Rattle.trace_outside.specs.Causes.{HasCause, Rose, raised};
 ghost use Rattle.trace_outside.specs.Pending.{PutsText, on_way};
 ghost use Rattle.trace_outside.specs.Writing.{Gained, GainedPrefix};
-ghost use Rattle.filter_truth.specs.SelectionView.{use_of};
 ghost use Rattle.subpage.specs.Arrangement.{CpusRise};
 ghost use Rattle.subpage.specs.Cut.{cut_of};
 ghost use Rattle.graph_report.specs.Gathered.{cut_place, reached_calls};
-ghost use Rattle.trace_args.specs.Command.{report_view};
 ghost use Rattle.trace_run.specs.Calls as spec;
 ghost use Rattle.trace_run.specs.Calls.{called_text};
 ghost use Rattle.trace_run.specs.Ending.{Prints};
 ghost use Rattle.trace_run.specs.Meaning.{calls_report};
 ghost use Rattle.trace_run.specs.Outside.{sink_seen};
-ghost use Rattle.trace_run.specs.Report.{parts_events};
-ghost use Rattle.trace_run.specs.Selection.{chosen, set_or_all};
-ghost use Rattle.trace_run.specs.Usage.{uses_in};
+ghost use Rattle.trace_run.specs.Report.{events_on};
+ghost use Rattle.trace_run.specs.Reported.{IsShown};
 
-use crate::context::context_of;
+use crate::events::line_buffer;
 use crate::lines::put_cpus;
-use crate::selection::Selection;
+use crate::report::{ReportPlan, Shown};
 use crate::status::Status;
 use call_pairs::Call;
-use dat_header::Header;
-use filter_truth::FilterUse;
 use graph_report::{Calls, CallsFault, gather_calls, put_calls};
 use page_pool::Pool;
 use report_print::Context;
-use std::alloc::{AllocError, Global};
+use std::alloc::Global;
 use time_merge::set_lanes;
-use trace_args::ReportWords;
 use trace_base::{Layout, Part};
 use trace_outside::{Failed, File, Pending, Sink};
 
-/// Prints the first line of a report, and behind it the calls of the reached items of these parts. All memory is taken and all
-/// calls are gathered before the first byte.
+/// Prints the first line of a report, and behind it the calls of the reached items of the parts that are shown. All memory is
+/// taken and all calls are gathered before the first byte.
 pub(crate) fn print_calls<I: File, O: Sink>(
-    alloc: Global,
-    words: &ReportWords<'_>,
-    filters: Vec<FilterUse>,
-    header: &Header,
-    parts: &[Part],
+    plan: &ReportPlan<'_, '_>,
+    shown: &Shown<'_>,
     file: &mut I,
     out: &mut O,
 ) -> Status
-    requires filters { uses_in (report_view words.now).filters ≡ map use_of filters.items }
-    requires allowed { IsLayout header.now.layout }
-    requires few { length parts.now ≤ 1024 }
+    requires { IsShown plan.now.words.now.workers plan.now.header.now.layout shown.now.parts.now }
     ensures prints { Prints (Rose (I.faults file.old) (I.faults file.new))
-        (option_map (λ bytes. calls_report (parts_events (report_view words.now) header.now parts.now bytes)) (I.bytes file.old)) result
+        (option_map (λ bytes. calls_report (events_on shown.now.form.now.context shown.now.parts.now plan.now.header.now bytes)) (I.bytes file.old)) result
         (sink_seen O.written O.faults out.old) (sink_seen O.written O.faults out.new) }
-    ensures reads { I.reads file.new
-        ≤ raised (I.reads file.old) (sum_by (λ part. part.1.size) (chosen (set_or_all words.now.cpus) parts.now)) }
+    ensures reads { I.reads file.new ≤ raised (I.reads file.old) (sum_by (λ part. part.1.size) shown.now.parts.now) }
 {
-    let Ok(context) = context_of(alloc, words, filters, header) else {
-        return Status::NoMemory;
-    };
-    let Ok(chosen) = Selection::set_or_all(&words.cpus).chosen(alloc, parts) else {
-        return Status::NoMemory;
-    };
+    let alloc = plan.alloc;
+    let header = plan.header;
+    let context = &shown.form.context;
     let (Ok(mut buffer), Ok(mut pending)) = (line_buffer(alloc), Pending::new(alloc)) else {
         return Status::NoMemory;
     };
-    let calls = match gathered(alloc, &context, &header.layout, &chosen, file) {
+    let calls = match gathered(alloc, context, &header.layout, shown.parts, file) {
         Ok(calls) => calls,
         Err(CallsFault::Read) => return Status::ReadFault,
         Err(CallsFault::Memory) => return Status::NoMemory,
     };
     let list = calls.list.as_slice();
-    match put_whole(&context, header.cpus, list, &mut buffer, &mut pending, out) {
+    match put_whole(context, header.cpus, list, &mut buffer, &mut pending, out) {
         Ok(()) => status_at(calls.cut),
         Err(Failed) => Status::WriteFault,
     }
-}
-
-// Room for the longest line.
-fn line_buffer(alloc: Global) -> Result<Vec<u8>, AllocError>
-    ensures { IfOk result (λ buffer. length buffer.items ≡ 65537) }
-{
-    vec![in alloc; 0; 65_537]
 }
 
 // The calls of the reached items of these parts. The memory of the lanes is given back.

@@ -23,7 +23,7 @@ ghost use Rattle.filter_truth.specs.SelectionView.{use_of};
 
 use crate::dump::print_dump;
 use crate::job::{FileCommand, Job};
-use crate::report::print_report;
+use crate::report::{ReportPlan, print_report};
 use crate::restore::restore_files;
 use crate::selftest::print_self_test;
 use crate::several::print_files;
@@ -175,7 +175,12 @@ fn run_on_header<R: Threads + Sync, F: Folder, O: Sink, G: Gate>(
 {
     match command {
         FileCommand::Report(words) => {
-            print_report(rt, alloc, words, filters, &header, file, out, gate)
+            let plan = ReportPlan {
+                alloc,
+                words,
+                header: &header,
+            };
+            print_report(rt, &plan, filters, file, out, gate)
         }
         FileCommand::Dump(words) => print_dump(alloc, words, &header, out),
         FileCommand::Split(words) => cut_file(alloc, words, header, file, folder),

@@ -2,12 +2,9 @@
 
 ghost use Rattle.std.specs.Option.{option_map};
 ghost use Rattle.std.specs.Prelude.{◌≡◌, ◌≤◌, ◌*◌, [], length, sum_by, true, IfNone, IfOk, IfSome, OnOk, OnErr};
-ghost use Rattle.trace_base.specs.Layout.{IsLayout};
 ghost use Rattle.trace_outside.specs.Causes.{HasCause, Rose, raised};
 ghost use Rattle.trace_outside.specs.Writing.{Gained, GainedPrefix};
-ghost use Rattle.subpage.specs.Arrangement.{CpusRise};
 ghost use Rattle.wakeup_lat.specs.Section.{section};
-ghost use Rattle.trace_run.specs.Allowed.{IsWorkers};
 ghost use Rattle.trace_run.specs.Ending.{Prints};
 ghost use Rattle.trace_run.specs.Input.{ReadsDue, progress_at};
 ghost use Rattle.trace_run.specs.Meaning.{events_report, shown_report};
@@ -15,12 +12,13 @@ ghost use Rattle.trace_run.specs.Outside.{sink_seen};
 ghost use Rattle.trace_run.specs.Output as spec;
 ghost use Rattle.trace_run.specs.Output.{Shows, WritesFor};
 ghost use Rattle.trace_run.specs.Report.{cpus_line, events_on};
+ghost use Rattle.trace_run.specs.Reported.{IsShown};
 ghost use Rattle.trace_run.specs.Split as ends;
 
 use crate::ends::status_of;
-use crate::lines::{ItemLines, LINES_ROOM, put_cpus};
+use crate::lines::{LINES_ROOM, put_cpus};
+use crate::report::{ReportPlan, Shown};
 use crate::status::Status;
-use dat_header::Header;
 use least_tree::LeastTree;
 use page_pool::Pool;
 use report_print::Context;
@@ -28,7 +26,6 @@ use report_rounds::report_rounds;
 use std::alloc::{AllocError, Global};
 use std::thread::Threads;
 use time_merge::{End, set_lanes};
-use trace_base::Part;
 use trace_outside::{Failed, File, Gate, Pending, Sink};
 use wakeup_lat::{GatherFault, gather, put_wakeups};
 use wakeup_pairs::Wakeups;
@@ -37,30 +34,26 @@ use wakeup_pairs::Wakeups;
 /// is taken before; `None`: there was none, and nothing was done.
 pub(crate) fn print_lines<R: Threads + Sync, I: File, O: Sink, G: Gate>(
     rt: &R,
-    alloc: Global,
-    form: &ItemLines,
-    workers: u32,
-    header: &Header,
-    chosen: &[(u32, Part)],
+    plan: &ReportPlan<'_, '_>,
+    shown: &Shown<'_>,
     file: &mut I,
     out: &mut O,
     gate: &G,
 ) -> Option<End>
-    requires workers { IsWorkers workers }
-    requires allowed { IsLayout header.now.layout }
-    requires few { length chosen.now ≤ 1024 }
-    requires rise { CpusRise chosen.now }
-    ensures writes { IfSome result (λ end. WritesFor (λ bytes. events_report (events_on form.now.context chosen.now header.now bytes))
+    requires { IsShown plan.now.words.now.workers plan.now.header.now.layout shown.now.parts.now }
+    ensures writes { IfSome result (λ end. WritesFor (λ bytes. events_report (events_on shown.now.form.now.context shown.now.parts.now plan.now.header.now bytes))
         (I.bytes file.old) (ends.status_of end) (O.written out.old) (O.written out.new)) }
     ensures shows { IfSome result (λ end. Shows (Rose (I.faults file.old) (I.faults file.new)) (ends.status_of end)
         (sink_seen O.written O.faults out.old) (sink_seen O.written O.faults out.new)) }
     ensures untouched { IfNone result (sink_seen O.written O.faults out.new ≡ sink_seen O.written O.faults out.old) }
     ensures out_later { O.faults out.old ≤ O.faults out.new }
-    ensures reads { I.reads file.new ≤ raised (I.reads file.old) (sum_by (λ part. part.1.size) chosen.now) }
-    ensures due { IfSome (I.bytes file.old) (λ bytes. ReadsDue (events_on form.now.context chosen.now header.now bytes) 0
+    ensures reads { I.reads file.new ≤ raised (I.reads file.old) (sum_by (λ part. part.1.size) shown.now.parts.now) }
+    ensures due { IfSome (I.bytes file.old) (λ bytes. ReadsDue (events_on shown.now.form.now.context shown.now.parts.now plan.now.header.now bytes) 0
         (progress_at (O.written out.old) (I.reads file.old)) (progress_at (O.written out.new) (I.reads file.new))) }
 {
-    let count = chosen.len() as u32;
+    let alloc = plan.alloc;
+    let header = plan.header;
+    let count = shown.parts.len() as u32;
     let (Ok(mut pool), Ok(mut heads), Ok(mut pending)) = (
         Pool::new(alloc, count, header.layout.page, LINES_ROOM),
         LeastTree::new(alloc, count),
@@ -69,7 +62,7 @@ pub(crate) fn print_lines<R: Threads + Sync, I: File, O: Sink, G: Gate>(
         return None;
     };
     let lanes = pool.lanes();
-    set_lanes(lanes, chosen);
+    set_lanes(lanes, shown.parts);
     match print_cpus(header.cpus, &mut pending, out) {
         Ok(()) => {}
         Err(Failed) => return Some(End::Write),
@@ -77,11 +70,11 @@ pub(crate) fn print_lines<R: Threads + Sync, I: File, O: Sink, G: Gate>(
     let layout = &header.layout;
     Some(report_rounds(
         rt,
-        form,
+        shown.form,
         layout,
         file,
         lanes,
-        workers,
+        plan.words.workers,
         gate,
         &mut heads,
         &mut pending,
@@ -93,25 +86,21 @@ pub(crate) fn print_lines<R: Threads + Sync, I: File, O: Sink, G: Gate>(
 /// and all memory is taken before the first line.
 pub(crate) fn print_waits<R: Threads + Sync, I: File, O: Sink, G: Gate>(
     rt: &R,
-    alloc: Global,
-    form: &ItemLines,
-    workers: u32,
-    header: &Header,
-    chosen: &[(u32, Part)],
+    plan: &ReportPlan<'_, '_>,
+    shown: &Shown<'_>,
     file: &mut I,
     out: &mut O,
     gate: &G,
 ) -> Status
-    requires workers { IsWorkers workers }
-    requires allowed { IsLayout header.now.layout }
-    requires few { length chosen.now ≤ 1024 }
-    requires rise { CpusRise chosen.now }
+    requires { IsShown plan.now.words.now.workers plan.now.header.now.layout shown.now.parts.now }
     ensures prints { Prints (Rose (I.faults file.old) (I.faults file.new))
-        (option_map (λ bytes. shown_report true (events_on form.now.context chosen.now header.now bytes)) (I.bytes file.old)) result
+        (option_map (λ bytes. shown_report true (events_on shown.now.form.now.context shown.now.parts.now plan.now.header.now bytes)) (I.bytes file.old)) result
         (sink_seen O.written O.faults out.old) (sink_seen O.written O.faults out.new) }
-    ensures reads { I.reads file.new ≤ raised (I.reads file.old) (2 * sum_by (λ part. part.1.size) chosen.now) }
+    ensures reads { I.reads file.new ≤ raised (I.reads file.old) (2 * sum_by (λ part. part.1.size) shown.now.parts.now) }
 {
-    let wakeups = match gather(alloc, &form.context, &header.layout, file, chosen) {
+    let alloc = plan.alloc;
+    let context = &shown.form.context;
+    let wakeups = match gather(alloc, context, &plan.header.layout, file, shown.parts) {
         Ok(wakeups) => wakeups,
         Err(GatherFault::Read) => return Status::ReadFault,
         Err(GatherFault::Memory) => return Status::NoMemory,
@@ -119,13 +108,13 @@ pub(crate) fn print_waits<R: Threads + Sync, I: File, O: Sink, G: Gate>(
     let (Ok(mut buffer), Ok(mut pending)) = (line_buffer(alloc), Pending::new(alloc)) else {
         return Status::NoMemory;
     };
-    let Some(end) = print_lines(rt, alloc, form, workers, header, chosen, file, out, gate) else {
+    let Some(end) = print_lines(rt, plan, shown, file, out, gate) else {
         return Status::NoMemory;
     };
     if !is_whole(end) {
         return status_of(end);
     }
-    match print_section(&form.context, &wakeups, &mut buffer, &mut pending, out) {
+    match print_section(context, &wakeups, &mut buffer, &mut pending, out) {
         Ok(()) => status_of(end),
         Err(Failed) => Status::WriteFault,
     }

@@ -9,7 +9,7 @@ ghost use Rattle.trace_run.specs.Meaning.{self_test};
 ghost use Rattle.trace_run.specs.Outside.{sink_seen};
 ghost use Rattle.trace_run.specs.Selftest.{generated_report, plain_report, self_test_line};
 
-use crate::report::print_report;
+use crate::report::{ReportPlan, print_report};
 use crate::status::Status;
 use dat_header::read_header;
 use std::alloc::{AllocError, Global};
@@ -71,7 +71,12 @@ fn report_generated<R: Threads + Sync, G: Gate>(
         return Err(AllocError);
     };
     let filters = Vec::new(alloc);
-    match print_report(rt, alloc, &plain, filters, &header, &mut file, report, gate) {
+    let plan = ReportPlan {
+        alloc,
+        words: &plain,
+        header: &header,
+    };
+    match print_report(rt, &plan, filters, &mut file, report, gate) {
         Status::Done => Ok(()),
         // The file is sound, and its reads and the sink's writes fail only for want of memory.
         _ => Err(AllocError),

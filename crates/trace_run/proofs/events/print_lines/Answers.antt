@@ -1,4 +1,4 @@
-use Rattle.std.proofs.Common.{◌≤◌, ℕ, List, Option, IfSome, subst, sym, arith}
+use Rattle.std.proofs.Common.{◌≤◌, ℕ, List, IfSome, subst, sym, arith}
 use Rattle.std.specs.Prelude.{sum_by}
 use Rattle.trace_base.specs.declared.part.Part.{Part}
 use Rattle.trace_outside.specs.Causes.{Rose, raised}
@@ -21,26 +21,26 @@ report_rounds-requires-sync-L g c κs live = record { shared = lines_sync.shared
 
 pub report_rounds-requires-clause-start : goal.report_rounds-requires-clause-start
 report_rounds-requires-clause-start g c κs live =
-    unused_start c.args.header.now.layout _ _ (c.set_lanes.ensures.unused _ _ (new_unused _ _ _ _ c.lanes-lanes.ensures.value c.in-Ok-Ok-Ok.ensures.lanes))
+    unused_start c.args.plan.now.header.now.layout _ _ (c.set_lanes.ensures.unused _ _ (new_unused _ _ _ _ c.lanes-lanes.ensures.value c.in-Ok-Ok-Ok.ensures.lanes))
 
 pub report_rounds-requires-clause-room : goal.report_rounds-requires-clause-room
 report_rounds-requires-clause-room g c κs live =
-    unused_room c.args.form.now.context _ _ _ (c.set_lanes.ensures.unused _ _ (new_unused _ _ _ _ c.lanes-lanes.ensures.value c.in-Ok-Ok-Ok.ensures.lanes)) (omega arith)
+    unused_room c.args.shown.now.form.now.context _ _ _ (c.set_lanes.ensures.unused _ _ (new_unused _ _ _ _ c.lanes-lanes.ensures.value c.in-Ok-Ok-Ok.ensures.lanes)) (omega arith)
 
 pub report_rounds-requires-clause-shown : goal.report_rounds-requires-clause-shown
-report_rounds-requires-clause-shown g c κs live = λ cpu item none. no_hole c.args.form.now.context cpu item none
+report_rounds-requires-clause-shown g c κs live = λ cpu item none. no_hole c.args.shown.now.form.now.context cpu item none
 
 pub report_rounds-requires-clause-rise : goal.report_rounds-requires-clause-rise
 report_rounds-requires-clause-rise g c κs live =
     subst (λ (ps : List (ℕ × Part)). CpusRise ps) (sym c.set_lanes.ensures.parts) c.requires.rise
 
 pub returns-in-Err-clause-writes : goal.returns-in-Err-clause-writes
-returns-in-Err-clause-writes g c = parts_unbegun c.args.form.now.context c.args.chosen.now c.args.header.now _ _ _ c.in-Err.ensures.prefix
+returns-in-Err-clause-writes g c = parts_unbegun c.args.shown.now.form.now.context c.args.shown.now.parts.now c.args.plan.now.header.now _ _ _ c.in-Err.ensures.prefix
 
 pub returns-clause-writes : goal.returns-clause-writes
 returns-clause-writes g c =
-    parts_written c.args.form.now.context c.args.chosen.now c.args.header.now _ _ _ _ c.report_rounds.result c.in-Ok.ensures.gained
-    (subst (λ (ps : List (ℕ × Part)). IfSome (g.I.File.bytes c.args.file.now) (λ bytes. IsReport (item_line c.args.form.now.context) c.args.header.now.layout bytes ps
+    parts_written c.args.shown.now.form.now.context c.args.shown.now.parts.now c.args.plan.now.header.now _ _ _ _ c.report_rounds.result c.in-Ok.ensures.gained
+    (subst (λ (ps : List (ℕ × Part)). IfSome (g.I.File.bytes c.args.file.now) (λ bytes. IsReport (item_line c.args.shown.now.form.now.context) c.args.plan.now.header.now.layout bytes ps
     (g.O.Sink.written c.print_cpus.new.out) (g.O.Sink.written c.report_rounds.new.out) c.report_rounds.result)) c.set_lanes.ensures.parts c.report_rounds.ensures.report)
 
 pub returns-clause-shows : goal.returns-clause-shows
@@ -54,13 +54,13 @@ returns-clause-reads g c =
     subst (λ (ps : List (ℕ × Part)). g.I.File.reads c.report_rounds.new.file ≤ raised (g.I.File.reads c.args.file.now) (sum_by (λ part. part.1.size) ps)) c.set_lanes.ensures.parts c.report_rounds.ensures.reads
 
 pub returns-in-Err-clause-due : goal.returns-in-Err-clause-due
-returns-in-Err-clause-due g c = parts_unbegun_unread c.args.form.now.context c.args.chosen.now c.args.header.now _ _ _ _ c.in-Err.ensures.prefix
+returns-in-Err-clause-due g c = parts_unbegun_unread c.args.shown.now.form.now.context c.args.shown.now.parts.now c.args.plan.now.header.now _ _ _ _ c.in-Err.ensures.prefix
 
 pub returns-clause-due : goal.returns-clause-due
 returns-clause-due g c =
-    parts_read c.args.form.now.context c.args.chosen.now c.args.header.now _ _ _ _ _ _ c.in-Ok.ensures.gained
-    (subst (λ (ps : List (ℕ × Part)). IfSome (g.I.File.bytes c.args.file.now) (λ bytes. rounds.ReadsDue (item_line c.args.form.now.context) c.args.header.now.layout bytes ps
+    parts_read c.args.shown.now.form.now.context c.args.shown.now.parts.now c.args.plan.now.header.now _ _ _ _ _ _ c.in-Ok.ensures.gained
+    (subst (λ (ps : List (ℕ × Part)). IfSome (g.I.File.bytes c.args.file.now) (λ bytes. rounds.ReadsDue (item_line c.args.shown.now.form.now.context) c.args.plan.now.header.now.layout bytes ps
     (g.O.Sink.written c.print_cpus.new.out) (g.O.Sink.written c.report_rounds.new.out) (g.I.File.reads c.args.file.now) (g.I.File.reads c.report_rounds.new.file))) c.set_lanes.ensures.parts c.report_rounds.ensures.due)
 
 pub returns-in_default-clause-due : goal.returns-in_default-clause-due
-returns-in_default-clause-due g c = parts_unread c.args.form.now.context c.args.chosen.now c.args.header.now _ _ _
+returns-in_default-clause-due g c = parts_unread c.args.shown.now.form.now.context c.args.shown.now.parts.now c.args.plan.now.header.now _ _ _

@@ -1,24 +1,15 @@
 use Rattle.std.proofs.Common.{◌∙◌, sym}
 use Rattle.trace_args.specs.Command.{report_view}
-use Rattle.trace_run.proofs.Reports.{events_due, events_printed, events_share, list_due, list_printed}
+use Rattle.trace_run.specs.Outside.{sink_seen}
+use Rattle.trace_run.proofs.Reports.{events_reported, list_reported}
 use Rattle.trace_run.proofs.report.print_report.Goals as goal
 
-pub returns-in-None-clause-prints : goal.returns-in-None-clause-prints
-returns-in-None-clause-prints g c =
-    events_printed (report_view c.args.words.now) c.args.header.now _ _ c.print_events.result _ _ (sym c.listed_in.ensures ∙ c.in-None.is) c.print_events.ensures.prints
+pub returns-in-None : goal.returns-in-None
+returns-in-None g c =
+    events_reported (report_view c.args.plan.now.words.now) c.args.plan.now.header.now _ c.print_events.result _ _ _ (sym c.listed_in.ensures ∙ c.in-None.is) c.print_events.ensures
 
-pub returns-in-None-clause-reads : goal.returns-in-None-clause-reads
-returns-in-None-clause-reads g c =
-    events_share (report_view c.args.words.now) c.args.header.now (g.I.File.bytes c.args.file.now) _ _ _ (sym c.listed_in.ensures ∙ c.in-None.is) c.print_events.ensures.reads
-
-pub returns-in-None-clause-due : goal.returns-in-None-clause-due
-returns-in-None-clause-due g c =
-    events_due (report_view c.args.words.now) c.args.header.now _ _ (sym c.listed_in.ensures ∙ c.in-None.is) c.print_events.ensures.due
-
-pub returns-in-Some-clause-prints : goal.returns-in-Some-clause-prints
-returns-in-Some-clause-prints g c =
-    list_printed (report_view c.args.words.now) c.args.header.now _ c.in-Some.list _ c.print_list.result _ _ (sym c.listed_in.ensures ∙ c.in-Some.is) c.print_list.ensures
-
-pub returns-in-Some-clause-due : goal.returns-in-Some-clause-due
-returns-in-Some-clause-due g c =
-    list_due (report_view c.args.words.now) c.args.header.now _ c.in-Some.list _ (sym c.listed_in.ensures ∙ c.in-Some.is)
+pub returns-in-Some : goal.returns-in-Some
+returns-in-Some g c =
+    list_reported (report_view c.args.plan.now.words.now) c.args.plan.now.header.now _ c.print_list.result c.in-Some.list _ (g.I.File.faults c.args.file.now) (g.I.File.reads c.args.file.now)
+    (sink_seen g.O.Sink.written g.O.Sink.faults c.args.out.now) (sink_seen g.O.Sink.written g.O.Sink.faults c.print_list.new.out)
+    (sym c.listed_in.ensures ∙ c.in-Some.is) c.print_list.ensures

@@ -1,25 +1,28 @@
-use Rattle.trace_args.specs.Command.{report_view}
-use Rattle.trace_run.specs.Report.{parts_events}
-use Rattle.trace_run.proofs.CallsShown.{calls_due, calls_share, calls_shown, events_due, events_shown}
+use Rattle.std.proofs.Common.{refl}
+use Rattle.trace_run.specs.Meaning.{events_report}
+use Rattle.trace_run.specs.Report.{events_on}
+use Rattle.trace_run.specs.Reported.{at_work}
+use Rattle.trace_run.proofs.Reports.{calls_reported, lines_reported, waits_reported}
+use Rattle.trace_run.proofs.Waits.{lines_prints}
 use Rattle.trace_run.proofs.report.print_shown.Goals as goal
 
-pub returns-then-calls-clause-prints : goal.returns-then-calls-clause-prints
-returns-then-calls-clause-prints g c =
-    calls_shown (parts_events (report_view c.args.words.now) c.args.header.now c.args.parts.now) (g.I.File.bytes c.args.file.now) c.args.words.now.calls c.args.words.now.wakeups
-    _ c.print_calls.result _ _ c.if-calls.true c.print_calls.ensures.prints
+pub returns-then-calls : goal.returns-then-calls
+returns-then-calls g c =
+    calls_reported c.args.shown.now.form.now.context c.args.shown.now.parts.now c.args.plan.now.header.now _
+    (at_work g.I.File g.O.Sink c.args.file.now c.args.out.now) (at_work g.I.File g.O.Sink c.print_calls.new.file c.print_calls.new.out) _ _ c.print_calls.result
+    c.if-calls.true c.print_calls.ensures.prints c.print_calls.ensures.reads
 
-pub returns-then-calls-clause-reads : goal.returns-then-calls-clause-reads
-returns-then-calls-clause-reads g c = calls_share c.args.words.now.wakeups _ _ _ c.print_calls.ensures.reads
+pub returns-then-wakeups : goal.returns-then-wakeups
+returns-then-wakeups g c =
+    waits_reported c.args.shown.now.form.now.context c.args.shown.now.parts.now c.args.plan.now.header.now _
+    (at_work g.I.File g.O.Sink c.args.file.now c.args.out.now) (at_work g.I.File g.O.Sink c.print_waits.new.file c.print_waits.new.out) _ _ c.print_waits.result
+    c.if-calls.false c.if-wakeups.true c.print_waits.ensures.prints c.print_waits.ensures.reads
 
-pub returns-then-calls-clause-due : goal.returns-then-calls-clause-due
-returns-then-calls-clause-due g c =
-    calls_due (parts_events (report_view c.args.words.now) c.args.header.now c.args.parts.now) (g.I.File.bytes c.args.file.now) c.args.words.now.calls c.args.words.now.wakeups _ c.if-calls.true
-
-pub returns-else-calls-clause-prints : goal.returns-else-calls-clause-prints
-returns-else-calls-clause-prints g c =
-    events_shown (parts_events (report_view c.args.words.now) c.args.header.now c.args.parts.now) (g.I.File.bytes c.args.file.now) c.args.words.now.calls c.args.words.now.wakeups
-    _ c.print_parts.result _ _ c.if-calls.false c.print_parts.ensures.prints
-
-pub returns-else-calls-clause-due : goal.returns-else-calls-clause-due
-returns-else-calls-clause-due g c =
-    events_due (parts_events (report_view c.args.words.now) c.args.header.now c.args.parts.now) (g.I.File.bytes c.args.file.now) c.args.words.now.calls c.args.words.now.wakeups _ c.if-calls.false c.print_parts.ensures.due
+pub returns : goal.returns
+returns g c =
+    rw c.status_or_memory.ensures
+    (lines_reported c.args.shown.now.form.now.context c.args.shown.now.parts.now c.args.plan.now.header.now _
+    (at_work g.I.File g.O.Sink c.args.file.now c.args.out.now) (at_work g.I.File g.O.Sink c.print_lines.new.file c.print_lines.new.out) _ _ _
+    c.if-calls.false c.if-wakeups.false
+    (lines_prints _ (λ bytes. events_report (events_on c.args.shown.now.form.now.context c.args.shown.now.parts.now c.args.plan.now.header.now bytes)) _ c.print_lines.result _ _ (λ bytes. refl) c.print_lines.ensures.writes c.print_lines.ensures.shows c.print_lines.ensures.untouched)
+    c.print_lines.ensures.reads c.print_lines.ensures.due)

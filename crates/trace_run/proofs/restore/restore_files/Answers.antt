@@ -3,7 +3,7 @@ use Rattle.std.proofs.lemmas.List.{length-map}
 use Rattle.restore_tool.specs.Answers.{ClosesAll}
 use Rattle.trace_args.specs.Command.{RestoreData, restore_view}
 use Rattle.trace_run.specs.Job.{Restore}
-use Rattle.trace_run.specs.Outside.{SinkSeen, beside, folder_seen}
+use Rattle.trace_run.specs.Outside.{beside, folder_seen}
 use Rattle.trace_run.specs.Ran.{Ran}
 use Rattle.restore_tool.specs.Failing.{IfRead, IsUnread, place_of}
 use Rattle.trace_run.specs.Unread.{restore_inputs}

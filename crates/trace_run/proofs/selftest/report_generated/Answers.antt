@@ -1,3 +1,6 @@
+use Rattle.std.proofs.Common.{subst, sym}
+use Rattle.trace_args.specs.Command.{ReportData}
+use Rattle.trace_run.specs.Allowed.{IsWorkers}
 use Rattle.trace_run.proofs.GeneratedReport.{generated_printed}
 use Rattle.trace_run.proofs.Usages.{no_uses}
 use Rattle.trace_run.proofs.selftest.report_generated.Goals as goal
@@ -7,5 +10,9 @@ returns-in-Done g c =
     generated_printed c.args.words.now.seed c.args.words.now.events c.args.words.now.workers _ _ _ _ _ _ _ _ c.in_ok-file.ensures.bytes c.in_ok-file.ensures.generated c.read_header.ensures.keeps.bytes c.in-Ok.ensures.answer
     c.plain_words-plain.ensures c.in-Done.ensures.prints
 
-pub print_report-requires-clause-filters : goal.print_report-requires-clause-filters
-print_report-requires-clause-filters g c κs live = no_uses _ c.args.words.now.workers _ c.plain_words-plain.ensures c.new-filters.ensures.items
+pub print_report-requires-clause-asked : goal.print_report-requires-clause-asked
+print_report-requires-clause-asked g c κs live = record {
+  workers = subst (λ (words : ReportData). IsWorkers words.workers) (sym c.plain_words-plain.ensures) c.requires;
+  filters = no_uses _ c.args.words.now.workers _ c.plain_words-plain.ensures c.new-filters.ensures.items;
+  layout = c.in-Ok.ensures.layout;
+}

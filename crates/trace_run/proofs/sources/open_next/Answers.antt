@@ -1,4 +1,4 @@
-use Rattle.std.proofs.Common.{◌∷◌, map, ◌∙◌}
+use Rattle.std.proofs.Common.{map}
 use Rattle.trace_args.specs.Command.{report_view}
 use Rattle.trace_run.specs.Sources.{source_seen}
 use Rattle.trace_run.proofs.OpenInputs.{opened_next, unopened_shown}

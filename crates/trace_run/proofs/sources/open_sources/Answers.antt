@@ -1,4 +1,4 @@
-use Rattle.std.proofs.Common.{rules, arith, ◌≡◌, ◌<◌, ◌+◌, ◌∙◌, List, ℕ, [], drop, length, map, refl, subst, sym, take, ap}
+use Rattle.std.proofs.Common.{arith, ◌<◌, ◌+◌, ◌∙◌, List, ℕ, drop, length, map, refl, subst, take, ap}
 use Rattle.std.proofs.lemmas.List.{length-map, take_all}
 use Rattle.trace_args.specs.Command.{report_view}
 use Rattle.trace_run.specs.Inputs.{names_in}
