@@ -16,12 +16,12 @@ formats_begun table first rest none is put =
     ap (λ (t : List EventFormat). with_formats t rest) (put ∙ ap (λ (n : List EventFormat). with_formats n first) is) ∙ parts [] first rest
 
 -- those of one more system
-pub formats_more : (systems : List System) (table now whole : List EventFormat) (i : ℕ) (d : System) (name : List ℕ) (texts : List (List ℕ)) → i < length systems
-    → now ≡ with_formats table (formats_in name texts) → name ≡ (get_or systems i d).name → texts ≡ (get_or systems i d).formats
+pub formats_more : (systems : List System) (table now whole : List EventFormat) (i : ℕ) (d : System) → i < length systems
+    → now ≡ with_formats table (system_formats d) → d ≡ get_or systems i d
     → with_formats table (flat_map system_formats (drop i systems)) ≡ whole → with_formats now (flat_map system_formats (drop (i + 1) systems)) ≡ whole
-formats_more systems table now whole i d name texts inside put named are before =
+formats_more systems table now whole i d inside put is before =
     ap (λ (t : List EventFormat). with_formats t (flat_map system_formats (drop (i + 1) systems)))
-    (put ∙ ap (λ (n : List ℕ). with_formats table (formats_in n texts)) named ∙ ap (λ (ts : List (List ℕ)). with_formats table (formats_in (get_or systems i d).name ts)) are)
+    (put ∙ ap (λ (system : System). with_formats table (system_formats system)) is)
     ∙ parts table (system_formats (get_or systems i d)) (flat_map system_formats (drop (i + 1) systems))
     ∙ ap (with_formats table) (sym (at_drop_more (flat_map system_formats) systems i d inside)) ∙ before
 

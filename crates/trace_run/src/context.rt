@@ -2,13 +2,14 @@
 
 ghost use Rattle.std.specs.Prelude.{◌≡◌, map, IfOk};
 ghost use Rattle.trace_base.specs.Layout.{IsLayout};
+ghost use Rattle.format_parse.specs.Table.{formats_in, with_formats};
 ghost use Rattle.trace_args.specs.Command.{report_view};
 ghost use Rattle.trace_run.specs.Context as spec;
 ghost use Rattle.trace_run.specs.Context.{formats_of, show_of};
 ghost use Rattle.filter_truth.specs.SelectionView.{use_of};
 ghost use Rattle.trace_run.specs.Usage.{uses_in};
 
-use dat_header::Header;
+use dat_header::{Header, System};
 use filter_truth::FilterUse;
 use format_parse::FormatTable;
 use report_print::{Context, Show};
@@ -43,12 +44,21 @@ pub(crate) fn read_formats(alloc: Global, header: &Header) -> Result<FormatTable
     let mut table = empty.with_texts(alloc, b"ftrace", own)?;
     let systems = header.systems.as_slice();
     for system in systems {
-        let name = system.name.as_bytes();
-        let texts = system.formats.as_slice();
-        let longer = table.with_texts(alloc, name, texts)?;
+        let longer = with_system(alloc, table, system)?;
         table = longer;
     }
     Ok(table)
+}
+
+// The table with the formats of one more system.
+fn with_system(
+    alloc: Global,
+    table: FormatTable,
+    system: &System,
+) -> Result<FormatTable, AllocError>
+    ensures { IfOk result (λ longer. longer ≡ with_formats table (formats_in system.now.name system.now.formats)) }
+{
+    table.with_texts(alloc, system.name.as_bytes(), system.formats.as_slice())
 }
 
 /// The names that a file carries.

@@ -15,10 +15,7 @@ loop-system-init c =
 pub loop-system-preserved : goal.loop-system-preserved
 loop-system-preserved c =
     let inside : c.loop-system.system-index < length c.as_slice-systems.result.now = omega arith in
-    let named : c.as_bytes-name.result.now ≡ c.system-item.result.name = cc in
-    let texts : c.as_slice-texts.result.now ≡ c.system-item.result.formats = cc in
-    formats_more c.as_slice-systems.result.now _ _ _ c.loop-system.system-index c.system-item.result c.as_bytes-name.result.now c.as_slice-texts.result.now inside c.in_ok-longer.ensures
-    (named ∙ ap (λ (system : System). system.name) c.system-item.is) (texts ∙ ap (λ (system : System). system.formats) c.system-item.is) c.loop-system.invariant
+    formats_more c.as_slice-systems.result.now _ _ _ c.loop-system.system-index c.system-item.result inside c.in_ok-longer.ensures c.system-item.is c.loop-system.invariant
 
 pub returns : goal.returns
 returns c =
