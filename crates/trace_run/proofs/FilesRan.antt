@@ -1,5 +1,5 @@
 -- All that is said of a run that is a report of several files.
-use Rattle.std.proofs.Common.{inl, inr, ◌≡◌, ◌≢◌, ◌≤◌, ◌+◌, ℕ, List, Option, Some, None, Result, Ok, Err, IfSome, refl, ◌∙◌, arith}
+use Rattle.std.proofs.Common.{inl, inr, ◌≡◌, ◌≤◌, ℕ, List, Option, Some, None, Result, Ok, Err, IfSome, refl, ◌∙◌, arith}
 use Rattle.std.specs.Prelude.{sum_by, ◌⊎◌, IfOk}
 use Rattle.std.specs.Option.{option_map}
 use Rattle.trace_outside.specs.Causes.{Rose, raised}

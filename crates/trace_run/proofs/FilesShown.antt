@@ -1,5 +1,5 @@
 -- The report of files that are open, as what a run of it did.
-use Rattle.std.proofs.Common.{inl, inr, ◌≡◌, ◌≢◌, ◌≤◌, ◌<◌, ◌+◌, suc, ℕ, List, [], ◌∷◌, ◌++◌, length, get_or, map, Option, Some, None, Result, IfSome, refl, sym, ap, ◌∙◌, subst, arith}
+use Rattle.std.proofs.Common.{inl, inr, ◌≡◌, ◌≤◌, ◌<◌, ◌+◌, suc, ℕ, List, [], ◌∷◌, length, get_or, map, Option, Some, None, Result, IfSome, refl, sym, ap, ◌∙◌, subst, arith}
 use Rattle.std.specs.Prelude.{Bool, true, false, if◌then◌else◌, IsSome, sum_by, Contains, ◌⊎◌, IfOk, fold, filter_map, slice_get}
 use Rattle.std.specs.Option.{option_map}
 use Rattle.std.specs.List.{cons_option}
@@ -22,7 +22,7 @@ use Rattle.subpage.specs.Cut.{Cut, is_before}
 use Rattle.restore_tool.specs.Answers.{SomeFaulty}
 use Rattle.restore_tool.specs.Copying.{FileSeen}
 use Rattle.trace_args.specs.Command.{ReportData}
-use Rattle.trace_run.specs.declared.status.Status.TheVariants.{Done, Malformed, NoMemory}
+use Rattle.trace_run.specs.declared.status.Status.TheVariants.{Malformed, NoMemory}
 use Rattle.trace_run.specs.Ending.{Ends}
 use Rattle.trace_run.specs.Input.{input_share}
 use Rattle.trace_run.specs.Inputs.{NamedInput, WrongInput, inputs_in, names_in}

@@ -1,5 +1,5 @@
 -- No line has more than 65,537 bytes.
-use Rattle.std.proofs.Common.{ℕ, ◌≤◌, Bool, true, false, cond, List, [], length, arith}
+use Rattle.std.proofs.Common.{ℕ, ◌≤◌, Bool, true, false, cond, [], length, arith}
 use Rattle.subpage.specs.ItemData.{ItemData}
 use Rattle.report_print.specs.Ending.{closed}
 use Rattle.report_print.specs.Given.{Given}

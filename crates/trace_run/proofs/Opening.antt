@@ -1,5 +1,5 @@
 -- One input: what is known of it once it is open, and where it could not be shown.
-use Rattle.std.proofs.Common.{◌≡◌, ◌≤◌, ◌+◌, ℕ, List, [], Option, Some, None, Result, Ok, Err, IfSome, refl, sym, ap, ◌∙◌, subst, arith}
+use Rattle.std.proofs.Common.{◌≡◌, ◌≤◌, ℕ, List, [], Option, Some, None, Result, Ok, Err, IfSome, refl, sym, ap, ◌∙◌, subst, arith}
 use Rattle.std.specs.Prelude.{Bool, IsSome, unwrap_or}
 use Rattle.std.specs.FinMap.{get}
 use Rattle.std.specs.List.{All}
@@ -19,7 +19,6 @@ use Rattle.event_cursor.specs.Standing.{IsInOrder}
 use Rattle.line_holes.specs.Holes.{LineText}
 use Rattle.subpage.specs.ItemData.{ItemData}
 use Rattle.subpage.specs.Arrangement.{CpusRise}
-use Rattle.report_print.specs.Given.{Given}
 use Rattle.multi_report.specs.Order as several
 use Rattle.multi_report.specs.Sources.{IsFreshSource, IsUsable, given_of}
 use Rattle.restore_tool.specs.Copying.{FileSeen}

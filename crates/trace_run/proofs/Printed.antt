@@ -1,5 +1,5 @@
 -- What a command prints, as one of the four endings.
-use Rattle.std.proofs.Common.{◌≡◌, ℕ, length, take, List, [], ◌∷◌, Option, None, Some, IfSome, refl, sym, ap, ◌∙◌, subst, arith}
+use Rattle.std.proofs.Common.{◌≡◌, ℕ, length, List, [], ◌∷◌, Option, None, Some, IfSome, refl, sym, ap, ◌∙◌, subst, arith}
 use Rattle.std.proofs.lemmas.List.{append-nil}
 use Rattle.std.specs.Option.{option_map}
 use Rattle.trace_outside.specs.Causes.{Rose}

@@ -1,29 +1,26 @@
 -- All that is said of a run that is a restore.
-use Rattle.std.proofs.Common.{◌≡◌, ◌≢◌, ◌≤◌, ◌<◌, ◌+◌, ◌⊎◌, ◌∙◌, ℕ, suc, List, [], ◌∷◌, length, get_or, map, take, Option, None, Some, IfSome, Ok, inl, inr, refl, sym, ap, subst, slice_get, arith}
+use Rattle.std.proofs.Common.{◌≡◌, ◌≢◌, ◌≤◌, ◌<◌, ◌+◌, ◌∙◌, ℕ, suc, List, [], ◌∷◌, length, get_or, map, Option, None, Some, IfSome, Ok, inl, inr, refl, sym, ap, subst, arith}
 use Rattle.std.specs.List.{Contains}
 use Rattle.std.proofs.lemmas.List.{get_or-map, length-map}
-use Rattle.std.specs.FinMap.{insert}
 use Rattle.std.specs.Option.{IsSomeAnd, option_map}
 use Rattle.trace_outside.specs.Causes.{Rose, raised}
 use Rattle.trace_outside.specs.Names.{NamedFiles, SameBut}
 use Rattle.trace_outside.proofs.Gains.{gained_nothing}
-use Rattle.new_files.specs.Stored.{FilesStored, FirstFilesStored, IsNextOpen, IsUnmade, NewFile, Stored}
-use Rattle.dat_header.specs.Header.{IsRefusal}
+use Rattle.new_files.specs.Stored.{FilesStored, FirstFilesStored, IsUnmade, NewFile}
 use Rattle.dat_options.specs.declared.fault.OpenFault.{OpenFault}
 use Rattle.restore_tool.specs.declared.named.Answer.{Answer}
 use Rattle.restore_tool.specs.declared.named.Answer.TheVariants as code
-use Rattle.restore_tool.specs.declared.named.Source.{Source}
 use Rattle.restore_tool.specs.Answers.{Causes, ClosesAll, Created, KeepsFiles}
 use Rattle.restore_tool.specs.Meaning.{IsDone, IsToMake, Task, files_in, missing, refused, made, task_of}
 use Rattle.trace_args.specs.Command.{RestoreData}
 use Rattle.trace_run.specs.declared.status.Status.{Status}
 use Rattle.trace_run.specs.declared.status.Status.TheVariants.{Done, Refused, ReadFault, WriteFault, NoMemory}
-use Rattle.trace_run.specs.Ending.{Ended, Ends, Finished, IsCaused, LeavesAll, StoppedReading, StoppedWriting, Untouched}
+use Rattle.trace_run.specs.Ending.{Ended, Ends, Finished, IsCaused, LeavesAll}
 use Rattle.trace_run.specs.Input.{progress}
 use Rattle.trace_run.specs.Job.{Restore}
 use Rattle.trace_run.specs.Meaning.{Meaning, names_of, on_folder, only, restore_meaning, task_means}
 use Rattle.trace_run.specs.Messages.{IsNameOf}
-use Rattle.trace_run.specs.Outside.{FolderSeen, Outside, SinkSeen, beside}
+use Rattle.trace_run.specs.Outside.{FolderSeen, SinkSeen, beside}
 use Rattle.trace_run.specs.Ran.{MissesNothingElse, Ran}
 use Rattle.trace_run.specs.Restore.{status_of}
 use Rattle.trace_run.proofs.Endings.{ended_complete, not_usage, stored_none}

@@ -1,7 +1,7 @@
 -- The inputs of a report of several files, in the order of the words: all of them with their headers, or the first that
 -- cannot be shown.
 -- Source: trace-cmd-report(1), `-i`.
-use Rattle.std.specs.Prelude.{Option, None, Some, Result, Ok, Err, ◌≡◌, ℕ, Bool, List, [], ◌∷◌}
+use Rattle.std.specs.Prelude.{Option, None, Some, Result, Ok, Err, ℕ, Bool, List, [], ◌∷◌}
 use Rattle.std.specs.FinMap.{get}
 use Rattle.trace_base.specs.declared.part.Part.{Part}
 use Rattle.trace_outside.specs.Names.{NamedFiles}

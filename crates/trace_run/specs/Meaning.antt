@@ -3,7 +3,6 @@ use Rattle.std.specs.Prelude.{Option, Result, Ok, Err, None, Some, ℕ, Bool, tr
 use Rattle.std.specs.FinMap.{get}
 use Rattle.std.specs.Option.{option_map}
 use Rattle.trace_outside.specs.Names.{NamedFiles}
-use Rattle.trace_base.specs.declared.part.Part.{Part}
 use Rattle.dat_options.specs.declared.fault.OpenFault.{OpenFault}
 use Rattle.dat_header.specs.declared.header.Header.{Header}
 use Rattle.dat_header.specs.declared.header.Body.{Body}

@@ -13,7 +13,7 @@ use Rattle.trace_run.specs.declared.usage.UsageFault.TheVariants.{Word, Filter}
 use Rattle.trace_run.specs.Usage.{asked}
 use Rattle.trace_args.specs.KindText.{kind_text}
 use Rattle.trace_run.specs.Inputs.{names_in}
-use Rattle.trace_run.specs.Job.{Job, OnFile, OnFiles, SelfTest, Restore}
+use Rattle.trace_run.specs.Job.{Job, OnFiles, Restore}
 use Rattle.trace_run.specs.Meaning.{job_input}
 
 abbrev pub fault_text : OpenFault → List ℕ
