@@ -1,6 +1,6 @@
 -- Hexadecimal digits at the front of a text.
-use Rattle.std.proofs.Common.{◌≡◌, false, ℕ, ◌+◌, ◌*◌, ◌%◌, ◌^◌, ◌<◌, ◌≤◌, true, ltb, leb, List, [], ◌∷◌, Some, length, take, drop, get_or, refl, sym, ap, subst, ◌∙◌, arith}
-use Rattle.std.proofs.lemmas.Bool.{ltb-true, le-ltb, lt-ltb, le-leb}
+use Rattle.std.proofs.Common.{◌≡◌, false, ℕ, ◌+◌, ◌*◌, ◌%◌, ◌^◌, ◌<◌, ◌≤◌, Bool, true, not, ◌||◌, eqb, ltb, leb, codes, List, [], ◌∷◌, Some, length, take, drop, get_or, refl, sym, ap, subst, ◌∙◌, arith}
+use Rattle.std.proofs.lemmas.Bool.{ltb-true, le-ltb, lt-ltb, le-leb, leb-true, eqb-true, agree_below, agree_below_at}
 use Rattle.std.proofs.lemmas.List.{length-take, take-append-drop, take_all, at_drop_more, at_drop_all}
 use Rattle.std.proofs.lemmas.List.Folds.{list_all_more}
 use Rattle.std.proofs.lemmas.Int.Digits.{digits_value-lt, digits_value_more}
@@ -12,6 +12,7 @@ use Rattle.trace_base.proofs.FieldSteps.{both}
 use Rattle.trace_base.proofs.FieldRuns.{BeginsOutside, run_again, run_all}
 use Rattle.symbols.specs.LineForms.{is_hexadecimal}
 use Rattle.symbols.specs.Forms.{address_at}
+use Rattle.symbols.specs.declared.digits.TheConstants.{DIGITS}
 
 run_len : (text : List ℕ) (i : ℕ) → i ≤ length text → list_all is_hexadecimal (take i text) ≡ true → BeginsOutside is_hexadecimal (drop i text) → prefix_len is_hexadecimal text ≡ i
 run_len text i within all outside =
@@ -74,3 +75,48 @@ all_read text number i whole all value =
 -- the low bits of a number with a further digit
 pub step : (whole digit : ℕ) → ((whole % 2 ^ 64 * 16) % 2 ^ 64 + digit) % 2 ^ 64 ≡ (whole * 16 + digit) % 2 ^ 64
 step whole digit = omega arith
+
+-- The table is held against the digits' values at each byte, by computing.
+abbrev pub digit_row : ℕ → Bool
+digit_row byte = not (ltb (get_or DIGITS byte 0) 16) || eqb (get_or DIGITS byte 0) (digit_value byte)
+
+abbrev pub none_row : ℕ → Bool
+none_row byte = ltb (get_or DIGITS byte 0) 16 || leb 16 (digit_value byte)
+
+pub is_digit_of : (byte : ℕ) → byte < 256 → get_or DIGITS byte 0 < 16 → get_or DIGITS byte 0 ≡ digit_value byte
+is_digit_of byte less small =
+    let row : (not (ltb (get_or DIGITS byte 0) 16) || eqb (get_or DIGITS byte 0) (digit_value byte)) ≡ true = agree_below_at digit_row (λ _. true) 256 byte refl less in
+    let is : ltb (get_or DIGITS byte 0) 16 ≡ true = lt-ltb _ _ small in
+    let same : eqb (get_or DIGITS byte 0) (digit_value byte) ≡ true = rw is at row in
+    eqb-true (get_or DIGITS byte 0) (digit_value byte) same
+
+pub is_none_of : (byte : ℕ) → byte < 256 → 16 ≤ get_or DIGITS byte 0 → 16 ≤ digit_value byte
+is_none_of byte less great =
+    let row : (ltb (get_or DIGITS byte 0) 16 || leb 16 (digit_value byte)) ≡ true = agree_below_at none_row (λ _. true) 256 byte refl less in
+    let is : ltb (get_or DIGITS byte 0) 16 ≡ false = le-ltb _ _ great in
+    let most : leb 16 (digit_value byte) ≡ true = rw is at row in
+    leb-true 16 (digit_value byte) most
+
+-- eight digits that are all f
+eight_same : (a b c d e f g h : ℕ) → a ≡ 102 → b ≡ 102 → c ≡ 102 → d ≡ 102 → e ≡ 102 → f ≡ 102 → g ≡ 102 → h ≡ 102 → a ∷ b ∷ c ∷ d ∷ e ∷ f ∷ g ∷ h ∷ [] ≡ codes "ffffffff"
+eight_same a b c d e f g h p q r s t u v w = rw (p, q, r, s, t, u, v, w) refl
+
+eight : (text : List ℕ) → 8 ≤ length text → get_or text 0 0 ≡ 102 → get_or text 1 0 ≡ 102 → get_or text 2 0 ≡ 102 → get_or text 3 0 ≡ 102 → get_or text 4 0 ≡ 102 → get_or text 5 0 ≡ 102
+    → get_or text 6 0 ≡ 102 → get_or text 7 0 ≡ 102 → take 8 text ≡ codes "ffffffff"
+eight [] long p q r s t u v w = absurd (omega (arith, long))
+eight (a ∷ []) long p q r s t u v w = absurd (omega (arith, long))
+eight (a ∷ (b ∷ [])) long p q r s t u v w = absurd (omega (arith, long))
+eight (a ∷ (b ∷ (c ∷ []))) long p q r s t u v w = absurd (omega (arith, long))
+eight (a ∷ (b ∷ (c ∷ (d ∷ [])))) long p q r s t u v w = absurd (omega (arith, long))
+eight (a ∷ (b ∷ (c ∷ (d ∷ (e ∷ []))))) long p q r s t u v w = absurd (omega (arith, long))
+eight (a ∷ (b ∷ (c ∷ (d ∷ (e ∷ (f ∷ [])))))) long p q r s t u v w = absurd (omega (arith, long))
+eight (a ∷ (b ∷ (c ∷ (d ∷ (e ∷ (f ∷ (g ∷ []))))))) long p q r s t u v w = absurd (omega (arith, long))
+eight (a ∷ (b ∷ (c ∷ (d ∷ (e ∷ (f ∷ (g ∷ (h ∷ rest)))))))) long p q r s t u v w = eight_same a b c d e f g h p q r s t u v w
+
+pub highest_digits : (text : List ℕ) → 8 ≤ length text → get_or text 0 0 ≡ 102 → get_or text 1 0 ≡ 102 → get_or text 2 0 ≡ 102 → get_or text 3 0 ≡ 102 → get_or text 4 0 ≡ 102 → get_or text 5 0 ≡ 102
+    → get_or text 6 0 ≡ 102 → get_or text 7 0 ≡ 102 → list_all is_hexadecimal (take 8 text) ≡ true
+highest_digits text long p q r s t u v w = subst (λ (l : List ℕ). list_all is_hexadecimal l ≡ true) (sym (eight text long p q r s t u v w)) refl
+
+pub highest_number : (text : List ℕ) → 8 ≤ length text → get_or text 0 0 ≡ 102 → get_or text 1 0 ≡ 102 → get_or text 2 0 ≡ 102 → get_or text 3 0 ≡ 102 → get_or text 4 0 ≡ 102 → get_or text 5 0 ≡ 102
+    → get_or text 6 0 ≡ 102 → get_or text 7 0 ≡ 102 → 4294967295 ≡ digits_value 16 (take 8 text) % 2 ^ 64
+highest_number text long p q r s t u v w = subst (λ (l : List ℕ). 4294967295 ≡ digits_value 16 l % 2 ^ 64) (sym (eight text long p q r s t u v w)) refl

@@ -8,21 +8,30 @@ ghost use Rattle.std.specs.Str.Parse.{digits_value};
 ghost use Rattle.symbols.specs.LineForms.{is_hexadecimal};
 ghost use Rattle.symbols.specs.Forms.{address_at};
 
+// What each byte stands for as a hexadecimal digit, and 16 where it is none.
+static DIGITS: [u8; 256] = [
+    16, 16, 16, 16, 16, 16, 16, 16, 16, 16, 16, 16, 16, 16, 16, 16, 16, 16, 16, 16, 16, 16, 16, 16,
+    16, 16, 16, 16, 16, 16, 16, 16, 16, 16, 16, 16, 16, 16, 16, 16, 16, 16, 16, 16, 16, 16, 16, 16,
+    0, 1, 2, 3, 4, 5, 6, 7, 8, 9, 16, 16, 16, 16, 16, 16, 16, 10, 11, 12, 13, 14, 15, 16, 16, 16,
+    16, 16, 16, 16, 16, 16, 16, 16, 16, 16, 16, 16, 16, 16, 16, 16, 16, 16, 16, 16, 16, 16, 16, 10,
+    11, 12, 13, 14, 15, 16, 16, 16, 16, 16, 16, 16, 16, 16, 16, 16, 16, 16, 16, 16, 16, 16, 16, 16,
+    16, 16, 16, 16, 16, 16, 16, 16, 16, 16, 16, 16, 16, 16, 16, 16, 16, 16, 16, 16, 16, 16, 16, 16,
+    16, 16, 16, 16, 16, 16, 16, 16, 16, 16, 16, 16, 16, 16, 16, 16, 16, 16, 16, 16, 16, 16, 16, 16,
+    16, 16, 16, 16, 16, 16, 16, 16, 16, 16, 16, 16, 16, 16, 16, 16, 16, 16, 16, 16, 16, 16, 16, 16,
+    16, 16, 16, 16, 16, 16, 16, 16, 16, 16, 16, 16, 16, 16, 16, 16, 16, 16, 16, 16, 16, 16, 16, 16,
+    16, 16, 16, 16, 16, 16, 16, 16, 16, 16, 16, 16, 16, 16, 16, 16, 16, 16, 16, 16, 16, 16, 16, 16,
+    16, 16, 16, 16, 16, 16, 16, 16, 16, 16, 16, 16, 16, 16,
+];
+
 /// What a hexadecimal digit stands for.
-#[inline]
+#[inline(always)]
+#[tactic(auto, using(crate::proofs::Addresses::is_digit_of, crate::proofs::Addresses::is_none_of))]
 fn digit(byte: u8) -> Option<u8>
     ensures digit { IfSome result (λ digit. (digit ≡ digit_value byte) × (digit < 16)) }
     ensures none { IfNone result (16 ≤ digit_value byte) }
 {
-    if b'0' <= byte && byte <= b'9' {
-        Some(byte - b'0')
-    } else if b'a' <= byte && byte <= b'f' {
-        Some(byte - b'a' + 10)
-    } else if b'A' <= byte && byte <= b'F' {
-        Some(byte - b'A' + 10)
-    } else {
-        None
-    }
+    let digit = DIGITS[byte as usize];
+    if digit < 16 { Some(digit) } else { None }
 }
 
 /// The low 64 bits of the number that the first hexadecimal digits write, and how many digits there are.
@@ -41,19 +50,57 @@ fn first_digits(text: &[u8]) -> (u64, usize)
     (number, text.len())
 }
 
-/// The low 64 bits of the number that a text of hexadecimal digits alone writes.
+/// The number of the first eight digits where they are all `f`, as in most addresses of a kernel of 64 bits.
 #[inline(always)]
-fn all_digits(text: &[u8]) -> Option<u64>
+#[tactic(auto, using(crate::proofs::Addresses::highest_digits, crate::proofs::Addresses::highest_number))]
+fn highest_half(text: &[u8]) -> Option<u64>
+    ensures within { IfSome result (λ number. 8 ≤ length text.now) }
+    ensures digits { IfSome result (λ number. list_all is_hexadecimal (take 8 text.now) ≡ true) }
+    ensures number { IfSome result (λ number. number ≡ digits_value 16 (take 8 text.now) % 2 ^ 64) }
+{
+    if text.len() >= 8
+        && text[0] == b'f'
+        && text[1] == b'f'
+        && text[2] == b'f'
+        && text[3] == b'f'
+        && text[4] == b'f'
+        && text[5] == b'f'
+        && text[6] == b'f'
+        && text[7] == b'f'
+    {
+        Some(0xffff_ffff)
+    } else {
+        None
+    }
+}
+
+/// The low 64 bits of the number that a text of hexadecimal digits alone writes, where the number of its first few is known.
+#[inline(always)]
+fn further_digits(text: &[u8], known: usize, front: u64) -> Option<u64>
+    requires within { known ≤ length text.now }
+    requires digits { list_all is_hexadecimal (take known text.now) ≡ true }
+    requires number { front ≡ digits_value 16 (take known text.now) % 2 ^ 64 }
     ensures { IfSome result (λ number. (list_all is_hexadecimal text.now ≡ true) × (number ≡ digits_value 16 text.now % 2 ^ 64)) }
 {
-    let mut number: u64 = 0;
-    for byte in text {
-        let Some(digit) = digit(*byte) else {
+    let mut number = front;
+    for i in known..text.len() {
+        let Some(digit) = digit(text[i]) else {
             return None;
         };
         number = number.wrapping_mul(16).wrapping_add(digit as u64);
     }
     Some(number)
+}
+
+/// The low 64 bits of the number that a text of hexadecimal digits alone writes.
+#[inline(always)]
+fn all_digits(text: &[u8]) -> Option<u64>
+    ensures { IfSome result (λ number. (list_all is_hexadecimal text.now ≡ true) × (number ≡ digits_value 16 text.now % 2 ^ 64)) }
+{
+    match highest_half(text) {
+        Some(front) => further_digits(text, 8, front),
+        None => further_digits(text, 0, 0),
+    }
 }
 
 /// The address that a text begins with, where it has 16 digits and a space behind them, as a kernel of 64 bits writes it.

@@ -1,6 +1,6 @@
 // Names as they stand in a block of bytes.
 
-ghost use Rattle.std.specs.Prelude.{◌≡◌, ◌≤◌, ◌-◌, ◌++◌, [], ◌∷◌, OnOk, length, reverse, take, drop};
+ghost use Rattle.std.specs.Prelude.{◌≡◌, ◌≤◌, ◌-◌, ◌++◌, [], ◌∷◌, OnOk, IfOk, length, reverse, take, drop};
 ghost use Rattle.symbols.specs.NameMap.{SamePairs};
 ghost use Rattle.symbols.specs.Names.{names_view, AreInside, IsSortedPairs};
 
@@ -30,16 +30,14 @@ pub(crate) struct Names {
 }
 
 impl Names {
-    /// No names yet, over these bytes.
-    pub fn over(alloc: Global, block: Vec<u8>) -> Names
-        ensures inside { AreInside result }
-        ensures value { names_view result ≡ [] }
-        ensures block { result.block.items ≡ block.items }
+    /// No names yet, over these bytes, with room for so many.
+    pub fn over(alloc: Global, room: usize, block: Vec<u8>) -> Result<Names, AllocError>
+        ensures inside { IfOk result AreInside }
+        ensures value { IfOk result (λ names. names_view names ≡ []) }
+        ensures block { IfOk result (λ names. names.block.items ≡ block.items) }
     {
-        Names {
-            spots: Vec::new(alloc),
-            block,
-        }
+        let spots = Vec::with_capacity(alloc, room)?;
+        Ok(Names { spots, block })
     }
 
     /// Puts a name behind the others; its bytes are copied.

@@ -13,12 +13,16 @@ use crate::names::Names;
 use std::alloc::{AllocError, Global};
 use text_lines::first_line;
 
+/// Most lines have at least so many bytes: room for their names is taken at once.
+const LINE_BYTES: usize = 32;
+
 /// The names that the lines of a text give, in their order.
 pub(crate) fn names_in(alloc: Global, form: Form, text: &[u8]) -> Result<Names, AllocError>
     ensures inside { IfOk result AreInside }
     ensures value { IfOk result (λ names. names_view names ≡ pairs_in form (lines_of text.now)) }
 {
-    let mut names = Names::over(alloc, first_block(alloc, form, text)?);
+    let block = first_block(alloc, form, text)?;
+    let mut names = Names::over(alloc, text.len() / LINE_BYTES, block)?;
     let mut left = Some(text);
     while let Some(lines) = left {
         left = put_first(form, text, lines, &mut names)?;
