@@ -1,3 +1,4 @@
 pub mod Formats
 pub mod Ids
 pub mod Tables
+pub mod Fronts

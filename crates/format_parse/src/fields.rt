@@ -4,8 +4,9 @@ ghost use Rattle.std.specs.Prelude.{◌≡◌, IfOk};
 ghost use Rattle.trace_base.specs.FieldReading.{field_view};
 ghost use Rattle.format_parse.specs.FieldKinds.{field_of, kind_of, place_of, element_of, dynamic_kind, fixed_kind, is_text, has_star};
 
+use crate::words::after_front;
 use std::alloc::{AllocError, Global};
-use trace_base::{ByteText, Field, FieldKind, FieldLine, FieldPlace, after_word};
+use trace_base::{ByteText, Field, FieldKind, FieldLine, FieldPlace};
 
 /// The field that the line declares.
 #[tactic(auto, unfolding(crate::specs::FieldKinds::field_of))]
@@ -28,9 +29,9 @@ pub(crate) fn field_of(alloc: Global, line: &FieldLine<'_>) -> Result<Field, All
 fn place_of(kind_text: &[u8]) -> FieldPlace
     ensures { result ≡ place_of kind_text.now }
 {
-    if after_word(b"__data_loc ", kind_text).is_some() {
+    if after_front(b"__data_loc ", kind_text).is_some() {
         FieldPlace::DataLoc
-    } else if after_word(b"__rel_loc ", kind_text).is_some() {
+    } else if after_front(b"__rel_loc ", kind_text).is_some() {
         FieldPlace::RelLoc
     } else {
         FieldPlace::Fixed
@@ -41,10 +42,10 @@ fn place_of(kind_text: &[u8]) -> FieldPlace
 fn kind_of(line: &FieldLine<'_>) -> FieldKind
     ensures { result ≡ kind_of (field_view line.now) }
 {
-    if let Some(rest) = after_word(b"__data_loc ", line.kind_text) {
+    if let Some(rest) = after_front(b"__data_loc ", line.kind_text) {
         return dynamic_kind(rest);
     }
-    if let Some(rest) = after_word(b"__rel_loc ", line.kind_text) {
+    if let Some(rest) = after_front(b"__rel_loc ", line.kind_text) {
         return dynamic_kind(rest);
     }
     fixed_kind(line.kind_text, line.array, line.size)

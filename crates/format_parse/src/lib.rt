@@ -8,6 +8,7 @@ mod fields;
 mod format;
 mod parse;
 mod table;
+mod words;
 
 pub use format::EventFormat;
 pub use parse::parse_format;

@@ -10,9 +10,10 @@ ghost use Rattle.format_parse.specs.Format.{field_data, print_text, format_of, n
 
 use crate::fields::field_of;
 use crate::format::EventFormat;
+use crate::words::after_front;
 use std::alloc::{AllocError, Global};
 use text_lines::{first_after, first_line};
-use trace_base::{ByteText, Field, ListOf, after_word, decimal, is_identifier, read_field_line};
+use trace_base::{ByteText, Field, ListOf, decimal, is_identifier, read_field_line};
 
 /// The format of an event of this system that the text spells; none exactly where its name or its id is unread.
 ///
@@ -83,7 +84,7 @@ fn read_fields(alloc: Global, text: &[u8]) -> Result<(Vec<Field>, &[u8]), AllocE
     let mut fields = Vec::new(alloc);
     let mut left = Some(text);
     while let Some(lines) = left {
-        if let Some(print) = after_word(b"print fmt:", lines) {
+        if let Some(print) = after_front(b"print fmt:", lines) {
             return Ok((fields, print));
         }
         let (line, behind) = first_line(lines);
