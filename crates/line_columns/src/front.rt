@@ -198,13 +198,16 @@ impl Front {
     }
 
     /// Puts the processor in front.
-    #[tactic(auto, using(crate::proofs::ZeroFills::three_between, crate::proofs::ZeroFills::more_between))]
+    #[tactic(auto, using(crate::proofs::ZeroFills::two_between, crate::proofs::ZeroFills::three_between, crate::proofs::ZeroFills::more_between))]
     pub fn processor(&mut self, cpu: u32)
         requires { length self.old ≤ BEFORE_PLACE }
         ensures longer { length self.new ≤ length self.old + LONGEST_PLACE }
         ensures value { self.new ≡ (codes " [" ++ (zeros 3 (decimal cpu) ++ codes "] ")) ++ self.old }
     {
-        if cpu < 1000 {
+        if cpu < 100 {
+            // Most machines have fewer processors.
+            self.text(&two_digits(cpu));
+        } else if cpu < 1000 {
             self.text(&three_digits(cpu));
         } else {
             self.text(b"] ");
@@ -282,6 +285,15 @@ fn last_digit(n: u32) -> u8
     ensures { result ≡ 48 + n % 10 }
 {
     b'0' + (n % 10) as u8
+}
+
+/// A number of at most two digits, with a zero, the brackets and spaces round it.
+fn two_digits(n: u32) -> [u8; 7]
+    requires { n < 100 }
+    ensures { result ≡ 32 ∷ 91 ∷ 48 ∷ (48 + n / 10) ∷ (48 + n % 10) ∷ 93 ∷ 32 ∷ [] }
+{
+    let tens = b'0' + (n / 10) as u8;
+    [b' ', b'[', b'0', tens, last_digit(n), b']', b' ']
 }
 
 /// A number of at most three digits, with the brackets and spaces round it.
