@@ -10,8 +10,8 @@ use Rattle.trace_base.specs.Kept.{Kept, put}
 use Rattle.trace_base.proofs.TailJoins.{put_put, put_nothing}
 use Rattle.trace_base.specs.TailView.{kept}
 use Rattle.trace_base.specs.declared.tail.Tail.{Tail}
-use Rattle.fmt_eval.specs.Flags.{Row, flag_pieces, is_flag, flags_from}
-use Rattle.fmt_eval.specs.Pieces.{join_behind, hexadecimal}
+use Rattle.fmt_eval.specs.Flags.{Row, flag_pieces, is_flag, flags_from, flags_text}
+use Rattle.fmt_eval.specs.Pieces.{join, join_behind, hexadecimal}
 use Rattle.fmt_eval.proofs.PieceLemmas.{behind, piece_first}
 
 pub flag_put : (k now : Kept) (between text : List ℕ) (value left : ℕ) (some : Bool) (mask : ℕ) (rows : List Row) → is_flag value left some mask ≡ true → now ≡ put k (if some then between ++ text else text)
@@ -68,3 +68,18 @@ nothing_left t r between value left some rows none is before =
     ∙ ap (λ (n : ℕ). put (kept t) (join_behind true between (flag_pieces value n true rows))) (sym none)
     ∙ ap (λ (b : Bool). put (kept t) (join_behind b between (flag_pieces value left b rows))) (sym is)
     ∙ before
+
+-- ---- one flag alone
+
+pub one_passed : (value mask : ℕ) (text : List ℕ) (rows : List Row) → is_flag value value false mask ≡ false → flag_pieces value value false ((mask, text) ∷ rows) ≡ flag_pieces value value false rows
+one_passed value mask text rows is = ap (λ (b : Bool). if b then text ∷ flag_pieces value (bit_and value (bit_not w64 mask)) true rows else flag_pieces value value false rows) is
+
+pub one_alone : (between : List ℕ) (value mask : ℕ) (text : List ℕ) (rows all : List Row) → is_flag value value false mask ≡ true → bit_and value (bit_not w64 mask) ≡ 0 → flag_pieces value value false ((mask, text) ∷ rows) ≡ flag_pieces value value false all
+    → text ≡ flags_text between value all
+unfolding flags_text
+one_alone between value mask text rows all is none same =
+    sym (ap (join between) (sym same
+    ∙ ap (λ (b : Bool). if b then text ∷ flag_pieces value (bit_and value (bit_not w64 mask)) true rows else flag_pieces value value false rows) is
+    ∙ ap (λ (n : ℕ). text ∷ flag_pieces value n true rows) none
+    ∙ ap (λ (ps : List (List ℕ)). text ∷ ps) (no_pieces value rows))
+    ∙ append-nil text)

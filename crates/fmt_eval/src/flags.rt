@@ -1,15 +1,18 @@
 //! The texts of flags and symbols.
 
-ghost use Rattle.std.specs.Prelude.{◌≡◌, [], false};
+ghost use Rattle.std.specs.Prelude.{◌≡◌, ℕ, List, [], false, IfSome};
 ghost use Rattle.trace_base.specs.Kept.{put};
 ghost use Rattle.trace_base.specs.TailView.{kept, lent};
-ghost use Rattle.fmt_eval.specs.Values.{given};
+ghost use Rattle.fmt_expr.specs.TreeView.{tree_of};
+ghost use Rattle.fmt_eval.specs.Numbers.{pattern};
+ghost use Rattle.fmt_eval.specs.Values.{given, number_of};
 ghost use Rattle.fmt_eval.specs.Flags.{is_flag, flags_text, flags_from, symbol_text};
 ghost use Rattle.fmt_eval.specs.Entered.{rows_in, row_of};
 
 use crate::eval::part_number;
 use crate::pieces::{put_between, put_hexadecimal, put_piece};
-use fmt_expr::Entry;
+use crate::short::number_now;
+use fmt_expr::{Entry, Expr};
 use trace_base::{Rec, Tail};
 
 /// The number of an entry, as 64 bits.
@@ -70,6 +73,23 @@ pub fn put_flags(value: u64, between: &[u8], entries: &[Entry], rec: &Rec<'_>, i
     ensures value { kept into.new ≡ put (kept into.old) (flags_text between.now value (rows_in (given rec.now) entries.now)) }
 {
     put_all_flags(value, between, entries, rec, into);
+}
+
+/// The text of the flags of a number, where it is that of one entry alone, as of most: it lies in memory.
+pub fn only_flag<'e>(value: &Expr, entries: &'e [Entry], rec: &Rec<'_>) -> Option<&'e [u8]>
+    ensures { IfSome result (λ text. (between : List ℕ) → text.now ≡ flags_text between (pattern (number_of (given rec.now) (tree_of value.now)).exact) (rows_in (given rec.now) entries.now)) }
+{
+    let bits = number_now(value, rec).pattern();
+    for entry in entries {
+        let mask = mask_of(entry, rec);
+        if is_flag(bits, bits, false, mask) {
+            if bits & !mask == 0 {
+                return Some(entry.text.as_bytes());
+            }
+            return None;
+        }
+    }
+    None
 }
 
 /// Puts the text of the first entry that has the value, or else the value.

@@ -22,6 +22,7 @@ mod text;
 pub use cast::cast_bits;
 pub use eval::number;
 pub use field_bytes::bytes;
+pub use flags::only_flag;
 pub use laws::{one_reduced, reduced_is, values_by_kind};
 pub use num::Num;
 pub use pieces::{put_hexadecimal, put_octets, put_piece};
