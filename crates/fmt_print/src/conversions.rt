@@ -17,7 +17,7 @@ use crate::plan::PrintPlan;
 use crate::printer::{address, alone, cut, front, integer, laid};
 use crate::step::Content;
 use fmt_directives::{Base, Length, PointerForm};
-use fmt_eval::{bytes, cast_bits, put_text};
+use fmt_eval::{bytes, cast_bits, only_flag, put_text};
 use fmt_expr::{Expr, Kind};
 use fmt_forms::{Form, written};
 use symbols::Symbols;
@@ -63,6 +63,7 @@ fn text_at_once<'a>(expr: &'a Expr, rec: &Rec<'a>) -> Option<&'a [u8]>
     match expr {
         Expr::Literal { text } => Some(text.as_bytes()),
         Expr::FieldText { field } => Some(bytes_of(rec, field)),
+        Expr::Flags { value, entries, .. } => only_flag(value, entries.as_slice(), rec),
         _ => None,
     }
 }

@@ -1,6 +1,6 @@
 //! Texts that are shown behind what was gathered before.
 
-ghost use Rattle.std.specs.Prelude.{◌≡◌, ◌≤◌, ◌-◌, ◌++◌, length, take, int_lt, pos, unsigned_abs};
+ghost use Rattle.std.specs.Prelude.{◌≡◌, ◌<◌, ◌≤◌, ◌-◌, ◌++◌, length, take, int_lt, pos, unsigned_abs};
 ghost use Rattle.std.specs.Fmt.{decimal};
 ghost use Rattle.std.specs.Option.{option_map};
 ghost use Rattle.fmt_eval.specs.NumView.{num_view};
@@ -49,9 +49,45 @@ fn sign(negative: bool, into: &mut Tail<'_>)
     }
 }
 
-/// Shows a decimal number.
+/// Writes the digits of a number below 1,000, and gives their count.
+#[inline(always)]
+#[tactic(auto, using(crate::proofs::TextLemmas::one_within, crate::proofs::TextLemmas::two_within, crate::proofs::TextLemmas::three_within, crate::proofs::TextLemmas::one_digit, crate::proofs::TextLemmas::two_digits, crate::proofs::TextLemmas::three_digits))]
+fn write_few(n: u64, room: &mut [u8]) -> usize
+    requires few { n < 1000 }
+    requires room { 3 ≤ length room.old }
+    ensures count { result ≤ 3 }
+    ensures digits { take result room.new ≡ decimal n }
+    ensures same_length { length room.new ≡ length room.old }
+{
+    if n < 10 {
+        write_digits(n, room, 1);
+        1
+    } else if n < 100 {
+        write_digits(n, room, 2);
+        2
+    } else {
+        write_digits(n, room, 3);
+        3
+    }
+}
+
+/// Shows a decimal number. Most have few digits, each of which has its place.
 #[inline(always)]
 fn digits(n: u64, into: &mut Tail<'_>)
+    ensures { Shows into.old into.new (decimal n) }
+{
+    if n < 1000 {
+        let mut room = [0; 16];
+        let len = write_few(n, &mut room);
+        front(&room, len, into);
+    } else {
+        many_digits(n, into);
+    }
+}
+
+/// Shows a decimal number of any length.
+#[inline(always)]
+fn many_digits(n: u64, into: &mut Tail<'_>)
     ensures { Shows into.old into.new (decimal n) }
 {
     let mut room = [0; 36];

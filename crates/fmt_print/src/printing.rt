@@ -30,17 +30,17 @@ impl<'a> Printer<'a> {
     #[inline(never)]
     fn formed<'b>(
         &self,
-        what: Content,
-        spec: Spec,
+        what: &Content,
+        spec: &Spec,
         args: &'b [Argument],
         into: &mut Tail<'_>,
     ) -> &'b [Argument]
-        ensures shown { Shows into.old into.new (by (content_text (source self.now) what spec.length) (taken (given self.now.rec.now) spec (trees args.now))).0 }
-        ensures rest { trees result.now ≡ (by (content_text (source self.now) what spec.length) (taken (given self.now.rec.now) spec (trees args.now))).1 }
+        ensures shown { Shows into.old into.new (by (content_text (source self.now) what.now spec.now.length) (taken (given self.now.rec.now) spec.now (trees args.now))).0 }
+        ensures rest { trees result.now ≡ (by (content_text (source self.now) what.now spec.now.length) (taken (given self.now.rec.now) spec.now (trees args.now))).1 }
     {
-        match taken(self.rec, spec, args) {
+        match taken(self.rec, *spec, args) {
             Some(of) => {
-                self.content(what, spec.length, &of.form, of.argument, into);
+                self.content(*what, spec.length, &of.form, of.argument, into);
                 of.rest
             }
             None => &[],
@@ -92,21 +92,21 @@ impl<'a> Printer<'a> {
         ensures shown { Shows into.old into.new (printed_some (source self.now) (shown_directive shown.now) (trees args.now)).0 }
         ensures rest { trees result.now ≡ (printed_some (source self.now) (shown_directive shown.now) (trees args.now)).1 }
     {
-        match *shown {
+        match shown {
             Shown::Nothing => args,
             Shown::Again(literal) => {
-                self.literal(Some(literal), into);
+                self.literal(Some(*literal), into);
                 args
             }
             Shown::Signed(length) => {
-                self.plain(Content::Number(Base::Signed), length, args, into)
+                self.plain(Content::Number(Base::Signed), *length, args, into)
             }
             Shown::Unsigned(length) => {
-                self.plain(Content::Number(Base::Unsigned), length, args, into)
+                self.plain(Content::Number(Base::Unsigned), *length, args, into)
             }
             Shown::Text => self.plain(Content::Text, Length::Usual, args, into),
             Shown::Pointer(form) => {
-                self.plain(Content::Pointer(form), Length::Usual, args, into)
+                self.plain(Content::Pointer(*form), Length::Usual, args, into)
             }
             Shown::Formed(what, spec) => self.formed(what, spec, args, into),
         }

@@ -4,7 +4,7 @@ use Rattle.std.proofs.lemmas.Fmt.{length-decimal-le}
 use Rattle.std.proofs.lemmas.List.{take_all}
 use Rattle.fmt_print.specs.Gathered.{gathered, joined}
 use Rattle.fmt_print.proofs.TextLemmas.{first_digits}
-use Rattle.fmt_print.proofs.printer.digits.Goals as goal
+use Rattle.fmt_print.proofs.printer.many_digits.Goals as goal
 
 pub write_digits-start-requires : goal.write_digits-start-requires
 write_digits-start-requires c = (length-decimal-le 20 c.args.n (omega arith) (omega (arith, c.ranges.n.fits)) c.ranges.n.fits, omega arith)

@@ -1,0 +1,8 @@
+use Rattle.std.proofs.Common.{arith}
+use Rattle.fmt_print.proofs.TextLemmas.{three_digits}
+use Rattle.fmt_print.proofs.printer.write_few.Goals as goal
+
+pub returns-else-n-lt100-clause-digits : goal.returns-else-n-lt100-clause-digits
+returns-else-n-lt100-clause-digits c =
+    let written = c.write_digits-else-n-lt100 in
+    three_digits c.args.n written.result written.new.buf _ (omega (arith, c.if-n-lt100.false)) c.requires.few written.ensures.written written.ensures.start
