@@ -20,7 +20,6 @@ use Rattle.trace_gen.specs.GeneratedHeader.{header_but_parts}
 use Rattle.trace_run.specs.declared.status.Status.TheVariants.{Done}
 use Rattle.trace_run.specs.Context.{context_of}
 use Rattle.trace_run.specs.Ending.{Ends, Prints}
-use Rattle.trace_run.specs.Lists.{listed_in}
 use Rattle.trace_run.specs.Meaning.{Meaning, report_by}
 use Rattle.trace_run.specs.Outside.{FolderSeen, SinkSeen, beside}
 use Rattle.trace_run.specs.Report.{report_pieces}
@@ -80,30 +79,30 @@ ok_is x y read first second = cc
 
 -- a report without options of a generated file, on any number of threads
 generated_reported : (seed events workers : ℕ) (bytes : List ℕ) (header : Header) (words : ReportData) (old now : Option (List ℕ)) → IsGenerated seed events bytes
-    → header_of bytes ≡ Ok header → words ≡ record plain_report { workers = workers } → Written old now (report_by (listed_in words.list) words header bytes) → Gained old now (generated_report seed events)
+    → header_of bytes ≡ Ok header → words ≡ record plain_report { workers = workers } → Written old now (report_by words.list words header bytes) → Gained old now (generated_report seed events)
 unfolding generated_report generated_items
 generated_reported seed events workers bytes header words old now is found plain writes =
     reported header_but_parts is.parts bytes (lists_of seed events) old now is.lists is.sound
     (subst (λ (h : Header). Written old now (report_by None plain_report h bytes)) (ok_is header (written header_but_parts is.parts) (header_of bytes) found is.header_is)
-    (subst (λ (w : ReportData). Written old now (report_by (listed_in w.list) w header bytes)) plain writes))
+    (subst (λ (w : ReportData). Written old now (report_by w.list w header bytes)) plain writes))
 
 told_reported : (seed events workers : ℕ) (told same : Option (List ℕ)) (bytes : List ℕ) (header : Header) (words : ReportData) (old now : Option (List ℕ)) → told ≡ Some bytes
     → IfSome told (IsGenerated seed events) → same ≡ told → ReadsHeader told (Ok header) → words ≡ record plain_report { workers = workers }
-    → IfSome (option_map (report_by (listed_in words.list) words header) same) (Written old now) → Gained old now (generated_report seed events)
+    → IfSome (option_map (report_by words.list words header) same) (Written old now) → Gained old now (generated_report seed events)
 told_reported seed events workers told same bytes header words old now is generated kept found plain writes =
     generated_reported seed events workers bytes header words old now
     (subst (λ (t : Option (List ℕ)). IfSome t (IsGenerated seed events)) is generated)
     (subst (λ (t : Option (List ℕ)). ReadsHeader t (Ok header)) is found)
     plain
-    (subst (λ (t : Option (List ℕ)). IfSome (option_map (report_by (listed_in words.list) words header) t) (Written old now)) (kept ∙ is) writes)
+    (subst (λ (t : Option (List ℕ)). IfSome (option_map (report_by words.list words header) t) (Written old now)) (kept ∙ is) writes)
 
 -- the same, of a file that tells its bytes, by how its report ended beside an empty folder
 pub generated_printed : (seed events workers : ℕ) (told same : Option (List ℕ)) (bytes : List ℕ) (header : Header) (words : ReportData) (unread : Type 0) (before now : SinkSeen) → told ≡ Some bytes
     → IfSome told (IsGenerated seed events) → same ≡ told → ReadsHeader told (Ok header) → words ≡ record plain_report { workers = workers }
-    → Prints unread (option_map (report_by (listed_in words.list) words header) same) Done before now → Gained before.written now.written (generated_report seed events)
+    → Prints unread (option_map (report_by words.list words header) same) Done before now → Gained before.written now.written (generated_report seed events)
 generated_printed seed events workers told same bytes header words unread before now is generated kept found plain prints =
     let none : FolderSeen = record { files = None; counts = no_counts } in
     let ended = prints none in
     told_reported seed events workers told same bytes header words before.written now.written is generated kept found plain
     (known_so (λ m. Ends m Done (beside none before) (beside none now)) (Written before.written now.written)
-    (option_map (report_by (listed_in words.list) words header) same) (λ m ends. ends.output) ended.ends)
+    (option_map (report_by words.list words header) same) (λ m ends. ends.output) ended.ends)

@@ -9,13 +9,12 @@ use Rattle.dat_header.specs.declared.header.Body.{Body}
 use Rattle.dat_header.specs.declared.header.Body.TheVariants.{Fly, Latency}
 use Rattle.report_print.specs.Given.{Given}
 use Rattle.trace_args.specs.Command.{ReportData}
-use Rattle.trace_run.specs.declared.list.Listed.{Listed}
+use Rattle.word_values.specs.declared.listing.Listing.{Listing}
 use Rattle.trace_run.specs.declared.status.Status.{Status}
 use Rattle.trace_run.specs.declared.status.Status.TheVariants.{NoMemory}
 use Rattle.trace_run.specs.Ending.{Prints}
 use Rattle.trace_run.specs.Context.{context_of}
 use Rattle.trace_run.specs.Input.{ReadsDue, parts_share, report_share}
-use Rattle.trace_run.specs.Lists.{listed_in}
 use Rattle.trace_run.specs.Meaning.{calls_report, events_report, latency_report, list_report, report_by, shown_report}
 use Rattle.trace_run.specs.Outside.{SinkSeen}
 use Rattle.trace_run.specs.Report.{events_on, listed_events}
@@ -33,24 +32,24 @@ not_begun task told seen = record {
 
 module _ (words : ReportData) (header : Header) (told : Option (List ℕ)) (status : Status) where
   -- what a report does where its words ask for this list
-  abbrev by_list : Option Listed → ℕ → Task
+  abbrev by_list : Option Listing → ℕ → Task
   by_list list size = record {
     means = report_by list words header;
     share = report_share list words.wakeups words.cpus header.end size header.body;
     events = listed_events list words header;
   }
 
-  pub events_reported : (size : ℕ) (before now : AtWork) → listed_in words.list ≡ None
+  pub events_reported : (size : ℕ) (before now : AtWork) → words.list ≡ None
       → Reported (body_task words header header.body size) told status before now → Reported (file_task words header size) told status before now
   events_reported size before now none did =
-      subst (λ (list : Option Listed). Reported (by_list list size) told status before now) (sym none)
+      subst (λ (list : Option Listing). Reported (by_list list size) told status before now) (sym none)
       (record { prints = did.prints; reads = did.reads; due = did.due })
 
-  pub list_reported : (list : Listed) (size faults reads : ℕ) (before now : SinkSeen) → listed_in words.list ≡ Some list
+  pub list_reported : (list : Listing) (size faults reads : ℕ) (before now : SinkSeen) → words.list ≡ Some list
       → Prints ⊥ (Some (list_report header list)) status before now
       → Reported (file_task words header size) told status (record { faults = faults; reads = reads; out = before }) (record { faults = faults; reads = reads; out = now })
   list_reported list size faults reads before now is prints =
-      subst (λ (asked : Option Listed). Reported (by_list asked size) told status (record { faults = faults; reads = reads; out = before }) (record { faults = faults; reads = reads; out = now })) (sym is)
+      subst (λ (asked : Option Listing). Reported (by_list asked size) told status (record { faults = faults; reads = reads; out = before }) (record { faults = faults; reads = reads; out = now })) (sym is)
       (record {
         prints = prints_always _ (list_report header list) told status before now prints;
         reads = omega arith;

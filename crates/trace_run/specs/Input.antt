@@ -14,13 +14,12 @@ use Rattle.dat_header.specs.declared.header.Body.TheVariants.{Latency, Fly}
 use Rattle.dat_header.specs.Header.{header_of}
 use Rattle.report_rounds.specs.Due.{due_bytes}
 use Rattle.trace_args.specs.Command.{ReportData}
-use Rattle.trace_run.specs.declared.list.Listed.{Listed}
+use Rattle.word_values.specs.declared.listing.Listing.{Listing}
 use Rattle.trace_run.specs.declared.status.Status.{Status}
 use Rattle.trace_run.specs.declared.status.Status.TheVariants.{Done, Malformed, WriteFault}
 use Rattle.trace_run.specs.declared.usage.UsageFault.{UsageFault}
 use Rattle.trace_run.specs.Job.{FileCommand, Report, Dump, Split, Job, OnFile, OnFiles, SelfTest, Restore}
 use Rattle.trace_run.specs.Inputs.{NamedInput, inputs_in, names_in, shown_parts}
-use Rattle.trace_run.specs.Lists.{listed_in}
 use Rattle.trace_run.specs.Meaning.{input_of}
 use Rattle.trace_run.specs.Outside.{Outside}
 use Rattle.trace_run.specs.Report.{Events, cpus_line, item_line, listed_events}
@@ -69,7 +68,7 @@ body_share wakeups cpus end size Latency = size - end
 body_share wakeups cpus end size (Fly parts) = parts_share wakeups (chosen (set_or_all cpus) parts)
 
 -- a list needs none
-abbrev pub report_share : Option Listed → Bool → Option (List Bool) → ℕ → ℕ → Body → ℕ
+abbrev pub report_share : Option Listing → Bool → Option (List Bool) → ℕ → ℕ → Body → ℕ
 report_share None wakeups cpus end size body = body_share wakeups cpus end size body
 report_share (Some list) wakeups cpus end size body = 0
 
@@ -80,7 +79,7 @@ split_share one body = 3 * sum_by (λ part. part.1.size) (taken_of one body)
 
 -- how many bytes behind the header a command needs, of a file of this size
 abbrev pub share : FileCommand → Header → ℕ → ℕ
-share (Report words) header size = report_share (listed_in words.list) words.wakeups words.cpus header.end size header.body
+share (Report words) header size = report_share words.list words.wakeups words.cpus header.end size header.body
 share (Dump words) header size = 0
 share (Split words) header size = split_share words.cpu header.body
 
@@ -114,7 +113,7 @@ ReadsDue events first before now =
 
 -- the events that a command on a file reports, if any
 abbrev pub events_of : FileCommand → Header → List ℕ → Option Events
-events_of (Report words) header bytes = listed_events (listed_in words.list) words header bytes
+events_of (Report words) header bytes = listed_events words.list words header bytes
 events_of (Dump words) header bytes = None
 events_of (Split words) header bytes = None
 

@@ -14,9 +14,9 @@ use Rattle.trace_run.specs.declared.status.Status.TheVariants.{Done, Usage, Refu
 use Rattle.trace_run.specs.declared.usage.UsageFault.{UsageFault}
 use Rattle.trace_run.specs.Usage.{asked}
 use Rattle.trace_args.specs.Command.{ReportData, DumpData, SelfData, SplitData, RestoreData}
-use Rattle.trace_run.specs.declared.list.Listed.{Listed}
+use Rattle.word_values.specs.declared.listing.Listing.{Listing}
 use Rattle.trace_run.specs.Context.{formats_of, symbols_of}
-use Rattle.trace_run.specs.Lists.{list_text, listed_in}
+use Rattle.trace_run.specs.Lists.{list_text}
 use Rattle.trace_run.specs.Job.{FileCommand, Report, Dump, Split, Job, OnFile, OnFiles, SelfTest, Restore}
 use Rattle.graph_report.specs.Gathered.{reached_calls}
 use Rattle.trace_run.specs.Report.{Events, call_pieces, cpus_line, parts_events, report_pieces, waits_section}
@@ -91,11 +91,11 @@ body_report words header Latency bytes = latency_report header.cpus header.end b
 body_report words header (Fly parts) bytes = report_as words.calls words.wakeups (parts_events words header parts bytes)
 
 -- a list, in place of the events
-abbrev pub list_report : Header → Listed → Meaning
+abbrev pub list_report : Header → Listing → Meaning
 list_report header list = prints (list_text (formats_of header) (symbols_of header) list ∷ []) Done
 
 -- the report that the words ask for
-abbrev pub report_by : Option Listed → ReportData → Header → List ℕ → Meaning
+abbrev pub report_by : Option Listing → ReportData → Header → List ℕ → Meaning
 report_by None words header bytes = body_report words header header.body bytes
 report_by (Some list) words header bytes = list_report header list
 
@@ -152,7 +152,7 @@ target_of (Split words) = on_folder
 
 -- a command, of a file's bytes with the header that they begin with
 abbrev pub header_means : FileCommand → Header → List ℕ → Meaning
-header_means (Report words) header bytes = report_by (listed_in words.list) words header bytes
+header_means (Report words) header bytes = report_by words.list words header bytes
 header_means (Dump words) header bytes = dump_of words header
 header_means (Split words) header bytes = split_by words header bytes
 

@@ -19,7 +19,7 @@ use Rattle.wakeup_pairs.specs.Gathered.{gathered}
 use Rattle.wakeup_lat.specs.Roles.{all_seen}
 use Rattle.wakeup_lat.specs.Section.{section}
 use Rattle.trace_run.specs.Context.{context_of}
-use Rattle.trace_run.specs.declared.list.Listed.{Listed}
+use Rattle.word_values.specs.declared.listing.Listing.{Listing}
 use Rattle.trace_run.specs.Selection.{chosen, set_or_all}
 use Rattle.trace_run.specs.Text.{text}
 
@@ -83,6 +83,6 @@ body_events words header Latency bytes = None
 body_events words header (Fly parts) bytes = unless_calls words.calls words.wakeups (parts_events words header parts bytes)
 
 -- nor has a list
-abbrev pub listed_events : Option Listed → ReportData → Header → List ℕ → Option Events
+abbrev pub listed_events : Option Listing → ReportData → Header → List ℕ → Option Events
 listed_events None words header bytes = body_events words header header.body bytes
 listed_events (Some list) words header bytes = None

@@ -5,7 +5,7 @@ ghost use Rattle.trace_outside.specs.Causes.{HasCause};
 ghost use Rattle.trace_outside.specs.Pending.{PutsText, on_way};
 ghost use Rattle.trace_outside.specs.Writing.{Gained, GainedPrefix};
 ghost use Rattle.trace_run.specs.Ending.{Prints};
-ghost use Rattle.trace_run.specs.Lists.{list_text, listed_in};
+ghost use Rattle.trace_run.specs.Lists.{list_text};
 ghost use Rattle.trace_run.specs.Meaning.{list_report};
 ghost use Rattle.trace_run.specs.Outside.{sink_seen};
 
@@ -19,32 +19,10 @@ use symbols::Symbols;
 use trace_outside::{Failed, Pending, Sink};
 use word_values::Listing;
 
-/// A list of a header's formats or names.
-#[derive(Clone, Copy)]
-pub(crate) enum Listed {
-    Names,
-    Formats,
-    Symbols,
-    Printk,
-}
-
-/// The list that words ask for, if they ask for one.
-pub(crate) fn listed_in(list: Option<Listing>) -> Option<Listed>
-    ensures { result ≡ listed_in list }
-{
-    match list {
-        None => None,
-        Some(Listing::Names) => Some(Listed::Names),
-        Some(Listing::Formats) => Some(Listed::Formats),
-        Some(Listing::Symbols) => Some(Listed::Symbols),
-        Some(Listing::Printk) => Some(Listed::Printk),
-    }
-}
-
 /// Prints a list of a header's. No file is read.
 pub(crate) fn print_list<O: Sink>(
     alloc: Global,
-    list: Listed,
+    list: Listing,
     header: &Header,
     out: &mut O,
 ) -> Status
@@ -67,7 +45,7 @@ pub(crate) fn print_list<O: Sink>(
 
 // Puts a list and writes all of it.
 fn put_whole<O: Sink>(
-    list: Listed,
+    list: Listing,
     formats: &FormatTable,
     symbols: &Symbols,
     pending: &mut Pending,
@@ -83,7 +61,7 @@ fn put_whole<O: Sink>(
 }
 
 fn put_list<O: Sink>(
-    list: Listed,
+    list: Listing,
     formats: &FormatTable,
     symbols: &Symbols,
     pending: &mut Pending,
@@ -92,9 +70,9 @@ fn put_list<O: Sink>(
     ensures { PutsText (list_text formats.now symbols.now list) (on_way O.written O.name O.faults out.old pending.old) (on_way O.written O.name O.faults out.new pending.new) result }
 {
     match list {
-        Listed::Names => put_event_names(pending, out, formats),
-        Listed::Formats => put_event_formats(pending, out, formats),
-        Listed::Symbols => put_symbols(pending, out, symbols),
-        Listed::Printk => put_printk_formats(pending, out, symbols),
+        Listing::Names => put_event_names(pending, out, formats),
+        Listing::Formats => put_event_formats(pending, out, formats),
+        Listing::Symbols => put_symbols(pending, out, symbols),
+        Listing::Printk => put_printk_formats(pending, out, symbols),
     }
 }

@@ -14,7 +14,7 @@ use crate::context::context_of;
 use crate::ends::status_of;
 use crate::events::{print_cpus, print_lines, print_waits};
 use crate::lines::ItemLines;
-use crate::list::{listed_in, print_list};
+use crate::list::print_list;
 use crate::selection::Selection;
 use crate::status::Status;
 use dat_header::{Body, Header};
@@ -58,7 +58,7 @@ pub(crate) fn print_report<R: Threads + Sync, I: File, O: Sink, G: Gate>(
     ensures { Reported (file_task (report_view plan.now.words.now) plan.now.header.now (I.size file.old)) (I.bytes file.old) result
         (at_work I.File O.Sink file.old out.old) (at_work I.File O.Sink file.new out.new) }
 {
-    match listed_in(plan.words.list) {
+    match plan.words.list {
         None => print_events(rt, plan, filters, file, out, gate),
         Some(list) => print_list(plan.alloc, list, plan.header, out),
     }

@@ -1,4 +1,3 @@
-use Rattle.std.proofs.Common.{◌∙◌, sym}
 use Rattle.trace_args.specs.Command.{report_view}
 use Rattle.trace_run.specs.Outside.{sink_seen}
 use Rattle.trace_run.proofs.Reports.{events_reported, list_reported}
@@ -6,10 +5,10 @@ use Rattle.trace_run.proofs.report.print_report.Goals as goal
 
 pub returns-in-None : goal.returns-in-None
 returns-in-None g c =
-    events_reported (report_view c.args.plan.now.words.now) c.args.plan.now.header.now _ c.print_events.result _ _ _ (sym c.listed_in.ensures ∙ c.in-None.is) c.print_events.ensures
+    events_reported (report_view c.args.plan.now.words.now) c.args.plan.now.header.now _ c.print_events.result _ _ _ c.in-None.is c.print_events.ensures
 
 pub returns-in-Some : goal.returns-in-Some
 returns-in-Some g c =
     list_reported (report_view c.args.plan.now.words.now) c.args.plan.now.header.now _ c.print_list.result c.in-Some.list _ (g.I.File.faults c.args.file.now) (g.I.File.reads c.args.file.now)
     (sink_seen g.O.Sink.written g.O.Sink.faults c.args.out.now) (sink_seen g.O.Sink.written g.O.Sink.faults c.print_list.new.out)
-    (sym c.listed_in.ensures ∙ c.in-Some.is) c.print_list.ensures
+    c.in-Some.is c.print_list.ensures
