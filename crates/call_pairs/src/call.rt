@@ -37,6 +37,7 @@ pub enum Call {
 }
 
 /// What is told of an entry.
+#[inline(always)]
 pub(crate) fn entry_call(entry: &GraphEvent, leaf: Option<u64>) -> Call
     ensures { result ≡ entry_call entry.now leaf }
 {
@@ -51,6 +52,7 @@ pub(crate) fn entry_call(entry: &GraphEvent, leaf: Option<u64>) -> Call
 }
 
 /// What is told of an exit.
+#[inline(always)]
 pub(crate) fn exit_call(exit: &GraphEvent, span: Option<u64>, leaf: bool) -> Call
     ensures { result ≡ exit_call exit.now span leaf }
 {

@@ -30,6 +30,7 @@ pub enum Seen {
 }
 
 /// The nanoseconds from one time to another: 0 where the second is the lower one, and 2^64 - 1 where they are more than that.
+#[inline(always)]
 pub fn clipped(from: i128, to: i128) -> u64
     ensures { result ≡ clip (to -ℤ from) }
 {

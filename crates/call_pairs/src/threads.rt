@@ -48,6 +48,7 @@ impl Threads {
     }
 
     /// An entry begins, the latest loss behind which is this place.
+    #[inline(always)]
     pub fn enter(
         &mut self,
         since: usize,
@@ -65,6 +66,7 @@ impl Threads {
     }
 
     /// An exit comes.
+    #[inline(always)]
     pub fn leave(
         &mut self,
         since: usize,
@@ -84,6 +86,7 @@ impl Threads {
     }
 
     // Where a thread's stack stands. A thread that is new gets one.
+    #[inline(always)]
     fn place(&mut self, thread: Thread) -> Result<usize, AllocError>
         requires places { ArePlaces self.old }
         ensures places { OnOk result (ArePlaces self.new) }
@@ -99,6 +102,7 @@ impl Threads {
     }
 
     // Whether the stack at a place is the thread's.
+    #[inline(always)]
     fn is_at(&self, place: usize, thread: Thread) -> bool
         ensures { result ≡ true → thread_at self.now.stacks.items place ≡ Some thread }
     {
@@ -108,6 +112,7 @@ impl Threads {
         }
     }
 
+    #[inline(never)]
     fn any_place(&mut self, thread: Thread) -> Result<usize, AllocError>
         requires places { ArePlaces self.old }
         ensures places { OnOk result (ArePlaces self.new) }

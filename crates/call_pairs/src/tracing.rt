@@ -45,6 +45,7 @@ fn is_last(open: &Open, last: Option<usize>) -> bool
 }
 
 // Puts the call of an exit, and what it tells of its leaf's entry.
+#[inline(always)]
 fn end_call(
     calls: &mut Vec<Call>,
     exit: &GraphEvent,
@@ -80,6 +81,7 @@ impl Tracing {
     }
 
     /// One more is seen. After `AllocError` the tracing is not to be used again.
+    #[inline(always)]
     pub fn see(&mut self, seen: &Seen) -> Result<(), AllocError>
         requires known { WasSeen self.old }
         ensures known { OnOk result (WasSeen self.new) }
@@ -92,6 +94,7 @@ impl Tracing {
         }
     }
 
+    #[inline(always)]
     fn enter(&mut self, entry: &GraphEvent) -> Result<(), AllocError>
         requires known { WasSeen self.old }
         ensures known { OnOk result (WasSeen self.new) }
@@ -102,6 +105,7 @@ impl Tracing {
         Ok(())
     }
 
+    #[inline(always)]
     fn leave(&mut self, exit: &GraphEvent, ran: Option<u64>) -> Result<(), AllocError>
         requires known { WasSeen self.old }
         ensures known { OnOk result (WasSeen self.new) }

@@ -62,6 +62,7 @@ impl Place {
     }
 
     /// The number modulo 2^64.
+    #[inline(always)]
     pub(crate) fn low_64(self, order: Order, payload: &[u8]) -> u64
         ensures { result ≡ cast_unsigned w128 (number_at order payload.now self) % 2 ^ 64 }
     {
@@ -69,6 +70,7 @@ impl Place {
     }
 
     /// The number modulo 2^32.
+    #[inline(always)]
     pub(crate) fn low_32(self, order: Order, payload: &[u8]) -> u32
         ensures { result ≡ cast_unsigned w128 (number_at order payload.now self) % 2 ^ 32 }
     {

@@ -154,6 +154,7 @@ pub(crate) fn roles_of(alloc: Global, formats: &FormatTable) -> Result<Vec<Role>
 
 /// The role of the format with this number. The roles are those of the formats.
 #[tactic(auto, using(crate::proofs::RolePlaces::role_none, crate::proofs::RolePlaces::role_past))]
+#[inline(always)]
 pub(crate) fn role_at(formats: &FormatTable, places: &FormatPlaces, roles: &[Role], id: u32) -> Role
     requires { roles.now ≡ map role_of formats.now }
     ensures { result ≡ role_by (format_at id formats.now) }
