@@ -8,5 +8,9 @@ use Rattle.fmt_expr.specs.Source.{Source, mark_at}
 abbrev pub if_level : ℕ → BinaryOp → Option BinaryOp
 if_level level op = if level_of op == level then Some op else None
 
+-- the operator that is the token at a place
+abbrev pub operator_at : Source → ℕ → Option BinaryOp
+operator_at s i = option_and_then op_of (mark_at s i)
+
 unfoldable pub op_at : Source → ℕ → ℕ → Option BinaryOp
-op_at s level i = option_and_then (if_level level) (option_and_then op_of (mark_at s i))
+op_at s level i = option_and_then (if_level level) (operator_at s i)

@@ -75,6 +75,11 @@ unfoldable pub level_at : Source → Read → ℕ → Read
 level_at s read zero i = read i
 level_at s read (suc level) i = level_at s read level i >>= row_behind s (level_at s read level) (suc level)
 
+-- the rows of a level and of those below it, behind what stands in front of all operators
+unfoldable pub rows_behind : Source → Read → ℕ → Found → Option Found
+rows_behind s read zero x = Some x
+rows_behind s read (suc level) x = rows_behind s read level x >>= row_behind s (level_at s read level) (suc level)
+
 -- a conditional, from its question mark on; its parts are one level deeper
 unfoldable pub choice_at : Source → ℕ → Read → Found → Option Found
 choice_at s left inner test = do

@@ -1,7 +1,7 @@
 //! The productions, each from a place to the tree that stands there.
 
 ghost use Rattle.std.specs.Prelude.{◌≡◌, ◌+◌, ◌<◌, ◌≤◌, ◌-◌, length, IfOk};
-ghost use Rattle.fmt_expr.specs.Parsing.{row_behind, level_at, choice_at, bracket_at, prefixed_at, field_at, number_before, element_at, cast_at, open_at, call_by, unary_at, cond_at, inner_of, inner_unary, inner_cond};
+ghost use Rattle.fmt_expr.specs.Parsing.{row_behind, rows_behind, level_at, choice_at, bracket_at, prefixed_at, field_at, number_before, element_at, cast_at, open_at, call_by, unary_at, cond_at, inner_of, inner_unary, inner_cond};
 ghost use Rattle.fmt_expr.specs.Steps.{Gives};
 ghost use Rattle.fmt_expr.specs.SourceView.{source};
 ghost use Rattle.fmt_expr.specs.TakenView.{taken, type_seen};
@@ -105,20 +105,37 @@ impl<'a> Reader<'a> {
         })
     }
 
-    /// The operators of a level and of those that bind tighter.
+    /// The operators of a level and of those that bind tighter. Most operands have no operator behind them.
     #[cycle(parser)]
-    #[tactic(auto, using(crate::proofs::RowTurns::level_none, crate::proofs::RowTurns::level_row, crate::proofs::RowTurns::level_zero))]
+    #[tactic(auto, using(crate::proofs::RowTurns::level_stops, crate::proofs::RowTurns::level_alone, crate::proofs::RowTurns::level_rows))]
     fn level(&self, level: u32, left: u32, at: usize) -> Result<Taken, Stop>
         requires inside { at ≤ length self.now.tokens.now }
         requires top { level ≤ 10 }
         ensures value { Gives taken result (level_at (source self.now) (unary_at (source self.now) left) level at) }
         ensures bound { IfOk result (λ t. (at < t.next) × (t.next ≤ length self.now.tokens.now) × (t.nest ≤ left)) }
     {
-        if level == 0 {
-            return self.unary(left, at);
+        let first = self.unary(left, at)?;
+        match self.operator(first.next) {
+            None => Ok(first),
+            Some(_) => self.rows(level, left, first),
         }
-        let first = self.level(level - 1, left, at)?;
-        self.row(level, left, first)
+    }
+
+    /// The operators of a level and of those that bind tighter, behind the first operand of all.
+    #[cycle(parser)]
+    #[tactic(auto, using(crate::proofs::RowTurns::rows_none, crate::proofs::RowTurns::rows_row, crate::proofs::RowTurns::rows_zero))]
+    fn rows(&self, level: u32, left: u32, first: Taken) -> Result<Taken, Stop>
+        requires inside { first.next ≤ length self.now.tokens.now }
+        requires top { level ≤ 10 }
+        requires nest { first.nest ≤ left }
+        ensures value { Gives taken result (rows_behind (source self.now) (unary_at (source self.now) left) level (taken first)) }
+        ensures bound { IfOk result (λ t. (first.next ≤ t.next) × (t.next ≤ length self.now.tokens.now) × (t.nest ≤ left)) }
+    {
+        if level == 0 {
+            return Ok(first);
+        }
+        let tighter = self.rows(level - 1, left, first)?;
+        self.row(level, left, tighter)
     }
 
     /// The operators of a level behind their first operand.

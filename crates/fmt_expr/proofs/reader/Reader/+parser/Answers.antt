@@ -9,12 +9,17 @@ use Rattle.fmt_expr.specs.TakenView.{taken, taken_entry}
 use Rattle.fmt_expr.specs.Source.{is_mark}
 use Rattle.fmt_expr.proofs.EntryTurns.{after, both, first_only, tail_over, tail_fails, tail_goes_on, added, passed_entries}
 use Rattle.fmt_expr.proofs.Layers.{cond_plain}
-use Rattle.fmt_expr.proofs.RowTurns.{append, ends, begins, row_over, row_fails, row_mixed, row_goes_on, pushed, alone, in_chain, no_chain, passed}
+use Rattle.fmt_expr.proofs.RowTurns.{append, level_alone, ends, begins, row_over, row_fails, row_mixed, row_goes_on, pushed, alone, in_chain, no_chain, passed}
 use Rattle.fmt_expr.proofs.reader.Reader.+parser.Goals as goal
 
 pub cond-returns-else-is_mark-clause-value : goal.cond-returns-else-is_mark-clause-value
 cond-returns-else-is_mark-clause-value t c =
     cond_plain (source c.args.self.now) c.args.left c.args.at (taken c.in_ok-test.test) c.in_ok-test.ensures.value (sym c.if-is_mark.ensures.value)
+
+pub level-returns-in-None-clause-value : goal.level-returns-in-None-clause-value
+level-returns-in-None-clause-value t c =
+    let s = source c.args.self.now in
+    level_alone s (unary_at s c.args.left) c.args.level c.args.at (taken c.in_ok-first.first) c.in_ok-first.ensures.value c.in-None.ensures
 
 pub row-loop-op-init : goal.row-loop-op-init
 row-loop-op-init t c =

@@ -9,73 +9,76 @@ use Rattle.fmt_expr.proofs.reader.Reader.+parser.Given as goal
 
 -- First the levels of nesting that are left, then those of operators.
 abbrev pub decreases-cond : goal.decreases-cond
-decreases-cond l = 32 * l.left + 29
+decreases-cond l = 48 * l.left + 39
 
 abbrev pub decreases-choice : goal.decreases-choice
-decreases-choice l = 32 * l.left + 1
+decreases-choice l = 48 * l.left + 1
 
 abbrev pub decreases-inner_cond : goal.decreases-inner_cond
-decreases-inner_cond l = 32 * l.left
+decreases-inner_cond l = 48 * l.left
 
 abbrev pub decreases-inner_unary : goal.decreases-inner_unary
-decreases-inner_unary l = 32 * l.left
+decreases-inner_unary l = 48 * l.left
 
 abbrev pub decreases-number_before : goal.decreases-number_before
-decreases-number_before l = 32 * l.left + 1
+decreases-number_before l = 48 * l.left + 1
 
 abbrev pub decreases-level : goal.decreases-level
-decreases-level l = 32 * l.left + 2 * l.level + 8
+decreases-level l = 48 * l.left + 3 * l.level + 8
 
 abbrev pub decreases-row : goal.decreases-row
-decreases-row l = 32 * l.left + 2 * l.level + 7
+decreases-row l = 48 * l.left + 3 * l.level + 6
+
+abbrev pub decreases-rows : goal.decreases-rows
+decreases-rows l = 48 * l.left + 3 * l.level + 7
 
 abbrev pub decreases-unary : goal.decreases-unary
-decreases-unary l = 32 * l.left + 7
+decreases-unary l = 48 * l.left + 7
 
 abbrev pub decreases-prefixed : goal.decreases-prefixed
-decreases-prefixed l = 32 * l.left + 1
+decreases-prefixed l = 48 * l.left + 1
 
 abbrev pub decreases-opened : goal.decreases-opened
-decreases-opened l = 32 * l.left + 2
+decreases-opened l = 48 * l.left + 2
 
 abbrev pub decreases-cast : goal.decreases-cast
-decreases-cast l = 32 * l.left + 1
+decreases-cast l = 48 * l.left + 1
 
 abbrev pub decreases-bracket : goal.decreases-bracket
-decreases-bracket l = 32 * l.left + 1
+decreases-bracket l = 48 * l.left + 1
 
 abbrev pub decreases-field : goal.decreases-field
-decreases-field l = 32 * l.left + 3
+decreases-field l = 48 * l.left + 3
 
 abbrev pub decreases-element : goal.decreases-element
-decreases-element l = 32 * l.left + 2
+decreases-element l = 48 * l.left + 2
 
 abbrev pub decreases-call : goal.decreases-call
-decreases-call l = 32 * l.left + 6
+decreases-call l = 48 * l.left + 6
 
 abbrev pub decreases-argument : goal.decreases-argument
-decreases-argument l = 32 * l.left + 1
+decreases-argument l = 48 * l.left + 1
 
 abbrev pub decreases-flags : goal.decreases-flags
-decreases-flags l = 32 * l.left + 5
+decreases-flags l = 48 * l.left + 5
 
 abbrev pub decreases-symbolic : goal.decreases-symbolic
-decreases-symbolic l = 32 * l.left + 5
+decreases-symbolic l = 48 * l.left + 5
 
 abbrev pub decreases-hex : goal.decreases-hex
-decreases-hex l = 32 * l.left + 5
+decreases-hex l = 48 * l.left + 5
 
 abbrev pub decreases-array : goal.decreases-array
-decreases-array l = 32 * l.left + 5
+decreases-array l = 48 * l.left + 5
 
 abbrev pub decreases-entry : goal.decreases-entry
-decreases-entry l = 32 * l.left + 2
+decreases-entry l = 48 * l.left + 2
 
 abbrev pub decreases-more_entries : goal.decreases-more_entries
-decreases-more_entries l = 32 * l.left + 3
+decreases-more_entries l = 48 * l.left + 3
 
 abbrev pub decreases-entries : goal.decreases-entries
-decreases-entries l = 32 * l.left + 4
+decreases-entries l = 48 * l.left + 4
 
 -- What was read, with the row behind it, is the whole row.
 abbrev pub invariant-row-loop-op : goal.invariant-row-loop-op
