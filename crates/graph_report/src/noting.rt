@@ -41,13 +41,14 @@ fn note_event(
     ensures noted { (before : List Seen) → HasSeen before tracing.old
         → OnOk result (HasSeen (before ++ option_to_list (seen_as context.now cpu time payload.now (role_by (format_at (id_of context.now payload.now) context.now.formats)))) tracing.new) }
 {
-    match role_at(context.formats(), places, roles, context.id(payload)) {
+    let id = context.id(payload);
+    match role_at(context.formats(), places, roles, id) {
         Role::Enters(called) => {
-            let entry = graph_event(context, cpu, time, payload, called);
+            let entry = graph_event(context, cpu, time, id, payload, called);
             tracing.see(&Seen::Entry(entry))
         }
         Role::Leaves(called, times) => {
-            let exit = graph_event(context, cpu, time, payload, called);
+            let exit = graph_event(context, cpu, time, id, payload, called);
             let ran = ran_by(context.order(), payload, times);
             tracing.see(&Seen::Exit(exit, ran))
         }

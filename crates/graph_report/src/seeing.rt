@@ -1,6 +1,7 @@
 // What an event is for the calls.
 
 ghost use Rattle.std.specs.Prelude.{◌≡◌};
+ghost use Rattle.report_print.specs.Line.{id_of};
 ghost use Rattle.graph_report.specs.Roles.{graph_event, ran_by};
 
 use crate::role::{Called, Times};
@@ -8,22 +9,24 @@ use call_pairs::{GraphEvent, clipped};
 use report_print::Context;
 use trace_base::Order;
 
-/// An entry or an exit, by where its function and its depth stand.
+/// An entry or an exit of the format with this number, by where its function and its depth stand.
 #[inline(always)]
 pub(crate) fn graph_event(
     context: &Context,
     cpu: u32,
     time: u64,
+    id: u32,
     payload: &[u8],
     called: Called,
 ) -> GraphEvent
+    requires { id ≡ id_of context.now payload.now }
     ensures { result ≡ graph_event context.now cpu time payload.now called }
 {
     let order = context.order();
     GraphEvent {
         cpu,
         time,
-        common: context.common(payload),
+        common: context.common_of(id, payload),
         depth: called.depth.low_32(order, payload),
         func: called.func.low_64(order, payload),
     }

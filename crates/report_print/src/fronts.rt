@@ -31,8 +31,17 @@ impl Context {
     pub fn common(&self, payload: &[u8]) -> Common
         ensures { result ≡ spec.common_in self.now payload.now }
     {
+        self.common_of(self.id(payload), payload)
+    }
+
+    /// The same where the number of the event's format was read already.
+    #[inline(always)]
+    pub fn common_of(&self, id: u32, payload: &[u8]) -> Common
+        requires { id ≡ line.id_of self.now payload.now }
+        ensures { result ≡ spec.common_in self.now payload.now }
+    {
         Common {
-            id: self.id(payload),
+            id,
             flags: self.flags(payload),
             preempt: self.preempt_count(payload),
             pid: self.pid(payload),
