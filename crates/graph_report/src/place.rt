@@ -1,6 +1,6 @@
 ghost use Rattle.std.specs.Prelude.{◌≡◌, ◌%◌, ◌^◌};
 ghost use Rattle.std.specs.Int.{cast_unsigned, w128};
-ghost use Rattle.trace_base.specs.Fields.{has_sign};
+ghost use Rattle.trace_base.specs.Fields.{has_sign, sized, unsigned_in};
 ghost use Rattle.graph_report.specs.Roles.{place_of, number_at};
 
 use trace_base::{Field, FieldKind, Order, sized, unsigned_at};
@@ -49,16 +49,7 @@ impl Place {
         if self.size == 4 {
             return sized(self.signed, 4, unsigned_at(order, payload, at, 4));
         }
-        self.any_number(order, payload)
-    }
-
-    /// The same of any size.
-    #[inline(never)]
-    fn any_number(self, order: Order, payload: &[u8]) -> i128
-        ensures { result ≡ number_at order payload.now self }
-    {
-        let number = unsigned_at(order, payload, self.offset as usize, self.size);
-        sized(self.signed, self.size, number)
+        any_number(order, payload, self.offset, self.size, self.signed)
     }
 
     /// The number modulo 2^64.
@@ -76,4 +67,16 @@ impl Place {
     {
         (self.number(order, payload).cast_unsigned() & 0xffff_ffff) as u32
     }
+}
+
+/// The number of any size at an offset. It is told what it needs in numbers, so that a place need not lie in memory.
+#[inline(never)]
+fn any_number(order: Order, payload: &[u8], offset: u32, size: u32, signed: bool) -> i128
+    ensures { result ≡ sized signed size (unsigned_in order payload.now offset size) }
+{
+    sized(
+        signed,
+        size,
+        unsigned_at(order, payload, offset as usize, size),
+    )
 }
