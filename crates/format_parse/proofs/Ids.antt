@@ -1,5 +1,5 @@
 -- A map whose keys are the ids of its formats.
-use Rattle.std.proofs.Common.{◌≡◌, ℕ, ◌+◌, Bool, not, cond, nat_eq, List, [], ◌∷◌, ◌++◌, map, length, position, None, is_some, refl, sym, ap, subst, ◌∙◌}
+use Rattle.std.proofs.Common.{◌≡◌, ℕ, ◌+◌, Bool, not, cond, nat_eq, List, [], ◌∷◌, ◌++◌, map, position, None, is_some, refl, sym, ap, subst, ◌∙◌}
 use Rattle.std.proofs.lemmas.List.{map-append, length-map}
 use Rattle.std.specs.List.{IsDistinct, list_any, position_or_len}
 use Rattle.std.specs.Map.{keys_of, values_of, lookup}

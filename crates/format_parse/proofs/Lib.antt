@@ -1,3 +1,4 @@
+pub mod CommonFields
 pub mod Formats
 pub mod Ids
 pub mod Tables

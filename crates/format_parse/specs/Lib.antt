@@ -1,3 +1,4 @@
+pub mod CommonFields
 pub mod FieldKinds
 pub mod Format
 pub mod Table

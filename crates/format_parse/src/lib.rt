@@ -4,6 +4,7 @@
 //! their ids, each at a place that stays.
 #![tactic(auto)]
 
+mod common;
 mod fields;
 mod format;
 mod parse;

@@ -1,6 +1,8 @@
 -- Hexadecimal digits at the front of a text.
 use Rattle.std.proofs.Common.{◌≡◌, false, ℕ, ◌+◌, ◌*◌, ◌%◌, ◌^◌, ◌<◌, ◌≤◌, Bool, true, not, ◌||◌, eqb, ltb, leb, codes, List, [], ◌∷◌, Some, length, take, drop, get_or, refl, sym, ap, subst, ◌∙◌, arith}
-use Rattle.std.proofs.lemmas.Bool.{ltb-true, le-ltb, lt-ltb, le-leb, leb-true, eqb-true, agree_below, agree_below_at}
+use Rattle.std.proofs.lemmas.Slice.Eq.{bytes_eq-Decides}
+use Rattle.std.specs.Str.{bytes_eq}
+use Rattle.std.proofs.lemmas.Bool.{ltb-true, le-ltb, lt-ltb, le-leb, leb-true, eqb-true, agree_below_at}
 use Rattle.std.proofs.lemmas.List.{length-take, take-append-drop, take_all, at_drop_more, at_drop_all}
 use Rattle.std.proofs.lemmas.List.Folds.{list_all_more}
 use Rattle.std.proofs.lemmas.Int.Digits.{digits_value-lt, digits_value_more}
@@ -98,25 +100,14 @@ is_none_of byte less great =
     leb-true 16 (digit_value byte) most
 
 -- eight digits that are all f
-eight_same : (a b c d e f g h : ℕ) → a ≡ 102 → b ≡ 102 → c ≡ 102 → d ≡ 102 → e ≡ 102 → f ≡ 102 → g ≡ 102 → h ≡ 102 → a ∷ b ∷ c ∷ d ∷ e ∷ f ∷ g ∷ h ∷ [] ≡ codes "ffffffff"
-eight_same a b c d e f g h p q r s t u v w = rw (p, q, r, s, t, u, v, w) refl
+front_is : (text : List ℕ) → bytes_eq (codes "ffffffff") (take 8 text) ≡ true → take 8 text ≡ codes "ffffffff"
+front_is text is = sym ((bytes_eq-Decides (codes "ffffffff") (take 8 text)).0 is)
 
-eight : (text : List ℕ) → 8 ≤ length text → get_or text 0 0 ≡ 102 → get_or text 1 0 ≡ 102 → get_or text 2 0 ≡ 102 → get_or text 3 0 ≡ 102 → get_or text 4 0 ≡ 102 → get_or text 5 0 ≡ 102
-    → get_or text 6 0 ≡ 102 → get_or text 7 0 ≡ 102 → take 8 text ≡ codes "ffffffff"
-eight [] long p q r s t u v w = absurd (omega (arith, long))
-eight (a ∷ []) long p q r s t u v w = absurd (omega (arith, long))
-eight (a ∷ (b ∷ [])) long p q r s t u v w = absurd (omega (arith, long))
-eight (a ∷ (b ∷ (c ∷ []))) long p q r s t u v w = absurd (omega (arith, long))
-eight (a ∷ (b ∷ (c ∷ (d ∷ [])))) long p q r s t u v w = absurd (omega (arith, long))
-eight (a ∷ (b ∷ (c ∷ (d ∷ (e ∷ []))))) long p q r s t u v w = absurd (omega (arith, long))
-eight (a ∷ (b ∷ (c ∷ (d ∷ (e ∷ (f ∷ [])))))) long p q r s t u v w = absurd (omega (arith, long))
-eight (a ∷ (b ∷ (c ∷ (d ∷ (e ∷ (f ∷ (g ∷ []))))))) long p q r s t u v w = absurd (omega (arith, long))
-eight (a ∷ (b ∷ (c ∷ (d ∷ (e ∷ (f ∷ (g ∷ (h ∷ rest)))))))) long p q r s t u v w = eight_same a b c d e f g h p q r s t u v w
+pub highest_long : (text : List ℕ) → bytes_eq (codes "ffffffff") (take 8 text) ≡ true → 8 ≤ length text
+highest_long text is = omega (arith, ap length (front_is text is), length-take 8 text)
 
-pub highest_digits : (text : List ℕ) → 8 ≤ length text → get_or text 0 0 ≡ 102 → get_or text 1 0 ≡ 102 → get_or text 2 0 ≡ 102 → get_or text 3 0 ≡ 102 → get_or text 4 0 ≡ 102 → get_or text 5 0 ≡ 102
-    → get_or text 6 0 ≡ 102 → get_or text 7 0 ≡ 102 → list_all is_hexadecimal (take 8 text) ≡ true
-highest_digits text long p q r s t u v w = subst (λ (l : List ℕ). list_all is_hexadecimal l ≡ true) (sym (eight text long p q r s t u v w)) refl
+pub highest_digits : (text : List ℕ) → bytes_eq (codes "ffffffff") (take 8 text) ≡ true → list_all is_hexadecimal (take 8 text) ≡ true
+highest_digits text is = subst (λ (l : List ℕ). list_all is_hexadecimal l ≡ true) (sym (front_is text is)) refl
 
-pub highest_number : (text : List ℕ) → 8 ≤ length text → get_or text 0 0 ≡ 102 → get_or text 1 0 ≡ 102 → get_or text 2 0 ≡ 102 → get_or text 3 0 ≡ 102 → get_or text 4 0 ≡ 102 → get_or text 5 0 ≡ 102
-    → get_or text 6 0 ≡ 102 → get_or text 7 0 ≡ 102 → 4294967295 ≡ digits_value 16 (take 8 text) % 2 ^ 64
-highest_number text long p q r s t u v w = subst (λ (l : List ℕ). 4294967295 ≡ digits_value 16 l % 2 ^ 64) (sym (eight text long p q r s t u v w)) refl
+pub highest_number : (text : List ℕ) → bytes_eq (codes "ffffffff") (take 8 text) ≡ true → 4294967295 ≡ digits_value 16 (take 8 text) % 2 ^ 64
+highest_number text is = subst (λ (l : List ℕ). 4294967295 ≡ digits_value 16 l % 2 ^ 64) (sym (front_is text is)) refl

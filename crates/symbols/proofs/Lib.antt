@@ -3,6 +3,7 @@ pub mod FirstSymbols
 pub mod Forms
 pub mod MapLemmas
 pub mod NameLemmas
+pub mod Spots
 pub mod PairLemmas
 pub mod ReadLines
 pub mod RowLemmas

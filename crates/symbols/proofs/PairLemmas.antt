@@ -6,7 +6,7 @@ use Rattle.std.specs.Option.{option_or}
 use Rattle.symbols.specs.NameMap.{Pair, first_at, RisesFrom, SamePairs, IsMapOf, IsNearest, NoneUpTo, put, map_of, last_up_to}
 use Rattle.symbols.specs.Names.{IsFrom}
 use Rattle.symbols.specs.Search.{RisesKeys, IsLastUpTo, NoneWithin}
-use Rattle.symbols.specs.RowsView.{firsts}
+use Rattle.symbols.specs.Spots.{firsts}
 
 above : (low : ℕ) (ps : List Pair) (i : ℕ) → RisesFrom low ps → i < length (keys_of ps) → low ≤ slice_index (keys_of ps) i
 above low [] i r less = absurd (omega (arith, less))

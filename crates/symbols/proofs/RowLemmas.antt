@@ -1,114 +1,71 @@
--- Names in rows.
-use Rattle.std.proofs.Common.{◌≡◌, ℕ, zero, suc, ◌+◌, ◌-◌, ◌<◌, ◌≤◌, true, false, List, [], ◌∷◌, ◌++◌, map, length, drop, append_assoc, slice_get, slice_index, get_or, Option, Some, None, refl, sym, ap, subst, ◌∙◌, arith}
-use Rattle.std.specs.List.{zip}
+-- Names at their places.
+use Rattle.std.proofs.Common.{◌≡◌, ℕ, zero, suc, ◌+◌, ◌-◌, ◌<◌, ◌≤◌, List, [], ◌∷◌, ◌++◌, length, take, slice_get, get_or, Some, None, refl, sym, ap, subst, ◌∙◌, arith}
 use Rattle.std.specs.Map.{keys_of}
-use Rattle.std.proofs.lemmas.List.{map-append, length-map, get_or_default, append-nil, at_drop_more, at_drop_all}
-use Rattle.symbols.specs.declared.rows.Rows.{Rows}
-use Rattle.symbols.specs.declared.names.Span.{Span}
+use Rattle.std.proofs.lemmas.List.{map-append, length-map, take_more, take_all}
+use Rattle.symbols.specs.declared.names.Names.{Names}
 use Rattle.symbols.specs.declared.names.Spot.{Spot}
-use Rattle.symbols.specs.NameMap.{Pair}
-use Rattle.symbols.specs.Names.{text_in, spot_view, spots_view}
-use Rattle.symbols.specs.NameMap.{RisesFrom, IsNearest, NoneUpTo, last_up_to}
-use Rattle.symbols.specs.Search.{RisesKeys, IsLastUpTo, NoneWithin}
+use Rattle.symbols.specs.NameMap.{Pair, RisesFrom, IsNearest, NoneUpTo, last_up_to}
+use Rattle.symbols.specs.Names.{text_in, spot_view, spots_view, names_view}
+use Rattle.symbols.specs.Search.{keys_in, RisesKeys, IsLastUpTo, NoneWithin}
 use Rattle.symbols.proofs.PairLemmas.{rises_keys, nearest_is, within, none_up_to, last_found, last_none}
-use Rattle.symbols.specs.RowsView.{rows_view, IsSound, is_key, firsts}
 
-pub keys_zip : {X : Type 0} (ks : List ℕ) (xs : List X) → length xs ≡ length ks → keys_of (zip ks xs) ≡ ks
-keys_zip [] xs e = refl
-keys_zip (k ∷ ks) [] e = absurd (omega (arith, e))
-keys_zip (k ∷ ks) (x ∷ xs) e = ap (λ (l : List ℕ). k ∷ l) (keys_zip ks xs (omega (arith, e)))
+view_get : (block : List ℕ) (xs : List Spot) (i : ℕ) (d : Spot) → i < length xs → slice_get (spots_view block xs) i ≡ Some (spot_view block (get_or xs i d))
+view_get block [] i d less = absurd (omega (arith, less))
+view_get block (x ∷ xs) zero d less = refl
+view_get block (x ∷ xs) (suc i) d less = view_get block xs i d (omega (arith, less))
 
-zip_more : {X : Type 0} (ks : List ℕ) (xs : List X) (k : ℕ) (x : X) → length xs ≡ length ks → zip (ks ++ k ∷ []) (xs ++ x ∷ []) ≡ zip ks xs ++ (k, x) ∷ []
-zip_more [] [] k x e = refl
-zip_more [] (y ∷ ys) k x e = absurd (omega (arith, e))
-zip_more (j ∷ ks) [] k x e = absurd (omega (arith, e))
-zip_more {X} (j ∷ ks) (y ∷ ys) k x e = ap (λ (l : List (ℕ × X)). (j, y) ∷ l) (zip_more ks ys k x (omega (arith, e)))
+view_past : (block : List ℕ) (xs : List Spot) (i : ℕ) → length xs ≤ i → slice_get (spots_view block xs) i ≡ None
+view_past block [] i le = refl
+view_past block (x ∷ xs) zero le = absurd (omega (arith, le))
+view_past block (x ∷ xs) (suc i) le = view_past block xs i (omega (arith, le))
 
-pub pushed : (rows now : Rows) (key : ℕ) (s : Span) → IsSound rows → now.keys.items ≡ rows.keys.items ++ key ∷ [] → now.spans.items ≡ rows.spans.items ++ s ∷ [] → now.block.items ≡ rows.block.items
-    → rows_view now ≡ rows_view rows ++ (key, text_in rows.block.items s) ∷ []
-pushed rows now key s sound keys spans block =
-    let texts : List (List ℕ) = map (text_in rows.block.items) rows.spans.items in
-    rw (keys, spans, block) (
-    ap (zip (rows.keys.items ++ key ∷ [])) (map-append (text_in rows.block.items) rows.spans.items (s ∷ []))
-    ∙ zip_more rows.keys.items texts key (text_in rows.block.items s) (length-map rows.spans.items (text_in rows.block.items) ∙ sound.paired))
+pub row_at : (names : Names) (i : ℕ) (spot : Spot) (name : List ℕ) → i < length names.spots.items → spot ≡ get_or names.spots.items i spot → name ≡ text_in names.block.items spot.span
+    → slice_get (names_view names) i ≡ Some (spot.key, name)
+row_at names i spot name less is_spot is_name =
+    view_get names.block.items names.spots.items i spot less
+    ∙ ap (λ (s : Spot). Some (spot_view names.block.items s)) (sym is_spot)
+    ∙ ap (λ (n : List ℕ). Some (spot.key, n)) (sym is_name)
 
--- a name at a place
-zip_get : {X Y : Type 0} (f : X → Y) (ks : List ℕ) (xs : List X) (i : ℕ) (d : X) → length xs ≡ length ks → i < length ks → slice_get (zip ks (map f xs)) i ≡ Some (slice_index ks i, f (get_or xs i d))
-zip_get f [] xs i d e less = absurd (omega (arith, less))
-zip_get f (k ∷ ks) [] i d e less = absurd (omega (arith, e))
-zip_get f (k ∷ ks) (x ∷ xs) zero d e less = refl
-zip_get f (k ∷ ks) (x ∷ xs) (suc i) d e less = zip_get f ks xs i d (omega (arith, e)) (omega (arith, less))
+pub row_past : (names : Names) (i : ℕ) → length names.spots.items ≤ i → None ≡ slice_get (names_view names) i
+row_past names i le = sym (view_past names.block.items names.spots.items i le)
 
-zip_past : {Y : Type 0} (ks : List ℕ) (ys : List Y) (i : ℕ) → length ks ≤ i → slice_get (zip ks ys) i ≡ None
-zip_past [] ys i le = refl
-zip_past (k ∷ ks) [] i le = refl
-zip_past (k ∷ ks) (y ∷ ys) zero le = absurd (omega (arith, le))
-zip_past (k ∷ ks) (y ∷ ys) (suc i) le = zip_past ks ys i (omega (arith, le))
+pub rows_long : (names : Names) → length names.spots.items ≡ length (names_view names)
+rows_long names = sym (length-map names.spots.items (spot_view names.block.items))
 
-pub row_at : (rows : Rows) (i key : ℕ) (span : Span) (name : List ℕ) → IsSound rows → i < length rows.keys.items → key ≡ get_or rows.keys.items i key → span ≡ get_or rows.spans.items i span → name ≡ text_in rows.block.items span
-    → slice_get (rows_view rows) i ≡ Some (key, name)
-row_at rows i key span name sound less is_key is_span is_name =
-    zip_get (text_in rows.block.items) rows.keys.items rows.spans.items i span sound.paired less
-    ∙ ap (λ (k : ℕ). Some (k, text_in rows.block.items (get_or rows.spans.items i span))) (get_or_default rows.keys.items i 0 key less ∙ sym is_key)
-    ∙ ap (λ (s : Span). Some (key, text_in rows.block.items s)) (sym is_span)
-    ∙ ap (λ (n : List ℕ). Some (key, n)) (sym is_name)
+-- the numbers
+keys_view : (block : List ℕ) (xs : List Spot) → keys_of (spots_view block xs) ≡ keys_in xs
+keys_view block [] = refl
+keys_view block (x ∷ xs) = ap (λ (l : List ℕ). x.key ∷ l) (keys_view block xs)
 
-pub row_past : (rows : Rows) (i : ℕ) → length rows.keys.items ≤ i → None ≡ slice_get (rows_view rows) i
-row_past rows i le = sym (zip_past rows.keys.items (map (text_in rows.block.items) rows.spans.items) i le)
+pub keys_more : (xs : List Spot) (i : ℕ) (d : Spot) (keys : List ℕ) → i < length xs → keys ≡ keys_in (take i xs) ++ (get_or xs i d).key ∷ [] → keys ≡ keys_in (take (i + 1) xs)
+keys_more xs i d keys less is = is ∙ sym (ap keys_in (take_more xs i d less) ∙ map-append (λ (s : Spot). s.key) (take i xs) (get_or xs i d ∷ []))
 
-pub keys_are : (rows : Rows) → IsSound rows → keys_of (rows_view rows) ≡ rows.keys.items
-keys_are rows sound = keys_zip rows.keys.items (map (text_in rows.block.items) rows.spans.items) (length-map rows.spans.items (text_in rows.block.items) ∙ sound.paired)
-
-pub rows_keys : (rows : Rows) → IsSound rows → rows.keys.items ≡ keys_of (rows_view rows)
-rows_keys rows sound = sym (keys_are rows sound)
-
-long_zip : {X : Type 0} (ks : List ℕ) (xs : List X) → length xs ≡ length ks → length ks ≡ length (zip ks xs)
-long_zip [] xs e = refl
-long_zip (k ∷ ks) [] e = absurd (omega (arith, e))
-long_zip (k ∷ ks) (x ∷ xs) e = omega (arith, long_zip ks xs (omega (arith, e)))
-
-pub rows_long : (rows : Rows) → IsSound rows → length rows.keys.items ≡ length (rows_view rows)
-rows_long rows sound = long_zip rows.keys.items (map (text_in rows.block.items) rows.spans.items) (length-map rows.spans.items (text_in rows.block.items) ∙ sound.paired)
-
--- a loop over what was found: a name that is passed over, one that is put, and the end
-abbrev left : List ℕ → Option ℕ → List Spot → ℕ → List Pair
-left block last xs i = firsts last (spots_view block (drop i xs))
-
-pub passed : (front whole : List Pair) (block : List ℕ) (last : Option ℕ) (xs : List Spot) (i : ℕ) (d : Spot) → i < length xs → is_key last (get_or xs i d).key ≡ true → front ++ left block last xs i ≡ whole → front ++ left block last xs (i + 1) ≡ whole
-passed front whole block last xs i d less same before =
-    let here : left block last xs i ≡ left block last xs (i + 1) = at_drop_more (λ (l : List Spot). firsts last (spots_view block l)) xs i d less ∙ rw same refl in
-    ap (λ (l : List Pair). front ++ l) (sym here) ∙ before
-
-pub taken : (front now whole : List Pair) (block : List ℕ) (last : Option ℕ) (xs : List Spot) (i : ℕ) (d : Spot) → i < length xs → is_key last (get_or xs i d).key ≡ false → now ≡ front ++ spot_view block (get_or xs i d) ∷ [] → front ++ left block last xs i ≡ whole
-    → now ++ left block (Some (get_or xs i d).key) xs (i + 1) ≡ whole
-taken front now whole block last xs i d less other is before =
-    let x = get_or xs i d in
-    let here : left block last xs i ≡ spot_view block x ∷ left block (Some x.key) xs (i + 1) = at_drop_more (λ (l : List Spot). firsts last (spots_view block l)) xs i d less ∙ rw other refl in
-    ap (λ (l : List Pair). l ++ left block (Some x.key) xs (i + 1)) is ∙ append_assoc front (spot_view block x ∷ []) (left block (Some x.key) xs (i + 1)) ∙ ap (λ (l : List Pair). front ++ l) (sym here) ∙ before
-
-pub all_taken : (front whole : List Pair) (block : List ℕ) (last : Option ℕ) (xs : List Spot) (i : ℕ) → length xs ≤ i → front ++ left block last xs i ≡ whole → front ≡ whole
-all_taken front whole block last xs i le before =
-    sym (append-nil front) ∙ ap (λ (l : List Pair). front ++ l) (sym (at_drop_all (λ (l : List Spot). firsts last (spots_view block l)) xs i le)) ∙ before
+pub all_keys : (names : Names) (i : ℕ) (keys : List ℕ) → length names.spots.items ≤ i → keys ≡ keys_in (take i names.spots.items) → keys ≡ keys_of (names_view names)
+all_keys names i keys le is = is ∙ ap keys_in (take_all i names.spots.items le) ∙ sym (keys_view names.block.items names.spots.items)
 
 -- a search in the numbers
-pub rises_rows : (rows : Rows) (keys : List ℕ) → keys ≡ rows.keys.items → IsSound rows → RisesFrom 0 (rows_view rows) → RisesKeys keys
-rises_rows rows keys same sound rises = subst RisesKeys (keys_are rows sound ∙ sym same) (rises_keys 0 (rows_view rows) rises)
+module _ (names : Names) (spots : List Spot) (same : spots ≡ names.spots.items) (rises : RisesFrom 0 (names_view names)) where
+  keys_are : keys_of (names_view names) ≡ keys_in spots
+  keys_are = keys_view names.block.items names.spots.items ∙ ap keys_in (sym same)
 
-module _ (rows : Rows) (keys : List ℕ) (same : keys ≡ rows.keys.items) (sound : IsSound rows) (rises : RisesFrom 0 (rows_view rows)) (address : ℕ) where
-  last_in : (i : ℕ) → IsLastUpTo keys address i → IsLastUpTo (keys_of (rows_view rows)) address i
-  last_in i last = subst (λ (l : List ℕ). IsLastUpTo l address i) (same ∙ sym (keys_are rows sound)) last
+  pub rises_rows : RisesKeys (keys_in spots)
+  rises_rows = subst RisesKeys keys_are (rises_keys 0 (names_view names) rises)
 
-  pub found_near : (i : ℕ) (p : Pair) → IsLastUpTo keys address i → slice_get (rows_view rows) i ≡ Some p → IsNearest (rows_view rows) address p.1 (address - p.0)
-  found_near i p last e = nearest_is (rows_view rows) address i p rises (last_in i last) e
+  module _ (address : ℕ) where
+    last_in : (i : ℕ) → IsLastUpTo (keys_in spots) address i → IsLastUpTo (keys_of (names_view names)) address i
+    last_in i last = subst (λ (l : List ℕ). IsLastUpTo l address i) (sym keys_are) last
 
-  pub found_within : (i : ℕ) (p : Pair) → IsLastUpTo keys address i → slice_get (rows_view rows) i ≡ Some p → p.0 ≤ address
-  found_within i p last e = within (rows_view rows) address i p (last_in i last) e
+    pub found_near : (i : ℕ) (p : Pair) → IsLastUpTo (keys_in spots) address i → slice_get (names_view names) i ≡ Some p → IsNearest (names_view names) address p.1 (address - p.0)
+    found_near i p last e = nearest_is (names_view names) address i p rises (last_in i last) e
 
-  pub found_none : NoneWithin keys address → NoneUpTo address (rows_view rows)
-  found_none none = none_up_to (rows_view rows) address (subst (λ (l : List ℕ). NoneWithin l address) (same ∙ sym (keys_are rows sound)) none)
+    pub found_within : (i : ℕ) (p : Pair) → IsLastUpTo (keys_in spots) address i → slice_get (names_view names) i ≡ Some p → p.0 ≤ address
+    found_within i p last e = within (names_view names) address i p (last_in i last) e
 
-  pub found_last : (i : ℕ) (p : Pair) → IsLastUpTo keys address i → slice_get (rows_view rows) i ≡ Some p → Some p ≡ last_up_to address (rows_view rows)
-  found_last i p last e = last_found 0 (rows_view rows) address i p rises (last_in i last) e
+    pub found_none : NoneWithin (keys_in spots) address → NoneUpTo address (names_view names)
+    found_none none = none_up_to (names_view names) address (subst (λ (l : List ℕ). NoneWithin l address) (sym keys_are) none)
 
-  pub found_no_last : NoneWithin keys address → None ≡ last_up_to address (rows_view rows)
-  found_no_last none = last_none (rows_view rows) address (subst (λ (l : List ℕ). NoneWithin l address) (same ∙ sym (keys_are rows sound)) none)
+    pub found_last : (i : ℕ) (p : Pair) → IsLastUpTo (keys_in spots) address i → slice_get (names_view names) i ≡ Some p → Some p ≡ last_up_to address (names_view names)
+    found_last i p last e = last_found 0 (names_view names) address i p rises (last_in i last) e
+
+    pub found_no_last : NoneWithin (keys_in spots) address → None ≡ last_up_to address (names_view names)
+    found_no_last none = last_none (names_view names) address (subst (λ (l : List ℕ). NoneWithin l address) (sym keys_are) none)

@@ -4,6 +4,6 @@ pub mod LineForms
 pub mod NameMap
 pub mod Names
 pub mod Found
-pub mod RowsView
+pub mod Spots
 pub mod Search
 pub mod Maps

@@ -1,6 +1,6 @@
 // Addresses in hexadecimal, read in one pass.
 
-ghost use Rattle.std.specs.Prelude.{◌≡◌, ◌<◌, ◌≤◌, ◌%◌, ◌^◌, true, length, take, IfSome, IfNone, Some};
+ghost use Rattle.std.specs.Prelude.{◌≡◌, ◌<◌, ◌≤◌, ◌%◌, ◌^◌, true, length, take, drop, slice_index, IfSome, IfNone, Some};
 ghost use Rattle.std.specs.Char.{digit_value};
 ghost use Rattle.std.specs.List.{list_all, prefix_len};
 ghost use Rattle.std.specs.Option.{option_map};
@@ -52,22 +52,13 @@ fn first_digits(text: &[u8]) -> (u64, usize)
 
 /// The number of the first eight digits where they are all `f`, as in most addresses of a kernel of 64 bits.
 #[inline(always)]
-#[tactic(auto, using(crate::proofs::Addresses::highest_digits, crate::proofs::Addresses::highest_number))]
+#[tactic(auto, using(crate::proofs::Addresses::highest_long))]
 fn highest_half(text: &[u8]) -> Option<u64>
     ensures within { IfSome result (λ number. 8 ≤ length text.now) }
     ensures digits { IfSome result (λ number. list_all is_hexadecimal (take 8 text.now) ≡ true) }
     ensures number { IfSome result (λ number. number ≡ digits_value 16 (take 8 text.now) % 2 ^ 64) }
 {
-    if text.len() >= 8
-        && text[0] == b'f'
-        && text[1] == b'f'
-        && text[2] == b'f'
-        && text[3] == b'f'
-        && text[4] == b'f'
-        && text[5] == b'f'
-        && text[6] == b'f'
-        && text[7] == b'f'
-    {
+    if text.starts_with(b"ffffffff") {
         Some(0xffff_ffff)
     } else {
         None
@@ -92,15 +83,30 @@ fn further_digits(text: &[u8], known: usize, front: u64) -> Option<u64>
     Some(number)
 }
 
-/// The low 64 bits of the number that a text of hexadecimal digits alone writes.
+/// The 16 bytes that a text begins with, where a space stands behind them, and what follows them.
 #[inline(always)]
-fn all_digits(text: &[u8]) -> Option<u64>
-    ensures { IfSome result (λ number. (list_all is_hexadecimal text.now ≡ true) × (number ≡ digits_value 16 text.now % 2 ^ 64)) }
+fn sixteen(text: &[u8]) -> Option<(&[u8], &[u8])>
+    ensures inside { IfSome result (λ r. 16 < length text.now) }
+    ensures space { IfSome result (λ r. slice_index text.now 16 ≡ 32) }
+    ensures parts { IfSome result (λ r. (r.0.now ≡ take 16 text.now) × (r.1.now ≡ drop 16 text.now)) }
 {
-    match highest_half(text) {
-        Some(front) => further_digits(text, 8, front),
-        None => further_digits(text, 0, 0),
+    if text.len() <= 16 || text[16] != b' ' {
+        return None;
     }
+    Some(text.split_at(16))
+}
+
+/// The address that a text begins with, where it is one of the last 4 GiB, has 16 digits and a space behind them: the most
+/// frequent form of a kernel of 64 bits.
+#[inline(always)]
+#[tactic(auto, using(crate::proofs::Addresses::full_is))]
+fn high_address(text: &[u8]) -> Option<(u64, &[u8])>
+    ensures { IfSome result (λ r. Some (r.0, r.1.now) ≡ address_at text.now) }
+{
+    let (digits, rest) = sixteen(text)?;
+    let front = highest_half(digits)?;
+    let address = further_digits(digits, 8, front)?;
+    Some((address, rest))
 }
 
 /// The address that a text begins with, where it has 16 digits and a space behind them, as a kernel of 64 bits writes it.
@@ -109,18 +115,25 @@ fn all_digits(text: &[u8]) -> Option<u64>
 fn full_address(text: &[u8]) -> Option<(u64, &[u8])>
     ensures { IfSome result (λ r. Some (r.0, r.1.now) ≡ address_at text.now) }
 {
-    if text.len() <= 16 || text[16] != b' ' {
-        return None;
-    }
-    let (digits, rest) = text.split_at(16);
-    match all_digits(digits) {
-        Some(address) => Some((address, rest)),
-        None => None,
-    }
+    let (digits, rest) = sixteen(text)?;
+    let address = further_digits(digits, 0, 0)?;
+    Some((address, rest))
 }
 
 /// The address that a text begins with, and what follows it.
+#[inline(always)]
 pub(crate) fn address_at(text: &[u8]) -> Option<(u64, &[u8])>
+    ensures { option_map (λ r. (r.0, r.1.now)) result ≡ address_at text.now }
+{
+    match high_address(text) {
+        Some((address, rest)) => Some((address, rest)),
+        None => other_address(text),
+    }
+}
+
+// The same, for addresses that need not be high.
+#[inline(never)]
+pub(crate) fn other_address(text: &[u8]) -> Option<(u64, &[u8])>
     ensures { option_map (λ r. (r.0, r.1.now)) result ≡ address_at text.now }
 {
     match full_address(text) {

@@ -50,7 +50,7 @@ fn name_len(text: &[u8]) -> Option<usize>
 }
 
 // The rest of a line, and the lines behind it. Most names stand at the end of their line.
-#[inline]
+#[inline(always)]
 fn rest_of_line(text: &[u8]) -> (&[u8], Option<&[u8]>)
     ensures { lines_of text.now ≡ result.0.now ∷ lines_left result.1 }
 {

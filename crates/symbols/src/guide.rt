@@ -1,8 +1,9 @@
 // Where addresses stand among others that rise, roughly.
 
-ghost use Rattle.std.specs.Prelude.{◌≡◌, ◌<◌, length, IfOk};
+ghost use Rattle.std.specs.Prelude.{◌≡◌, ◌+◌, ◌<◌, length, IfOk};
 ghost use Rattle.std.proofs.Props.{props};
 
+use crate::names::Spot;
 use std::alloc::{AllocError, Global};
 
 /// How many pages of memory are told apart: as many as 32 MiB have.
@@ -20,59 +21,65 @@ impl Near {
     pub const NOWHERE: Near = Near { from: 0, to: 0 };
 }
 
-/// For each page the place of its last address among addresses that rise, or of the last before it. Pages that are equal modulo
-/// `PAGES` share one, so that who looks for an address tries its place.
+/// For each page the place of the last address before it, among addresses that rise, and behind all pages that of the last one.
+/// Pages that are equal modulo `PAGES` share one, and so do places that are equal modulo 2^32, so that who looks for an address
+/// tries its place.
 #[derive(Drop)]
 pub(crate) struct Guide {
-    lasts: Vec<usize>,
-    ghost pages: { length lasts.items ≡ 8192 } by { Prim.hlevel props },
+    before: Vec<u32>,
+    ghost pages: { length before.items ≡ 8193 } by { Prim.hlevel props },
 }
 
 /// The page of an address, modulo their number.
+#[inline(always)]
 fn page_of(address: u64) -> usize
     ensures { result < PAGES }
 {
     (address / 4096 % PAGES as u64) as usize
 }
 
-/// No place for so many pages.
-fn no_places(alloc: Global, pages: usize) -> Result<Vec<usize>, AllocError>
-    ensures { IfOk result (λ lasts. length lasts.items ≡ pages) }
+/// The first place for each page.
+fn no_places(alloc: Global) -> Result<Vec<u32>, AllocError>
+    ensures { IfOk result (λ before. length before.items ≡ PAGES + 1) }
 {
-    vec![in alloc; 0; pages]
+    let mut before = Vec::new(alloc);
+    before.resize(PAGES + 1, 0)?;
+    Ok(before)
 }
 
 /// Notes the places of addresses that rise.
-fn note(addresses: &[u64], lasts: &mut [usize])
-    requires { length lasts.old ≡ PAGES }
-    ensures { length lasts.new ≡ PAGES }
+fn note(spots: &[Spot], before: &mut [u32])
+    requires { length before.old ≡ PAGES + 1 }
+    ensures { length before.new ≡ PAGES + 1 }
 {
-    for place in 0..addresses.len() {
-        lasts[page_of(addresses[place])] = place;
+    for place in 0..spots.len() {
+        before[page_of(spots[place].key) + 1] = (place % (1 << 32)) as u32;
     }
 }
 
-/// Gives each page in which no address is the place of the page before.
-fn fill(lasts: &mut [usize])
-    requires { length lasts.old ≡ PAGES }
-    ensures { length lasts.new ≡ PAGES }
+/// Gives each page in which no address is the place of the page before. The first page follows the last.
+fn fill(before: &mut [u32])
+    requires { length before.old ≡ PAGES + 1 }
+    ensures { length before.new ≡ PAGES + 1 }
 {
-    let mut before = 0;
-    for page in 0..lasts.len() {
-        if lasts[page] == 0 {
-            lasts[page] = before;
+    let mut last = 0;
+    for page in 1..PAGES + 1 {
+        if before[page] == 0 {
+            before[page] = last;
+        } else {
+            last = before[page];
         }
-        before = lasts[page];
     }
+    before[0] = last;
 }
 
 impl Guide {
     /// The guide to addresses that rise.
-    pub fn to(alloc: Global, addresses: &[u64]) -> Result<Guide, AllocError> {
-        let mut lasts = no_places(alloc, PAGES)?;
-        note(addresses, &mut lasts);
-        fill(&mut lasts);
-        Ok(Guide { lasts })
+    pub fn to(alloc: Global, spots: &[Spot]) -> Result<Guide, AllocError> {
+        let mut before = no_places(alloc)?;
+        note(spots, &mut before);
+        fill(&mut before);
+        Ok(Guide { before })
     }
 
     /// Between which places an address is looked for first.
@@ -80,8 +87,8 @@ impl Guide {
     pub fn near(&self, address: u64) -> Near {
         let page = page_of(address);
         Near {
-            from: self.lasts[(page + PAGES - 1) % PAGES],
-            to: self.lasts[page].wrapping_add(1),
+            from: self.before[page] as usize,
+            to: self.before[page + 1] as usize + 1,
         }
     }
 }

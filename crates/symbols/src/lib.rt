@@ -12,6 +12,7 @@ mod guide;
 mod lines;
 mod maps;
 mod names;
+mod order;
 mod read;
 mod rows;
 mod search;

@@ -9,7 +9,7 @@ ghost use Rattle.symbols.specs.Found.{found_view};
 ghost use Rattle.symbols.specs.LineForms.{in_name, IsSymbolLine, IsPrintkLine, IsTaskLine};
 ghost use Rattle.symbols.specs.Forms.{is_decimal_digit, leading_number, after_letter, symbol_line, unquoted, without_prefix, printk_line, task_line, line_in};
 
-use crate::digits::address_at;
+use crate::digits::other_address;
 use crate::found::Found;
 use trace_base::{after_word, decimal};
 
@@ -146,7 +146,7 @@ fn without_prefix(text: &[u8]) -> &[u8]
 fn read_symbol(line: &[u8]) -> Option<Found<'_>>
     ensures { option_map found_view result ≡ symbol_line line.now }
 {
-    let (key, rest) = address_at(line)?;
+    let (key, rest) = other_address(line)?;
     let rest = after_space(rest)?;
     let name = after_letter(rest)?;
     let (text, _) = name.split_at(name_len(name));
@@ -157,7 +157,7 @@ fn read_symbol(line: &[u8]) -> Option<Found<'_>>
 fn read_printk(line: &[u8]) -> Option<Found<'_>>
     ensures { option_map found_view result ≡ printk_line line.now }
 {
-    let (key, rest) = address_at(without_prefix(line))?;
+    let (key, rest) = other_address(without_prefix(line))?;
     let rest = after_word(b" : \"", rest)?;
     let text = unquoted(rest)?;
     Some(Found { key, text })

@@ -66,6 +66,7 @@ impl Symbols {
 
     /// The name of the symbol at the greatest address that is at most this one, and how many bytes it is below. None exactly
     /// where no address is at most this one.
+    #[inline(always)]
     pub fn name_at(&self, address: u64) -> Option<(&[u8], u64)>
         ensures found { IfSome result (λ r. IsNearest self.now.symbols address r.0.now r.1) }
         ensures none { IfNone result (NoneUpTo address self.now.symbols) }
@@ -132,5 +133,19 @@ impl Symbols {
         ensures { option_map (λ r. (r.0, r.1.now)) result ≡ slice_get self.now.printk i }
     {
         self.printk.row(i)
+    }
+
+    /// How many tasks have a name.
+    pub fn task_count(&self) -> usize
+        ensures { result ≡ length self.now.tasks }
+    {
+        self.tasks.len()
+    }
+
+    /// The task at this place by rising pid, counted from 0. None exactly past the last.
+    pub fn task_at(&self, i: usize) -> Option<(u64, &[u8])>
+        ensures { option_map (λ r. (r.0, r.1.now)) result ≡ slice_get self.now.tasks i }
+    {
+        self.tasks.row(i)
     }
 }

@@ -1,9 +1,11 @@
 // Names as they stand in a block of bytes.
 
-ghost use Rattle.std.specs.Prelude.{◌≡◌, ◌≤◌, ◌-◌, ◌++◌, [], ◌∷◌, OnOk, IfOk, length, reverse, take, drop};
+ghost use Rattle.std.specs.Prelude.{◌≡◌, ◌≤◌, ◌-◌, ◌++◌, [], ◌∷◌, None, OnOk, IfOk, length, reverse, take, drop};
 ghost use Rattle.symbols.specs.NameMap.{SamePairs};
 ghost use Rattle.symbols.specs.Names.{names_view, AreInside, IsSortedPairs};
+ghost use Rattle.symbols.specs.Spots.{firsts};
 
+use crate::order::{keep_firsts, sort_spots};
 use std::alloc::{AllocError, Global};
 
 /// The place of a name in the block.
@@ -22,7 +24,7 @@ pub(crate) struct Spot {
     pub span: Span,
 }
 
-/// Names in the order in which they were found.
+/// Names in the order in which they were found, or in that of their numbers.
 #[derive(Drop)]
 pub(crate) struct Names {
     pub spots: Vec<Spot>,
@@ -79,13 +81,22 @@ impl Names {
     }
 
     /// Puts the names in order of their numbers, those of one number as they stand.
-    pub fn sort(&mut self) -> Result<(), AllocError>
+    pub fn sort(&mut self, alloc: Global) -> Result<(), AllocError>
         requires { AreInside self.old }
         ensures inside { OnOk result (AreInside self.new) }
         ensures rises { OnOk result (IsSortedPairs (names_view self.new)) }
         ensures same { OnOk result (SamePairs (names_view self.old) (names_view self.new)) }
     {
-        self.spots.sort_by_key(|spot| spot.key)?;
+        sort_spots(alloc, &mut self.spots)?;
         Ok(())
+    }
+
+    /// Leaves of the names with one number that follow each other only the first.
+    pub fn keep_firsts(&mut self)
+        requires { AreInside self.old }
+        ensures inside { AreInside self.new }
+        ensures value { names_view self.new ≡ firsts None (names_view self.old) }
+    {
+        keep_firsts(&mut self.spots);
     }
 }

@@ -1,56 +1,78 @@
 // A search among numbers that rise.
 
-ghost use Rattle.std.specs.Prelude.{◌<◌, ◌≤◌, length, slice_index, IfSome, IfNone};
-ghost use Rattle.symbols.specs.Search.{IsLastUpTo, NoneWithin, RisesKeys};
+ghost use Rattle.std.specs.Prelude.{◌≡◌, ◌+◌, ◌<◌, ◌≤◌, ℕ, length, slice_index, IfSome, IfNone};
+ghost use Rattle.symbols.specs.Search.{keys_in, IsLastUpTo, NoneWithin, RisesKeys};
 
 use crate::guide::Near;
+use crate::names::Spot;
+
+#[inline(always)]
+fn key_at(spots: &[Spot], i: usize) -> u64
+    requires { i < length spots.now }
+    ensures { result ≡ slice_index (keys_in spots.now) i }
+{
+    spots[i].key
+}
+
+/// The place of the greatest number that is at most this one, among so many from a place on. The first of these is at most
+/// this one, and all behind them are above it.
+#[inline(always)]
+fn last_among(spots: &[Spot], from: usize, count: usize, key: u64) -> usize
+    requires rises { RisesKeys (keys_in spots.now) }
+    requires some { 0 < count }
+    requires within { from + count ≤ length spots.now }
+    requires first { slice_index (keys_in spots.now) from ≤ key }
+    requires past { (k : ℕ) → from + count ≤ k → k < length spots.now → key < slice_index (keys_in spots.now) k }
+    ensures { IsLastUpTo (keys_in spots.now) key result }
+{
+    let mut low = from;
+    let mut left = count;
+    while left > 1 {
+        let half = left / 2;
+        if key_at(spots, low + half) <= key {
+            low += half;
+        }
+        left -= half;
+    }
+    low
+}
 
 /// The place of the greatest number that is at most this one, if it stands between these places.
 #[inline(always)]
-fn place_between(keys: &[u64], near: Near, key: u64) -> Option<usize>
-    requires { RisesKeys keys.now }
-    ensures { IfSome result (IsLastUpTo keys.now key) }
+fn place_between(spots: &[Spot], near: Near, key: u64) -> Option<usize>
+    requires { RisesKeys (keys_in spots.now) }
+    ensures { IfSome result (IsLastUpTo (keys_in spots.now) key) }
 {
-    let mut low = near.from;
-    let mut high = near.to;
-    if low >= high || high >= keys.len() || key < keys[low] || keys[high] <= key {
+    let Near { from, to } = near;
+    if from >= to || to >= spots.len() || key < key_at(spots, from) || key_at(spots, to) <= key {
         return None;
     }
-    while high - low > 1 {
-        let middle = low + (high - low) / 2;
-        if keys[middle] <= key {
-            low = middle;
-        } else {
-            high = middle;
-        }
-    }
-    Some(low)
+    Some(last_among(spots, from, to - from, key))
 }
 
 /// The place of the greatest number that is at most this one, by a search among all.
 #[inline(never)]
-#[tactic(auto, using(crate::proofs::SearchLemmas::not_falls, crate::proofs::SearchLemmas::at_key, crate::proofs::SearchLemmas::before_place))]
-fn place_among(keys: &[u64], key: u64) -> Option<usize>
-    requires { RisesKeys keys.now }
-    ensures found { IfSome result (IsLastUpTo keys.now key) }
-    ensures none { IfNone result (NoneWithin keys.now key) }
+fn place_among(spots: &[Spot], key: u64) -> Option<usize>
+    requires { RisesKeys (keys_in spots.now) }
+    ensures found { IfSome result (IsLastUpTo (keys_in spots.now) key) }
+    ensures none { IfNone result (NoneWithin (keys_in spots.now) key) }
 {
-    match keys.binary_search(&key) {
-        Ok(i) => Some(i),
-        Err(0) => None,
-        Err(i) => Some(i - 1),
+    if !spots.is_empty() && key_at(spots, 0) <= key {
+        Some(last_among(spots, 0, spots.len(), key))
+    } else {
+        None
     }
 }
 
 /// The place of the greatest number that is at most this one. It is looked for first where it may stand.
 #[inline(always)]
-pub(crate) fn place_up_to(keys: &[u64], near: Near, key: u64) -> Option<usize>
-    requires { RisesKeys keys.now }
-    ensures found { IfSome result (IsLastUpTo keys.now key) }
-    ensures none { IfNone result (NoneWithin keys.now key) }
+pub(crate) fn place_up_to(spots: &[Spot], near: Near, key: u64) -> Option<usize>
+    requires { RisesKeys (keys_in spots.now) }
+    ensures found { IfSome result (IsLastUpTo (keys_in spots.now) key) }
+    ensures none { IfNone result (NoneWithin (keys_in spots.now) key) }
 {
-    match place_between(keys, near, key) {
+    match place_between(spots, near, key) {
         Some(place) => Some(place),
-        None => place_among(keys, key),
+        None => place_among(spots, key),
     }
 }

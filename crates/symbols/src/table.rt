@@ -9,7 +9,6 @@ ghost use Rattle.noted_places.specs.Noted.{noted};
 
 use crate::guide::{Guide, Near};
 use crate::names::Names;
-use crate::rows::{Rows, gather};
 use noted_places::Places;
 use std::alloc::{AllocError, Global};
 use std::marker::Model;
@@ -17,19 +16,19 @@ use std::marker::Model;
 /// Names by rising numbers. Contracts see the list of them.
 #[derive(Drop)]
 pub(crate) struct NameTable {
-    rows: Rows,
+    names: Names,
 }
 
 impl Model for NameTable {
     ghost use Rattle.std.specs.Prelude.{List};
     ghost use Rattle.symbols.specs.NameMap.{Pair, RisesFrom};
-    ghost use Rattle.symbols.specs.RowsView.{rows_view, IsSound};
+    ghost use Rattle.symbols.specs.Names.{names_view, AreInside};
 
     ghost Value = { List Pair };
 
-    ghost view = { λ t. rows_view t.rows };
+    ghost view = { λ t. names_view t.names };
 
-    ghost invariant = { λ t. IsSound t.rows × RisesFrom 0 (rows_view t.rows) };
+    ghost invariant = { λ t. AreInside t.names × RisesFrom 0 (names_view t.names) };
 }
 
 impl NameTable {
@@ -40,24 +39,23 @@ impl NameTable {
         ensures { IfOk result (IsMapOf (names_view names)) }
     {
         let mut names = names;
-        names.sort()?;
-        let Names { spots, block } = names;
-        let rows = gather(alloc, &spots, block)?;
-        Ok(NameTable { rows })
+        names.sort(alloc)?;
+        names.keep_firsts();
+        Ok(NameTable { names })
     }
 
     /// How many names there are.
     pub fn len(&self) -> usize
         ensures { result ≡ length self.now }
     {
-        self.rows.len()
+        self.names.len()
     }
 
     /// The name at a place.
     pub fn row(&self, i: usize) -> Option<(u64, &[u8])>
         ensures { option_map (λ r. (r.0, r.1.now)) result ≡ slice_get self.now i }
     {
-        self.rows.row(i)
+        self.names.row(i)
     }
 
     /// The name at a place, if it is that of this number.
@@ -66,7 +64,7 @@ impl NameTable {
         ensures found { IfSome result (λ name. first_at key self.now ≡ Some name.now) }
         ensures exact { option_map (λ name. name.now) result ≡ name_if key (slice_get self.now place) }
     {
-        let (number, name) = self.rows.row(place)?;
+        let (number, name) = self.names.row(place)?;
         if number == key { Some(name) } else { None }
     }
 
@@ -74,23 +72,25 @@ impl NameTable {
     pub fn places(&self, alloc: Global) -> Result<Places, AllocError>
         ensures { IfOk result (λ places. places ≡ noted (keys_of self.now)) }
     {
-        Places::noted(alloc, &self.rows.keys)
+        let keys = self.names.keys(alloc)?;
+        Places::noted(alloc, &keys)
     }
 
     /// A guide to the numbers.
     pub fn guide(&self, alloc: Global) -> Result<Guide, AllocError> {
-        Guide::to(alloc, &self.rows.keys)
+        Guide::to(alloc, &self.names.spots)
     }
 
     /// The name of the greatest number that is at most this one, and how far it is behind. It is looked for first where it may
     /// stand.
+    #[inline(always)]
     #[tactic(auto, unfolding(crate::specs::NameMap::nearest))]
     pub fn nearest(&self, near: Near, address: u64) -> Option<(&[u8], u64)>
         ensures found { IfSome result (λ r. IsNearest self.now address r.0.now r.1) }
         ensures none { IfNone result (NoneUpTo address self.now) }
         ensures exact { option_map (λ r. (r.0.now, r.1)) result ≡ nearest address self.now }
     {
-        match self.rows.row_up_to(near, address) {
+        match self.names.row_up_to(near, address) {
             Some((key, name)) => Some((name, address - key)),
             None => None,
         }
