@@ -7,6 +7,7 @@ ghost use Rattle.line_columns.specs.Columns.{left, right, zeros, time_text, bare
 ghost use Rattle.line_columns.specs.Marks as spec;
 
 use crate::marks::latency_marks;
+use crate::pairs::two_digits;
 use crate::widths::{
     BEFORE_PID, BEFORE_PLACE, BEFORE_TASK, BEFORE_TIME, DIGITS, LONGEST_DURATION, LONGEST_PID,
     LONGEST_PLACE, LONGEST_TASK, LONGEST_TIME, PID, ROOM, USUAL_LABEL,
@@ -51,8 +52,10 @@ impl Front {
         ensures { self.new ≡ text.now }
     {
         if text.len() == USUAL_LABEL {
-            // A text of a known length needs no call.
-            self.text(&text[..USUAL_LABEL]);
+            // A copy of a known length needs no call, and one by way of a place of its own no test whether the texts overlap.
+            let mut label = [0; USUAL_LABEL];
+            label.copy_from_slice(&text[..USUAL_LABEL]);
+            self.text(&label);
         } else {
             self.any_text(text);
         }
@@ -134,21 +137,54 @@ impl Front {
         self.fill(len);
     }
 
-    /// Puts a byte and a number in front, with the zeros that its column asks for. `power` is ten to the power of the width.
+    /// Puts a number of two digits in front.
     #[inline(always)]
-    fn zeros(&mut self, mark: u8, width: usize, power: u64, n: u64)
-        requires room { length self.old + DIGITS ≤ ROOM }
-        requires some { 0 < width }
-        requires power { power ≡ 10 ^ width }
-        requires small { power ≤ 10 ^ 9 }
-        requires below { n < power }
-        ensures longer { length self.new ≤ length self.old + DIGITS }
-        ensures value { self.new ≡ mark ∷ (zeros width (decimal n) ++ self.old) }
+    fn two(&mut self, n: u32)
+        requires room { length self.old + 2 ≤ ROOM }
+        requires small { n < 100 }
+        ensures longer { length self.new ≡ length self.old + 2 }
+        ensures value { self.new ≡ zeros 2 (decimal n) ++ self.old }
     {
-        // The digits of the sum are a 1, the zeros, and the number's own digits.
-        let at = write_digits(power + n, &mut self.buffer, self.at);
-        self.buffer[at] = mark;
-        self.at = at;
+        self.text(&two_digits(n));
+    }
+
+    /// Puts a number of three digits in front.
+    #[inline(always)]
+    #[tactic(auto, using(crate::proofs::ZeroFills::three_front))]
+    fn three(&mut self, n: u32)
+        requires room { length self.old + 3 ≤ ROOM }
+        requires small { n < 1000 }
+        ensures longer { length self.new ≡ length self.old + 3 }
+        ensures value { self.new ≡ zeros 3 (decimal n) ++ self.old }
+    {
+        self.two(n % 100);
+        self.byte(b'0' + (n / 100) as u8);
+    }
+
+    /// Puts a number of six digits in front.
+    #[inline(always)]
+    #[tactic(auto, using(crate::proofs::ZeroFills::six_front))]
+    fn six(&mut self, n: u32)
+        requires room { length self.old + 6 ≤ ROOM }
+        requires small { n < 1000000 }
+        ensures longer { length self.new ≡ length self.old + 6 }
+        ensures value { self.new ≡ zeros 6 (decimal n) ++ self.old }
+    {
+        self.two(n % 100);
+        self.two(n / 100 % 100);
+        self.two(n / 10_000);
+    }
+
+    /// Puts a number of nine digits in front.
+    #[tactic(auto, using(crate::proofs::ZeroFills::nine_front))]
+    fn nine(&mut self, n: u32)
+        requires room { length self.old + 9 ≤ ROOM }
+        requires small { n < 1000000000 }
+        ensures longer { length self.new ≡ length self.old + 9 }
+        ensures value { self.new ≡ zeros 9 (decimal n) ++ self.old }
+    {
+        self.three(n % 1000);
+        self.six(n / 1000);
     }
 
     /// Puts seconds and their part in front.
@@ -159,11 +195,13 @@ impl Front {
         ensures value { self.new ≡ time_text full time ++ self.old }
     {
         if full {
-            self.zeros(b'.', 9, 1_000_000_000, time % 1_000_000_000);
+            self.nine((time % 1_000_000_000) as u32);
+            self.byte(b'.');
             self.number(5, time / 1_000_000_000);
         } else {
             let micros = micros(time);
-            self.zeros(b'.', 6, 1_000_000, micros % 1_000_000);
+            self.six((micros % 1_000_000) as u32);
+            self.byte(b'.');
             self.number(5, micros / 1_000_000);
         }
     }
@@ -176,11 +214,13 @@ impl Front {
         ensures value { self.new ≡ bare_time_text full time ++ self.old }
     {
         if full {
-            self.zeros(b'.', 9, 1_000_000_000, time % 1_000_000_000);
+            self.nine((time % 1_000_000_000) as u32);
+            self.byte(b'.');
             self.digits(time / 1_000_000_000);
         } else {
             let micros = micros(time);
-            self.zeros(b'.', 6, 1_000_000, micros % 1_000_000);
+            self.six((micros % 1_000_000) as u32);
+            self.byte(b'.');
             self.digits(micros / 1_000_000);
         }
     }
@@ -193,26 +233,41 @@ impl Front {
         ensures value { self.new ≡ duration_text nanos ++ self.old }
     {
         self.text(b" us");
-        self.zeros(b'.', 3, 1000, nanos % 1000);
+        self.three((nanos % 1000) as u32);
+        self.byte(b'.');
         self.digits(nanos / 1000);
     }
 
     /// Puts the processor in front.
-    #[tactic(auto, using(crate::proofs::ZeroFills::two_between, crate::proofs::ZeroFills::three_between, crate::proofs::ZeroFills::more_between))]
+    #[tactic(auto, using(crate::proofs::ZeroFills::between))]
     pub fn processor(&mut self, cpu: u32)
         requires { length self.old ≤ BEFORE_PLACE }
         ensures longer { length self.new ≤ length self.old + LONGEST_PLACE }
         ensures value { self.new ≡ (codes " [" ++ (zeros 3 (decimal cpu) ++ codes "] ")) ++ self.old }
     {
+        self.byte(b' ');
+        self.byte(b']');
+        self.cpu(cpu);
+        self.byte(b'[');
+        self.byte(b' ');
+    }
+
+    /// Puts the number of a processor in front.
+    #[inline(always)]
+    #[tactic(auto, using(crate::proofs::ZeroFills::two_of_three, crate::proofs::Lengths::no_zeros))]
+    fn cpu(&mut self, cpu: u32)
+        requires { length self.old + DIGITS ≤ ROOM }
+        ensures longer { length self.new ≤ length self.old + DIGITS }
+        ensures value { self.new ≡ zeros 3 (decimal cpu) ++ self.old }
+    {
         if cpu < 100 {
             // Most machines have fewer processors.
-            self.text(&two_digits(cpu));
+            self.two(cpu);
+            self.byte(b'0');
         } else if cpu < 1000 {
-            self.text(&three_digits(cpu));
+            self.three(cpu);
         } else {
-            self.text(b"] ");
             self.digits(cpu as u64);
-            self.text(b" [");
         }
     }
 
@@ -278,37 +333,4 @@ impl Front {
         self.fill(self.len() + 5usize.saturating_sub(digits.len()));
         self.text(digits);
     }
-}
-
-/// The last digit of a number.
-fn last_digit(n: u32) -> u8
-    ensures { result ≡ 48 + n % 10 }
-{
-    b'0' + (n % 10) as u8
-}
-
-/// A number of at most two digits, with a zero, the brackets and spaces round it.
-fn two_digits(n: u32) -> [u8; 7]
-    requires { n < 100 }
-    ensures { result ≡ 32 ∷ 91 ∷ 48 ∷ (48 + n / 10) ∷ (48 + n % 10) ∷ 93 ∷ 32 ∷ [] }
-{
-    let tens = b'0' + (n / 10) as u8;
-    [b' ', b'[', b'0', tens, last_digit(n), b']', b' ']
-}
-
-/// A number of at most three digits, with the brackets and spaces round it.
-fn three_digits(n: u32) -> [u8; 7]
-    requires { n < 1000 }
-    ensures { result ≡ 32 ∷ 91 ∷ (48 + n / 100) ∷ (48 + n / 10 % 10) ∷ (48 + n % 10) ∷ 93 ∷ 32 ∷ [] }
-{
-    let hundreds = last_digit(n / 100);
-    [
-        b' ',
-        b'[',
-        hundreds,
-        last_digit(n / 10),
-        last_digit(n),
-        b']',
-        b' ',
-    ]
 }

@@ -43,10 +43,7 @@ pub const BEFORE_PLACE: usize = BEFORE_TIME + LONGEST_TIME;
 pub const BEFORE_PID: usize = BEFORE_PLACE + LONGEST_PLACE;
 
 /// The same before the task's name is.
-pub const BEFORE_TASK: usize = BEFORE_PID + LONGEST_PID + DASH;
-
-/// How much the columns make a text longer, the task's name apart.
-pub const LONGEST_COLUMNS: usize = BEFORE_TASK - LONGEST_BEHIND;
+pub(crate) const BEFORE_TASK: usize = BEFORE_PID + LONGEST_PID + DASH;
 
 /// How many bytes there is room for.
 pub(crate) const ROOM: usize = 200;

@@ -1,5 +1,5 @@
 -- No line has more than 65,537 bytes.
-use Rattle.std.proofs.Common.{ℕ, ◌≤◌, ◌-◌, Bool, true, false, cond, List, [], length, take, inl, inr, arith, length-append}
+use Rattle.std.proofs.Common.{ℕ, ◌≤◌, ◌-◌, Bool, true, false, cond, List, length, take, inl, inr, arith, length-append}
 use Rattle.std.specs.Prelude.{codes}
 use Rattle.std.proofs.lemmas.Bool.{lt-ltb, le-ltb, cases_lt}
 use Rattle.std.proofs.lemmas.List.{length-take}

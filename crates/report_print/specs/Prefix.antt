@@ -16,11 +16,13 @@ common_in given payload = record {
   pid = pid_of given payload;
 }
 
+-- where and when it was
+abbrev pub when_of : Show → ℕ → ℕ → Common → List ℕ
+when_of show cpu time common = place_text show cpu common.flags common.preempt ++ (time_text show.full time ++ codes ": ")
+
 -- behind the task's name: its pid, where and when it was
 unfoldable pub columns_of : Show → ℕ → ℕ → Common → List ℕ
-columns_of show cpu time common =
-    codes "-" ++ (left 5 (signed_decimal common.pid)
-    ++ (place_text show cpu common.flags common.preempt ++ (time_text show.full time ++ codes ": ")))
+columns_of show cpu time common = codes "-" ++ (left 5 (signed_decimal common.pid) ++ when_of show cpu time common)
 
 unfoldable pub prefix_text : Given → ℕ → ℕ → Common → List ℕ
 prefix_text given cpu time common = task_text given.show given.symbols.tasks common.pid ++ columns_of given.show cpu time common

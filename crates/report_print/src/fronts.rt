@@ -6,12 +6,13 @@ ghost use Rattle.trace_base.specs.TailView.{held, lent};
 ghost use Rattle.report_print.specs.Given.{Given};
 ghost use Rattle.report_print.specs.Line as line;
 ghost use Rattle.report_print.specs.Prefix as spec;
+ghost use Rattle.report_print.specs.Tasks.{task_front};
 
 use crate::context::Context;
 use crate::fields::put_pair;
 use crate::show::Show;
 use line_columns::{
-    BEFORE_PLACE, Common, Front, LONGEST_BEHIND, LONGEST_COLUMNS, LONGEST_PLACE, LONGEST_TASK,
+    BEFORE_PID, BEFORE_PLACE, Common, Front, LONGEST_BEHIND, LONGEST_PLACE, LONGEST_TASK,
     USUAL_COLUMNS, USUAL_LABEL,
 };
 use trace_base::{Order, Tail};
@@ -75,7 +76,6 @@ pub fn prefix(context: &Context, cpu: u32, time: u64, common: &Common, into: &mu
 }
 
 /// Puts the columns of a line, and a short text behind them. Gives where the time ends: behind it stand a colon and a space.
-#[tactic(auto, unfolding(crate::specs::Prefix::prefix_text), using(crate::proofs::FrontLemmas::wide_task, crate::proofs::FrontLemmas::behind_front, trace_base::proofs::TailJoins::put_held_twice))]
 pub(crate) fn put_front(
     context: &Context,
     cpu: u32,
@@ -89,19 +89,50 @@ pub(crate) fn put_front(
     ensures value { held into.new ≡ put_held (put_held (held into.old) (spec.prefix_text context.now cpu time common.now)) behind.now }
     ensures until { result + 2 ≡ length (spec.prefix_text context.now cpu time common.now) }
 {
-    let name = context.symbols().comm_of(common.pid);
     let mut front = Front::new();
     front.start(behind);
-    put_columns(context.show(), cpu, time, common, &mut front);
-    let width = task_width(context.show());
-    let more = behind.len() + 2;
+    put_when(context.show(), cpu, time, common, &mut front);
+    let len = put_with_task(context, common.pid, &mut front, into);
+    len - (behind.len() + 2)
+}
+
+/// Puts a text with the task in front of it, and gives the length of both.
+#[inline(always)]
+fn put_with_task(context: &Context, pid: i32, front: &mut Front, into: &mut Tail<'_>) -> usize
+    requires { length front.old ≤ BEFORE_PID }
+    ensures same_slice { lent into.new ≡ lent into.old }
+    ensures value { held into.new ≡ put_held (held into.old) (task_front context.now.show context.now.symbols.tasks pid ++ front.old) }
+    ensures len { result ≡ length (task_front context.now.show context.now.symbols.tasks pid ++ front.old) }
+{
+    match context.task_front(pid) {
+        Some(task) => {
+            front.text(task);
+            put_known_length(front.as_bytes(), into);
+            front.len()
+        }
+        None => put_with_any_task(context, pid, front, into),
+    }
+}
+
+/// The same where the task's text was not made beforehand.
+#[inline(never)]
+#[tactic(auto, using(crate::proofs::FrontLemmas::wide_task, crate::proofs::FrontLemmas::behind_task))]
+fn put_with_any_task(context: &Context, pid: i32, front: &mut Front, into: &mut Tail<'_>) -> usize
+    requires { length front.old ≤ BEFORE_PID }
+    ensures same_slice { lent into.new ≡ lent into.old }
+    ensures value { held into.new ≡ put_held (held into.old) (task_front context.now.show context.now.symbols.tasks pid ++ front.old) }
+    ensures len { result ≡ length (task_front context.now.show context.now.symbols.tasks pid ++ front.old) }
+{
+    let name = context.symbols().comm_of(pid);
+    front.pid(pid);
+    front.byte(b'-');
     if name.len() <= LONGEST_TASK {
-        front.task(width, name);
-        put_known_length(front.as_bytes(), into);
-        front.len() - more
+        front.task(task_width(context.show()), name);
+        into.put(front.as_bytes());
+        front.len()
     } else {
         put_pair(name, front.as_bytes(), into);
-        name.len() + (front.len() - more)
+        name.len() + front.len()
     }
 }
 
@@ -125,26 +156,23 @@ fn put_piece(piece: &[u8], into: &mut Tail<'_>)
     into.put(piece);
 }
 
-fn task_width(show: &Show) -> usize
+pub(crate) fn task_width(show: &Show) -> usize
     ensures value { result ≡ line.task_width show.now }
     ensures narrow { result ≤ 16 }
 {
     if show.latency { 8 } else { 16 }
 }
 
-// Puts the columns behind the task's name in front.
-#[tactic(auto, unfolding(crate::specs::Prefix::columns_of))]
-fn put_columns(show: &Show, cpu: u32, time: u64, common: &Common, front: &mut Front)
+// Puts the columns behind the task in front.
+fn put_when(show: &Show, cpu: u32, time: u64, common: &Common, front: &mut Front)
     requires room { length front.old ≤ LONGEST_BEHIND }
-    ensures value { front.new ≡ spec.columns_of show.now cpu time common.now ++ front.old }
-    ensures longer { length front.new ≤ length front.old + LONGEST_COLUMNS }
+    ensures value { front.new ≡ spec.when_of show.now cpu time common.now ++ front.old }
+    ensures longer { length front.new ≤ BEFORE_PID }
 {
     front.byte(b' ');
     front.byte(b':');
     front.time(show.full, time);
     put_place(show, cpu, common.flags, common.preempt, front);
-    front.pid(common.pid);
-    front.byte(b'-');
 }
 
 // Puts the processor in front, and with the latency columns what an event says of its context.

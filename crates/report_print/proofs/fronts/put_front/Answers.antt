@@ -1,36 +1,41 @@
-use Rattle.std.proofs.Common.{◌≡◌, ◌++◌, ◌≤◌, ◌∙◌, List, ℕ, ap, length, rules, arith}
-use Rattle.line_columns.specs.Columns.{right}
+use Rattle.std.proofs.Common.{◌++◌, ◌∙◌, ℤ, List, ℕ, FitsSigned, length, ap, rules}
+use Rattle.std.specs.Int.{w32}
+use Rattle.std.proofs.lemmas.Int.{to_z-of_z}
+use Rattle.trace_base.specs.Kept.{put_held}
+use Rattle.trace_base.specs.TailView.{held}
 use Rattle.report_print.specs.declared.show.Show.{Show}
-use Rattle.report_print.specs.Line.{task_text}
-use Rattle.report_print.specs.Prefix.{columns_of, prefix_text}
-use Rattle.report_print.proofs.FrontLemmas.{wide_task}
-use Rattle.report_print.proofs.TimeEnds.{columns_room, long_name, short_name}
+use Rattle.report_print.specs.Prefix.{when_of}
+use Rattle.report_print.specs.Tasks.{task_front}
+use Rattle.report_print.proofs.FrontLemmas.{front_room, front_put, time_ends}
 use Rattle.report_print.proofs.fronts.put_front.Goals as goal
 
-pub overflow_sub-result-else-name-le-LONGEST_TASK : goal.overflow_sub-result-else-name-le-LONGEST_TASK
-overflow_sub-result-else-name-le-LONGEST_TASK c =
-    columns_room c.show.result.now c.args.cpu c.args.time c.args.common.now c.args.behind.now c.put_columns.new.front
-    (c.put_columns.ensures.value ∙ ap (λ (l : List ℕ). columns_of c.show.result.now c.args.cpu c.args.time c.args.common.now ++ l) c.start.ensures)
-    c.len-else-name-le-LONGEST_TASK.result c.len-else-name-le-LONGEST_TASK.ensures.value
+pub overflow_sub-result : goal.overflow_sub-result
+overflow_sub-result c =
+    let given = c.args.context.now in
+    let when = c.put_when.ensures.value ∙ ap (λ (l : List ℕ). when_of c.show.result.now c.args.cpu c.args.time c.args.common.now ++ l) c.start.ensures
+    ∙ ap (λ (show : Show). when_of show c.args.cpu c.args.time c.args.common.now ++ c.args.behind.now) c.show.ensures in
+    let in_range : FitsSigned w32 c.args.common.now.pid = search rules in
+    let same_pid = to_z-of_z w32 c.args.common.now.pid in_range in
+    front_room given c.args.cpu c.args.time c.args.common.now c.args.behind.now c.put_when.new.front when c.put_with_task-len.result
+    (c.put_with_task-len.ensures.len ∙ ap (λ (pid : ℤ). length (task_front given.show given.symbols.tasks pid ++ c.put_when.new.front)) same_pid)
 
-pub returns-then-name-le-LONGEST_TASK-clause-until : goal.returns-then-name-le-LONGEST_TASK-clause-until
-unfolding prefix_text
-returns-then-name-le-LONGEST_TASK-clause-until c =
-    let columns : List ℕ = columns_of c.show.result.now c.args.cpu c.args.time c.args.common.now in
-    let task : right c.task_width-width.result c.comm_of-name.result.now ≡ task_text c.args.context.now.show c.args.context.now.symbols.tasks c.args.common.now.pid = search rules in
-    short_name c.show.result.now c.args.cpu c.args.time c.args.common.now c.args.behind.now c.put_columns.new.front
-    (c.put_columns.ensures.value ∙ ap (λ (l : List ℕ). columns ++ l) c.start.ensures)
-    (right c.task_width-width.result c.comm_of-name.result.now) c.task.new.self c.len.result c.task.ensures c.len.ensures.value
-    ∙ ap (λ (l : List ℕ). length (l ++ columns)) task
-    ∙ ap (λ (show : Show). length (task_text c.args.context.now.show c.args.context.now.symbols.tasks c.args.common.now.pid ++ columns_of show c.args.cpu c.args.time c.args.common.now)) c.show.ensures
+pub returns-clause-value : goal.returns-clause-value
+returns-clause-value c =
+    let given = c.args.context.now in
+    let when = c.put_when.ensures.value ∙ ap (λ (l : List ℕ). when_of c.show.result.now c.args.cpu c.args.time c.args.common.now ++ l) c.start.ensures
+    ∙ ap (λ (show : Show). when_of show c.args.cpu c.args.time c.args.common.now ++ c.args.behind.now) c.show.ensures in
+    let in_range : FitsSigned w32 c.args.common.now.pid = search rules in
+    let same_pid = to_z-of_z w32 c.args.common.now.pid in_range in
+    c.put_with_task-len.ensures.value
+    ∙ ap (λ (pid : ℤ). put_held (held c.args.into.now) (task_front given.show given.symbols.tasks pid ++ c.put_when.new.front)) same_pid
+    ∙ front_put given c.args.cpu c.args.time c.args.common.now c.args.behind.now c.put_when.new.front when (held c.args.into.now)
 
-pub returns-else-name-le-LONGEST_TASK-clause-until : goal.returns-else-name-le-LONGEST_TASK-clause-until
-unfolding prefix_text
-returns-else-name-le-LONGEST_TASK-clause-until c =
-    let columns : List ℕ = columns_of c.show.result.now c.args.cpu c.args.time c.args.common.now in
-    let task : right c.task_width-width.result c.comm_of-name.result.now ≡ task_text c.args.context.now.show c.args.context.now.symbols.tasks c.args.common.now.pid = search rules in
-    long_name c.show.result.now c.args.cpu c.args.time c.args.common.now c.args.behind.now c.put_columns.new.front
-    (c.put_columns.ensures.value ∙ ap (λ (l : List ℕ). columns ++ l) c.start.ensures)
-    c.comm_of-name.result.now c.len-else-name-le-LONGEST_TASK.result c.len-else-name-le-LONGEST_TASK.ensures.value
-    ∙ ap (λ (l : List ℕ). length (l ++ columns)) (wide_task c.task_width-width.result c.comm_of-name.result.now (omega (arith, c.if-name-le-LONGEST_TASK.false, c.task_width-width.ensures.narrow)) ∙ task)
-    ∙ ap (λ (show : Show). length (task_text c.args.context.now.show c.args.context.now.symbols.tasks c.args.common.now.pid ++ columns_of show c.args.cpu c.args.time c.args.common.now)) c.show.ensures
+pub returns-clause-until : goal.returns-clause-until
+returns-clause-until c =
+    let given = c.args.context.now in
+    let when = c.put_when.ensures.value ∙ ap (λ (l : List ℕ). when_of c.show.result.now c.args.cpu c.args.time c.args.common.now ++ l) c.start.ensures
+    ∙ ap (λ (show : Show). when_of show c.args.cpu c.args.time c.args.common.now ++ c.args.behind.now) c.show.ensures in
+    let in_range : FitsSigned w32 c.args.common.now.pid = search rules in
+    let same_pid = to_z-of_z w32 c.args.common.now.pid in_range in
+    time_ends given c.args.cpu c.args.time c.args.common.now c.args.behind.now c.put_when.new.front when c.put_with_task-len.result
+    (c.put_with_task-len.ensures.len ∙ ap (λ (pid : ℤ). length (task_front given.show given.symbols.tasks pid ++ c.put_when.new.front)) same_pid)
