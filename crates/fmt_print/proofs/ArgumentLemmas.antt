@@ -1,13 +1,12 @@
 -- The first of the arguments.
-use Rattle.std.proofs.Common.{◌≡◌, ◌∙◌, ℕ, ◌<◌, List, [], ◌∷◌, length, map, drop, get_or, Option, Some, None, refl, ap, arith}
+use Rattle.std.proofs.Common.{◌≡◌, ◌∙◌, ◌<◌, List, [], ◌∷◌, length, map, drop, get_or, Option, Some, None, refl, ap, arith}
 use Rattle.fmt_print.specs.declared.argument.Argument.{Argument}
 use Rattle.fmt_expr.specs.Tree.{Tree}
 use Rattle.fmt_print.specs.ArgumentView.{argument_tree}
 use Rattle.fmt_directives.specs.declared.directive.Length.{Length}
 use Rattle.fmt_eval.specs.Values.{RecData}
-use Rattle.fmt_forms.specs.declared.form.Form.{Form}
 use Rattle.fmt_forms.specs.Forms.{form_of}
-use Rattle.fmt_print.specs.Arguments.{Taken, by, first_of, taken}
+use Rattle.fmt_print.specs.Arguments.{Taken, first_of, taken}
 use Rattle.fmt_print.specs.Steps.{plain_spec}
 
 abbrev pair : Tree → List Tree → Tree × List Tree
@@ -20,13 +19,6 @@ first_none (e ∷ es) none = absurd (omega arith)
 pub first_some : (args : List Argument) (d : Argument) → 0 < length args → first_of (map argument_tree args) ≡ Some (pair (argument_tree (get_or args 0 d)) (map argument_tree (drop 1 args)))
 first_some [] d some = absurd (omega arith)
 first_some (e ∷ es) d some = refl
-
--- what a conversion takes
-pub by_some : (f : Form → Tree → List ℕ) (a : Taken) (o : Option Taken) → Some a ≡ o → (f a.0 a.1, a.2) ≡ by f o
-by_some f a o is = ap (by f) is
-
-pub by_none : (f : Form → Tree → List ℕ) (o : Option Taken) → None ≡ o → ([], []) ≡ by f o
-by_none f o is = ap (by f) is
 
 -- a plain conversion takes one argument, whatever its length
 abbrev plain_taken : Length → Option (Tree × List Tree) → Option Taken

@@ -1,5 +1,5 @@
 -- The steps of directives.
-use Rattle.std.proofs.Common.{◌≡◌, ℕ, ◌+◌, ◌-◌, ◌<◌, ◌≤◌, List, [], ◌∷◌, ◌++◌, length, length-append, take, drop, replicate, get_or, Option, Some, None, refl, sym, ap, ◌∙◌, append_assoc, arith}
+use Rattle.std.proofs.Common.{◌≡◌, ℕ, ◌+◌, ◌-◌, ◌<◌, ◌≤◌, List, [], ◌∷◌, ◌++◌, length, length-append, take, drop, replicate, get_or, Option, Some, None, refl, sym, ap, subst, ◌∙◌, append_assoc, arith}
 use Rattle.std.specs.Prelude.{IfSome, slice_range}
 use Rattle.std.specs.List.{All, flat_map}
 use Rattle.std.specs.Option.{option_to_list}
@@ -17,9 +17,12 @@ use Rattle.fmt_print.specs.declared.step.Step.{Step}
 use Rattle.fmt_print.specs.declared.step.Content.{Content}
 use Rattle.fmt_print.specs.declared.step.Content.TheVariants as content
 use Rattle.fmt_directives.specs.declared.directive.Spec.{Spec}
-use Rattle.fmt_print.specs.Arguments.{taken, by}
+use Rattle.fmt_print.specs.declared.argument.Argument.{Argument}
+use Rattle.fmt_print.specs.ArgumentView.{trees}
+use Rattle.fmt_print.specs.Arguments.{Taken, taken, by}
 use Rattle.fmt_print.specs.Contents.{content_text, directive_of}
 use Rattle.fmt_print.specs.Printed.{Source, printed, printed_one}
+use Rattle.fmt_print.specs.Shows.{Shows, Takes}
 use Rattle.fmt_print.specs.Steps.{literal_directive, literal_text, shown_directive, directives_of, IsPlaced, printed_some, printed_step}
 
 -- steps that were made of the first of some directives
@@ -40,11 +43,20 @@ steps_all steps [] ds none before = sym (append-nil (flat_map directives_of step
 steps_all steps (d ∷ left) ds none before = absurd (omega arith)
 
 -- what a conversion shows
-pub directive_shown : (s : Source) (what : Content) (spec : Spec) (args : List Tree) → by (content_text s what spec.length) (taken s.given spec args) ≡ printed_one s (directive_of what spec) args
+directive_shown : (s : Source) (what : Content) (spec : Spec) (args : List Tree) → by (content_text s what spec.length) (taken s.given spec args) ≡ printed_one s (directive_of what spec) args
 directive_shown s (content.Number base) spec args = refl
 directive_shown s content.Letter spec args = refl
 directive_shown s content.Text spec args = refl
 directive_shown s (content.Pointer pointer) spec args = refl
+
+pub takes_some : (s : Source) (what : Content) (spec : Spec) (args : List Tree) (before now : Tail) (left : List Argument) (a : Taken) → Some a ≡ taken s.given spec args → Shows before now (content_text s what spec.length a.0 a.1) → trees left ≡ a.2
+    → Takes before now left (printed_one s (directive_of what spec) args)
+takes_some s what spec args before now left a is shown rest =
+    subst (Takes before now left) (ap (by (content_text s what spec.length)) is ∙ directive_shown s what spec args) (shown, rest)
+
+pub takes_none : (s : Source) (what : Content) (spec : Spec) (args : List Tree) (tail : Tail) (left : List Argument) → None ≡ taken s.given spec args → trees left ≡ [] → Takes tail tail left (printed_one s (directive_of what spec) args)
+takes_none s what spec args tail left is rest =
+    subst (Takes tail tail left) (ap (by (content_text s what spec.length)) is ∙ directive_shown s what spec args) (nothing_joined tail, rest)
 
 -- the texts of steps, one after another
 module _ (s : Source) where
@@ -64,17 +76,18 @@ module _ (s : Source) where
       ∙ ap (λ (l : List ℕ). literal_text s.text step.literal ++ l) (shown_first (shown_directive step.shown) ds args)
       ∙ sym (append_assoc (literal_text s.text step.literal) behind.0 (printed s ds behind.1))
 
-  pub printed_more : (r so_far next : Gathered) (steps : List Step) (i : ℕ) (d : Step) (args left : List Tree) → i < length steps → next ≡ joined so_far (printed_step s (get_or steps i d) args).0 → left ≡ (printed_step s (get_or steps i d) args).1
-      → joined so_far (printed s (flat_map directives_of (drop i steps)) args) ≡ r → joined next (printed s (flat_map directives_of (drop (i + 1) steps)) left) ≡ r
-  printed_more r so_far next steps i d args left lt shown rest before =
+  pub printed_more : (r : Gathered) (before now : Tail) (steps : List Step) (i : ℕ) (d : Step) (args : List Tree) (left : List Argument) → i < length steps → Takes before now left (printed_step s (get_or steps i d) args)
+      → joined (gathered before) (printed s (flat_map directives_of (drop i steps)) args) ≡ r → joined (gathered now) (printed s (flat_map directives_of (drop (i + 1) steps)) (trees left)) ≡ r
+  printed_more r before now steps i d args left lt takes was =
+      let so_far = gathered before in
       let one : List ℕ × List Tree = printed_step s (get_or steps i d) args in
       let behind = flat_map directives_of (drop (i + 1) steps) in
-      ap (λ (g : Gathered). joined g (printed s behind left)) shown
-      ∙ ap (λ (l : List Tree). joined (joined so_far one.0) (printed s behind l)) rest
+      ap (λ (g : Gathered). joined g (printed s behind (trees left))) takes.0
+      ∙ ap (λ (l : List Tree). joined (joined so_far one.0) (printed s behind l)) takes.1
       ∙ joined_twice so_far one.0 (printed s behind one.1)
       ∙ ap (joined so_far) (sym (step_first (get_or steps i d) behind args))
       ∙ ap (λ (es : List Step). joined so_far (printed s (flat_map directives_of es) args)) (sym (drop_more steps i d lt))
-      ∙ before
+      ∙ was
 
   pub printed_all : (r : Gathered) (t : Tail) (steps : List Step) (i : ℕ) (args : List Tree) → length steps ≤ i → joined (gathered t) (printed s (flat_map directives_of (drop i steps)) args) ≡ r → gathered t ≡ r
   printed_all r t steps i args le before =

@@ -158,8 +158,9 @@ impl<'a> Printer<'a> {
         }
     }
 
-    /// Shows what `p` shows of a number: the address, or the symbol that stands there.
-    #[inline(always)]
+    /// Shows what `p` shows of a number: the address, or the symbol that stands there. The search is long, and would keep its
+    /// callers from being inlined.
+    #[inline(never)]
     #[tactic(auto, using(fmt_forms::proofs::LaidLemmas::padded_alone))]
     fn number_address(&self, show: PointerForm, form: &Form, n: u64, into: &mut Tail<'_>)
         ensures { Shows into.old into.new (padded form.now.left form.now.width (number_address show n self.now.symbols.now)) }

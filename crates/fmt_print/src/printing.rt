@@ -7,7 +7,7 @@ ghost use Rattle.fmt_directives.specs.Directives.{IsWithin};
 ghost use Rattle.fmt_eval.specs.Values.{given};
 ghost use Rattle.fmt_print.specs.ArgumentView.{trees};
 ghost use Rattle.fmt_print.specs.PlanView.{plan_view};
-ghost use Rattle.fmt_print.specs.Printed.{printed, print_text};
+ghost use Rattle.fmt_print.specs.Printed.{printed, printed_one, print_text};
 ghost use Rattle.fmt_print.specs.Steps.{plain_spec, literal_directive, literal_text, shown_directive, printed_some, printed_step, IsPlaced};
 
 use crate::argument::Argument;
@@ -21,9 +21,8 @@ use symbols::Symbols;
 use trace_base::{Rec, Tail};
 
 impl<'a> Printer<'a> {
-    ghost use Rattle.fmt_print.specs.Arguments.{by, taken};
-    ghost use Rattle.fmt_print.specs.Contents.{content_text};
-    ghost use Rattle.fmt_print.specs.Shows.{Shows};
+    ghost use Rattle.fmt_print.specs.Contents.{directive_of};
+    ghost use Rattle.fmt_print.specs.Shows.{Shows, Takes};
     ghost use Rattle.fmt_print.specs.Sources.{source};
 
     /// Shows a conversion of any form. Gives the arguments behind those that it takes.
@@ -35,8 +34,7 @@ impl<'a> Printer<'a> {
         args: &'b [Argument],
         into: &mut Tail<'_>,
     ) -> &'b [Argument]
-        ensures shown { Shows into.old into.new (by (content_text (source self.now) what.now spec.now.length) (taken (given self.now.rec.now) spec.now (trees args.now))).0 }
-        ensures rest { trees result.now ≡ (by (content_text (source self.now) what.now spec.now.length) (taken (given self.now.rec.now) spec.now (trees args.now))).1 }
+        ensures { Takes into.old into.new result.now (printed_one (source self.now) (directive_of what.now spec.now) (trees args.now)) }
     {
         match taken(self.rec, *spec, args) {
             Some(of) => {
@@ -56,8 +54,7 @@ impl<'a> Printer<'a> {
         args: &'b [Argument],
         into: &mut Tail<'_>,
     ) -> &'b [Argument]
-        ensures shown { Shows into.old into.new (by (content_text (source self.now) what length) (taken (given self.now.rec.now) (plain_spec length) (trees args.now))).0 }
-        ensures rest { trees result.now ≡ (by (content_text (source self.now) what length) (taken (given self.now.rec.now) (plain_spec length) (trees args.now))).1 }
+        ensures { Takes into.old into.new result.now (printed_one (source self.now) (directive_of what (plain_spec length)) (trees args.now)) }
     {
         match first_of(args) {
             Some((argument, rest)) => {
@@ -86,11 +83,10 @@ impl<'a> Printer<'a> {
 
     /// Shows what stands behind a literal. Gives the arguments behind those that it takes.
     #[inline(always)]
-    #[tactic(auto, using(crate::proofs::Gathering::nothing_joined, crate::proofs::StepLemmas::directive_shown))]
+    #[tactic(auto, using(crate::proofs::Gathering::nothing_joined))]
     fn shown<'b>(&self, shown: &Shown, args: &'b [Argument], into: &mut Tail<'_>) -> &'b [Argument]
         requires { IfSome (shown_directive shown.now) (IsWithin (length (source self.now).text)) }
-        ensures shown { Shows into.old into.new (printed_some (source self.now) (shown_directive shown.now) (trees args.now)).0 }
-        ensures rest { trees result.now ≡ (printed_some (source self.now) (shown_directive shown.now) (trees args.now)).1 }
+        ensures { Takes into.old into.new result.now (printed_some (source self.now) (shown_directive shown.now) (trees args.now)) }
     {
         match shown {
             Shown::Nothing => args,
@@ -116,8 +112,7 @@ impl<'a> Printer<'a> {
     #[inline(always)]
     fn step<'b>(&self, step: &Step, args: &'b [Argument], into: &mut Tail<'_>) -> &'b [Argument]
         requires { IsPlaced (length (source self.now).text) step.now }
-        ensures shown { Shows into.old into.new (printed_step (source self.now) step.now (trees args.now)).0 }
-        ensures rest { trees result.now ≡ (printed_step (source self.now) step.now (trees args.now)).1 }
+        ensures { Takes into.old into.new result.now (printed_step (source self.now) step.now (trees args.now)) }
     {
         self.literal(step.literal, into);
         self.shown(&step.shown, args, into)

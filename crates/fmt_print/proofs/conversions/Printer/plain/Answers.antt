@@ -1,24 +1,17 @@
-use Rattle.std.proofs.Common.{ℕ, List, ap, ◌∙◌}
-use Rattle.fmt_print.specs.Gathered.{gathered, joined}
-use Rattle.fmt_print.proofs.Gathering.{nothing_joined}
-use Rattle.fmt_expr.specs.Tree.{Tree}
-use Rattle.fmt_eval.specs.Values.{given}
+use Rattle.std.proofs.Common.{[], refl}
 use Rattle.fmt_print.specs.ArgumentView.{trees}
-use Rattle.fmt_print.specs.Arguments.{taken}
-use Rattle.fmt_print.specs.Contents.{content_text}
 use Rattle.fmt_print.specs.Sources.{source}
+use Rattle.fmt_eval.specs.Values.{given}
 use Rattle.fmt_print.specs.Steps.{plain_spec}
-use Rattle.fmt_print.proofs.ArgumentLemmas.{by_some, by_none, plain_some, plain_none}
+use Rattle.fmt_print.proofs.ArgumentLemmas.{plain_some, plain_none}
+use Rattle.fmt_print.proofs.StepLemmas.{takes_some, takes_none}
 use Rattle.fmt_print.proofs.conversions.Printer.plain.Goals as goal
 
-pub returns-in-Some-clause-shown : goal.returns-in-Some-clause-shown
-returns-in-Some-clause-shown c = c.content.ensures ∙ ap (λ (x : List ℕ × List Tree). joined (gathered c.args.into.now) x.0) (by_some (content_text (source c.args.self.now) c.args.what c.args.length) _ (taken (given c.args.self.now.rec.now) (plain_spec c.args.length) (trees c.args.args.now)) (plain_some (given c.args.self.now.rec.now) c.args.length (trees c.args.args.now) _ c.in-Some.ensures))
+pub returns-in-Some : goal.returns-in-Some
+returns-in-Some c =
+    takes_some (source c.args.self.now) c.args.what (plain_spec c.args.length) (trees c.args.args.now) c.args.into.now _ _ _
+    (plain_some (given c.args.self.now.rec.now) c.args.length (trees c.args.args.now) _ c.in-Some.ensures) c.content.ensures refl
 
-pub returns-in-Some-clause-rest : goal.returns-in-Some-clause-rest
-returns-in-Some-clause-rest c = ap (λ (x : List ℕ × List Tree). x.1) (by_some (content_text (source c.args.self.now) c.args.what c.args.length) _ (taken (given c.args.self.now.rec.now) (plain_spec c.args.length) (trees c.args.args.now)) (plain_some (given c.args.self.now.rec.now) c.args.length (trees c.args.args.now) _ c.in-Some.ensures))
-
-pub returns-in-None-clause-shown : goal.returns-in-None-clause-shown
-returns-in-None-clause-shown c = nothing_joined c.args.into.now ∙ ap (λ (x : List ℕ × List Tree). joined (gathered c.args.into.now) x.0) (by_none (content_text (source c.args.self.now) c.args.what c.args.length) (taken (given c.args.self.now.rec.now) (plain_spec c.args.length) (trees c.args.args.now)) (plain_none (given c.args.self.now.rec.now) c.args.length (trees c.args.args.now) c.in-None.ensures))
-
-pub returns-in-None-clause-rest : goal.returns-in-None-clause-rest
-returns-in-None-clause-rest c = ap (λ (x : List ℕ × List Tree). x.1) (by_none (content_text (source c.args.self.now) c.args.what c.args.length) (taken (given c.args.self.now.rec.now) (plain_spec c.args.length) (trees c.args.args.now)) (plain_none (given c.args.self.now.rec.now) c.args.length (trees c.args.args.now) c.in-None.ensures))
+pub returns-in-None : goal.returns-in-None
+returns-in-None c =
+    takes_none (source c.args.self.now) c.args.what (plain_spec c.args.length) (trees c.args.args.now) c.args.into.now [] (plain_none (given c.args.self.now.rec.now) c.args.length (trees c.args.args.now) c.in-None.ensures) refl

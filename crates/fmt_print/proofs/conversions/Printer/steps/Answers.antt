@@ -1,7 +1,6 @@
 use Rattle.std.proofs.Common.{arith, length}
 use Rattle.std.specs.List.{All}
 use Rattle.std.proofs.lemmas.List.Elements.{All-get_or}
-use Rattle.fmt_print.specs.Gathered.{gathered}
 use Rattle.fmt_print.specs.ArgumentView.{trees}
 use Rattle.fmt_print.specs.Sources.{source}
 use Rattle.fmt_print.specs.Steps.{IsPlaced}
@@ -13,8 +12,7 @@ step-left-requires c = All-get_or (IsPlaced (length (source c.args.self.now).tex
 
 pub loop-step-preserved : goal.loop-step-preserved
 loop-step-preserved c =
-    printed_more (source c.args.self.now) _ (gathered c.loop-step.into) _ c.steps-steps.result.now c.loop-step.step-index _ (trees c.loop-step.left.now) (trees c.step-left.result.now) c.loop-step-test.true
-    c.step-left.ensures.shown c.step-left.ensures.rest c.loop-step.invariant
+    printed_more (source c.args.self.now) _ c.loop-step.into c.step-left.new.into c.steps-steps.result.now c.loop-step.step-index _ (trees c.loop-step.left.now) c.step-left.result.now c.loop-step-test.true c.step-left.ensures c.loop-step.invariant
 
 pub returns : goal.returns
 returns c = printed_all (source c.args.self.now) _ c.loop-step.into c.steps-steps.result.now c.loop-step.step-index (trees c.loop-step.left.now) (omega arith) c.loop-step.invariant
