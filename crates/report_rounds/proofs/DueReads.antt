@@ -34,11 +34,12 @@ use Rattle.round_print.specs.Prints.{CpuLine, filled_text}
 use Rattle.report_rounds.specs.Between.{IsAtStart, IsBetween}
 use Rattle.report_rounds.specs.Due.{ReadsDue, due_bytes, due_count, greatest_up_to, has_line, is_page_due, is_of, pieces_of, whole_pieces, written_pieces}
 use Rattle.report_rounds.specs.Lines.{left_lines}
-use Rattle.report_rounds.specs.Turns.{HasLoaded, HasPrinted, IsEnding}
+use Rattle.report_rounds.specs.Turns.{HasLoaded, HasPrinted, IsEnding, IsFurther, IsTurned, RoundState}
+use Rattle.report_rounds.specs.declared.ends.Outcome.TheVariants as round
 use Rattle.report_rounds.proofs.DueLanes.{AsksDue, HasWritten, asked_due, asks_due, fresh_all, lanes_due}
 use Rattle.report_rounds.proofs.LineCounts.{one_if, waiting_count}
 use Rattle.report_rounds.proofs.Pairs.{parts_on}
-use Rattle.report_rounds.proofs.Reporting.{IsGoing}
+use Rattle.report_rounds.proofs.Reporting.{first_state}
 use Rattle.report_rounds.proofs.Starting.{start_lines}
 use Rattle.report_rounds.proofs.Turning.{loaded_row}
 
@@ -96,11 +97,11 @@ module _ (done left : List CpuLine) (rest : List ℕ) where
 
 module _ (text : ℕ → ItemData → LineText) (l : Layout) (file : List ℕ) where
   -- whatever the end, the sink gained some text
-  ending_gained : (lanes : List Lane) (last : Option ℕ) (old new : Option (List ℕ)) (end : End) → IsEnding text l file lanes last old new end → (rest : List ℕ) × Gained old new rest
-  ending_gained lanes last old new code.Done ending = (_, ending.0)
-  ending_gained lanes last old new (code.Malformed cpu page) ending = (_, ending.0)
-  ending_gained lanes last old new code.Read ending = ([], ending ∙ gained_nothing old)
-  ending_gained lanes last old new code.Write ending = (_, ending.1)
+  ending_gained : (before : RoundState) (new : Option (List ℕ)) (end : End) → IsEnding text l file before new end → (rest : List ℕ) × Gained before.written new rest
+  ending_gained before new code.Done ending = (_, ending.0)
+  ending_gained before new (code.Malformed cpu page) ending = (_, ending.0)
+  ending_gained before new code.Read ending = ([], ending ∙ gained_nothing before.written)
+  ending_gained before new code.Write ending = (_, ending.1)
 
   -- a lane at the start has all of its items left
   start_left : (a : Lane) → IsFresh a.cursor → left_of l file a ≡ list_of l file a.part
@@ -133,11 +134,11 @@ module _ (text : ℕ → ItemData → LineText) (l : Layout) (file : List ℕ) w
         more (is_of b.cpu),
       )
 
-  module _ (len : ℕ) (same_len : length file ≡ len) (some : 0 < l.page) (first mid : List Lane) (last_mid : Option ℕ) (old between new : Option (List ℕ)) (before reads after : ℕ)
-      (start : All (IsAtStart l) first) (going : IsGoing text l file first mid last_mid old between) (all : All (IsBetween text l) mid) (parts : parts_of mid ≡ parts_of first)
-      (load : HasLoaded l (Some file) len mid reads after) (rest : List ℕ) where
+  module _ (len : ℕ) (same_len : length file ≡ len) (some : 0 < l.page) (first : List Lane) (old : Option (List ℕ)) (mid : RoundState) (new : Option (List ℕ)) (before reads after : ℕ)
+      (start : All (IsAtStart l) first) (going : IsFurther text l file (first_state first old) mid) (all : All (IsBetween text l) mid.lanes) (parts : parts_of mid.lanes ≡ parts_of first)
+      (load : HasLoaded l (Some file) len mid.lanes reads after) (rest : List ℕ) where
     abbrev done_lines : List CpuLine
-    done_lines = going.further.done
+    done_lines = going.done
 
     abbrev whole_text : List ℕ
     whole_text = filled_text None done_lines ++ rest
@@ -151,36 +152,36 @@ module _ (text : ℕ → ItemData → LineText) (l : Layout) (file : List ℕ) w
     whole_count : (p : CpuLine → Bool) → count_by p done_lines ≤ count_by p whole_lines
     unfolding whole_lines
     whole_count p =
-        let is : done_lines ++ left_lines text l file mid ≡ all_pieces = sym going.further.parted ∙ start_lines text l file first start in
-        subst (λ (ps : List CpuLine). count_by p done_lines ≤ count_by p (written_pieces ps whole_text)) is (written_count done_lines (left_lines text l file mid) rest p)
+        let is : done_lines ++ left_lines text l file mid.lanes ≡ all_pieces = sym going.parted ∙ start_lines text l file first start in
+        subst (λ (ps : List CpuLine). count_by p done_lines ≤ count_by p (written_pieces ps whole_text)) is (written_count done_lines (left_lines text l file mid.lanes) rest p)
 
     each_due : All (AsksDue l len some (due_count text l file whole_lines)) load.now
     each_due i d lt =
-        let a : Lane = get_or mid i d in
+        let a : Lane = get_or mid.lanes i d in
         let b : Lane = get_or load.now i d in
-        let mid_lt : i < length mid = omega (arith, lt, load.long) in
-        let first_lt : i < length first = omega (arith, mid_lt, going.further.long) in
+        let mid_lt : i < length mid.lanes = omega (arith, lt, load.long) in
+        let first_lt : i < length first = omega (arith, mid_lt, going.long) in
         let one : IsReadied l (Some file) a b = load.each i d mid_lt in
         let few : length b.region.kept ≤ most_lines =
         omega (arith, (all i d mid_lt).few.kept, (all i d mid_lt).few.used, ap (λ (r : Lines). length r.kept) one.place.region) in
         let has : HasWritten text l file whole_lines b =
-        lane_written done_lines whole_lines (get_or first i d) a b (start i d first_lt) (going.further.own i d first_lt) one whole_count in
+        lane_written done_lines whole_lines (get_or first i d) a b (start i d first_lt) (going.own i d first_lt) one whole_count in
         asks_due l len some b (is_page_due text l file whole_lines (b.cpu, b.part)) (λ k asked there.
         asked_due text l file whole_lines b some (load.in_order i d lt) (one.stands (going.stands i d mid_lt)) few has k asked
         (subst (λ (n : ℕ). is_there_in l n b.part k ≡ true) (sym same_len) there))
 
     now_parts : parts_of load.now ≡ parts_of first
-    now_parts = parts_on (IsReadied l (Some file)) mid load.now load.long load.each (λ a b r. r.place.cpu) (λ a b r. r.place.part) ∙ parts
+    now_parts = parts_on (IsReadied l (Some file)) mid.lanes load.now load.long load.each (λ a b r. r.place.cpu) (λ a b r. r.place.part) ∙ parts
 
-    pub reads_due : all_unread l len mid ≤ all_unread l len first → reads ≤ raised before (all_unread l len first - all_unread l len mid)
-        → Gained between new rest → ReadsDue text l file (parts_of first) old new before after
+    pub reads_due : all_unread l len mid.lanes ≤ all_unread l len first → reads ≤ raised before (all_unread l len first - all_unread l len mid.lanes)
+        → Gained mid.written new rest → ReadsDue text l file (parts_of first) old new before after
     unfolding due_bytes whole_lines
     reads_due less read gained =
         let fresh : All (λ (a : Lane). IsFresh a.cursor) first = λ i d lt. (start i d lt).cursor in
         let count : ℕ × Part → ℕ = due_count text l file whole_lines in (
           whole_text,
           (
-            gained_both old between new (filled_text None done_lines) rest going.further.gained gained,
+            gained_both old mid.written new (filled_text None done_lines) rest going.gained gained,
             omega (
               arith,
               fresh_all l len some first (each_of_all (λ (a : Lane). IsFresh a.cursor) first fresh),
@@ -196,16 +197,16 @@ module _ (text : ℕ → ItemData → LineText) (l : Layout) (file : List ℕ) w
         )
 
 -- over a file that may tell its bytes
-pub due_told : (text : ℕ → ItemData → LineText) (l : Layout) (told now_told : Option (List ℕ)) (len now_len : ℕ) (first mid : List Lane) (last_mid : Option ℕ) (old between new : Option (List ℕ)) (before reads after : ℕ)
-    (end : End) → now_told ≡ told → now_len ≡ len → IfSome told (λ file. length file ≡ len) → 0 < l.page → All (IsAtStart l) first → All (IsBetween text l) mid → parts_of mid ≡ parts_of first
-    → IfSome told (λ file. IsGoing text l file first mid last_mid old between)
-    → HasLoaded l now_told now_len mid reads after → IfSome now_told (λ file. All (Stands l file) mid → IsEnding text l file mid last_mid between new end)
-    → all_unread l len mid ≤ all_unread l len first → reads ≤ raised before (all_unread l len first - all_unread l len mid)
-    → IfSome told (λ file. ReadsDue text l file (parts_of first) old new before after)
-due_told text l None now_told len now_len first mid last_mid old between new before reads after end same same_len size some start all parts going load turned less read = tt
-due_told text l (Some file) now_told len now_len first mid last_mid old between new before reads after end same same_len size some start all parts going load turned less read =
-    let ending : All (Stands l file) mid → IsEnding text l file mid last_mid between new end = subst (λ (o : Option (List ℕ)). IfSome o (λ file. All (Stands l file) mid → IsEnding text l file mid last_mid between new end)) same turned in
-    let gained : (rest : List ℕ) × Gained between new rest = ending_gained text l file mid last_mid between new end (ending going.stands) in
-    let here : HasLoaded l (Some file) len mid reads after =
-    subst (λ (n : ℕ). HasLoaded l (Some file) n mid reads after) same_len (subst (λ (o : Option (List ℕ)). HasLoaded l o now_len mid reads after) same load) in
-    reads_due text l file len size some first mid last_mid old between new before reads after start going all parts here gained.0 less read gained.1
+pub due_told : (text : ℕ → ItemData → LineText) (l : Layout) (told now_told : Option (List ℕ)) (len now_len : ℕ) (first : List Lane) (old : Option (List ℕ)) (mid now : RoundState) (before reads after : ℕ)
+    (end : End) → now_told ≡ told → now_len ≡ len → IfSome told (λ file. length file ≡ len) → 0 < l.page → All (IsAtStart l) first → All (IsBetween text l) mid.lanes → parts_of mid.lanes ≡ parts_of first
+    → IfSome told (λ file. IsFurther text l file (first_state first old) mid)
+    → HasLoaded l now_told now_len mid.lanes reads after → IfSome now_told (λ file. All (Stands l file) mid.lanes → IsTurned text l file mid now (round.Ends end))
+    → all_unread l len mid.lanes ≤ all_unread l len first → reads ≤ raised before (all_unread l len first - all_unread l len mid.lanes)
+    → IfSome told (λ file. ReadsDue text l file (parts_of first) old now.written before after)
+due_told text l None now_told len now_len first old mid now before reads after end same same_len size some start all parts going load turned less read = tt
+due_told text l (Some file) now_told len now_len first old mid now before reads after end same same_len size some start all parts going load turned less read =
+    let ending : All (Stands l file) mid.lanes → IsEnding text l file mid now.written end = subst (λ (o : Option (List ℕ)). IfSome o (λ file. All (Stands l file) mid.lanes → IsEnding text l file mid now.written end)) same turned in
+    let gained : (rest : List ℕ) × Gained mid.written now.written rest = ending_gained text l file mid now.written end (ending going.stands) in
+    let here : HasLoaded l (Some file) len mid.lanes reads after =
+    subst (λ (n : ℕ). HasLoaded l (Some file) n mid.lanes reads after) same_len (subst (λ (o : Option (List ℕ)). HasLoaded l o now_len mid.lanes reads after) same load) in
+    reads_due text l file len size some first old mid now.written before reads after start going all parts here gained.0 less read gained.1

@@ -1,7 +1,7 @@
 -- One round, step by step: lanes are loaded, formatted and printed.
 use Rattle.std.proofs.Common.{◌≡◌, ◌≢◌, ℕ, ◌+◌, ◌<◌, ◌≤◌, List, [], ◌∷◌, ◌++◌, length, map, get_or, take, drop, Option, Some, None, refl, sym, ap, subst, ◌∙◌, arith}
 use Rattle.std.specs.List.{All, count_by}
-use Rattle.std.specs.Option.{IfSome, IfNone}
+use Rattle.std.specs.Option.{IfSome}
 use Rattle.std.proofs.lemmas.List.{append-nil}
 use Rattle.std.proofs.lemmas.List.Elements.{All-get_or, All-weaker}
 use Rattle.trace_base.specs.declared.layout.Layout.{Layout}
@@ -22,7 +22,6 @@ use Rattle.event_cursor.specs.Loading.{KeepsLeft}
 use Rattle.event_cursor.specs.Standing.{IsInOrder, Stands, held_left}
 use Rattle.time_merge.specs.Advancing.{IsReadied}
 use Rattle.time_merge.specs.declared.ending.End.{End}
-use Rattle.time_merge.specs.declared.ending.End.TheVariants as ends
 use Rattle.time_merge.specs.declared.horizons.Horizon.{Horizon}
 use Rattle.time_merge.specs.declared.horizons.Horizon.TheVariants as code
 use Rattle.time_merge.specs.Horizons.{IsHorizon, IsLeastLane, high_in}
@@ -38,9 +37,11 @@ use Rattle.round_print.proofs.FilledTexts.{text_in_turn}
 use Rattle.round_print.specs.Rounds.{IsPrinted}
 use Rattle.report_rounds.specs.Between.{IsBetween, all_work, work_of}
 use Rattle.report_rounds.specs.Due.{is_of}
-use Rattle.report_rounds.specs.Ends.{IsEnd, IsStop, StandsBefore}
+use Rattle.report_rounds.specs.Ends.{EndsThere, IsOutcome, IsStop, StandsBefore}
 use Rattle.report_rounds.specs.Lines.{waiting_of, waiting_row, waiting_rows, left_lines}
-use Rattle.report_rounds.specs.Turns.{HasPrinted, IsFurther, IsTurned}
+use Rattle.report_rounds.specs.Turns.{HasPrinted, IsEnding, IsFurther, IsTurned, RoundState}
+use Rattle.report_rounds.specs.declared.ends.Outcome.{Outcome}
+use Rattle.report_rounds.specs.declared.ends.Outcome.TheVariants as round
 use Rattle.report_rounds.proofs.Between.{loaded_between, formatted_between, printed_between}
 use Rattle.report_rounds.proofs.Ending.{IsHorizonAt, at_start, at_key, cut_of_waiting, none_later, stopped}
 use Rattle.report_rounds.proofs.Horizons.{IsAround, around_least, ended_cuts, none_after, parted, place_is}
@@ -147,17 +148,20 @@ module _ (text : ℕ → ItemData → LineText) (l : Layout) (told : Option (Lis
           omega (arith, less, loaded_less)
 
   -- items were used up or lines were printed, unless the rounds end
-  pub now_less : (h : Horizon) (now : List Lane) (long : length now ≡ length formed) → Related (IsPrinted h) formed now → (end : Option End) → IsHorizon formed h → IsEnd now h end
-      → CpusRise (parts_of first) → All (IsBetween text l) first → IfNone end (all_work l now < all_work l first)
-  now_less h now long print (Some end) is stop rise all = tt
-  now_less code.All now long print None is stop rise all = absurd cc
-  now_less (code.Start c) now long print None is stop rise all = less_at (code.Start c) now long print None c (at_start c) is (formed_rise rise) all stop
-  now_less (code.To k c) now long print None is stop rise all = less_at (code.To k c) now long print (Some k) c (at_key k c) is (formed_rise rise) all stop
+  pub now_less : (h : Horizon) (now : List Lane) (long : length now ≡ length formed) → Related (IsPrinted h) formed now → (outcome : Outcome) → IsHorizon formed h → IsOutcome now h outcome
+      → CpusRise (parts_of first) → All (IsBetween text l) first → outcome ≡ round.GoesOn → all_work l now < all_work l first
+  now_less h now long print (round.Ends end) is stop rise all goes = absurd cc
+  now_less code.All now long print round.GoesOn is stop rise all goes = absurd cc
+  now_less (code.Start c) now long print round.GoesOn is stop rise all goes = less_at (code.Start c) now long print None c (at_start c) is (formed_rise rise) all stop
+  now_less (code.To k c) now long print round.GoesOn is stop rise all goes = less_at (code.To k c) now long print (Some k) c (at_key k c) is (formed_rise rise) all stop
 
 -- a list with a place has a lane
 some_lane : (lanes : List Lane) (i : ℕ) → i < length lanes → Lane
 some_lane [] i lt = absurd (omega (arith, lt))
 some_lane (a ∷ lanes) i lt = a
+
+abbrev pub round_state : List Lane → Option ℕ → Option (List ℕ) → RoundState
+round_state lanes last written = record { lanes = lanes; last = last; written = written }
 
 abbrev cut_made : Option ℕ → ℕ → ℕ → Cut
 cut_made key cpu page = record { key = key; cpu = cpu; page = page }
@@ -236,8 +240,10 @@ module _ (text : ℕ → ItemData → LineText) (l : Layout) (file : List ℕ) w
               );
             }
 
-        turned_further : (last last_now : Option ℕ) (old new : Option (List ℕ)) → Gained old new (filled_text last (printed h formed)) → last_now ≡ last_of last (printed h formed) → IsFurther text l file first now last last_now old new
+        turned_further : (last last_now : Option ℕ) (old new : Option (List ℕ)) → Gained old new (filled_text last (printed h formed)) → last_now ≡ last_of last (printed h formed)
+            → IsFurther text l file (round_state first last old) (round_state now last_now new)
         turned_further last last_now old new gained is_last = record {
+          stands = now_stands h now long print;
           done = printed h formed;
           parted = formed_parted ∙ ap (λ (xs : List CpuLine). printed h formed ++ xs) (sym (printed_left text l file h formed now long print));
           gained = gained;
@@ -247,16 +253,17 @@ module _ (text : ℕ → ItemData → LineText) (l : Layout) (file : List ℕ) w
         }
 
         -- at the malformed sub-buffer before which the horizon's lane stands
-        turned_stop : (high : Option ℕ) (cpu page : ℕ) → IsHorizonAt h high cpu → (least : IsLeastLane formed high cpu)
-            → (i : ℕ) × ((i < length now) × ((d : Lane) → StandsBefore cpu page (get_or now i d))) → Lane → (last : Option ℕ) (old new : Option (List ℕ)) → Gained old new (filled_text last (printed h formed))
-            → Gained old new (filled_text last (left_lines text l file first)) × ((key : Option ℕ) × (cut_of l file (parts_of first) ≡ Some (record { key = key; cpu = cpu; page = page })))
-        turned_stop high cpu page at least stop d last old new gained =
-            let i : ℕ = stop.0 in
+        turned_stop : (high : Option ℕ) (cpu : ℕ) (end : End) → IsHorizonAt h high cpu → IsLeastLane formed high cpu → EndsThere now cpu end → (last : Option ℕ) (old new : Option (List ℕ))
+            → Gained old new (filled_text last (printed h formed)) → IsEnding text l file (round_state first last old) new end
+        turned_stop high cpu end at least stop last old new gained =
+            let i : ℕ = stop.place in
+            let page : ℕ = stop.page in
+            let d : Lane = some_lane now i stop.inside in
             let rise_formed : CpusRise (parts_of formed) = formed_rise text l (Some file) first loaded formed f rise in
             let there = around_least formed d high cpu least rise_formed in
-            let inside : i < length formed = omega (arith, stop.1.0, long) in
+            let inside : i < length formed = omega (arith, stop.inside, long) in
             let p : IsPrinted h (get_or formed i d) (get_or now i d) = print i d inside in
-            let before : StandsBefore cpu page (get_or now i d) = stop.1.1 d in
+            let before : StandsBefore cpu page (get_or now i d) = stop.there d in
             let place : i ≡ least.i = place_is formed high cpu least.i (get_or formed least.i d) there least.inside i d inside (sym p.keeps.lane.cpu ∙ before.own) in
             let lane : Lane = get_or formed least.i d in
             let same : get_or formed i d ≡ lane = ap (λ (n : ℕ). get_or formed n d) place in
@@ -269,17 +276,12 @@ module _ (text : ℕ → ItemData → LineText) (l : Layout) (file : List ℕ) w
             let cut : cut_of l file (parts_of first) ≡ Some (record { key = high; cpu = cpu; page = page }) =
             ap (cut_of l file) (sym (formed_parts text l (Some file) first loaded formed f)) ∙ sym (cut_of_waiting l file (after text l file h) (λ a. refl) formed) ∙ law.0
             ∙ ap (λ (n : ℕ). Some (cut_made high cpu n)) next in
-            (all_printed law.1 last old new gained, (high, cut))
+            subst (λ (e : End). IsEnding text l file (round_state first last old) new e) (sym stop.told) (all_printed law.1 last old new gained, (high, cut))
 
-        turned_at : (high : Option ℕ) (cpu : ℕ) → IsHorizonAt h high cpu → IsLeastLane formed high cpu → (end : Option End) → IsStop now cpu end → (last last_now : Option ℕ) (old new : Option (List ℕ)) → Gained old new (filled_text last (printed h formed))
-            → last_now ≡ last_of last (printed h formed) → IsTurned text l file first now last last_now old new end
-        turned_at high cpu at least None stop last last_now old new gained is_last = turned_further last last_now old new gained is_last
-        turned_at high cpu at least (Some ends.Done) stop last last_now old new gained is_last = absurd stop
-        turned_at high cpu at least (Some (ends.Malformed c page)) stop last last_now old new gained is_last =
-            let ending = turned_stop high cpu page at least stop.1 (some_lane now stop.1.0 stop.1.1.0) last old new gained in
-            (ending.0, (ending.1.0, ending.1.1 ∙ ap (λ (n : ℕ). Some (cut_made ending.1.0 n page)) (sym stop.0)))
-        turned_at high cpu at least (Some ends.Read) stop last last_now old new gained is_last = absurd stop
-        turned_at high cpu at least (Some ends.Write) stop last last_now old new gained is_last = absurd stop
+        turned_at : (high : Option ℕ) (cpu : ℕ) → IsHorizonAt h high cpu → IsLeastLane formed high cpu → (outcome : Outcome) → IsStop now cpu outcome → (last last_now : Option ℕ) (old new : Option (List ℕ))
+            → Gained old new (filled_text last (printed h formed)) → last_now ≡ last_of last (printed h formed) → IsTurned text l file (round_state first last old) (round_state now last_now new) outcome
+        turned_at high cpu at least round.GoesOn stop last last_now old new gained is_last = turned_further last last_now old new gained is_last
+        turned_at high cpu at least (round.Ends end) stop last last_now old new gained is_last = turned_stop high cpu end at least stop last old new gained
 
   cut_none : (first loaded formed : List Lane) → IsFormed text l (Some file) first loaded formed → All (Stands l file) first → IsHorizon formed code.All → cut_of l file (parts_of first) ≡ None
   cut_none first loaded formed f stands is =
@@ -287,35 +289,25 @@ module _ (text : ℕ → ItemData → LineText) (l : Layout) (file : List ℕ) w
       ∙ ended_cuts l file text formed (each_of_all (Stands l file) formed (formed_stands first loaded formed f stands)) is
 
   -- what a round did whose lines were all written
-  pub turned_ok : (first loaded formed : List Lane) → IsFormed text l (Some file) first loaded formed → (h : Horizon) (now : List Lane) → length now ≡ length formed → Related (IsPrinted h) formed now → (end : Option End)
-      → IsHorizon formed h → IsEnd now h end → CpusRise (parts_of first) → All (IsBetween text l) first → All (Stands l file) first → (last last_now : Option ℕ) (old new : Option (List ℕ)) → Gained old new (filled_text last (printed h formed))
-      → last_now ≡ last_of last (printed h formed) → IsTurned text l file first now last last_now old new end
-  turned_ok first loaded formed f code.All now long print end is stop rise all stands last last_now old new gained is_last =
+  pub turned_ok : (first loaded formed : List Lane) → IsFormed text l (Some file) first loaded formed → (h : Horizon) (now : List Lane) → length now ≡ length formed → Related (IsPrinted h) formed now → (outcome : Outcome)
+      → IsHorizon formed h → IsOutcome now h outcome → CpusRise (parts_of first) → All (IsBetween text l) first → All (Stands l file) first → (last last_now : Option ℕ) (old new : Option (List ℕ)) → Gained old new (filled_text last (printed h formed))
+      → last_now ≡ last_of last (printed h formed) → IsTurned text l file (round_state first last old) (round_state now last_now new) outcome
+  turned_ok first loaded formed f code.All now long print outcome is stop rise all stands last last_now old new gained is_last =
       let none : left_after text l file code.All formed ≡ [] = none_after l file text formed (each_of_all (Stands l file) formed (formed_stands first loaded formed f stands)) is in
-      subst (λ (e : Option End). IsTurned text l file first now last last_now old new e) (sym stop)
+      subst (λ (o : Outcome). IsTurned text l file (round_state first last old) (round_state now last_now new) o) (sym stop)
       (all_printed first loaded formed f stands code.All is rise all none last old new gained, cut_none first loaded formed f stands is)
-  turned_ok first loaded formed f (code.Start c) now long print end is stop rise all stands last last_now old new gained is_last =
-      turned_at first loaded formed f stands (code.Start c) is rise all now long print None c (at_start c) is end stop last last_now old new gained is_last
-  turned_ok first loaded formed f (code.To k c) now long print end is stop rise all stands last last_now old new gained is_last =
-      turned_at first loaded formed f stands (code.To k c) is rise all now long print (Some k) c (at_key k c) is end stop last last_now old new gained is_last
-
--- where there is no end
-pub if_none : {A : Type 0} (o : Option A) (P : Type 0) → P → IfNone o P
-if_none None P p = p
-if_none (Some x) P p = tt
+  turned_ok first loaded formed f (code.Start c) now long print outcome is stop rise all stands last last_now old new gained is_last =
+      turned_at first loaded formed f stands (code.Start c) is rise all now long print None c (at_start c) is outcome stop last last_now old new gained is_last
+  turned_ok first loaded formed f (code.To k c) now long print outcome is stop rise all stands last last_now old new gained is_last =
+      turned_at first loaded formed f stands (code.To k c) is rise all now long print (Some k) c (at_key k c) is outcome stop last last_now old new gained is_last
 
 module _ (text : ℕ → ItemData → LineText) (l : Layout) where
-  pub now_stands_told : (told : Option (List ℕ)) (first loaded formed : List Lane) → IsFormed text l told first loaded formed → (h : Horizon) (now : List Lane) → length now ≡ length formed → Related (IsPrinted h) formed now
-      → IfSome told (λ file. All (Stands l file) first → All (Stands l file) now)
-  now_stands_told None first loaded formed f h now long print = tt
-  now_stands_told (Some file) first loaded formed f h now long print = λ stands. now_stands text l file first loaded formed f stands h now long print
-
   pub turned_told : (told : Option (List ℕ)) (first loaded formed : List Lane) → IsFormed text l told first loaded formed → (h : Horizon) (now : List Lane) → length now ≡ length formed → Related (IsPrinted h) formed now
-      → (end : Option End) → IsHorizon formed h → IsEnd now h end → CpusRise (parts_of first) → All (IsBetween text l) first → (last last_now : Option ℕ) (old new : Option (List ℕ)) → Gained old new (filled_text last (printed h formed))
-      → last_now ≡ last_of last (printed h formed) → IfSome told (λ file. All (Stands l file) first → IsTurned text l file first now last last_now old new end)
-  turned_told None first loaded formed f h now long print end is stop rise all last last_now old new gained is_last = tt
-  turned_told (Some file) first loaded formed f h now long print end is stop rise all last last_now old new gained is_last = λ stands.
-      turned_ok text l file first loaded formed f h now long print end is stop rise all stands last last_now old new gained is_last
+      → (outcome : Outcome) → IsHorizon formed h → IsOutcome now h outcome → CpusRise (parts_of first) → All (IsBetween text l) first → (last last_now : Option ℕ) (old new : Option (List ℕ)) → Gained old new (filled_text last (printed h formed))
+      → last_now ≡ last_of last (printed h formed) → IfSome told (λ file. All (Stands l file) first → IsTurned text l file (round_state first last old) (round_state now last_now new) outcome)
+  turned_told None first loaded formed f h now long print outcome is stop rise all last last_now old new gained is_last = tt
+  turned_told (Some file) first loaded formed f h now long print outcome is stop rise all last last_now old new gained is_last = λ stands.
+      turned_ok text l file first loaded formed f h now long print outcome is stop rise all stands last last_now old new gained is_last
 
   pub failed_told : (told : Option (List ℕ)) (first loaded formed : List Lane) → IsFormed text l told first loaded formed → (h : Horizon) → IsHorizon formed h → CpusRise (parts_of first) → All (IsBetween text l) first
       → (last : Option ℕ) (old new : Option (List ℕ)) → GainedPrefix old new (filled_text last (printed h formed)) → IfSome told (λ file. All (Stands l file) first → GainedPrefix old new (filled_text last (left_lines text l file first)))

@@ -8,6 +8,7 @@ ghost use Rattle.report_rounds.specs.Between.{HasRoom, HidesNoHole, IsAtStart};
 ghost use Rattle.report_rounds.specs.Due.{ReadsDue};
 ghost use Rattle.report_rounds.specs.Reports.{IsReport};
 
+use crate::ends::Outcome;
 use crate::turns::turn;
 use cpu_workers::Form;
 use least_tree::LeastTree;
@@ -60,7 +61,7 @@ pub fn report_rounds<R: Threads + Sync, F: File, L: Form, G: Gate, O: Sink>(
 {
     let mut last = None;
     loop {
-        if let Some(end) = turn(
+        if let Outcome::Ends(end) = turn(
             rt, form, layout, file, lanes, workers, gate, heads, &mut last, pending, out,
         ) {
             return end;

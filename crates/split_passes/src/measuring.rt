@@ -1,15 +1,11 @@
-ghost use Rattle.std.specs.Prelude.{◌≡◌, ◌+◌, ◌-◌, ◌<◌, ◌≤◌, ℕ, [], All, length, slice_index_or, IfOk, IfSome, OnOk};
-ghost use Rattle.trace_outside.specs.Causes.{HasCause, raised};
-ghost use Rattle.trace_outside.specs.Keeping.{KeepsFile};
+ghost use Rattle.std.specs.Prelude.{◌≡◌, [], All, length, IfOk, IfSome, OnOk};
+ghost use Rattle.trace_outside.specs.Causes.{HasCause};
 ghost use Rattle.trace_base.specs.Layout.{IsLayout};
 ghost use Rattle.subpage.specs.Arrangement.{CpusRise};
 ghost use Rattle.event_cursor.specs.Standing.{IsInOrder, Stands};
-ghost use Rattle.page_pool.specs.declared.lane.Lane.{Lane};
-ghost use Rattle.time_merge.specs.Advancing.{Advances, IsOver};
 ghost use Rattle.time_merge.specs.LaneRows.{IsReady, parts_of};
-ghost use Rattle.time_merge.specs.Reads.{all_reading, all_unread};
-ghost use Rattle.split_passes.specs.Measures.{IsMeasured, Tallied};
-ghost use Rattle.split_passes.specs.declared.tally.Tally.{Tally};
+ghost use Rattle.split_passes.specs.Measures.{IsMeasured, SkipsOver, Tallied};
+ghost use Rattle.split_passes.specs.Through.{GoThrough};
 
 use crate::choice::{Choice, choose};
 use crate::tally::Tally;
@@ -53,27 +49,15 @@ pub fn measure<F: File>(
     requires rise { CpusRise (parts_of lanes.old) }
     requires long { length tallies.old ≡ length lanes.old }
     requires slots { length nexts.old ≡ length lanes.old }
-    ensures in_order { All (IsInOrder layout.now) lanes.new }
-    ensures parts { parts_of lanes.new ≡ parts_of lanes.old }
+    ensures through { GoThrough F.File layout.now file.old file.new lanes.old lanes.new }
     ensures slots { length nexts.new ≡ length nexts.old }
     ensures long { length tallies.new ≡ length lanes.new }
     ensures measured { IfOk result (λ end. IfSome (F.bytes file.old) (λ bytes. All (Stands layout.now bytes) lanes.old
         → Tallied layout.now lanes.old [] tallies.old
         → IsMeasured layout.now bytes stop gauge.old gauge.new lanes.old lanes.new tallies.new end)) }
     ensures ready { OnOk result (All (IsReady layout.now) lanes.new) }
-    ensures advance { (i : ℕ) (d : Lane) → i < length lanes.old
-        → Advances (slice_index_or lanes.old i d) (slice_index_or lanes.new i d) }
-    // Of a lane that no sub-buffer is loaded of no item is taken.
-    ensures over { (i : ℕ) (d : Lane) (t : Tally) → i < length lanes.old
-        → IsOver (slice_index_or lanes.old i d).cursor.state
-        → slice_index_or tallies.new i t ≡ slice_index_or tallies.old i t }
-    ensures reads { F.reads file.new ≤ raised (F.reads file.old)
-        (all_unread layout.now (F.size file.old) lanes.old - all_unread layout.now (F.size file.old) lanes.new
-        + all_reading layout.now (F.size file.old) lanes.new) }
-    ensures unread { all_unread layout.now (F.size file.old) lanes.new
-        ≤ all_unread layout.now (F.size file.old) lanes.old }
+    ensures over { SkipsOver lanes.old tallies.old tallies.new }
     ensures cause { HasCause (F.faults file.old) (F.faults file.new) result }
-    ensures keeps { KeepsFile F.File file.old file.new }
 {
     let mut used = None;
     loop {

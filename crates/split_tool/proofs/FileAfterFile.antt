@@ -1,10 +1,9 @@
 -- File after file, on lists.
-use Rattle.std.proofs.Common.{◌≡◌, ℕ, zero, suc, ◌+◌, ◌<◌, ◌≤◌, Bool, true, false, ◌&&◌, if◌then◌else◌, List, [], ◌∷◌, ◌++◌, length, refl, sym, ap, ◌∙◌, arith}
-use Rattle.std.proofs.lemmas.List.{length-append}
+use Rattle.std.proofs.Common.{◌≡◌, ℕ, zero, suc, ◌<◌, ◌≤◌, Bool, true, false, ◌&&◌, if◌then◌else◌, List, [], ◌∷◌, length, refl, sym, ap, ◌∙◌, arith}
 use Rattle.subpage.specs.Arrangement.{Keyed}
 use Rattle.word_values.specs.declared.piece.PieceUnit.{PieceUnit}
 use Rattle.split_pieces.specs.declared.rules.Rules.{Rules}
-use Rattle.split_pieces.specs.Pieces.{IsUnit, is_some_left, piece, rest, joined_lists, next_file, behind_file, files_when, files_within, files_left}
+use Rattle.split_pieces.specs.Pieces.{IsUnit, is_some_left, joined_lists, next_file, behind_file, files_when, files_within, files_left}
 use Rattle.split_pieces.proofs.SideBySide.{fewer, len_parts, some_next}
 use Rattle.split_tool.specs.Lists.{files_behind, files_of}
 

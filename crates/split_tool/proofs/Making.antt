@@ -24,7 +24,7 @@ use Rattle.subpage.specs.Cut.{reached_of, lists_of as lists_in}
 use Rattle.page_pool.specs.Fresh.{IsFresh}
 use Rattle.page_pool.specs.declared.lane.Lane.{Lane}
 use Rattle.page_write.specs.Placed.{data_of}
-use Rattle.event_cursor.specs.Standing.{Stands}
+use Rattle.event_cursor.specs.Standing.{IsInOrder, Stands}
 use Rattle.event_cursor.specs.declared.places.Place.{Place}
 use Rattle.time_merge.specs.Rows.{Each}
 use Rattle.time_merge.specs.LaneRows.{parts_of}
@@ -51,6 +51,8 @@ use Rattle.split_tool.specs.Measured.{taken_of}
 use Rattle.split_tool.specs.NewFiles.{Creates, files_from, new_files, end_by, IsSplit}
 use Rattle.split_tool.specs.Rules.{rules_of}
 use Rattle.split_tool.specs.Started.{Started}
+use Rattle.split_tool.specs.Work.{CanCut, IsWorkFor}
+use Rattle.split_tool.specs.declared.work.SplitWork.{SplitWork}
 use Rattle.new_files.specs.Stored.{NewFile, FilesStored}
 use Rattle.split_tool.proofs.Beginning.{started_lists, started_bad}
 use Rattle.split_tool.proofs.FewItems.{Few, few_keyed, few_reached}
@@ -229,16 +231,16 @@ module _ (header : Header) (base : List ℕ) (file : List ℕ) (rules : Rules) (
       by_bad None result is e = subst (λ (r : End). Creates (length news) first after r) (sym is) e
       by_bad (Some place) result is e = subst (λ (r : End). Creates (length news) first after r) (sym is) e
 
-  pub created_stops : (end result : End) (unfinished now_unfinished first before after : ℕ) → result ≡ end → IsMade header file rules (file_name base number) now later unfinished now_unfinished mid new (Err end)
+  pub created_stops : (end result : End) (between now_counts : Counts) (first before after : ℕ) → result ≡ end → IsMade header file rules (file_name base number) now later (record { files = mid; counts = between }) (record { files = new; counts = now_counts }) (Err end)
       → 1 ≤ number → before ≡ raised first (number - 1) → after ≤ raised before 1
       → Progress header base file rules news bad number now old mid → Creates (length news) first after result
-  created_stops code.Done result unfinished now_unfinished first before after is m least so_far one p = absurd m
-  created_stops (code.Malformed cpu page) result unfinished now_unfinished first before after is m least so_far one p = absurd m
-  created_stops code.Read result unfinished now_unfinished first before after is m least so_far one p = subst (λ (r : End). Creates (length news) first after r) (sym is) (omega (arith, some_counted p, least, so_far, one))
-  created_stops code.Write result unfinished now_unfinished first before after is m least so_far one p = subst (λ (r : End). Creates (length news) first after r) (sym is) (omega (arith, some_counted p, least, so_far, one))
+  created_stops code.Done result between now_counts first before after is m least so_far one p = absurd m
+  created_stops (code.Malformed cpu page) result between now_counts first before after is m least so_far one p = absurd m
+  created_stops code.Read result between now_counts first before after is m least so_far one p = subst (λ (r : End). Creates (length news) first after r) (sym is) (omega (arith, some_counted p, least, so_far, one))
+  created_stops code.Write result between now_counts first before after is m least so_far one p = subst (λ (r : End). Creates (length news) first after r) (sym is) (omega (arith, some_counted p, least, so_far, one))
 
   pub progress_stops : (end result : End) (counts between now_counts : Counts) → result ≡ end → counts.unfinished ≤ between.unfinished
-      → IsMade header file rules (file_name base number) now later between.unfinished now_counts.unfinished mid new (Err end)
+      → IsMade header file rules (file_name base number) now later (record { files = mid; counts = between }) (record { files = new; counts = now_counts }) (Err end)
       → Progress header base file rules news bad number now old mid → IsSplit news (end_by bad) counts now_counts old new result
   progress_stops code.Done result counts between now_counts is since m p = absurd m
   progress_stops (code.Malformed cpu page) result counts between now_counts is since m p = absurd m
@@ -257,6 +259,17 @@ same_cpus n (f ∷ first) (b ∷ now) e a =
     let more : parts_of now ≡ parts_of first = ap other_parts e in
     let lt : f.cpu < n = All-head (λ (x : Lane). x.cpu < n) f first a in
     All-cons (λ (x : Lane). x.cpu < n) b now (omega (arith, cpu, lt)) (same_cpus n first now more (All-tail (λ (x : Lane). x.cpu < n) f first a))
+
+-- lanes that went on
+pub still_cut : (header : Header) (first now : List Lane) (work work_now : SplitWork) → CanCut header first work → parts_of now ≡ parts_of first → All (IsInOrder header.layout) now → IsWorkFor header (length now) work_now
+    → CanCut header now work_now
+still_cut header first now work work_now can parts in_order for = record {
+  allowed = can.allowed;
+  in_order = in_order;
+  rise = subst CpusRise (sym parts) can.rise;
+  cpus = same_cpus header.cpus first now parts can.cpus;
+  lent = for;
+}
 
 pub fresh_stand : (l : Layout) (file : List ℕ) (lanes : List Lane) → All (λ (a : Lane). IsFresh a.cursor) lanes → All (Stands l file) lanes
 fresh_stand l file lanes f = All-weaker (λ (a : Lane). IsFresh a.cursor) (Stands l file) (λ a fresh. fresh_stands l file a fresh) lanes f

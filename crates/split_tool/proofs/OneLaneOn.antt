@@ -10,12 +10,13 @@ use borrow.Rule.Slice.PartMut.{mid_of, put_mid}
 use Rattle.trace_base.specs.declared.layout.Layout.{Layout}
 use Rattle.trace_outside.specs.Causes.{raised}
 use Rattle.page_pool.specs.declared.lane.Lane.{Lane}
-use Rattle.event_cursor.specs.Unread.{unread}
+use Rattle.event_cursor.specs.Unread.{reading, unread}
 use Rattle.time_merge.specs.Advancing.{Advances, IsOver}
 use Rattle.time_merge.specs.LaneRows.{IsReady}
 use Rattle.time_merge.specs.Reads.{all_reading, all_unread}
 use Rattle.time_merge.proofs.Advancing.{advances_more}
 use Rattle.split_passes.specs.declared.tally.Tally.{Tally}
+use Rattle.split_passes.specs.Measures.{SkipsOver}
 use Rattle.time_merge.proofs.PartReads.{all_reading_in, none_reading}
 use Rattle.split_tool.proofs.OneByOne.{one_of}
 
@@ -41,10 +42,6 @@ put_one {X} i xs ys y lt is =
 
 abbrev AdvanceEach : List Lane → List Lane → Type 0
 AdvanceEach first now = (j : ℕ) (d : Lane) → j < length first → Advances (get_or first j d) (get_or now j d)
-
-abbrev OverEach : List Lane → List Tally → List Tally → Type 0
-OverEach first before now =
-    (j : ℕ) (d : Lane) (t : Tally) → j < length first → IsOver (get_or first j d).cursor.state → get_or now j t ≡ get_or before j t
 
 module _ (i : ℕ) (lanes new : List Lane) (lt : i < length lanes) (long : length new ≡ 1) where
   now : Lane
@@ -104,22 +101,23 @@ module _ (i : ℕ) (lanes new : List Lane) (lt : i < length lanes) (long : lengt
         let here = subst (λ (n : ℕ). after ≤ raised before (all_unread l n (mid_of i (i + 1 - i) lanes) - all_unread l n new)) same more in
         omega (arith, read, le, here, less_here, put_sum (unread l len), mid_less (unread l len))
 
-    pub on_stops : after ≤ raised before (all_unread l now_len (mid_of i (i + 1 - i) lanes)) → after ≤ raised first all
+    pub on_stops : after ≤ raised before (all_unread l now_len (mid_of i (i + 1 - i) lanes) - all_unread l now_len new + all_reading l now_len new)
+        → after ≤ raised first (all - all_unread l len (put_mid i (i + 1 - i) lanes new) + all_reading l len (put_mid i (i + 1 - i) lanes new))
     on_stops more =
-        let here = subst (λ (n : ℕ). after ≤ raised before (all_unread l n (mid_of i (i + 1 - i) lanes))) same more in
-        omega (arith, read, le, here, mid_less (unread l len))
+        let here = subst (λ (n : ℕ). after ≤ raised before (all_unread l n (mid_of i (i + 1 - i) lanes) - all_unread l n new + all_reading l n new)) same more in
+        omega (arith, read, le, here, less_here, put_sum (unread l len), mid_less (unread l len), put_sum (reading l len), mid_less (reading l len))
 
-  pub tally_on : (first : List Lane) (before tallies fresh : List Tally) → i < length tallies → length fresh ≡ 1 → AdvanceEach first lanes → OverEach (mid_of i (i + 1 - i) lanes) (mid_of i (i + 1 - i) tallies) fresh
-      → OverEach first before tallies → OverEach first before (put_mid i (i + 1 - i) tallies fresh)
+  pub tally_on : (first : List Lane) (before tallies fresh : List Tally) → i < length tallies → length fresh ≡ 1 → AdvanceEach first lanes → SkipsOver (mid_of i (i + 1 - i) lanes) (mid_of i (i + 1 - i) tallies) fresh
+      → SkipsOver first before tallies → SkipsOver first before (put_mid i (i + 1 - i) tallies fresh)
   unfolding old
   tally_on first before tallies fresh lt2 long2 advance one each j d t inside over =
       let after = one_of fresh long2 in
       let put : get_or (put_mid i (i + 1 - i) tallies fresh) j t ≡ get_or (set tallies i after.item) j t = ap (λ (ts : List Tally). get_or ts j t) (put_one i tallies fresh after.item lt2 after.is) in
       put ∙ elim (cases_eq j i) [
         | inl e ↦
-            let alone : OverEach (old ∷ []) (get_or tallies i t ∷ []) (after.item ∷ []) =
-            subst (λ (ts : List Tally). OverEach (old ∷ []) ts (after.item ∷ [])) (mid_one i tallies t lt2)
-            (subst (λ (xs : List Lane). OverEach xs (mid_of i (i + 1 - i) tallies) (after.item ∷ [])) mid_is (subst (OverEach (mid_of i (i + 1 - i) lanes) (mid_of i (i + 1 - i) tallies)) after.is one)) in
+            let alone : SkipsOver (old ∷ []) (get_or tallies i t ∷ []) (after.item ∷ []) =
+            subst (λ (ts : List Tally). SkipsOver (old ∷ []) ts (after.item ∷ [])) (mid_one i tallies t lt2)
+            (subst (λ (xs : List Lane). SkipsOver xs (mid_of i (i + 1 - i) tallies) (after.item ∷ [])) mid_is (subst (SkipsOver (mid_of i (i + 1 - i) lanes) (mid_of i (i + 1 - i) tallies)) after.is one)) in
             let still : get_or lanes j d ≡ get_or first j d = (advance j d inside).over over in
             let here : get_or lanes j d ≡ old = ap (λ (k : ℕ). get_or lanes k d) e ∙ get_or_default lanes i d now lt in
             let over_here : IsOver old.cursor.state = subst (λ (a : Lane). IsOver a.cursor.state) (sym still ∙ here) over in

@@ -14,18 +14,16 @@ use Rattle.dat_header.specs.Allowed.{IsHeader}
 use Rattle.dat_header.proofs.Headers.{header_layout}
 use Rattle.subpage.specs.ItemData.{ItemData}
 use Rattle.subpage.specs.Arrangement.{Keyed, CpusRise}
-use Rattle.subpage.specs.Marks.{items_from}
 use Rattle.subpage.specs.Processor.{list_of}
 use Rattle.page_pool.specs.declared.lane.Lane.{Lane}
-use Rattle.page_pool.specs.declared.cursor.LaneState.{LaneState}
-use Rattle.page_pool.specs.declared.cursor.LaneState.TheVariants.{Fresh, Held, Ended, Malformed}
+use Rattle.page_pool.specs.declared.cursor.LaneState.TheVariants.{Held}
 use Rattle.page_write.specs.Placed.{parts_from, data_of}
-use Rattle.event_cursor.specs.Standing.{IsInOrder, Stands, if_held, left_of}
+use Rattle.event_cursor.specs.Standing.{IsInOrder, Stands, left_of}
 use Rattle.event_cursor.specs.Places.{IsPlace, place_in, left_behind}
 use Rattle.event_cursor.specs.declared.places.Place.{Place}
 use Rattle.event_cursor.proofs.Returning.{is_place, left_is_behind}
 use Rattle.time_merge.specs.Rows.{Row, Each}
-use Rattle.time_merge.specs.LaneRows.{parts_of, rows_of, IsReady, IsReadyIn}
+use Rattle.time_merge.specs.LaneRows.{parts_of, rows_of, IsReady}
 use Rattle.time_merge.specs.declared.ending.End.{End}
 use Rattle.time_merge.specs.declared.ending.End.TheVariants as code
 use Rattle.split_pieces.specs.declared.rules.Rules.{Rules}

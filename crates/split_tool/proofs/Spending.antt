@@ -12,15 +12,14 @@ use Rattle.page_pool.specs.declared.cursor.LaneState.{LaneState}
 use Rattle.page_pool.specs.declared.cursor.LaneState.TheVariants.{Fresh, Held, Ended, Malformed}
 use Rattle.event_cursor.specs.Places.{place_in}
 use Rattle.event_cursor.specs.Standing.{IsInOrder, held_left}
-use Rattle.event_cursor.specs.Unread.{first_unread, reading, reading_in, size_from, size_there, unread}
+use Rattle.event_cursor.specs.Unread.{first_unread, size_from, unread}
 use Rattle.event_cursor.specs.declared.places.Place.{Place}
 use Rattle.time_merge.specs.Advancing.{Advances, IsOver}
 use Rattle.time_merge.specs.LaneRows.{IsReady, IsReadyIn, parts_of}
-use Rattle.time_merge.specs.Reads.{all_reading, all_unread}
 use Rattle.split_passes.specs.Reads.{all_packing, between, numbers_of, packing}
 use Rattle.split_passes.specs.declared.tally.Tally.{Tally}
 use Rattle.split_passes.proofs.Placing.{not_both}
-use Rattle.split_passes.proofs.Sizes.{size_more, size_less, size_all}
+use Rattle.split_passes.proofs.Sizes.{size_less, size_all}
 use Rattle.split_tool.specs.Reads.{again, all_again, first_again, to_read}
 
 first_below : (s : LaneState) (next : ℕ) → next - 1 ≤ first_again s next

@@ -5,8 +5,7 @@ use Rattle.std.specs.FinMap.{insert}
 use Rattle.std.proofs.lemmas.List.{take_at}
 use Rattle.trace_outside.specs.Names.{NamedFiles, SameBut}
 use Rattle.trace_outside.specs.declared.counts.Counts.{Counts}
-use Rattle.trace_outside.specs.Causes.{Rose, raised}
-use Rattle.trace_outside.specs.Folders.{KeepsOthers}
+use Rattle.trace_outside.specs.Causes.{Rose}
 use Rattle.time_merge.specs.declared.ending.End.{End}
 use Rattle.split_tool.specs.NewFiles.{LeavesUnfinished, end_by}
 use Rattle.new_files.specs.Stored.{KeepsCounts, IsUnmade, NewFile, Stored, FilesStored, IsNextOpen, FirstFilesStored}

@@ -1,4 +1,4 @@
--- Lanes that go through items, one load after another.
+-- Lanes that go through items, one lane after another.
 use Rattle.std.proofs.Common.{◌≡◌, ℕ, ◌+◌, ◌-◌, ◌<◌, ◌≤◌, List, length, get_or, ◌∙◌, arith}
 use Rattle.std.specs.List.{All}
 use borrow.Rule.Slice.PartMut.{mid_of, put_mid}
@@ -11,30 +11,11 @@ use Rattle.page_pool.specs.declared.lane.Lane.{Lane}
 use Rattle.event_cursor.specs.Standing.{IsInOrder}
 use Rattle.time_merge.specs.Advancing.{Advances}
 use Rattle.time_merge.specs.LaneRows.{parts_of}
-use Rattle.time_merge.specs.Loading.{LoadsLanes}
 use Rattle.time_merge.specs.Reads.{all_unread}
 use Rattle.time_merge.proofs.Advancing.{same_length}
-use Rattle.time_merge.proofs.PartReads.{loading_reads}
-use Rattle.split_passes.proofs.Going.{advances_on}
-use Rattle.split_tool.specs.Through.{GoThrough}
+use Rattle.split_passes.specs.Through.{GoThrough}
 use Rattle.split_tool.proofs.OneByOne.{all_put, map_put, one_in_mid}
-use Rattle.split_tool.proofs.OneLaneOn.{all_done, lane_on, on_stops, on_unread}
-
--- lanes that went through items and then loaded more
-pub through_loaded : {F : Type 0} {f : file.Ghosts F} (l : Layout) (a b c : F) (first lanes now : List Lane) → 0 < l.page → parts_of lanes ≡ parts_of first
-    → ((j : ℕ) (d : Lane) → j < length first → Advances (get_or first j d) (get_or lanes j d))
-    → f.reads b ≤ raised (f.reads a) (all_unread l (f.size a) first - all_unread l (f.size a) lanes) → all_unread l (f.size a) lanes ≤ all_unread l (f.size a) first → KeepsFile f a b
-    → LoadsLanes f l b c lanes now → GoThrough f l a c first now
-through_loaded {f} l a b c first lanes now some parts advance reads unread keeps loads =
-    let loaded = loading_reads l (f.size a) (f.size b) lanes now _ _ _ _ keeps.size reads unread loads.reads loads.unread in
-    record {
-      in_order = loads.in_order;
-      parts = loads.parts ∙ parts;
-      advance = advances_on first lanes now (same_length lanes first parts) advance loads.advance;
-      reads = all_done l (f.size a) now _ _ _ some loaded.1 loaded.0;
-      unread = loaded.1;
-      keeps = file_kept keeps loads.keeps;
-    }
+use Rattle.split_tool.proofs.OneLaneOn.{lane_on, on_stops, on_unread}
 
 -- one of several lanes went through items, behind those before it
 pub through_one : {F : Type 0} {f : file.Ghosts F} (l : Layout) (a b c : F) (first lanes new : List Lane) (i : ℕ) → i < length lanes → All (IsInOrder l) lanes → parts_of lanes ≡ parts_of first

@@ -6,5 +6,4 @@ pub mod NewFiles
 pub mod Reads
 pub mod Rules
 pub mod Started
-pub mod Through
 pub mod Work

@@ -1,9 +1,11 @@
 -- One new file on its way.
-use Rattle.std.specs.Prelude.{◌≡◌, ℕ, true, false, ◌&&◌, ◌⊎◌, List, ◌++◌, map, IfSome, Option, Result, Some, None, Ok, Err}
+use Rattle.std.specs.Prelude.{◌≡◌, ◌≤◌, ℕ, true, false, ◌&&◌, List, ◌++◌, map, IfErr, IfSome, MatchResult, Option, Result, Some, Ok, Err}
 use Rattle.std.specs.List.{All}
 use Rattle.std.specs.FinMap.{insert}
 use Rattle.trace_base.specs.declared.layout.Layout.{Layout}
 use Rattle.trace_base.specs.declared.part.Part.{Part}
+use Rattle.trace_outside.specs.declared.counts.Counts.{Counts}
+use Rattle.trace_outside.specs.Causes.{Rose, raised}
 use Rattle.trace_outside.specs.Names.{NamedFiles}
 use Rattle.trace_outside.specs.Writing.{Gained}
 use Rattle.dat_header.specs.declared.header.Header.{Header}
@@ -20,12 +22,13 @@ use Rattle.split_pieces.specs.Pieces.{is_some_left, joined_lists, behind_file}
 use Rattle.split_passes.specs.AllAgain.{AreFronts, owns}
 use Rattle.split_passes.specs.declared.tally.Tally.{Tally}
 use Rattle.dat_header.specs.Tables.{in_table}
-use Rattle.new_files.specs.Stored.{IsUnmade}
+use Rattle.new_files.specs.Stored.{IsUnmade, KeepsCounts}
 use Rattle.split_file.specs.NewFile.{file_text, front_text, table_of}
 use Rattle.split_tool.specs.declared.lists.Ends.{Ends}
 use Rattle.split_tool.specs.Counted.{lists_of}
 use Rattle.split_tool.specs.Lists.{lists_left, bad_left}
 use Rattle.split_tool.specs.Measured.{taken_of}
+use Rattle.split_tool.specs.NewFiles.{LeavesUnfinished}
 
 -- the bytes of the next file
 abbrev pub next_text : Header → List ℕ → Rules → List Lane → List ℕ
@@ -64,9 +67,25 @@ pub record Made (header : Header) (file : List ℕ) (rules : Rules) (name : List
   pub left : FileLeft header.layout file rules first now ends
   pub stored : IfSome old (λ files. new ≡ Some (insert files name (next_text header file rules first)))
 
-abbrev pub IsMade : Header → List ℕ → Rules → List ℕ → List Lane → List Lane → ℕ → ℕ → Option NamedFiles → Option NamedFiles → Result Ends End → Type 0
-IsMade header file rules name first now unfinished now_unfinished old new (Ok ends) = Made header file rules name first now old new ends
-IsMade header file rules name first now unfinished now_unfinished old new (Err code.Done) = ⊥
-IsMade header file rules name first now unfinished now_unfinished old new (Err (code.Malformed cpu page)) = ⊥
-IsMade header file rules name first now unfinished now_unfinished old new (Err code.Read) = new ≡ old
-IsMade header file rules name first now unfinished now_unfinished old new (Err code.Write) = IsUnmade unfinished now_unfinished name old new
+-- what a folder shows
+pub record FolderSeen : Type 0 where
+  pub files : Option NamedFiles
+  pub counts : Counts
+
+-- Over a file with these bytes: a file was finished; after a fault of reading the folder is as it was, and after one of writing
+-- the name is unless finishing it failed.
+abbrev pub IsMade : Header → List ℕ → Rules → List ℕ → List Lane → List Lane → FolderSeen → FolderSeen → Result Ends End → Type 0
+IsMade header file rules name first now before after (Ok ends) = Made header file rules name first now before.files after.files ends
+IsMade header file rules name first now before after (Err code.Done) = ⊥
+IsMade header file rules name first now before after (Err (code.Malformed cpu page)) = ⊥
+IsMade header file rules name first now before after (Err code.Read) = after.files ≡ before.files
+IsMade header file rules name first now before after (Err code.Write) =
+    IsUnmade before.counts.unfinished after.counts.unfinished name before.files after.files
+
+-- What making one file does to the counts of a folder: a file is created, or after a fault maybe none, and only a fault of
+-- writing leaves one unfinished.
+pub record CountsOne (before now : Counts) (result : Result Ends End) : Type 0 where
+  pub keeps : KeepsCounts before now
+  pub created : MatchResult result (λ _. now.created ≡ raised before.created 1) (λ _. now.created ≤ raised before.created 1)
+  pub unfinished : MatchResult result (λ _. now.unfinished ≡ before.unfinished) (λ end. LeavesUnfinished before.unfinished now.unfinished end)
+  pub writing : IfErr result (λ end. end ≡ code.Write → Rose before.writing now.writing)

@@ -1,5 +1,5 @@
 -- What a split may still read of lanes, in bytes, by the length of their file alone.
-use Rattle.std.specs.Prelude.{ℕ, ◌+◌, ◌-◌, ◌≤◌, List, sum_by}
+use Rattle.std.specs.Prelude.{ℕ, ◌+◌, ◌-◌, ◌≤◌, List, MatchResult, Result, sum_by}
 use Rattle.trace_base.specs.declared.layout.Layout.{Layout}
 use Rattle.trace_outside.specs.Causes.{raised}
 use Rattle.page_pool.specs.declared.lane.Lane.{Lane}
@@ -32,3 +32,7 @@ to_read layout len lanes = all_unread layout len lanes + all_again layout len la
 pub record Spent (most left before now : ℕ) : Type 0 where
   pub less : left ≤ most
   pub reads : now ≤ raised before (most - left)
+
+-- a call spends so, or fails and reads no more than might be read
+abbrev pub Spends : {T E : Type 0} → ℕ → ℕ → ℕ → ℕ → Result T E → Type 0
+Spends most left before now result = MatchResult result (λ _. Spent most left before now) (λ _. now ≤ raised before most)

@@ -1,21 +1,17 @@
 // One new file.
 
-ghost use Rattle.std.specs.Prelude.{◌≡◌, ◌+◌, ◌<◌, ◌≤◌, ◌^◌, All, IfErr, IfOk, IfSome, List, MatchResult, OnOk, length};
+ghost use Rattle.std.specs.Prelude.{◌≡◌, ◌+◌, ◌<◌, ◌≤◌, ◌^◌, All, IfErr, IfOk, IfSome, List, length};
 ghost use Rattle.trace_outside.specs.Causes.{HasCause, Rose, raised};
 ghost use Rattle.trace_outside.specs.Keeping.{KeepsFile, KeepsSink};
-ghost use Rattle.dat_header.specs.Allowed.{IsHeader};
-ghost use Rattle.subpage.specs.Arrangement.{CpusRise};
 ghost use Rattle.subpage.specs.ItemData.{ItemData};
 ghost use Rattle.event_cursor.specs.Standing.{IsInOrder, Stands};
 ghost use Rattle.time_merge.specs.LaneRows.{parts_of};
 ghost use Rattle.split_passes.specs.AllAgain.{AreFronts};
 ghost use Rattle.split_passes.specs.Reads.{all_packing};
 ghost use Rattle.split_file.specs.Names.{file_name};
-ghost use Rattle.split_tool.specs.Made.{IsMade, IsWritten, Prepared};
-ghost use Rattle.split_tool.specs.NewFiles.{LeavesUnfinished};
-ghost use Rattle.split_tool.specs.Reads.{Spent, to_read};
-ghost use Rattle.new_files.specs.Stored.{KeepsCounts};
-ghost use Rattle.split_tool.specs.Work.{IsWorkFor};
+ghost use Rattle.split_tool.specs.Made.{CountsOne, IsMade, IsWritten, Prepared};
+ghost use Rattle.split_tool.specs.Reads.{Spends, to_read};
+ghost use Rattle.split_tool.specs.Work.{CanCut, IsWorkFor};
 
 use crate::lists::{Ends, measure_lists};
 use crate::splitting::SplitPlan;
@@ -36,24 +32,18 @@ fn measure_file<F: File>(
     lanes: &mut [Lane],
     work: &mut SplitWork,
 ) -> Result<Ends, Failed>
-    requires allowed { IsHeader plan.now.header.now }
-    requires in_order { All (IsInOrder plan.now.header.now.layout) lanes.old }
-    requires rise { CpusRise (parts_of lanes.old) }
-    requires cpus { All (λ lane. lane.cpu < plan.now.header.now.cpus) lanes.old }
-    requires work { IsWorkFor plan.now.header.now (length lanes.old) work.old }
+    requires { CanCut plan.now.header.now lanes.old work.old }
     ensures in_order { All (IsInOrder plan.now.header.now.layout) lanes.new }
     ensures parts { parts_of lanes.new ≡ parts_of lanes.old }
     ensures work { IsWorkFor plan.now.header.now (length lanes.new) work.new }
     ensures told { IfOk result (λ ends. IfSome (F.bytes file.old) (λ bytes. All (Stands plan.now.header.now.layout bytes) lanes.old
         → length bytes < 2 ^ 64
         → Prepared plan.now.header.now bytes rules.now lanes.old lanes.new work.new.fronts.items work.new.tallies.items work.new.table.items ends)) }
-    ensures reads { F.reads file.new
-        ≤ raised (F.reads file.old) (to_read plan.now.header.now.layout (F.size file.old) lanes.old) }
     // What packing the file reads is left.
-    ensures spent { OnOk result (Spent (to_read plan.now.header.now.layout (F.size file.old) lanes.old)
+    ensures reads { Spends (to_read plan.now.header.now.layout (F.size file.old) lanes.old)
         (to_read plan.now.header.now.layout (F.size file.old) lanes.new
         + all_packing plan.now.header.now.layout (F.size file.old) lanes.new work.new.fronts.items work.new.tallies.items)
-        (F.reads file.old) (F.reads file.new)) }
+        (F.reads file.old) (F.reads file.new) result }
     ensures cause { HasCause (F.faults file.old) (F.faults file.new) result }
     ensures keeps { KeepsFile F.File file.old file.new }
 {
@@ -89,9 +79,7 @@ fn write_file<F: File, O: Sink>(
     work: &mut SplitWork,
     out: &mut O,
 ) -> End
-    requires allowed { IsHeader plan.now.header.now }
-    requires in_order { All (IsInOrder plan.now.header.now.layout) lanes.old }
-    requires work { IsWorkFor plan.now.header.now (length lanes.old) work.old }
+    requires { CanCut plan.now.header.now lanes.old work.old }
     ensures in_order { All (IsInOrder plan.now.header.now.layout) lanes.new }
     ensures parts { parts_of lanes.new ≡ parts_of lanes.old }
     ensures work { IsWorkFor plan.now.header.now (length lanes.new) work.new }
@@ -126,6 +114,7 @@ fn write_file<F: File, O: Sink>(
 ///
 /// # Errors
 /// Why the split ends here: the file has no name then, unless finishing it failed.
+#[tactic(auto, using(crate::proofs::Making::still_cut))]
 pub(crate) fn make_file<F: File, D: Folder>(
     plan: &SplitPlan<'_>,
     rules: &Rules,
@@ -135,29 +124,19 @@ pub(crate) fn make_file<F: File, D: Folder>(
     work: &mut SplitWork,
     folder: &mut D,
 ) -> Result<Ends, End>
-    requires allowed { IsHeader plan.now.header.now }
     requires base { length plan.now.words.now.base.now ≤ 4096 }
-    requires in_order { All (IsInOrder plan.now.header.now.layout) lanes.old }
-    requires rise { CpusRise (parts_of lanes.old) }
-    requires cpus { All (λ lane. lane.cpu < plan.now.header.now.cpus) lanes.old }
-    requires work { IsWorkFor plan.now.header.now (length lanes.old) work.old }
-    ensures in_order { All (IsInOrder plan.now.header.now.layout) lanes.new }
+    requires cut { CanCut plan.now.header.now lanes.old work.old }
+    ensures cut { CanCut plan.now.header.now lanes.new work.new }
     ensures parts { parts_of lanes.new ≡ parts_of lanes.old }
-    ensures work { IsWorkFor plan.now.header.now (length lanes.new) work.new }
     ensures told { IfSome (F.bytes file.old) (λ bytes. All (Stands plan.now.header.now.layout bytes) lanes.old
         → length bytes < 2 ^ 64
-        → IsMade plan.now.header.now bytes rules.now (file_name plan.now.words.now.base.now number) lanes.old lanes.new (D.counts folder.old).unfinished (D.counts folder.new).unfinished (D.files folder.old) (D.files folder.new) result) }
-    ensures unfinished { MatchResult result (λ _. (D.counts folder.new).unfinished ≡ (D.counts folder.old).unfinished)
-        (λ end. LeavesUnfinished (D.counts folder.old).unfinished (D.counts folder.new).unfinished end) }
-    ensures reads { F.reads file.new
-        ≤ raised (F.reads file.old) (to_read plan.now.header.now.layout (F.size file.old) lanes.old) }
-    ensures spent { IfOk result (λ ends. Spent (to_read plan.now.header.now.layout (F.size file.old) lanes.old)
-        (to_read plan.now.header.now.layout (F.size file.old) lanes.new) (F.reads file.old) (F.reads file.new)) }
+        → IsMade plan.now.header.now bytes rules.now (file_name plan.now.words.now.base.now number) lanes.old lanes.new
+        (record { files = D.files folder.old; counts = D.counts folder.old })
+        (record { files = D.files folder.new; counts = D.counts folder.new }) result) }
+    ensures counts { CountsOne (D.counts folder.old) (D.counts folder.new) result }
+    ensures reads { Spends (to_read plan.now.header.now.layout (F.size file.old) lanes.old)
+        (to_read plan.now.header.now.layout (F.size file.old) lanes.new) (F.reads file.old) (F.reads file.new) result }
     ensures read { IfErr result (λ end. end ≡ End.Read → Rose (F.faults file.old) (F.faults file.new)) }
-    ensures write { IfErr result (λ end. end ≡ End.Write → Rose (D.counts folder.old).writing (D.counts folder.new).writing) }
-    ensures counts { KeepsCounts (D.counts folder.old) (D.counts folder.new) }
-    ensures created { MatchResult result (λ _. (D.counts folder.new).created ≡ raised (D.counts folder.old).created 1)
-        (λ _. (D.counts folder.new).created ≤ raised (D.counts folder.old).created 1) }
     ensures keeps { KeepsFile F.File file.old file.new }
 {
     let Ok(ends) = measure_file(plan, rules, file, lanes, work) else {

@@ -1,21 +1,18 @@
 // The lists that one file takes its pieces of.
 
-ghost use Rattle.std.specs.Prelude.{◌≡◌, ◌-◌, ◌<◌, ◌≤◌, ◌&&◌, ◌||◌, ℕ, false, not, [], All, IfOk, IfSome, None, OnOk, length, slice_index_or};
+ghost use Rattle.std.specs.Prelude.{◌≡◌, ◌-◌, ◌≤◌, ◌&&◌, ◌||◌, false, not, [], All, IfOk, IfSome, None, OnOk, length};
 ghost use Rattle.std.specs.Option.{option_or};
 ghost use Rattle.trace_base.specs.Layout.{IsLayout};
 ghost use Rattle.trace_outside.specs.Causes.{HasCause, raised};
 ghost use Rattle.subpage.specs.Arrangement.{CpusRise};
-ghost use Rattle.page_pool.specs.declared.lane.Lane.{Lane};
 ghost use Rattle.event_cursor.specs.Standing.{IsInOrder, Stands};
-ghost use Rattle.time_merge.specs.Advancing.{IsOver};
 ghost use Rattle.time_merge.specs.LaneRows.{IsReady, parts_of};
 ghost use Rattle.time_merge.specs.Reads.{all_unread};
 ghost use Rattle.split_pieces.specs.Gauging.{closes_by};
-ghost use Rattle.split_passes.specs.Measures.{Tallied};
+ghost use Rattle.split_passes.specs.Measures.{SkipsOver, Tallied};
 ghost use Rattle.split_passes.specs.Tallies.{IsTally};
-ghost use Rattle.split_passes.specs.declared.tally.Tally.{Tally};
+ghost use Rattle.split_passes.specs.Through.{GoThrough};
 ghost use Rattle.split_tool.specs.Measured.{FileMeasured, ListMeasured, bad_of_end, is_full};
-ghost use Rattle.split_tool.specs.Through.{GoThrough};
 
 use least_tree::LeastTree;
 use page_pool::Lane;
@@ -114,9 +111,7 @@ fn measure_list<F: File>(
         → Tallied layout.now lanes.old [] tallies.old
         → ListMeasured layout.now bytes rules.now lanes.old lanes.new tallies.new before ends)) }
     ensures ready { OnOk result (All (IsReady layout.now) lanes.new) }
-    ensures over { (i : ℕ) (d : Lane) (t : Tally) → i < length lanes.old
-        → IsOver (slice_index_or lanes.old i d).cursor.state
-        → slice_index_or tallies.new i t ≡ slice_index_or tallies.old i t }
+    ensures over { SkipsOver lanes.old tallies.old tallies.new }
     ensures reads_done { OnOk result (F.reads file.new ≤ raised (F.reads file.old)
         (all_unread layout.now (F.size file.old) lanes.old - all_unread layout.now (F.size file.old) lanes.new)) }
     ensures cause { HasCause (F.faults file.old) (F.faults file.new) result }
@@ -151,12 +146,10 @@ pub(crate) fn measure_lists<F: File>(
     ensures slot { length next.new ≡ 1 }
     ensures long { length tallies.new ≡ length lanes.new }
     ensures told { IfOk result (λ ends. IfSome (F.bytes file.old) (λ bytes. All (Stands layout.now bytes) lanes.old
-        → ((i : ℕ) (t : Tally) → i < length tallies.old → IsTally layout.now (slice_index_or tallies.old i t) [])
+        → All (λ tally. IsTally layout.now tally []) tallies.old
         → FileMeasured layout.now bytes rules.now lanes.old lanes.new tallies.new ends)) }
     ensures ready { OnOk result (All (IsReady layout.now) lanes.new) }
-    ensures over { (i : ℕ) (d : Lane) (t : Tally) → i < length lanes.old
-        → IsOver (slice_index_or lanes.old i d).cursor.state
-        → slice_index_or tallies.new i t ≡ slice_index_or tallies.old i t }
+    ensures over { SkipsOver lanes.old tallies.old tallies.new }
     ensures reads_done { OnOk result (F.reads file.new ≤ raised (F.reads file.old)
         (all_unread layout.now (F.size file.old) lanes.old - all_unread layout.now (F.size file.old) lanes.new)) }
     ensures cause { HasCause (F.faults file.old) (F.faults file.new) result }

@@ -10,8 +10,8 @@ ghost use Rattle.event_cursor.specs.Standing.{IsInOrder, Stands, keyed_held};
 ghost use Rattle.time_merge.specs.LaneRows.{parts_of};
 ghost use Rattle.time_merge.specs.Reads.{all_unread};
 ghost use Rattle.split_pieces.specs.Moments.{is_before};
+ghost use Rattle.split_passes.specs.Through.{GoThrough};
 ghost use Rattle.split_tool.specs.Started.{ListStarted, Started};
-ghost use Rattle.split_tool.specs.Through.{GoThrough};
 
 use event_cursor::{head_key, step};
 use least_tree::LeastTree;

@@ -1,21 +1,20 @@
-use Rattle.std.proofs.Common.{◌≡◌, ◌-◌, ◌≤◌, [], length}
-use Rattle.std.specs.List.{All}
+use Rattle.std.proofs.Common.{◌≡◌, ◌-◌, ◌≤◌, length}
 use Rattle.std.specs.Option.{IfSome}
 use Rattle.trace_outside.specs.Causes.{raised}
 use Rattle.trace_outside.specs.Keeping.{KeepsFile, KeepsSink}
 use Rattle.time_merge.specs.LaneRows.{parts_of}
 use Rattle.time_merge.specs.Reads.{all_unread}
-use Rattle.report_rounds.specs.Between.{IsBetween, all_work}
-use Rattle.report_rounds.proofs.Reporting.{IsGoing}
+use Rattle.report_rounds.specs.Between.{AreBetween, all_work}
+use Rattle.report_rounds.specs.Turns.{IsFurther}
+use Rattle.report_rounds.proofs.Reporting.{first_state}
+use Rattle.report_rounds.proofs.Turning.{round_state}
 use Rattle.report_rounds.proofs.reports.report_rounds.Given as goal
 
 abbrev pub invariant-loop-end : goal.invariant-loop-end
 invariant-loop-end g l = record {
-  between : All (IsBetween (g.L.Form.text l.form) l.layout) l.lanes;
+  between : AreBetween (g.L.Form.text l.form) l.layout l.lanes (length l.heads) l.pending;
   parts : parts_of l.lanes ≡ parts_of l.fn.lanes;
-  heads : length l.heads ≡ length l.fn.heads;
-  empty : l.pending ≡ [];
-  going : IfSome (g.F.File.bytes l.fn.file) (λ file. IsGoing (g.L.Form.text l.form) l.layout file l.fn.lanes l.lanes l.last (g.O.Sink.written l.fn.out) (g.O.Sink.written l.out));
+  going : IfSome (g.F.File.bytes l.fn.file) (λ file. IsFurther (g.L.Form.text l.form) l.layout file (first_state l.fn.lanes (g.O.Sink.written l.fn.out)) (round_state l.lanes l.last (g.O.Sink.written l.out)));
   keeps_out : KeepsSink g.O.Sink l.fn.out l.out;
   reads : g.F.File.reads l.file
       ≤ raised (g.F.File.reads l.fn.file)

@@ -2,11 +2,11 @@ use Rattle.std.proofs.Common.{◌-◌, ◌≤◌, ℕ, subst, sym, arith}
 use Rattle.trace_outside.specs.Causes.{raised}
 use Rattle.time_merge.specs.Reads.{all_unread}
 use Rattle.report_rounds.proofs.Reading.{unread_turned}
-use Rattle.report_rounds.proofs.Turning.{IsFormed, formed_rise, formed_rises, if_none, now_all, now_less, now_parts, now_stands_told, turned_told, failed_told}
+use Rattle.report_rounds.proofs.Turning.{IsFormed, formed_rise, formed_rises, now_all, now_less, now_parts, turned_told, failed_told}
 use Rattle.report_rounds.proofs.turns.turn.Goals as goal
 
 pub print_round-requires-clause-heads : goal.print_round-requires-clause-heads
-print_round-requires-clause-heads g c = omega (arith, c.requires.heads, c.make_all_ready.auto.lanes, c.format_lanes.ensures.count)
+print_round-requires-clause-heads g c = omega (arith, c.requires.between.slots, c.make_all_ready.auto.lanes, c.format_lanes.ensures.count)
 
 pub print_round-requires-clause-rise : goal.print_round-requires-clause-rise
 print_round-requires-clause-rise g c =
@@ -18,7 +18,7 @@ print_round-requires-clause-rise g c =
       ready = c.in-Ok.ensures.ready;
       format = c.format_lanes.ensures.each;
     } in
-    formed_rise (g.L.Form.text c.args.form.now) c.args.layout.now (g.F.File.bytes c.args.file.now) c.args.lanes.now c.make_all_ready.new.lanes c.format_lanes.new.lanes f c.requires.rise
+    formed_rise (g.L.Form.text c.args.form.now) c.args.layout.now (g.F.File.bytes c.args.file.now) c.args.lanes.now c.make_all_ready.new.lanes c.format_lanes.new.lanes f c.requires.between.rise
 
 pub print_round-requires-clause-rises : goal.print_round-requires-clause-rises
 print_round-requires-clause-rises g c =
@@ -30,10 +30,10 @@ print_round-requires-clause-rises g c =
       ready = c.in-Ok.ensures.ready;
       format = c.format_lanes.ensures.each;
     } in
-    formed_rises (g.L.Form.text c.args.form.now) c.args.layout.now (g.F.File.bytes c.args.file.now) c.args.lanes.now c.make_all_ready.new.lanes c.format_lanes.new.lanes f c.requires.between
+    formed_rises (g.L.Form.text c.args.form.now) c.args.layout.now (g.F.File.bytes c.args.file.now) c.args.lanes.now c.make_all_ready.new.lanes c.format_lanes.new.lanes f c.requires.between.each
 
 pub returns-in-Ok-print_round-clause-between : goal.returns-in-Ok-print_round-clause-between
-returns-in-Ok-print_round-clause-between g c =
+returns-in-Ok-print_round-clause-between g c = λ goes.
     let f : IsFormed (g.L.Form.text c.args.form.now) c.args.layout.now (g.F.File.bytes c.args.file.now) c.args.lanes.now c.make_all_ready.new.lanes c.format_lanes.new.lanes = record {
       long_loaded = c.make_all_ready.auto.lanes;
       long_formed = c.format_lanes.ensures.count;
@@ -42,10 +42,15 @@ returns-in-Ok-print_round-clause-between g c =
       ready = c.in-Ok.ensures.ready;
       format = c.format_lanes.ensures.each;
     } in
-    if_none c.end_at.result _ (now_all (g.L.Form.text c.args.form.now) c.args.layout.now (g.F.File.bytes c.args.file.now) c.args.lanes.now c.make_all_ready.new.lanes c.format_lanes.new.lanes f c.horizon-known.result c.print_round.new.lanes c.print_round.auto.lanes c.in-Ok-print_round.ensures.lanes c.requires.between)
+    record {
+      each = now_all (g.L.Form.text c.args.form.now) c.args.layout.now (g.F.File.bytes c.args.file.now) c.args.lanes.now c.make_all_ready.new.lanes c.format_lanes.new.lanes f c.horizon-known.result c.print_round.new.lanes c.print_round.auto.lanes c.in-Ok-print_round.ensures.lanes c.requires.between.each;
+      rise = c.in-Ok-print_round.ensures.rise;
+      slots = omega (arith, c.requires.between.slots, c.make_all_ready.auto.lanes, c.format_lanes.ensures.count, c.print_round.auto.lanes, c.print_round.ensures.heads);
+      empty = c.in-Ok-print_round.ensures.empty;
+    }
 
-pub returns-in-Ok-print_round-clause-parts : goal.returns-in-Ok-print_round-clause-parts
-returns-in-Ok-print_round-clause-parts g c =
+pub returns-in-Ok-print_round-clause-goes_on : goal.returns-in-Ok-print_round-clause-goes_on
+returns-in-Ok-print_round-clause-goes_on g c = λ goes.
     let f : IsFormed (g.L.Form.text c.args.form.now) c.args.layout.now (g.F.File.bytes c.args.file.now) c.args.lanes.now c.make_all_ready.new.lanes c.format_lanes.new.lanes = record {
       long_loaded = c.make_all_ready.auto.lanes;
       long_formed = c.format_lanes.ensures.count;
@@ -54,31 +59,15 @@ returns-in-Ok-print_round-clause-parts g c =
       ready = c.in-Ok.ensures.ready;
       format = c.format_lanes.ensures.each;
     } in
-    if_none c.end_at.result _ (now_parts (g.L.Form.text c.args.form.now) c.args.layout.now (g.F.File.bytes c.args.file.now) c.args.lanes.now c.make_all_ready.new.lanes c.format_lanes.new.lanes f c.horizon-known.result c.print_round.new.lanes c.print_round.auto.lanes c.in-Ok-print_round.ensures.lanes)
-
-pub returns-in-Ok-print_round-clause-less : goal.returns-in-Ok-print_round-clause-less
-returns-in-Ok-print_round-clause-less g c =
-    let f : IsFormed (g.L.Form.text c.args.form.now) c.args.layout.now (g.F.File.bytes c.args.file.now) c.args.lanes.now c.make_all_ready.new.lanes c.format_lanes.new.lanes = record {
-      long_loaded = c.make_all_ready.auto.lanes;
-      long_formed = c.format_lanes.ensures.count;
-      in_order = c.in-Ok.ensures.loads.in_order;
-      load = c.in-Ok.ensures.each;
-      ready = c.in-Ok.ensures.ready;
-      format = c.format_lanes.ensures.each;
-    } in
-    now_less (g.L.Form.text c.args.form.now) c.args.layout.now (g.F.File.bytes c.args.file.now) c.args.lanes.now c.make_all_ready.new.lanes c.format_lanes.new.lanes f c.horizon-known.result c.print_round.new.lanes c.print_round.auto.lanes c.in-Ok-print_round.ensures.lanes c.end_at.result c.horizon-known.ensures c.end_at.ensures c.requires.rise c.requires.between
-
-pub returns-in-Ok-print_round-clause-stands : goal.returns-in-Ok-print_round-clause-stands
-returns-in-Ok-print_round-clause-stands g c =
-    let f : IsFormed (g.L.Form.text c.args.form.now) c.args.layout.now (g.F.File.bytes c.args.file.now) c.args.lanes.now c.make_all_ready.new.lanes c.format_lanes.new.lanes = record {
-      long_loaded = c.make_all_ready.auto.lanes;
-      long_formed = c.format_lanes.ensures.count;
-      in_order = c.in-Ok.ensures.loads.in_order;
-      load = c.in-Ok.ensures.each;
-      ready = c.in-Ok.ensures.ready;
-      format = c.format_lanes.ensures.each;
-    } in
-    if_none c.end_at.result _ (now_stands_told (g.L.Form.text c.args.form.now) c.args.layout.now (g.F.File.bytes c.args.file.now) c.args.lanes.now c.make_all_ready.new.lanes c.format_lanes.new.lanes f c.horizon-known.result c.print_round.new.lanes c.print_round.auto.lanes c.in-Ok-print_round.ensures.lanes)
+    let all : ℕ = all_unread c.args.layout.now (g.F.File.size c.args.file.now) c.args.lanes.now in
+    let still = unread_turned c.args.layout.now (g.F.File.size c.args.file.now) (g.L.Form.text c.args.form.now) c.horizon-known.result c.make_all_ready.new.lanes c.format_lanes.new.lanes c.print_round.new.lanes
+    c.format_lanes.ensures.count c.print_round.auto.lanes c.format_lanes.ensures.each c.in-Ok-print_round.ensures.lanes in
+    record {
+      parts = now_parts (g.L.Form.text c.args.form.now) c.args.layout.now (g.F.File.bytes c.args.file.now) c.args.lanes.now c.make_all_ready.new.lanes c.format_lanes.new.lanes f c.horizon-known.result c.print_round.new.lanes c.print_round.auto.lanes c.in-Ok-print_round.ensures.lanes;
+      less = now_less (g.L.Form.text c.args.form.now) c.args.layout.now (g.F.File.bytes c.args.file.now) c.args.lanes.now c.make_all_ready.new.lanes c.format_lanes.new.lanes f c.horizon-known.result c.print_round.new.lanes c.print_round.auto.lanes c.in-Ok-print_round.ensures.lanes c.outcome_at.result c.horizon-known.ensures c.outcome_at.ensures c.requires.between.rise c.requires.between.each goes;
+      reads = subst (λ (n : ℕ). g.F.File.reads c.make_all_ready.new.file ≤ raised (g.F.File.reads c.args.file.now) (all - n)) (sym still) c.in-Ok.ensures.reads_done;
+      unread = subst (λ (n : ℕ). n ≤ all) (sym still) c.in-Ok.ensures.loads.unread;
+    }
 
 pub returns-in-Ok-print_round-clause-turned : goal.returns-in-Ok-print_round-clause-turned
 returns-in-Ok-print_round-clause-turned g c =
@@ -90,7 +79,7 @@ returns-in-Ok-print_round-clause-turned g c =
       ready = c.in-Ok.ensures.ready;
       format = c.format_lanes.ensures.each;
     } in
-    turned_told (g.L.Form.text c.args.form.now) c.args.layout.now (g.F.File.bytes c.args.file.now) c.args.lanes.now c.make_all_ready.new.lanes c.format_lanes.new.lanes f c.horizon-known.result c.print_round.new.lanes c.print_round.auto.lanes c.in-Ok-print_round.ensures.lanes c.end_at.result c.horizon-known.ensures c.end_at.ensures c.requires.rise c.requires.between c.args.last.now c.print_round.new.last _ _ c.in-Ok-print_round.ensures.written c.in-Ok-print_round.ensures.last
+    turned_told (g.L.Form.text c.args.form.now) c.args.layout.now (g.F.File.bytes c.args.file.now) c.args.lanes.now c.make_all_ready.new.lanes c.format_lanes.new.lanes f c.horizon-known.result c.print_round.new.lanes c.print_round.auto.lanes c.in-Ok-print_round.ensures.lanes c.outcome_at.result c.horizon-known.ensures c.outcome_at.ensures c.requires.between.rise c.requires.between.each c.args.last.now c.print_round.new.last _ _ c.in-Ok-print_round.ensures.written c.in-Ok-print_round.ensures.last
 
 pub returns-in-Err-clause-turned : goal.returns-in-Err-clause-turned
 returns-in-Err-clause-turned g c =
@@ -102,7 +91,7 @@ returns-in-Err-clause-turned g c =
       ready = c.in-Ok.ensures.ready;
       format = c.format_lanes.ensures.each;
     } in
-    failed_told (g.L.Form.text c.args.form.now) c.args.layout.now (g.F.File.bytes c.args.file.now) c.args.lanes.now c.make_all_ready.new.lanes c.format_lanes.new.lanes f c.horizon-known.result c.horizon-known.ensures c.requires.rise c.requires.between c.args.last.now _ _ c.in-Err.ensures.written
+    failed_told (g.L.Form.text c.args.form.now) c.args.layout.now (g.F.File.bytes c.args.file.now) c.args.lanes.now c.make_all_ready.new.lanes c.format_lanes.new.lanes f c.horizon-known.result c.horizon-known.ensures c.requires.between.rise c.requires.between.each c.args.last.now _ _ c.in-Err.ensures.written
 
 -- what was read, whatever became of the round
 pub returns-in_default-clause-loaded : goal.returns-in_default-clause-loaded
@@ -134,17 +123,3 @@ returns-in-Err-clause-loaded g c = record {
   less = c.make_all_ready.ensures.loads.unread;
   reads = c.make_all_ready.ensures.loads.reads;
 }
-
-pub returns-in-Ok-print_round-clause-reads : goal.returns-in-Ok-print_round-clause-reads
-returns-in-Ok-print_round-clause-reads g c =
-    let all : ℕ = all_unread c.args.layout.now (g.F.File.size c.args.file.now) c.args.lanes.now in
-    if_none c.end_at.result _
-    (subst (λ (n : ℕ). g.F.File.reads c.make_all_ready.new.file ≤ raised (g.F.File.reads c.args.file.now) (all - n))
-    (sym (unread_turned c.args.layout.now (g.F.File.size c.args.file.now) (g.L.Form.text c.args.form.now) c.horizon-known.result c.make_all_ready.new.lanes c.format_lanes.new.lanes c.print_round.new.lanes c.format_lanes.ensures.count c.print_round.auto.lanes c.format_lanes.ensures.each c.in-Ok-print_round.ensures.lanes))
-    c.in-Ok.ensures.reads_done)
-
-pub returns-in-Ok-print_round-clause-unread : goal.returns-in-Ok-print_round-clause-unread
-returns-in-Ok-print_round-clause-unread g c =
-    let all : ℕ = all_unread c.args.layout.now (g.F.File.size c.args.file.now) c.args.lanes.now in
-    if_none c.end_at.result _
-    (subst (λ (n : ℕ). n ≤ all) (sym (unread_turned c.args.layout.now (g.F.File.size c.args.file.now) (g.L.Form.text c.args.form.now) c.horizon-known.result c.make_all_ready.new.lanes c.format_lanes.new.lanes c.print_round.new.lanes c.format_lanes.ensures.count c.print_round.auto.lanes c.format_lanes.ensures.each c.in-Ok-print_round.ensures.lanes)) c.in-Ok.ensures.loads.unread)

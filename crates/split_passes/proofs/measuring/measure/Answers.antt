@@ -10,8 +10,9 @@ use Rattle.time_merge.proofs.Going.{holds_is, next_is, still_parts}
 use Rattle.time_merge.proofs.OneLane.{in_step_but}
 use Rattle.split_passes.proofs.Going.{advances_on, advances_stepped, over_more}
 use Rattle.time_merge.proofs.Advancing.{same_length}
-use Rattle.time_merge.proofs.PartReads.{going_reads, loading_reads, stepping_unread}
+use Rattle.time_merge.proofs.PartReads.{going_reads, stepping_unread}
 use Rattle.split_passes.proofs.Running.{runs_none, runs_on, loaded, all_measured, past_measured, full_measured}
+use Rattle.split_passes.proofs.Through.{through_loaded}
 use Rattle.split_passes.proofs.measuring.measure.Goals as goal
 
 pub loop-i-init : goal.loop-i-init
@@ -99,75 +100,35 @@ returns-in-Malformed-clause-measured g c =
     (loaded l (g.F.File.bytes c.args.file.now) (g.F.File.bytes c.loop-i.file) c.args.stop c.args.gauge.now c.loop-i.gauge c.args.lanes.now c.loop-i.lanes c.next_lane_by.new.lanes c.args.tallies.now c.loop-i.tallies (code.Malformed c.in-Malformed.cpu c.in-Malformed.page)
     c.loop-i.invariant.keeps.bytes c.loop-i.invariant.parts c.next_lane_by.ensures.loads.parts c.loop-i.invariant.runs c.next_lane_by.ensures.loads.rows c.next_lane_by.ensures.loads.stands (next_is c.args.layout.now _ _ c.next_lane_by.new.lanes c.in-Malformed.is c.in_ok-i.ensures.next))
 
-pub returns-in-Past-clause-advance : goal.returns-in-Past-clause-advance
-returns-in-Past-clause-advance g c =
-    advances_on c.args.lanes.now c.loop-i.lanes c.next_lane_by.new.lanes (same_length c.loop-i.lanes c.args.lanes.now c.loop-i.invariant.parts) c.loop-i.invariant.advance c.next_lane_by.ensures.loads.advance
+pub returns-in-Past-clause-through : goal.returns-in-Past-clause-through
+returns-in-Past-clause-through g c =
+    let before = c.loop-i.invariant in
+    through_loaded c.args.layout.now c.args.file.now c.loop-i.file c.next_lane_by.new.file c.args.lanes.now c.loop-i.lanes c.next_lane_by.new.lanes
+    before.parts before.advance before.reads before.unread before.keeps c.next_lane_by.ensures.loads
 
-pub returns-in-Past-clause-reads : goal.returns-in-Past-clause-reads
-returns-in-Past-clause-reads g c =
-    (loading_reads c.args.layout.now (g.F.File.size c.args.file.now) (g.F.File.size c.loop-i.file) c.loop-i.lanes c.next_lane_by.new.lanes _ _ _ _
-    c.loop-i.invariant.keeps.size c.loop-i.invariant.reads c.loop-i.invariant.unread c.next_lane_by.ensures.loads.reads c.next_lane_by.ensures.loads.unread).0
+pub returns-in-Full-clause-through : goal.returns-in-Full-clause-through
+returns-in-Full-clause-through g c =
+    let before = c.loop-i.invariant in
+    through_loaded c.args.layout.now c.args.file.now c.loop-i.file c.next_lane_by.new.file c.args.lanes.now c.loop-i.lanes c.next_lane_by.new.lanes
+    before.parts before.advance before.reads before.unread before.keeps c.next_lane_by.ensures.loads
 
-pub returns-in-Past-clause-unread : goal.returns-in-Past-clause-unread
-returns-in-Past-clause-unread g c =
-    (loading_reads c.args.layout.now (g.F.File.size c.args.file.now) (g.F.File.size c.loop-i.file) c.loop-i.lanes c.next_lane_by.new.lanes _ _ _ _
-    c.loop-i.invariant.keeps.size c.loop-i.invariant.reads c.loop-i.invariant.unread c.next_lane_by.ensures.loads.reads c.next_lane_by.ensures.loads.unread).1
+pub returns-in-Done-clause-through : goal.returns-in-Done-clause-through
+returns-in-Done-clause-through g c =
+    let before = c.loop-i.invariant in
+    through_loaded c.args.layout.now c.args.file.now c.loop-i.file c.next_lane_by.new.file c.args.lanes.now c.loop-i.lanes c.next_lane_by.new.lanes
+    before.parts before.advance before.reads before.unread before.keeps c.next_lane_by.ensures.loads
 
-pub returns-in-Full-clause-advance : goal.returns-in-Full-clause-advance
-returns-in-Full-clause-advance g c =
-    advances_on c.args.lanes.now c.loop-i.lanes c.next_lane_by.new.lanes (same_length c.loop-i.lanes c.args.lanes.now c.loop-i.invariant.parts) c.loop-i.invariant.advance c.next_lane_by.ensures.loads.advance
+pub returns-in-Malformed-clause-through : goal.returns-in-Malformed-clause-through
+returns-in-Malformed-clause-through g c =
+    let before = c.loop-i.invariant in
+    through_loaded c.args.layout.now c.args.file.now c.loop-i.file c.next_lane_by.new.file c.args.lanes.now c.loop-i.lanes c.next_lane_by.new.lanes
+    before.parts before.advance before.reads before.unread before.keeps c.next_lane_by.ensures.loads
 
-pub returns-in-Full-clause-reads : goal.returns-in-Full-clause-reads
-returns-in-Full-clause-reads g c =
-    (loading_reads c.args.layout.now (g.F.File.size c.args.file.now) (g.F.File.size c.loop-i.file) c.loop-i.lanes c.next_lane_by.new.lanes _ _ _ _
-    c.loop-i.invariant.keeps.size c.loop-i.invariant.reads c.loop-i.invariant.unread c.next_lane_by.ensures.loads.reads c.next_lane_by.ensures.loads.unread).0
-
-pub returns-in-Full-clause-unread : goal.returns-in-Full-clause-unread
-returns-in-Full-clause-unread g c =
-    (loading_reads c.args.layout.now (g.F.File.size c.args.file.now) (g.F.File.size c.loop-i.file) c.loop-i.lanes c.next_lane_by.new.lanes _ _ _ _
-    c.loop-i.invariant.keeps.size c.loop-i.invariant.reads c.loop-i.invariant.unread c.next_lane_by.ensures.loads.reads c.next_lane_by.ensures.loads.unread).1
-
-pub returns-in-Done-clause-advance : goal.returns-in-Done-clause-advance
-returns-in-Done-clause-advance g c =
-    advances_on c.args.lanes.now c.loop-i.lanes c.next_lane_by.new.lanes (same_length c.loop-i.lanes c.args.lanes.now c.loop-i.invariant.parts) c.loop-i.invariant.advance c.next_lane_by.ensures.loads.advance
-
-pub returns-in-Done-clause-reads : goal.returns-in-Done-clause-reads
-returns-in-Done-clause-reads g c =
-    (loading_reads c.args.layout.now (g.F.File.size c.args.file.now) (g.F.File.size c.loop-i.file) c.loop-i.lanes c.next_lane_by.new.lanes _ _ _ _
-    c.loop-i.invariant.keeps.size c.loop-i.invariant.reads c.loop-i.invariant.unread c.next_lane_by.ensures.loads.reads c.next_lane_by.ensures.loads.unread).0
-
-pub returns-in-Done-clause-unread : goal.returns-in-Done-clause-unread
-returns-in-Done-clause-unread g c =
-    (loading_reads c.args.layout.now (g.F.File.size c.args.file.now) (g.F.File.size c.loop-i.file) c.loop-i.lanes c.next_lane_by.new.lanes _ _ _ _
-    c.loop-i.invariant.keeps.size c.loop-i.invariant.reads c.loop-i.invariant.unread c.next_lane_by.ensures.loads.reads c.next_lane_by.ensures.loads.unread).1
-
-pub returns-in-Malformed-clause-advance : goal.returns-in-Malformed-clause-advance
-returns-in-Malformed-clause-advance g c =
-    advances_on c.args.lanes.now c.loop-i.lanes c.next_lane_by.new.lanes (same_length c.loop-i.lanes c.args.lanes.now c.loop-i.invariant.parts) c.loop-i.invariant.advance c.next_lane_by.ensures.loads.advance
-
-pub returns-in-Malformed-clause-reads : goal.returns-in-Malformed-clause-reads
-returns-in-Malformed-clause-reads g c =
-    (loading_reads c.args.layout.now (g.F.File.size c.args.file.now) (g.F.File.size c.loop-i.file) c.loop-i.lanes c.next_lane_by.new.lanes _ _ _ _
-    c.loop-i.invariant.keeps.size c.loop-i.invariant.reads c.loop-i.invariant.unread c.next_lane_by.ensures.loads.reads c.next_lane_by.ensures.loads.unread).0
-
-pub returns-in-Malformed-clause-unread : goal.returns-in-Malformed-clause-unread
-returns-in-Malformed-clause-unread g c =
-    (loading_reads c.args.layout.now (g.F.File.size c.args.file.now) (g.F.File.size c.loop-i.file) c.loop-i.lanes c.next_lane_by.new.lanes _ _ _ _
-    c.loop-i.invariant.keeps.size c.loop-i.invariant.reads c.loop-i.invariant.unread c.next_lane_by.ensures.loads.reads c.next_lane_by.ensures.loads.unread).1
-
-pub returns-in_err-i-clause-advance : goal.returns-in_err-i-clause-advance
-returns-in_err-i-clause-advance g c =
-    advances_on c.args.lanes.now c.loop-i.lanes c.next_lane_by.new.lanes (same_length c.loop-i.lanes c.args.lanes.now c.loop-i.invariant.parts) c.loop-i.invariant.advance c.next_lane_by.ensures.loads.advance
-
-pub returns-in_err-i-clause-reads : goal.returns-in_err-i-clause-reads
-returns-in_err-i-clause-reads g c =
-    (loading_reads c.args.layout.now (g.F.File.size c.args.file.now) (g.F.File.size c.loop-i.file) c.loop-i.lanes c.next_lane_by.new.lanes _ _ _ _
-    c.loop-i.invariant.keeps.size c.loop-i.invariant.reads c.loop-i.invariant.unread c.next_lane_by.ensures.loads.reads c.next_lane_by.ensures.loads.unread).0
-
-pub returns-in_err-i-clause-unread : goal.returns-in_err-i-clause-unread
-returns-in_err-i-clause-unread g c =
-    (loading_reads c.args.layout.now (g.F.File.size c.args.file.now) (g.F.File.size c.loop-i.file) c.loop-i.lanes c.next_lane_by.new.lanes _ _ _ _
-    c.loop-i.invariant.keeps.size c.loop-i.invariant.reads c.loop-i.invariant.unread c.next_lane_by.ensures.loads.reads c.next_lane_by.ensures.loads.unread).1
+pub returns-in_err-i-clause-through : goal.returns-in_err-i-clause-through
+returns-in_err-i-clause-through g c =
+    let before = c.loop-i.invariant in
+    through_loaded c.args.layout.now c.args.file.now c.loop-i.file c.next_lane_by.new.file c.args.lanes.now c.loop-i.lanes c.next_lane_by.new.lanes
+    before.parts before.advance before.reads before.unread before.keeps c.next_lane_by.ensures.loads
 
 pub returns-in-Past-clause-over : goal.returns-in-Past-clause-over
 returns-in-Past-clause-over g c =

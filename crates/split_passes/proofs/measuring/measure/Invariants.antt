@@ -5,12 +5,11 @@ use Rattle.trace_outside.specs.Causes.{raised}
 use Rattle.trace_outside.specs.Keeping.{KeepsFile}
 use Rattle.page_pool.specs.declared.lane.Lane.{Lane}
 use Rattle.event_cursor.specs.Standing.{IsInOrder, Stands, most_left}
-use Rattle.time_merge.specs.Advancing.{Advances, IsOver}
+use Rattle.time_merge.specs.Advancing.{Advances}
 use Rattle.time_merge.specs.LaneRows.{parts_of}
 use Rattle.time_merge.specs.Nexts.{IsInStep}
 use Rattle.time_merge.specs.Reads.{all_unread}
-use Rattle.split_passes.specs.Measures.{Tallied}
-use Rattle.split_passes.specs.declared.tally.Tally.{Tally}
+use Rattle.split_passes.specs.Measures.{SkipsOver, Tallied}
 use Rattle.split_passes.proofs.Running.{Runs}
 use Rattle.split_passes.proofs.measuring.measure.Given as goal
 
@@ -24,7 +23,7 @@ invariant-loop-i g l = record {
   runs : IfSome (g.F.File.bytes l.fn.file) (λ file. All (Stands l.layout file) l.fn.lanes → Tallied l.layout l.fn.lanes [] l.fn.tallies
       → Runs l.layout file l.stop l.fn.gauge l.gauge l.fn.lanes l.lanes l.tallies);
   advance : (j : ℕ) (d : Lane) → j < length l.fn.lanes → Advances (get_or l.fn.lanes j d) (get_or l.lanes j d);
-  over : (j : ℕ) (d : Lane) (t : Tally) → j < length l.fn.lanes → IsOver (get_or l.fn.lanes j d).cursor.state → get_or l.tallies j t ≡ get_or l.fn.tallies j t;
+  over : SkipsOver l.fn.lanes l.fn.tallies l.tallies;
   reads : g.F.File.reads l.file
       ≤ raised (g.F.File.reads l.fn.file)
       (all_unread l.layout (g.F.File.size l.fn.file) l.fn.lanes - all_unread l.layout (g.F.File.size l.fn.file) l.lanes);

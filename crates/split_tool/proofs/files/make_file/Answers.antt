@@ -1,10 +1,10 @@
-use Rattle.std.proofs.Common.{inl, refl, ◌∙◌}
+use Rattle.std.proofs.Common.{inl, refl, ◌∙◌, arith}
 use Rattle.event_cursor.proofs.Told.{told_all, told_again}
 use Rattle.split_file.specs.Names.{file_name}
 use Rattle.split_passes.specs.AllAgain.{owns}
 use Rattle.split_tool.specs.Measured.{taken_of}
 use Rattle.split_tool.proofs.Budget.{written_stops, written_spent}
-use Rattle.split_tool.proofs.Making.{finished}
+use Rattle.split_tool.proofs.Making.{finished, still_cut}
 use Rattle.new_files.proofs.Unmade.{unmade_finish}
 use Rattle.split_tool.proofs.files.make_file.Goals as goal
 
@@ -30,32 +30,53 @@ returns-in-Err-clause-told g c =
 pub returns-in-Write-clause-told : goal.returns-in-Write-clause-told
 returns-in-Write-clause-told g c = told_all _ (g.F.File.bytes c.args.file.now) (λ file stands small. inl (c.drop_file-in-Write.ensures.files ∙ c.in-Ok-create_file.ensures.files))
 
-pub returns-in-Ok-finish_file-clause-spent : goal.returns-in-Ok-finish_file-clause-spent
-returns-in-Ok-finish_file-clause-spent g c =
-    written_spent c.args.plan.now.header.now.layout (g.F.File.size c.args.file.now) (g.F.File.size c.measure_file.new.file) c.args.lanes.now c.measure_file.new.lanes c.measure_file.new.work.fronts.items c.measure_file.new.work.tallies.items _ _ _
-    c.measure_file.ensures.keeps.size c.in-Ok.ensures.spent c.write_file.ensures.reads c.write_file.new.lanes (c.in-Done.ensures.left refl)
+pub write_file-requires : goal.write_file-requires
+write_file-requires g c = still_cut c.args.plan.now.header.now c.args.lanes.now c.measure_file.new.lanes c.args.work.now c.measure_file.new.work c.requires.cut c.measure_file.ensures.parts c.measure_file.ensures.in_order c.measure_file.ensures.work
+
+pub returns-in_default-create_file-clause-reads : goal.returns-in_default-create_file-clause-reads
+returns-in_default-create_file-clause-reads g c = omega (arith, c.in-Ok.ensures.reads.less, c.in-Ok.ensures.reads.reads)
+
+pub returns-in-Ok-finish_file-clause-cut : goal.returns-in-Ok-finish_file-clause-cut
+returns-in-Ok-finish_file-clause-cut g c =
+    still_cut c.args.plan.now.header.now c.args.lanes.now c.write_file.new.lanes c.args.work.now c.write_file.new.work c.requires.cut (c.write_file.ensures.parts ∙ c.measure_file.ensures.parts) c.write_file.ensures.in_order c.write_file.ensures.work
+
+pub returns-in-Err-clause-cut : goal.returns-in-Err-clause-cut
+returns-in-Err-clause-cut g c =
+    still_cut c.args.plan.now.header.now c.args.lanes.now c.write_file.new.lanes c.args.work.now c.write_file.new.work c.requires.cut (c.write_file.ensures.parts ∙ c.measure_file.ensures.parts) c.write_file.ensures.in_order c.write_file.ensures.work
+
+pub returns-in-Malformed-clause-cut : goal.returns-in-Malformed-clause-cut
+returns-in-Malformed-clause-cut g c =
+    still_cut c.args.plan.now.header.now c.args.lanes.now c.write_file.new.lanes c.args.work.now c.write_file.new.work c.requires.cut (c.write_file.ensures.parts ∙ c.measure_file.ensures.parts) c.write_file.ensures.in_order c.write_file.ensures.work
+
+pub returns-in-Read-clause-cut : goal.returns-in-Read-clause-cut
+returns-in-Read-clause-cut g c =
+    still_cut c.args.plan.now.header.now c.args.lanes.now c.write_file.new.lanes c.args.work.now c.write_file.new.work c.requires.cut (c.write_file.ensures.parts ∙ c.measure_file.ensures.parts) c.write_file.ensures.in_order c.write_file.ensures.work
+
+pub returns-in-Write-clause-cut : goal.returns-in-Write-clause-cut
+returns-in-Write-clause-cut g c =
+    still_cut c.args.plan.now.header.now c.args.lanes.now c.write_file.new.lanes c.args.work.now c.write_file.new.work c.requires.cut (c.write_file.ensures.parts ∙ c.measure_file.ensures.parts) c.write_file.ensures.in_order c.write_file.ensures.work
 
 pub returns-in-Ok-finish_file-clause-reads : goal.returns-in-Ok-finish_file-clause-reads
 returns-in-Ok-finish_file-clause-reads g c =
-    written_stops c.args.plan.now.header.now.layout (g.F.File.size c.args.file.now) (g.F.File.size c.measure_file.new.file) c.args.lanes.now c.measure_file.new.lanes c.measure_file.new.work.fronts.items c.measure_file.new.work.tallies.items _ _ _
-    c.measure_file.ensures.keeps.size c.in-Ok.ensures.spent c.write_file.ensures.reads
+    written_spent c.args.plan.now.header.now.layout (g.F.File.size c.args.file.now) (g.F.File.size c.measure_file.new.file) c.args.lanes.now c.measure_file.new.lanes c.measure_file.new.work.fronts.items c.measure_file.new.work.tallies.items _ _ _
+    c.measure_file.ensures.keeps.size c.in-Ok.ensures.reads c.write_file.ensures.reads c.write_file.new.lanes (c.in-Done.ensures.left refl)
 
 pub returns-in-Err-clause-reads : goal.returns-in-Err-clause-reads
 returns-in-Err-clause-reads g c =
     written_stops c.args.plan.now.header.now.layout (g.F.File.size c.args.file.now) (g.F.File.size c.measure_file.new.file) c.args.lanes.now c.measure_file.new.lanes c.measure_file.new.work.fronts.items c.measure_file.new.work.tallies.items _ _ _
-    c.measure_file.ensures.keeps.size c.in-Ok.ensures.spent c.write_file.ensures.reads
+    c.measure_file.ensures.keeps.size c.in-Ok.ensures.reads c.write_file.ensures.reads
 
 pub returns-in-Malformed-clause-reads : goal.returns-in-Malformed-clause-reads
 returns-in-Malformed-clause-reads g c =
     written_stops c.args.plan.now.header.now.layout (g.F.File.size c.args.file.now) (g.F.File.size c.measure_file.new.file) c.args.lanes.now c.measure_file.new.lanes c.measure_file.new.work.fronts.items c.measure_file.new.work.tallies.items _ _ _
-    c.measure_file.ensures.keeps.size c.in-Ok.ensures.spent c.write_file.ensures.reads
+    c.measure_file.ensures.keeps.size c.in-Ok.ensures.reads c.write_file.ensures.reads
 
 pub returns-in-Read-clause-reads : goal.returns-in-Read-clause-reads
 returns-in-Read-clause-reads g c =
     written_stops c.args.plan.now.header.now.layout (g.F.File.size c.args.file.now) (g.F.File.size c.measure_file.new.file) c.args.lanes.now c.measure_file.new.lanes c.measure_file.new.work.fronts.items c.measure_file.new.work.tallies.items _ _ _
-    c.measure_file.ensures.keeps.size c.in-Ok.ensures.spent c.write_file.ensures.reads
+    c.measure_file.ensures.keeps.size c.in-Ok.ensures.reads c.write_file.ensures.reads
 
 pub returns-in-Write-clause-reads : goal.returns-in-Write-clause-reads
 returns-in-Write-clause-reads g c =
     written_stops c.args.plan.now.header.now.layout (g.F.File.size c.args.file.now) (g.F.File.size c.measure_file.new.file) c.args.lanes.now c.measure_file.new.lanes c.measure_file.new.work.fronts.items c.measure_file.new.work.tallies.items _ _ _
-    c.measure_file.ensures.keeps.size c.in-Ok.ensures.spent c.write_file.ensures.reads
+    c.measure_file.ensures.keeps.size c.in-Ok.ensures.reads c.write_file.ensures.reads

@@ -1,36 +1,15 @@
-use Rattle.std.proofs.Common.{arith}
 use Rattle.event_cursor.proofs.Told.{told_map}
 use Rattle.split_tool.proofs.Measuring.{list_measured}
-use Rattle.split_tool.proofs.OneLaneOn.{ready_done, all_done}
+use Rattle.split_tool.proofs.OneLaneOn.{ready_done}
 use Rattle.split_tool.proofs.lists.measure_list.Goals as goal
 
 pub returns-clause-told : goal.returns-clause-told
 returns-clause-told g c =
     told_map _ _ (g.F.File.bytes c.args.file.now) (λ file m s t.
     list_measured c.args.layout.now file c.args.rules.now c.new-gauge.result c.measure.new.gauge c.args.lanes.now c.measure.new.lanes c.measure.new.tallies c.args.before c.and.result c.in_ok-end.end c.is_closed-closed.result
-    c.new-gauge.ensures.piece c.new-gauge.ensures.closes c.measure.ensures.parts c.is_closed-closed.ensures c.and.ensures.more c.and.ensures.bad (m s t))
+    c.new-gauge.ensures.piece c.new-gauge.ensures.closes c.measure.ensures.through.parts c.is_closed-closed.ensures c.and.ensures.more c.and.ensures.bad (m s t))
     c.in_ok-end.ensures.measured
-
-pub returns-in_err-end-clause-through : goal.returns-in_err-end-clause-through
-returns-in_err-end-clause-through g c = record {
-  in_order = c.measure.ensures.in_order;
-  parts = c.measure.ensures.parts;
-  advance = c.measure.ensures.advance;
-  reads = all_done c.args.layout.now (g.F.File.size c.args.file.now) c.measure.new.lanes _ _ _ (omega (arith, c.requires.allowed.page_least)) c.measure.ensures.unread c.measure.ensures.reads;
-  unread = c.measure.ensures.unread;
-  keeps = c.measure.ensures.keeps;
-}
-
-pub returns-clause-through : goal.returns-clause-through
-returns-clause-through g c = record {
-  in_order = c.measure.ensures.in_order;
-  parts = c.measure.ensures.parts;
-  advance = c.measure.ensures.advance;
-  reads = all_done c.args.layout.now (g.F.File.size c.args.file.now) c.measure.new.lanes _ _ _ (omega (arith, c.requires.allowed.page_least)) c.measure.ensures.unread c.measure.ensures.reads;
-  unread = c.measure.ensures.unread;
-  keeps = c.measure.ensures.keeps;
-}
 
 pub returns-clause-reads_done : goal.returns-clause-reads_done
 returns-clause-reads_done g c =
-    ready_done c.args.layout.now (g.F.File.size c.args.file.now) c.measure.new.lanes _ _ _ c.in_ok-end.ensures.ready c.measure.ensures.reads
+    ready_done c.args.layout.now (g.F.File.size c.args.file.now) c.measure.new.lanes _ _ _ c.in_ok-end.ensures.ready c.measure.ensures.through.reads

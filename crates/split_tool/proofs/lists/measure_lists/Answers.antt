@@ -8,7 +8,7 @@ use Rattle.event_cursor.proofs.Told.{told_all, told_map, told_again}
 use Rattle.time_merge.specs.LaneRows.{IsReady}
 use Rattle.time_merge.proofs.Advancing.{advances_not, same_length}
 use Rattle.split_tool.proofs.OneLaneOn.{lane_on, tally_on, ready_on, on_reads, on_unread}
-use Rattle.split_tool.proofs.OneByOne.{map_put, all_put, all_mid, one_in_mid}
+use Rattle.split_tool.proofs.OneByOne.{map_put, all_put, one_in_mid}
 use Rattle.split_tool.proofs.Measuring.{whole_measured, measured_none, measured_more, all_measured, clear_mid, still_stand}
 use Rattle.split_tool.proofs.Through.{through_all, through_one}
 use Rattle.split_tool.proofs.lists.measure_lists.Goals as goal

@@ -1,4 +1,4 @@
-use Rattle.std.proofs.Common.{◌≡◌, ◌<◌, ◌^◌, length, refl, arith, rules, sym, subst, ◌∙◌}
+use Rattle.std.proofs.Common.{◌≡◌, ◌<◌, ◌^◌, length, refl, arith, sym, subst, ◌∙◌}
 use Rattle.trace_outside.proofs.Keeping.{file_kept}
 use Rattle.subpage.specs.Arrangement.{CpusRise}
 use Rattle.dat_header.proofs.Headers.{header_layout}
@@ -11,7 +11,7 @@ use Rattle.split_tool.specs.NewFiles.{new_files}
 use Rattle.time_merge.proofs.Advancing.{same_length}
 use Rattle.split_tool.specs.Rules.{rules_of}
 use Rattle.time_merge.specs.LaneRows.{parts_of}
-use Rattle.split_tool.proofs.Budget.{passed_spent, same_spent, spent_all, spent_more, spent_stops, start_less}
+use Rattle.split_tool.proofs.Budget.{loaded_stops, passed_spent, same_spent, spent_all, spent_more, spent_stops, start_less}
 use Rattle.split_tool.proofs.Making.{created_last, created_stops, progress_none, progress_more, progress_last, progress_stops, same_cpus, fresh_stand}
 use Rattle.split_tool.proofs.Storing.{kept_twice, leaves_none, leaves_since, some_stored, stages_none}
 use Rattle.split_tool.proofs.splitting.split.Goals as goal
@@ -28,16 +28,21 @@ loop-number-init g c =
     let size : g.F.File.size c.args.file.now < 2 ^ 64 = omega arith in
     let long : length c.pass_start.new.lanes ≡ length c.args.lanes.now = same_length c.pass_start.new.lanes c.args.lanes.now c.pass_start.ensures.through.parts in
     record {
-      in_order = c.pass_start.ensures.through.in_order;
-      parts = c.pass_start.ensures.through.parts;
-      work = record {
-        fronts = c.requires.work.fronts ∙ sym long;
-        tallies = c.requires.work.tallies ∙ sym long;
-        nexts = c.pass_start.ensures.slots ∙ c.requires.work.nexts ∙ sym long;
-        next = c.pass_start.ensures.slot;
-        table = c.requires.work.table;
-        page = c.requires.work.page;
+      cut = record {
+        allowed = c.requires.allowed;
+        in_order = c.pass_start.ensures.through.in_order;
+        rise = subst CpusRise (sym c.pass_start.ensures.through.parts) c.requires.rise;
+        cpus = same_cpus c.args.plan.now.header.now.cpus c.args.lanes.now c.pass_start.new.lanes c.pass_start.ensures.through.parts c.requires.cpus;
+        lent = record {
+          fronts = c.requires.work.fronts ∙ sym long;
+          tallies = c.requires.work.tallies ∙ sym long;
+          nexts = c.pass_start.ensures.slots ∙ c.requires.work.nexts ∙ sym long;
+          next = c.pass_start.ensures.slot;
+          table = c.requires.work.table;
+          page = c.requires.work.page;
+        };
       };
+      parts = c.pass_start.ensures.through.parts;
       progress = told_both _ _ _ (g.F.File.bytes c.args.file.now) (λ file long started.
           progress_none c.args.plan.now.header.now (split_view c.args.plan.now.words.now) c.rules_of-rules.result file c.args.lanes.now c.pass_start.new.lanes (g.D.Folder.files c.args.folder.now) c.requires.allowed c.rules_of-rules.ensures c.requires.rise c.requires.cpus
           c.requires.fresh c.pass_start.ensures.through.parts (omega (arith, long, size)) (started (fresh_stand c.args.plan.now.header.now.layout file c.args.lanes.now c.requires.fresh)))
@@ -50,12 +55,6 @@ loop-number-init g c =
       created = omega arith;
       least = omega arith;
     }
-
-pub make_file-requires-clause-rise : goal.make_file-requires-clause-rise
-make_file-requires-clause-rise g c = subst CpusRise (sym c.loop-number.invariant.parts) c.requires.rise
-
-pub make_file-requires-clause-cpus : goal.make_file-requires-clause-cpus
-make_file-requires-clause-cpus g c = same_cpus c.args.plan.now.header.now.cpus c.args.lanes.now c.loop-number.lanes c.loop-number.invariant.parts c.requires.cpus
 
 pub returns-then-not-goes_on-clause-told : goal.returns-then-not-goes_on-clause-told
 returns-then-not-goes_on-clause-told g c =
@@ -80,9 +79,8 @@ loop-number-preserved g c =
     let new = g.D.Folder.files c.make_file.new.folder in
     let unit = subst (λ (r : Rules). IsUnit r.unit) (sym c.rules_of-rules.ensures) c.requires.unit in
     record {
-      in_order = c.make_file.ensures.in_order;
+      cut = c.make_file.ensures.cut;
       parts = c.make_file.ensures.parts ∙ c.loop-number.invariant.parts;
-      work = c.make_file.ensures.work;
       progress = told_again _ _ _ (g.F.File.bytes c.args.file.now) (g.F.File.bytes c.loop-number.file) c.loop-number.invariant.keeps.bytes (λ file p m.
           let news = new_files words header file (parts_of c.args.lanes.now) in
           let bad = bad_reached (rules_of words) header.layout file (parts_of c.args.lanes.now) in
@@ -90,11 +88,11 @@ loop-number-preserved g c =
           (m p.stands p.small) p)
           c.loop-number.invariant.progress c.in-Ok-make_file.ensures.told;
       spent = spent_more _ _ _ _ _ _ c.loop-number.invariant.spent
-          (same_spent header.layout (g.F.File.size c.args.file.now) (g.F.File.size c.loop-number.file) c.loop-number.lanes c.make_file.new.lanes _ _ c.loop-number.invariant.keeps.size c.in-Ok-make_file.ensures.spent);
+          (same_spent header.layout (g.F.File.size c.args.file.now) (g.F.File.size c.loop-number.file) c.loop-number.lanes c.make_file.new.lanes _ _ c.loop-number.invariant.keeps.size c.in-Ok-make_file.ensures.reads);
       keeps = file_kept c.loop-number.invariant.keeps c.make_file.ensures.keeps;
-      counts = kept_twice _ _ _ c.loop-number.invariant.counts c.make_file.ensures.counts;
-      unfinished = c.in-Ok-make_file.ensures.unfinished ∙ c.loop-number.invariant.unfinished;
-      created = omega (arith, c.loop-number.invariant.created, c.in-Ok-make_file.ensures.created, c.loop-number.invariant.least);
+      counts = kept_twice _ _ _ c.loop-number.invariant.counts c.make_file.ensures.counts.keeps;
+      unfinished = c.in-Ok-make_file.ensures.counts.unfinished ∙ c.loop-number.invariant.unfinished;
+      created = omega (arith, c.loop-number.invariant.created, c.in-Ok-make_file.ensures.counts.created, c.loop-number.invariant.least);
       least = omega (arith, c.loop-number.invariant.least);
     }
 
@@ -116,7 +114,7 @@ pub returns-in-Err-clause-read : goal.returns-in-Err-clause-read
 returns-in-Err-clause-read g c = λ is. let rose = c.in-Err.ensures.read is in omega (arith, rose, c.loop-number.invariant.keeps.later)
 
 pub returns-in-Err-clause-write : goal.returns-in-Err-clause-write
-returns-in-Err-clause-write g c = λ is. let rose = c.in-Err.ensures.write is in omega (arith, rose, c.loop-number.invariant.counts.writing)
+returns-in-Err-clause-write g c = λ is. let rose = c.in-Err.ensures.counts.writing is in omega (arith, rose, c.loop-number.invariant.counts.writing)
 
 pub returns-clause-told : goal.returns-clause-told
 returns-clause-told g c =
@@ -143,7 +141,7 @@ returns-then-not-goes_on-clause-created g c =
     (g.D.Folder.counts c.args.folder.now).created (g.D.Folder.counts c.loop-number.folder).created (g.D.Folder.counts c.make_file.new.folder).created
     (sym c.goes_on.ensures ∙ c.if-not-goes_on.true) c.end_by.ensures
     (m p.stands p.small)
-    c.loop-number.invariant.least c.loop-number.invariant.created c.in-Ok-make_file.ensures.created p)
+    c.loop-number.invariant.least c.loop-number.invariant.created c.in-Ok-make_file.ensures.counts.created p)
     c.loop-number.invariant.progress c.in-Ok-make_file.ensures.told
 
 pub returns-in-Err-clause-created : goal.returns-in-Err-clause-created
@@ -156,10 +154,10 @@ returns-in-Err-clause-created g c =
     told_again _ _ _ (g.F.File.bytes c.args.file.now) (g.F.File.bytes c.loop-number.file) c.loop-number.invariant.keeps.bytes (λ file p m.
     let news = new_files words header file (parts_of c.args.lanes.now) in
     let bad = bad_reached (rules_of words) header.layout file (parts_of c.args.lanes.now) in
-    created_stops header words.base file c.rules_of-rules.result news bad c.loop-number.number c.loop-number.lanes c.make_file.new.lanes old mid new c.in-Err.end c.in-Err.end (g.D.Folder.counts c.loop-number.folder).unfinished (g.D.Folder.counts c.make_file.new.folder).unfinished
+    created_stops header words.base file c.rules_of-rules.result news bad c.loop-number.number c.loop-number.lanes c.make_file.new.lanes old mid new c.in-Err.end c.in-Err.end (g.D.Folder.counts c.loop-number.folder) (g.D.Folder.counts c.make_file.new.folder)
     (g.D.Folder.counts c.args.folder.now).created (g.D.Folder.counts c.loop-number.folder).created (g.D.Folder.counts c.make_file.new.folder).created refl
     (m p.stands p.small)
-    c.loop-number.invariant.least c.loop-number.invariant.created c.in-Err.ensures.created p)
+    c.loop-number.invariant.least c.loop-number.invariant.created c.in-Err.ensures.counts.created p)
     c.loop-number.invariant.progress c.in-Err.ensures.told
 
 pub returns-clause-created : goal.returns-clause-created
@@ -168,34 +166,35 @@ returns-clause-created g c =
     c.loop-number.invariant.progress
 
 pub returns-then-not-goes_on-clause-unfinished : goal.returns-then-not-goes_on-clause-unfinished
-returns-then-not-goes_on-clause-unfinished g c = leaves_none c.in-Ok-make_file.ends.bad c.end_by.result _ _ c.end_by.ensures (c.in-Ok-make_file.ensures.unfinished ∙ c.loop-number.invariant.unfinished)
+returns-then-not-goes_on-clause-unfinished g c = leaves_none c.in-Ok-make_file.ends.bad c.end_by.result _ _ c.end_by.ensures (c.in-Ok-make_file.ensures.counts.unfinished ∙ c.loop-number.invariant.unfinished)
 
 pub returns-in-Err-clause-unfinished : goal.returns-in-Err-clause-unfinished
-returns-in-Err-clause-unfinished g c = leaves_since c.in-Err.end _ _ _ c.loop-number.invariant.unfinished c.in-Err.ensures.unfinished
+returns-in-Err-clause-unfinished g c = leaves_since c.in-Err.end _ _ _ c.loop-number.invariant.unfinished c.in-Err.ensures.counts.unfinished
 
 pub returns-in-Err-clause-counts : goal.returns-in-Err-clause-counts
-returns-in-Err-clause-counts g c = kept_twice _ _ _ c.loop-number.invariant.counts c.make_file.ensures.counts
+returns-in-Err-clause-counts g c = kept_twice _ _ _ c.loop-number.invariant.counts c.make_file.ensures.counts.keeps
 
 pub returns-then-not-goes_on-clause-counts : goal.returns-then-not-goes_on-clause-counts
-returns-then-not-goes_on-clause-counts g c = kept_twice _ _ _ c.loop-number.invariant.counts c.make_file.ensures.counts
+returns-then-not-goes_on-clause-counts g c = kept_twice _ _ _ c.loop-number.invariant.counts c.make_file.ensures.counts.keeps
 
 pub returns-in_default-clause-reads : goal.returns-in_default-clause-reads
 returns-in_default-clause-reads g c =
     let header = c.args.plan.now.header.now in
-    start_less header.layout (g.F.File.size c.args.file.now) (omega (arith, (header_layout header c.requires.allowed).page_least)) c.args.lanes.now _ _ c.requires.fresh (omega (arith, c.pass_start.ensures.through.reads))
+    start_less header.layout (g.F.File.size c.args.file.now) (omega (arith, (header_layout header c.requires.allowed).page_least)) c.args.lanes.now _ _ c.requires.fresh
+    (loaded_stops header.layout (g.F.File.size c.args.file.now) (omega (arith, (header_layout header c.requires.allowed).page_least)) c.args.lanes.now c.pass_start.new.lanes _ _ c.pass_start.ensures.through.reads c.pass_start.ensures.through.unread)
 
 pub returns-then-not-goes_on-clause-reads : goal.returns-then-not-goes_on-clause-reads
 returns-then-not-goes_on-clause-reads g c =
     let header = c.args.plan.now.header.now in
     start_less header.layout (g.F.File.size c.args.file.now) (omega (arith, (header_layout header c.requires.allowed).page_least)) c.args.lanes.now _ _ c.requires.fresh
     (spent_all _ _ _ _ (spent_more _ _ _ _ _ _ c.loop-number.invariant.spent
-    (same_spent header.layout (g.F.File.size c.args.file.now) (g.F.File.size c.loop-number.file) c.loop-number.lanes c.make_file.new.lanes _ _ c.loop-number.invariant.keeps.size c.in-Ok-make_file.ensures.spent)))
+    (same_spent header.layout (g.F.File.size c.args.file.now) (g.F.File.size c.loop-number.file) c.loop-number.lanes c.make_file.new.lanes _ _ c.loop-number.invariant.keeps.size c.in-Ok-make_file.ensures.reads)))
 
 pub returns-in-Err-clause-reads : goal.returns-in-Err-clause-reads
 returns-in-Err-clause-reads g c =
     let header = c.args.plan.now.header.now in
     start_less header.layout (g.F.File.size c.args.file.now) (omega (arith, (header_layout header c.requires.allowed).page_least)) c.args.lanes.now _ _ c.requires.fresh
-    (spent_stops header.layout (g.F.File.size c.args.file.now) (g.F.File.size c.loop-number.file) c.args.lanes.now c.loop-number.lanes _ _ _ c.loop-number.invariant.keeps.size c.loop-number.invariant.spent c.make_file.ensures.reads)
+    (spent_stops header.layout (g.F.File.size c.args.file.now) (g.F.File.size c.loop-number.file) c.args.lanes.now c.loop-number.lanes _ _ _ c.loop-number.invariant.keeps.size c.loop-number.invariant.spent c.in-Err.ensures.reads)
 
 pub returns-clause-reads : goal.returns-clause-reads
 returns-clause-reads g c =

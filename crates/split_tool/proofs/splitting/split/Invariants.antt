@@ -1,25 +1,22 @@
-use Rattle.std.proofs.Common.{◌≡◌, ◌-◌, ◌^◌, ◌≤◌, length}
+use Rattle.std.proofs.Common.{◌≡◌, ◌-◌, ◌^◌, ◌≤◌}
 use Rattle.std.specs.Option.{IfSome}
-use Rattle.std.specs.List.{All}
 use Rattle.trace_outside.specs.Causes.{raised}
 use Rattle.trace_outside.specs.Keeping.{KeepsFile}
 use Rattle.trace_args.specs.Command.{split_view}
-use Rattle.event_cursor.specs.Standing.{IsInOrder}
 use Rattle.time_merge.specs.LaneRows.{parts_of}
 use Rattle.split_pieces.specs.Cuts.{bad_reached}
 use Rattle.split_tool.specs.NewFiles.{new_files}
 use Rattle.split_tool.specs.Reads.{Spent, to_read}
 use Rattle.split_tool.specs.Rules.{rules_of}
 use Rattle.new_files.specs.Stored.{KeepsCounts}
-use Rattle.split_tool.specs.Work.{IsWorkFor}
+use Rattle.split_tool.specs.Work.{CanCut}
 use Rattle.split_tool.proofs.Making.{Progress}
 use Rattle.split_tool.proofs.splitting.split.Given as goal
 
 abbrev pub invariant-loop-number : goal.invariant-loop-number
 invariant-loop-number g l = record {
-  in_order : All (IsInOrder l.plan.header.now.layout) l.lanes;
+  cut : CanCut l.plan.header.now l.lanes l.work;
   parts : parts_of l.lanes ≡ parts_of l.fn.lanes;
-  work : IsWorkFor l.plan.header.now (length l.lanes) l.work;
   progress : IfSome (g.F.File.bytes l.fn.file) (λ file. Progress l.plan.header.now l.plan.words.now.base.now file l.rules (new_files (split_view l.plan.words.now) l.plan.header.now file (parts_of l.fn.lanes))
       (bad_reached (rules_of (split_view l.plan.words.now)) l.plan.header.now.layout file (parts_of l.fn.lanes)) l.number l.lanes (g.D.Folder.files l.fn.folder) (g.D.Folder.files l.folder));
   spent : Spent (to_read l.plan.header.now.layout (g.F.File.size l.fn.file) l.fn.lanes) (to_read l.plan.header.now.layout (g.F.File.size l.fn.file) l.lanes) (g.F.File.reads l.fn.file) (g.F.File.reads l.file);

@@ -9,7 +9,7 @@ use Rattle.time_merge.proofs.OneLane.{in_step_but}
 use Rattle.time_merge.proofs.Going.{holds_is, next_is, still_parts}
 use Rattle.time_merge.proofs.PartReads.{going_reads, loading_reads, stepping_unread}
 use Rattle.split_passes.proofs.Going.{advances_on, advances_stepped}
-use Rattle.split_tool.proofs.Through.{through_loaded}
+use Rattle.split_passes.proofs.Through.{through_loaded}
 use Rattle.split_tool.proofs.OneLaneOn.{ready_done}
 use Rattle.split_tool.proofs.Passing.{passing_none, passing_loaded, passing_on, passed_all, passed_out}
 use Rattle.split_tool.proofs.start.pass_list.Goals as goal
@@ -83,22 +83,22 @@ returns-in-Malformed-clause-told g c =
 
 pub returns-then-not-stands_before-clause-through : goal.returns-then-not-stands_before-clause-through
 returns-then-not-stands_before-clause-through g c =
-    through_loaded c.args.layout.now c.args.file.now c.loop-i.file c.next_lane_by.new.file c.args.lanes.now c.loop-i.lanes c.next_lane_by.new.lanes (omega (arith, c.requires.allowed.page_least))
+    through_loaded c.args.layout.now c.args.file.now c.loop-i.file c.next_lane_by.new.file c.args.lanes.now c.loop-i.lanes c.next_lane_by.new.lanes
     c.loop-i.invariant.parts c.loop-i.invariant.advance c.loop-i.invariant.reads c.loop-i.invariant.unread c.loop-i.invariant.keeps c.next_lane_by.ensures.loads
 
 pub returns-in-Done-clause-through : goal.returns-in-Done-clause-through
 returns-in-Done-clause-through g c =
-    through_loaded c.args.layout.now c.args.file.now c.loop-i.file c.next_lane_by.new.file c.args.lanes.now c.loop-i.lanes c.next_lane_by.new.lanes (omega (arith, c.requires.allowed.page_least))
+    through_loaded c.args.layout.now c.args.file.now c.loop-i.file c.next_lane_by.new.file c.args.lanes.now c.loop-i.lanes c.next_lane_by.new.lanes
     c.loop-i.invariant.parts c.loop-i.invariant.advance c.loop-i.invariant.reads c.loop-i.invariant.unread c.loop-i.invariant.keeps c.next_lane_by.ensures.loads
 
 pub returns-in-Malformed-clause-through : goal.returns-in-Malformed-clause-through
 returns-in-Malformed-clause-through g c =
-    through_loaded c.args.layout.now c.args.file.now c.loop-i.file c.next_lane_by.new.file c.args.lanes.now c.loop-i.lanes c.next_lane_by.new.lanes (omega (arith, c.requires.allowed.page_least))
+    through_loaded c.args.layout.now c.args.file.now c.loop-i.file c.next_lane_by.new.file c.args.lanes.now c.loop-i.lanes c.next_lane_by.new.lanes
     c.loop-i.invariant.parts c.loop-i.invariant.advance c.loop-i.invariant.reads c.loop-i.invariant.unread c.loop-i.invariant.keeps c.next_lane_by.ensures.loads
 
 pub returns-in_err-i-clause-through : goal.returns-in_err-i-clause-through
 returns-in_err-i-clause-through g c =
-    through_loaded c.args.layout.now c.args.file.now c.loop-i.file c.next_lane_by.new.file c.args.lanes.now c.loop-i.lanes c.next_lane_by.new.lanes (omega (arith, c.requires.allowed.page_least))
+    through_loaded c.args.layout.now c.args.file.now c.loop-i.file c.next_lane_by.new.file c.args.lanes.now c.loop-i.lanes c.next_lane_by.new.lanes
     c.loop-i.invariant.parts c.loop-i.invariant.advance c.loop-i.invariant.reads c.loop-i.invariant.unread c.loop-i.invariant.keeps c.next_lane_by.ensures.loads
 
 pub returns-then-not-stands_before-clause-reads_done : goal.returns-then-not-stands_before-clause-reads_done
