@@ -1,5 +1,5 @@
 -- The place of a number among formats without equal numbers.
-use Rattle.std.proofs.Common.{◌≡◌, ℕ, zero, suc, ◌+◌, ◌<◌, Bool, true, false, cond, ltb, nat_eq, List, [], ◌∷◌, map, length, slice_get, position, Option, Some, refl, sym, ap, ◌∙◌, arith}
+use Rattle.std.proofs.Common.{◌≡◌, ℕ, zero, suc, true, false, ltb, nat_eq, List, [], ◌∷◌, map, length, slice_get, position, Some, refl, sym, ap, ◌∙◌, arith}
 use Rattle.std.specs.List.{position_or_len, IsDistinct, AllByRecursion}
 use Rattle.std.proofs.lemmas.Bool.{cond-true, eq-eqb, ne_eqb, eqb-false, lt-ltb}
 use Rattle.std.proofs.lemmas.Option.{slice_get_within}

@@ -1,8 +1,10 @@
-//! Where the formats of a table stand, by the numbers that events tell.
+//! Where the formats of a table stand, by the numbers that events tell, and what the events of each are for someone.
 //!
 //! Most formats are found in one step, where the table itself would compute a hash for each event.
 #![tactic(auto)]
 
 mod places;
+mod roles;
 
 pub use places::FormatPlaces;
+pub use roles::{FormatRole, FormatRoles};

@@ -1,5 +1,4 @@
 pub mod Spaces
 pub mod LineEnds
 pub mod CallLines
-pub mod RolePlaces
-pub mod Taking
+pub mod Taken

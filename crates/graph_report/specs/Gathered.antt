@@ -1,10 +1,11 @@
 -- What the reached items of a trace are for the calls.
-use Rattle.std.specs.Prelude.{ℕ, List, reverse, Option, option_to_list, option_map}
+use Rattle.std.specs.Prelude.{ℕ, List, reverse, option_to_list}
 use Rattle.std.specs.List.{flat_map}
 use Rattle.trace_base.specs.declared.layout.Layout.{Layout}
 use Rattle.trace_base.specs.declared.part.Part.{Part}
 use Rattle.subpage.specs.Arrangement.{Keyed}
-use Rattle.subpage.specs.Cut.{Cut, reached_of}
+use Rattle.subpage.specs.Cut.{reached_of}
+pub use Rattle.item_pass.specs.Skipping.{cut_place}
 use Rattle.report_print.specs.Given.{Given}
 use Rattle.call_pairs.specs.declared.seen.Seen.{Seen}
 use Rattle.call_pairs.specs.declared.call.Call.{Call}
@@ -24,10 +25,6 @@ seen_in given xs = flat_map (seen_at given) xs
 -- the calls of the items that a file's parts reach
 abbrev pub reached_calls : Given → Layout → List ℕ → List (ℕ × Part) → List Call
 reached_calls given layout file parts = calls_of (seen_in given (reached_of layout file parts))
-
--- the processor and the sub-buffer of a cut
-abbrev pub cut_place : Option Cut → Option (ℕ × ℕ)
-cut_place cut = option_map (λ c. (c.cpu, c.page)) cut
 
 -- A tracing after these were seen, in their order.
 abbrev pub HasSeen : List Seen → Tracing → Type 0

@@ -1,11 +1,11 @@
 -- What an item of a trace is for the calls. Source: the formats of the kernel's function graph tracer (trace_entries.h,
 -- `funcgraph_entry` and `funcgraph_exit`).
-use Rattle.std.specs.Prelude.{ℕ, ℤ, ◌-ℤ◌, ◌%◌, ◌^◌, Bool, ◌&&◌, if◌then◌else◌, List, codes, Option, Some, None}
+use Rattle.std.specs.Prelude.{ℕ, ℤ, ◌-ℤ◌, ◌%◌, ◌^◌, ◌&&◌, if◌then◌else◌, List, codes, Option, Some, None}
+use Rattle.std.specs.Option.{option_map_or}
 use Rattle.std.specs.Str.{bytes_eq}
 use Rattle.std.specs.Int.{cast_unsigned, w128}
 use Rattle.trace_base.specs.declared.order.Order.{Order}
 use Rattle.trace_base.specs.declared.field.Field.{Field}
-use Rattle.trace_base.specs.declared.field.FieldKind.{FieldKind}
 use Rattle.trace_base.specs.Fields.{field_named, unsigned_in, sized, has_sign, has_number}
 use Rattle.format_parse.specs.declared.format.EventFormat.{EventFormat}
 use Rattle.format_parse.specs.Table.{format_at}
@@ -78,8 +78,7 @@ unfoldable pub role_of : EventFormat → Role
 role_of format = if bytes_eq format.system (codes "ftrace") then role_named format.name format.fields else Other
 
 abbrev pub role_by : Option EventFormat → Role
-role_by None = Other
-role_by (Some format) = role_of format
+role_by format = option_map_or role_of format Other
 
 -- an event of such a format: its function modulo 2^64, and its depth modulo 2^32
 abbrev pub graph_event : Given → ℕ → ℕ → List ℕ → Called → GraphEvent

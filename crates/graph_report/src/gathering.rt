@@ -1,4 +1,4 @@
-ghost use Rattle.std.specs.Prelude.{◌≡◌, ◌≤◌, Err, All, IfOk, IfSome, length, map, sum_by};
+ghost use Rattle.std.specs.Prelude.{◌≡◌, ◌≤◌, Err, All, IfOk, IfSome, sum_by};
 ghost use Rattle.trace_outside.specs.Causes.{Rose, raised};
 ghost use Rattle.trace_outside.specs.Keeping.{KeepsFile};
 ghost use Rattle.trace_base.specs.Layout.{IsLayout};
@@ -7,22 +7,18 @@ ghost use Rattle.subpage.specs.Cut.{cut_of};
 ghost use Rattle.event_cursor.specs.Standing.{IsInOrder};
 ghost use Rattle.page_pool.specs.Fresh.{IsFresh};
 ghost use Rattle.time_merge.specs.LaneRows.{parts_of};
+ghost use Rattle.graph_report.specs.Faults.{fault_of_pass};
 ghost use Rattle.graph_report.specs.Gathered.{reached_calls, cut_place};
-ghost use Rattle.graph_report.specs.Roles.{role_of};
-ghost use Rattle.graph_report.specs.declared.gathering.CallsFault.TheVariants.{Read};
 
-use crate::noting::note_head;
-use crate::role::{Role, roles_of};
+use crate::sight::Sight;
 use call_pairs::{Call, Tracing};
-use event_cursor::step;
-use format_places::FormatPlaces;
-use least_tree::LeastTree;
+use format_places::FormatRoles;
+use item_pass::{PassFault, pass};
 use page_pool::Lane;
 use report_print::Context;
 use std::alloc::Global;
-use time_merge::{Next, next_lane_by};
 use trace_base::Layout;
-use trace_outside::{Failed, File};
+use trace_outside::File;
 
 /// The calls of a trace, and where its items end before their end.
 #[derive(Drop)]
@@ -43,11 +39,14 @@ pub enum CallsFault {
     Memory,
 }
 
-impl From<Failed> for CallsFault {
-    ghost from_gives = { λ failed fault. fault ≡ Read };
+impl From<PassFault> for CallsFault {
+    ghost from_gives = { λ fault calls. calls ≡ fault_of_pass fault };
 
-    fn from(_failed: Failed) -> CallsFault {
-        CallsFault::Read
+    fn from(fault: PassFault) -> CallsFault {
+        match fault {
+            PassFault::Read => CallsFault::Read,
+            PassFault::Memory => CallsFault::Memory,
+        }
     }
 }
 
@@ -72,85 +71,19 @@ pub fn gather_calls<F: File>(
     ensures parts { parts_of lanes.new ≡ parts_of lanes.old }
     ensures reads { F.reads file.new ≤ raised (F.reads file.old) (sum_by (λ part. part.1.size) (parts_of lanes.old)) }
     ensures read { result ≡ Err CallsFault.Read → Rose (F.faults file.old) (F.faults file.new) }
-    ensures later { F.faults file.old ≤ F.faults file.new }
-    ensures bytes { F.bytes file.new ≡ F.bytes file.old }
-    ensures size { F.size file.new ≡ F.size file.old }
-{
-    let Ok(places) = FormatPlaces::of(alloc, context.formats()) else {
-        return Err(CallsFault::Memory);
-    };
-    let Ok(roles) = roles_of(alloc, context.formats()) else {
-        return Err(CallsFault::Memory);
-    };
-    let Some(mut nexts) = tree_for(alloc, lanes) else {
-        return Err(CallsFault::Memory);
-    };
-    gather(
-        alloc, context, &places, &roles, layout, file, lanes, &mut nexts,
-    )
-}
-
-// A tree with a slot for each lane. For more lanes than 32 bits count there is no memory.
-fn tree_for(alloc: Global, lanes: &[Lane]) -> Option<LeastTree>
-    ensures { IfSome result (λ nexts. length nexts ≡ length lanes.now) }
-{
-    let Ok(slots) = u32::try_from(lanes.len()) else {
-        return None;
-    };
-    match LeastTree::new(alloc, slots) {
-        Ok(nexts) => Some(nexts),
-        Err(_) => None,
-    }
-}
-
-// The same, by the roles of the context's formats.
-fn gather<F: File>(
-    alloc: Global,
-    context: &Context,
-    places: &FormatPlaces,
-    roles: &[Role],
-    layout: &Layout,
-    file: &mut F,
-    lanes: &mut [Lane],
-    nexts: &mut LeastTree,
-) -> Result<Calls, CallsFault>
-    requires slots { length nexts.old ≡ length lanes.old }
-    requires roles { roles.now ≡ map role_of context.now.formats }
-    requires allowed { IsLayout layout.now }
-    requires fresh { All (λ lane. IsFresh lane.cursor) lanes.old }
-    requires in_order { All (IsInOrder layout.now) lanes.old }
-    requires rise { CpusRise (parts_of lanes.old) }
-    ensures list { IfSome (F.bytes file.old) (λ bytes. IfOk result (λ calls. calls.list.items ≡ reached_calls context.now layout.now bytes (parts_of lanes.old))) }
-    ensures cut { IfSome (F.bytes file.old) (λ bytes. IfOk result (λ calls. calls.cut ≡ cut_place (cut_of layout.now bytes (parts_of lanes.old)))) }
-    ensures in_order { All (IsInOrder layout.now) lanes.new }
-    ensures parts { parts_of lanes.new ≡ parts_of lanes.old }
-    ensures reads { F.reads file.new ≤ raised (F.reads file.old) (sum_by (λ part. part.1.size) (parts_of lanes.old)) }
-    ensures read { result ≡ Err CallsFault.Read → Rose (F.faults file.old) (F.faults file.new) }
     ensures keeps { KeepsFile F.File file.old file.new }
 {
-    let mut used = None;
+    let Ok(roles) = FormatRoles::of(alloc, context.formats()) else {
+        return Err(CallsFault::Memory);
+    };
+    let sight = Sight {
+        context,
+        roles: &roles,
+    };
     let mut tracing = Tracing::new(alloc);
-    loop {
-        match next_lane_by(layout, file, lanes, nexts, used)? {
-            Next::Lane(i) => {
-                if note_head(context, places, roles, layout, &lanes[i], &mut tracing).is_err() {
-                    return Err(CallsFault::Memory);
-                }
-                step(layout, &mut lanes[i]);
-                used = Some(i);
-            }
-            Next::Done => {
-                return Ok(Calls {
-                    list: tracing.into_calls(),
-                    cut: None,
-                });
-            }
-            Next::Malformed { cpu, page } => {
-                return Ok(Calls {
-                    list: tracing.into_calls(),
-                    cut: Some((cpu, page)),
-                });
-            }
-        }
-    }
+    let cut = pass(alloc, &sight, layout, file, lanes, &mut tracing)?;
+    Ok(Calls {
+        list: tracing.into_calls(),
+        cut,
+    })
 }

@@ -6,11 +6,11 @@
 #![tactic(auto)]
 
 mod gathering;
-mod noting;
 mod place;
 mod putting;
 mod role;
 mod seeing;
+mod sight;
 mod text;
 
 pub use gathering::{Calls, CallsFault, gather_calls};

@@ -1,15 +1,12 @@
 // What events are for the calls, found once for each format.
 
-ghost use Rattle.std.specs.Prelude.{◌≡◌, ◌++◌, [], map, IfOk, OnOk};
-ghost use Rattle.std.specs.List.{cons_option};
+ghost use Rattle.std.specs.Prelude.{◌≡◌};
 ghost use Rattle.std.specs.Option.{option_copied};
-ghost use Rattle.format_parse.specs.Table.{format_at};
-ghost use Rattle.graph_report.specs.Roles.{of_number, of_counted, called_in, times_in, entering, leaving, role_named, role_of, role_by};
+ghost use Rattle.graph_report.specs.Roles.{of_number, of_counted, called_in, times_in, entering, leaving, role_named, role_of};
 
 use crate::place::Place;
-use format_parse::{EventFormat, FormatTable};
-use format_places::FormatPlaces;
-use std::alloc::{AllocError, Global};
+use format_parse::EventFormat;
+use format_places::FormatRole;
 use trace_base::{Field, FieldKind, field_named};
 
 /// Where an event tells its function and the function's depth.
@@ -116,54 +113,15 @@ fn role_named(name: &[u8], fields: &[Field]) -> Role
     }
 }
 
-impl Role {
-    /// What the events of this format are.
+impl FormatRole for Role {
+    ghost role_of = { role_of };
+
     #[tactic(auto, unfolding(crate::specs::Roles::role_of))]
-    fn of(format: &EventFormat) -> Role
-        ensures { result ≡ role_of format.now }
-    {
+    fn of(format: &EventFormat) -> Role {
         if format.system.as_bytes() == b"ftrace".as_slice() {
             role_named(format.name.as_bytes(), format.fields.as_slice())
         } else {
             Role::Other
         }
-    }
-}
-
-/// Puts the role of the format, if there is one.
-fn put_role(format: Option<&EventFormat>, roles: &mut Vec<Role>) -> Result<(), AllocError>
-    ensures { OnOk result (roles.new.items ≡ roles.old.items ++ map role_of (cons_option (option_copied format.entry) [])) }
-{
-    if let Some(format) = format {
-        roles.push(Role::of(format))?;
-    }
-    Ok(())
-}
-
-/// The roles of all formats, in their order.
-#[tactic(auto, using(report_print::proofs::Heads::heads_more))]
-pub(crate) fn roles_of(alloc: Global, formats: &FormatTable) -> Result<Vec<Role>, AllocError>
-    ensures { IfOk result (λ roles. roles.items ≡ map role_of formats.now) }
-{
-    let mut roles = Vec::new(alloc);
-    for i in 0..formats.len() {
-        put_role(formats.get(i), &mut roles)?;
-    }
-    Ok(roles)
-}
-
-/// The role of the format with this number. The roles are those of the formats.
-#[tactic(auto, using(crate::proofs::RolePlaces::role_none, crate::proofs::RolePlaces::role_past))]
-#[inline(always)]
-pub(crate) fn role_at(formats: &FormatTable, places: &FormatPlaces, roles: &[Role], id: u32) -> Role
-    requires { roles.now ≡ map role_of formats.now }
-    ensures { result ≡ role_by (format_at id formats.now) }
-{
-    let Some(place) = places.place(formats, id) else {
-        return Role::Other;
-    };
-    match roles.get(place) {
-        Some(role) => *role,
-        None => Role::Other,
     }
 }

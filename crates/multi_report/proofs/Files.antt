@@ -15,9 +15,9 @@ use Rattle.time_merge.specs.Rows.{Each, Row, coming, least_cut}
 use Rattle.time_merge.specs.LaneRows.{rows_of}
 use Rattle.time_merge.proofs.PartReads.{all_inside}
 use Rattle.time_merge.proofs.Starting.{cut_of_rows as one_cut, fresh_come, fresh_stands}
-use Rattle.multi_report.specs.Order.{Given, FileItem, FileCut, cut_in, key_in, file_in, numbered, numbered_from, own_cut, cut_of_files, reached}
+use Rattle.multi_report.specs.Order.{ShownFile, FileItem, FileCut, cut_in, key_in, file_in, numbered, numbered_from, own_cut, cut_of_files, reached}
 use Rattle.multi_report.specs.Merge.{row_cut, row_with, file_row}
-use Rattle.multi_report.specs.Sources.{Seen, HasRoom, IsSame, IsUsable, IsKnown, IsFreshSource, Keeps, bytes_of, due, given_of, left_row, to_come_of}
+use Rattle.multi_report.specs.Sources.{Seen, HasRoom, IsSame, IsUsable, IsKnown, IsFreshSource, Keeps, bytes_of, due, shown_of, left_row, to_come_of}
 use Rattle.multi_report.specs.Reports.{AllReadTheirParts, AreSame}
 use Rattle.multi_report.proofs.Merging.{Fits, fits_of, mark, cut_of_rows, reached_merged}
 use Rattle.multi_report.proofs.FileRows.{rows_from}
@@ -28,7 +28,7 @@ all_at P f xs j d lt h = subst P (get_or-map f xs j d (f d) lt) (All-get_or P (m
 
 -- a file is the same as itself, and so are several
 pub same_one : (s : Seen) → IsSame s s
-same_one s = record { given = refl; told = refl; size = refl; faults = omega arith; reads = omega arith }
+same_one s = record { shown = refl; told = refl; size = refl; faults = omega arith; reads = omega arith }
 
 pub same_self : (xs : List Seen) → AreSame xs xs
 same_self xs = record { count = refl; each = λ i d lt. same_one (get_or xs i d) }
@@ -39,7 +39,7 @@ NoMoreDue first now = (i : ℕ) (d : Seen) → i < length first → due (get_or 
 
 same_further : (a b c : Seen) → due b ≤ due a → IsSame a b → IsSame b c → IsSame a c
 same_further a b c le p q = record {
-  given = q.given ∙ p.given;
+  shown = q.shown ∙ p.shown;
   told = q.told ∙ p.told;
   size = q.size ∙ p.size;
   faults = omega (arith, p.faults, q.faults);
@@ -55,13 +55,13 @@ same_twice xs ys zs p less q = record {
 pub due_twice : (xs ys zs : List Seen) → length ys ≡ length xs → NoMoreDue xs ys → NoMoreDue ys zs → NoMoreDue xs zs
 due_twice xs ys zs count p q i d lt = omega (arith, p i d lt, q i d (omega (arith, count, lt)))
 
-pub same_given : (xs ys : List Seen) → AreSame xs ys → map given_of ys ≡ map given_of xs
-same_given [] [] same = refl
-same_given [] (y ∷ ys) same = absurd (omega (arith, same.count))
-same_given (x ∷ xs) [] same = absurd (omega (arith, same.count))
-same_given (x ∷ xs) (y ∷ ys) same =
-    ap (λ (g : Given). g ∷ map given_of ys) (same.each 0 x (omega arith)).given
-    ∙ ap (λ (gs : List Given). given_of x ∷ gs) (same_given xs ys (record { count = omega (arith, same.count); each = λ i d lt. same.each (suc i) d (omega (arith, lt)) }))
+pub same_shown : (xs ys : List Seen) → AreSame xs ys → map shown_of ys ≡ map shown_of xs
+same_shown [] [] same = refl
+same_shown [] (y ∷ ys) same = absurd (omega (arith, same.count))
+same_shown (x ∷ xs) [] same = absurd (omega (arith, same.count))
+same_shown (x ∷ xs) (y ∷ ys) same =
+    ap (λ (g : ShownFile). g ∷ map shown_of ys) (same.each 0 x (omega arith)).shown
+    ∙ ap (λ (gs : List ShownFile). shown_of x ∷ gs) (same_shown xs ys (record { count = omega (arith, same.count); each = λ i d lt. same.each (suc i) d (omega (arith, lt)) }))
 
 -- two lists whose elements are tied, place by place
 abbrev pub Tied : (Seen → Seen → Type 0) → List Seen → List Seen → Type 0
@@ -85,7 +85,7 @@ known_all = tied_all Keeps IsKnown IsKnown (λ a b k known. k.known known)
 pub room_all : (room : ℕ) (xs ys : List Seen) → AreSame xs ys → All (HasRoom room) xs → All (HasRoom room) ys
 room_all room xs ys same =
     tied_all IsSame (HasRoom room) (HasRoom room)
-    (λ a b s fits cpu item. subst (λ (text : ℕ → ItemData → LineText). length (text cpu item).bytes ≤ room) (sym (ap (λ (g : Given). g.text) s.given)) (fits cpu item)) xs ys same.count same.each
+    (λ a b s fits cpu item. subst (λ (text : ℕ → ItemData → LineText). length (text cpu item).bytes ≤ room) (sym (ap (λ (g : ShownFile). g.text) s.shown)) (fits cpu item)) xs ys same.count same.each
 
 pub keeps_same : (xs ys : List Seen) → length ys ≡ length xs → Tied Keeps xs ys → AreSame xs ys
 keeps_same xs ys long tied = record { count = long; each = λ i d lt. (tied i d lt).same }
@@ -107,20 +107,20 @@ unfolding to_come_of
 left_keeps xs ys long tied known = ap (coming key_in file_in) (rows_keep 0 xs ys long tied known)
 
 -- before the first item all reached items are left
-fresh_row : (n : ℕ) (s : Seen) → IsFreshSource s → left_row (n, s) ≡ file_row (n, given_of s)
+fresh_row : (n : ℕ) (s : Seen) → IsFreshSource s → left_row (n, s) ≡ file_row (n, shown_of s)
 fresh_row n s fresh =
     ap (λ (xs : List Keyed). row_with n xs (least_cut (rows_of s.layout (bytes_of s) s.lanes))) (fresh_come s.layout (bytes_of s) s.lanes fresh)
     ∙ ap (row_with n _) (one_cut s.layout (bytes_of s) s.lanes)
 
-fresh_rows : (n : ℕ) (sources : List Seen) → All IsFreshSource sources → rows_from n sources ≡ map file_row (numbered_from n (map given_of sources))
+fresh_rows : (n : ℕ) (sources : List Seen) → All IsFreshSource sources → rows_from n sources ≡ map file_row (numbered_from n (map shown_of sources))
 fresh_rows n [] fresh = refl
 fresh_rows n (s ∷ sources) fresh =
     ap (λ (r : Row FileItem). r ∷ rows_from (n + 1) sources) (fresh_row n s (All-head IsFreshSource s sources fresh))
-    ∙ ap (λ (rs : List (Row FileItem)). file_row (n, given_of s) ∷ rs) (fresh_rows (n + 1) sources (All-tail IsFreshSource s sources fresh))
+    ∙ ap (λ (rs : List (Row FileItem)). file_row (n, shown_of s) ∷ rs) (fresh_rows (n + 1) sources (All-tail IsFreshSource s sources fresh))
 
-pub fresh_left : (sources : List Seen) → All IsFreshSource sources → to_come_of sources ≡ reached (map given_of sources)
+pub fresh_left : (sources : List Seen) → All IsFreshSource sources → to_come_of sources ≡ reached (map shown_of sources)
 unfolding to_come_of
-fresh_left sources fresh = ap (coming key_in file_in) (fresh_rows 0 sources fresh) ∙ sym (reached_merged (map given_of sources))
+fresh_left sources fresh = ap (coming key_in file_in) (fresh_rows 0 sources fresh) ∙ sym (reached_merged (map shown_of sources))
 
 fresh_known : (s : Seen) → IsSome s.told → IsFreshSource s → IsKnown s
 fresh_known s told fresh = record { told = told; stands = all s.lanes fresh }
@@ -141,11 +141,11 @@ parts_read xs ys same i d lt =
     omega (arith, (same.each i d lt).reads, all_inside s.layout s.size s.lanes)
 
 -- the least cut, by the file that it comes from
-cuts_left : (n : ℕ) (sources : List Seen) → map (λ (r : Row FileItem). r.cut) (rows_from n sources) ≡ map (λ (r : Row FileItem). r.cut) (map file_row (numbered_from n (map given_of sources)))
+cuts_left : (n : ℕ) (sources : List Seen) → map (λ (r : Row FileItem). r.cut) (rows_from n sources) ≡ map (λ (r : Row FileItem). r.cut) (map file_row (numbered_from n (map shown_of sources)))
 cuts_left n [] = refl
 cuts_left n (s ∷ sources) =
     ap (λ (c : Option Cut). option_map (row_cut n) c ∷ map (λ (r : Row FileItem). r.cut) (rows_from (n + 1) sources)) (one_cut s.layout (bytes_of s) s.lanes)
-    ∙ ap (λ (cs : List (Option Cut)). option_map (row_cut n) (own_cut (given_of s)) ∷ cs) (cuts_left (n + 1) sources)
+    ∙ ap (λ (cs : List (Option Cut)). option_map (row_cut n) (own_cut (shown_of s)) ∷ cs) (cuts_left (n + 1) sources)
 
 same_cuts : (xs ys : List (Row FileItem)) → map (λ (r : Row FileItem). r.cut) xs ≡ map (λ (r : Row FileItem). r.cut) ys → least_cut xs ≡ least_cut ys
 same_cuts xs ys e = of_cuts xs ∙ ap (λ (cs : List (Option Cut)). fold earlier None (filter_map (λ c. c) cs)) e ∙ sym (of_cuts ys)
@@ -157,31 +157,31 @@ same_cuts xs ys e = of_cuts xs ∙ ap (λ (cs : List (Option Cut)). fold earlier
     of_cuts : (xs : List (Row FileItem)) → least_cut xs ≡ fold earlier None (filter_map (λ (c : Option Cut). c) (map (λ (r : Row FileItem). r.cut) xs))
     of_cuts xs = ap (fold earlier None) (plain xs)
 
-left_cut : (sources : List Seen) → least_cut (rows_from 0 sources) ≡ option_map mark (cut_of_files (map given_of sources))
-left_cut sources = same_cuts (rows_from 0 sources) (map file_row (numbered (map given_of sources))) (cuts_left 0 sources) ∙ cut_of_rows (map given_of sources)
+left_cut : (sources : List Seen) → least_cut (rows_from 0 sources) ≡ option_map mark (cut_of_files (map shown_of sources))
+left_cut sources = same_cuts (rows_from 0 sources) (map file_row (numbered (map shown_of sources))) (cuts_left 0 sources) ∙ cut_of_rows (map shown_of sources)
 
-pub no_cut : (sources : List Seen) → least_cut (rows_from 0 sources) ≡ None → cut_of_files (map given_of sources) ≡ None
-no_cut sources e = of_none (cut_of_files (map given_of sources)) (sym (left_cut sources) ∙ e)
+pub no_cut : (sources : List Seen) → least_cut (rows_from 0 sources) ≡ None → cut_of_files (map shown_of sources) ≡ None
+no_cut sources e = of_none (cut_of_files (map shown_of sources)) (sym (left_cut sources) ∙ e)
   where
     of_none : (o : Option FileCut) → option_map mark o ≡ None → o ≡ None
     of_none None e = refl
     of_none (Some a) e = absurd cc
 
-each_at : (P : ℕ × Given → Type 0) (n : ℕ) (files : List Given) (j k : ℕ) (d : Given) → j < length files → k ≡ n + j → Each P (numbered_from n files) → P (k, get_or files j d)
+each_at : (P : ℕ × ShownFile → Type 0) (n : ℕ) (files : List ShownFile) (j k : ℕ) (d : ShownFile) → j < length files → k ≡ n + j → Each P (numbered_from n files) → P (k, get_or files j d)
 each_at P n [] j k d lt e h = absurd (omega arith)
 each_at P n (g ∷ files) zero k d lt e h = let same : n ≡ k = omega (arith, e) in subst (λ (m : ℕ). P (m, g)) same h.0
 each_at P n (g ∷ files) (suc j) k d lt e h = each_at P (n + 1) files j k d (omega arith) (omega (arith, e)) h.1
 
 pub one_cut_is : (sources : List Seen) (j : ℕ) (d : Seen) (cut : Cut) → j < length sources → least_cut (rows_from 0 sources) ≡ Some (row_cut j cut)
     → least_cut (rows_of (get_or sources j d).layout (bytes_of (get_or sources j d)) (get_or sources j d).lanes) ≡ Some cut
-    → cut_of_files (map given_of sources) ≡ Some (cut_in j cut)
+    → cut_of_files (map shown_of sources) ≡ Some (cut_in j cut)
 one_cut_is sources j d cut lt least is =
     let s = get_or sources j d in
-    let files = map given_of sources in
-    let own : own_cut (given_of s) ≡ Some cut = sym (one_cut s.layout (bytes_of s) s.lanes) ∙ is in
-    let given : get_or files j (given_of d) ≡ given_of s = get_or-map given_of sources j d (given_of d) lt in
-    let fits : Fits (cut_of_files files) j (own_cut (get_or files j (given_of d))) = each_at (λ p. Fits (cut_of_files files) p.0 (own_cut p.1)) 0 files j j (given_of d) (omega (arith, length-map sources given_of, lt)) (omega arith) (fits_of files) in
-    by (cut_of_files files) (sym (left_cut sources) ∙ least) (subst (Fits (cut_of_files files) j) (ap own_cut given ∙ own) fits)
+    let files = map shown_of sources in
+    let own : own_cut (shown_of s) ≡ Some cut = sym (one_cut s.layout (bytes_of s) s.lanes) ∙ is in
+    let shown : get_or files j (shown_of d) ≡ shown_of s = get_or-map shown_of sources j d (shown_of d) lt in
+    let fits : Fits (cut_of_files files) j (own_cut (get_or files j (shown_of d))) = each_at (λ p. Fits (cut_of_files files) p.0 (own_cut p.1)) 0 files j j (shown_of d) (omega (arith, length-map sources shown_of, lt)) (omega arith) (fits_of files) in
+    by (cut_of_files files) (sym (left_cut sources) ∙ least) (subst (Fits (cut_of_files files) j) (ap own_cut shown ∙ own) fits)
   where
     by : (o : Option FileCut) → option_map mark o ≡ Some (row_cut j cut) → Fits o j (Some cut) → o ≡ Some (cut_in j cut)
     by None e fits = absurd cc

@@ -5,12 +5,13 @@ use Rattle.trace_outside.specs.Pending.{Holds, OnWay, Puts, PutsText}
 use Rattle.trace_outside.specs.Writing.{GainedPrefix}
 use Rattle.trace_outside.proofs.PendingLemmas.{prefix_longer}
 use Rattle.multi_report.specs.Taking.{Put, PutPart}
-use Rattle.multi_report.specs.Sources.{Seen, given_of}
-use Rattle.multi_report.specs.Reports.{head_line, joined}
+use Rattle.multi_report.specs.Sources.{Seen, shown_of}
+use Rattle.multi_report.specs.Pieces.{text_of}
+use Rattle.multi_report.specs.Reports.{head_line}
 
-pub heads_joined : {S : Type 0} (f : S → Seen) (xs : List S) → flat_map (λ x. head_line (given_of (f x))) xs ≡ joined (map head_line (map given_of (map f xs)))
-heads_joined f [] = refl
-heads_joined f (x ∷ xs) = ap (λ (t : List ℕ). head_line (given_of (f x)) ++ t) (heads_joined f xs)
+pub heads_text : {S : Type 0} (f : S → Seen) (xs : List S) → flat_map (λ x. head_line (shown_of (f x))) xs ≡ text_of (map head_line (map shown_of (map f xs)))
+heads_text f [] = refl
+heads_text f (x ∷ xs) = ap (λ (t : List ℕ). head_line (shown_of (f x)) ++ t) (heads_text f xs)
 
 -- a piece that was put, and another behind it
 pub puts_both : {T E : Type 0} (p q : List ℕ) (a m z : OnWay) (result : Result T E) → Put p a m → m.name ≡ a.name → a.faults ≤ m.faults → PutsText q m z result → PutsText (p ++ q) a z result
@@ -33,6 +34,6 @@ front_stopped p q a m (Err v) failed part = λ before text held.
 
 -- a file that was looked at in its place, whose first line was stopped
 pub stopped_at : {S : Type 0} (f : S → Seen) (s at : S) (written now : Option (List ℕ)) (waiting : List ℕ) → s ≡ at
-    → ((before : Option (List ℕ)) (text : List ℕ) → Holds before written waiting text → GainedPrefix before now (text ++ head_line (given_of (f s))))
-    → (before : Option (List ℕ)) (text : List ℕ) → Holds before written waiting text → GainedPrefix before now (text ++ head_line (given_of (f at)))
-stopped_at {S = S} f s at written now waiting is h before text held = subst (λ (x : S). GainedPrefix before now (text ++ head_line (given_of (f x)))) is (h before text held)
+    → ((before : Option (List ℕ)) (text : List ℕ) → Holds before written waiting text → GainedPrefix before now (text ++ head_line (shown_of (f s))))
+    → (before : Option (List ℕ)) (text : List ℕ) → Holds before written waiting text → GainedPrefix before now (text ++ head_line (shown_of (f at)))
+stopped_at {S = S} f s at written now waiting is h before text held = subst (λ (x : S). GainedPrefix before now (text ++ head_line (shown_of (f x)))) is (h before text held)

@@ -9,7 +9,7 @@ use Rattle.subpage.specs.Cut.{Cut, is_before, is_earlier, IsLeast as IsLeastOne,
 use Rattle.subpage.proofs.Cuts.{when_none, when_some}
 use Rattle.time_merge.specs.Rows.{Each, rank}
 use Rattle.time_merge.proofs.Choosing.{each_of_all}
-use Rattle.multi_report.specs.Order.{Given, FileCut, IsLeast, all_cuts, cut_in, cut_of_files, are_together, is_sooner, numbered, own_cut, own_cut_in, sooner}
+use Rattle.multi_report.specs.Order.{ShownFile, FileCut, IsLeast, all_cuts, cut_in, cut_of_files, are_together, is_sooner, numbered, own_cut, own_cut_in, sooner}
 use Rattle.multi_report.proofs.Merging.{Fits, after, after_is, fits_of, folded}
 
 all_of_each : {X : Type 0} (P : X → Type 0) (xs : List X) → Each P xs → All P xs
@@ -30,7 +30,7 @@ contains_mapped {X = X} {Y = Y} f x xs c = at xs c.0 c.1 c.2
     at (y ∷ xs) (suc k) lt e = let rest = at xs k (omega (arith, lt)) e in (suc rest.0, omega (arith, rest.1), rest.2)
 
 -- one of the files has this as its own least cut
-abbrev Has : FileCut → List (ℕ × Given) → Type 0
+abbrev Has : FileCut → List (ℕ × ShownFile) → Type 0
 Has a [] = ⊥
 Has a (p ∷ files) = ((cut_in p.0 a.cut ≡ a) × (own_cut p.1 ≡ Some a.cut)) ⊎ Has a files
 
@@ -41,7 +41,7 @@ after_one (Some a) n c = elim (cases_Bool (is_before c.key n a.cut.key a.file)) 
 some_is : {x y : FileCut} → Some x ≡ Some y → x ≡ y
 some_is e = cc
 
-folded_has : (a : FileCut) (o : Option FileCut) (files : List (ℕ × Given)) → folded o files ≡ Some a → (o ≡ Some a) ⊎ Has a files
+folded_has : (a : FileCut) (o : Option FileCut) (files : List (ℕ × ShownFile)) → folded o files ≡ Some a → (o ≡ Some a) ⊎ Has a files
 folded_has a o [] e = inl e
 folded_has a o (p ∷ files) e = by (own_cut p.1) refl (folded_has a (after o p.0 (own_cut p.1)) files (sym (after_is o p.0 (own_cut p.1) (filter_map own_cut_in files)) ∙ e))
   where
@@ -63,18 +63,18 @@ folded_has a o (p ∷ files) e = by (own_cut p.1) refl (folded_has a (after o p.
       | inr rest ↦ inr (inr rest)
     ]
 
-abbrev cuts_in : ℕ × Given → List FileCut
+abbrev cuts_in : ℕ × ShownFile → List FileCut
 cuts_in p = map (cut_in p.0) (cuts_of p.1.layout p.1.bytes p.1.parts)
 
-own_least : (g : Given) (c : Cut) → own_cut g ≡ Some c → IsLeastOne (cuts_of g.layout g.bytes g.parts) c
+own_least : (g : ShownFile) (c : Cut) → own_cut g ≡ Some c → IsLeastOne (cuts_of g.layout g.bytes g.parts) c
 unfolding cut_of
 own_least g c is = subst (λ (o : Option Cut). IfSome o (λ cut. IsLeastOne (cuts_of g.layout g.bytes g.parts) cut)) is (when_some (cuts_of g.layout g.bytes g.parts))
 
-own_none : (g : Given) → own_cut g ≡ None → cuts_of g.layout g.bytes g.parts ≡ []
+own_none : (g : ShownFile) → own_cut g ≡ None → cuts_of g.layout g.bytes g.parts ≡ []
 unfolding cut_of
 own_none g is = subst (λ (o : Option Cut). IfNone o (cuts_of g.layout g.bytes g.parts ≡ [])) is (when_none (cuts_of g.layout g.bytes g.parts))
 
-has_contains : (a : FileCut) (files : List (ℕ × Given)) → Has a files → Contains (flat_map cuts_in files) a
+has_contains : (a : FileCut) (files : List (ℕ × ShownFile)) → Has a files → Contains (flat_map cuts_in files) a
 has_contains a [] h = absurd h
 has_contains a (p ∷ files) h = elim h [
   | inl here ↦
@@ -162,7 +162,7 @@ not_sooner_than a n w c fits not_earlier e = elim (or_parts _ _ e) [
     together (Some x) None e = absurd cc
     together (Some x) (Some y) e = ap (λ (k : ℕ). k + 1) (eqb-true x y e)
 
-none_sooner : (a : FileCut) (files : List (ℕ × Given)) → Each (λ p. Fits (Some a) p.0 (own_cut p.1)) files → Each (λ c. is_sooner c a ≡ true → ⊥) (flat_map cuts_in files)
+none_sooner : (a : FileCut) (files : List (ℕ × ShownFile)) → Each (λ p. Fits (Some a) p.0 (own_cut p.1)) files → Each (λ c. is_sooner c a ≡ true → ⊥) (flat_map cuts_in files)
 none_sooner a [] h = tt
 none_sooner a (p ∷ files) h =
     each_append (λ c. is_sooner c a ≡ true → ⊥) (cuts_in p) (flat_map cuts_in files) (by (own_cut p.1) refl h.0) (none_sooner a files h.1)
@@ -177,7 +177,7 @@ none_sooner a (p ∷ files) h =
         mapped w (cuts_of p.1.layout p.1.bytes p.1.parts) (subst (Fits (Some a) p.0) is fits)
         (each_of_all (λ c. is_earlier c w ≡ true → ⊥) (cuts_of p.1.layout p.1.bytes p.1.parts) (own_least p.1 w is).least)
 
-pub least_is : (files : List Given) → IfSome (cut_of_files files) (IsLeast (all_cuts files))
+pub least_is : (files : List ShownFile) → IfSome (cut_of_files files) (IsLeast (all_cuts files))
 unfolding cut_of_files
 least_is files = by (cut_of_files files) refl
   where
@@ -192,10 +192,10 @@ least_is files = by (cut_of_files files) refl
           (none_sooner a (numbered files) (subst (λ (o : Option FileCut). Each (λ p. Fits o p.0 (own_cut p.1)) (numbered files)) is (fits_of files)));
     }
 
-pub none_cut : (files : List Given) → cut_of_files files ≡ None → all_cuts files ≡ []
+pub none_cut : (files : List ShownFile) → cut_of_files files ≡ None → all_cuts files ≡ []
 none_cut files is = all_none (numbered files) (subst (λ (o : Option FileCut). Each (λ p. Fits o p.0 (own_cut p.1)) (numbered files)) is (fits_of files))
   where
-    all_none : (files : List (ℕ × Given)) → Each (λ p. Fits None p.0 (own_cut p.1)) files → flat_map cuts_in files ≡ []
+    all_none : (files : List (ℕ × ShownFile)) → Each (λ p. Fits None p.0 (own_cut p.1)) files → flat_map cuts_in files ≡ []
     all_none [] h = refl
     all_none (p ∷ files) h =
         ap (λ (cs : List Cut). map (cut_in p.0) cs ++ flat_map cuts_in files) (own_none p.1 h.0.none) ∙ all_none files h.1

@@ -9,7 +9,7 @@ use Rattle.subpage.specs.Cut.{Cut, is_before, earlier, is_up_to as is_up_to_one,
 use Rattle.subpage.proofs.Arranging.{one_rising, by_key-rising, by_key-with_key}
 use Rattle.subpage.proofs.Filters.{filter-yes, filter-not, filter-filter, filter-append, filter-rising}
 use Rattle.time_merge.specs.Rows.{Each, Row, rank, up_to, up_to_key, least_cut, together}
-use Rattle.multi_report.specs.Order.{Given, FileItem, FileCut, in_file, cut_in, key_in, file_in, numbered, numbered_from, items_of, arranged, own_cut, own_cut_in, sooner, cut_of_files, is_up_to, reached}
+use Rattle.multi_report.specs.Order.{ShownFile, FileItem, FileCut, in_file, cut_in, key_in, file_in, numbered, numbered_from, items_of, arranged, own_cut, own_cut_in, sooner, cut_of_files, is_up_to, reached}
 use Rattle.multi_report.specs.Merge.{row_cut, file_row, merged}
 
 -- filters of lists that were made by a function, or joined
@@ -133,15 +133,15 @@ fits_still (Some a) n m (Some c) own lt b f = elim (cases_Bool (is_before c.key 
     sooner_still None h lt = tt
     sooner_still (Some d) h lt = inl (elim h [ inl less ↦ omega arith | inr same ↦ omega (arith, same.0) ])
 
-abbrev pub folded : Option FileCut → List (ℕ × Given) → Option FileCut
+abbrev pub folded : Option FileCut → List (ℕ × ShownFile) → Option FileCut
 folded o files = fold sooner o (filter_map own_cut_in files)
 
 -- the least of the files' cuts fits each of them
-record FitTo (r : Option FileCut) (n : ℕ) (o : Option FileCut) (files : List Given) : Type 0 where
+record FitTo (r : Option FileCut) (n : ℕ) (o : Option FileCut) (files : List ShownFile) : Type 0 where
   here : Each (λ p. Fits r p.0 (own_cut p.1)) (numbered_from n files)
   still : (m : ℕ) (own : Option Cut) → m < n → Fits o m own → Fits r m own
 
-fit_all : (n : ℕ) (o : Option FileCut) (files : List Given) → Below n o → FitTo (folded o (numbered_from n files)) n o files
+fit_all : (n : ℕ) (o : Option FileCut) (files : List ShownFile) → Below n o → FitTo (folded o (numbered_from n files)) n o files
 fit_all n o [] b = record { here = tt; still = λ m own lt f. f }
 fit_all n o (g ∷ files) b =
     let own = own_cut g in
@@ -157,7 +157,7 @@ fit_all n o (g ∷ files) b =
 abbrev pub mark : FileCut → Cut
 mark a = row_cut a.file a.cut
 
-folded_rows : (o : Option FileCut) (files : List (ℕ × Given)) → fold earlier (option_map mark o) (filter_map (λ (r : Row FileItem). r.cut) (map file_row files)) ≡ option_map mark (folded o files)
+folded_rows : (o : Option FileCut) (files : List (ℕ × ShownFile)) → fold earlier (option_map mark o) (filter_map (λ (r : Row FileItem). r.cut) (map file_row files)) ≡ option_map mark (folded o files)
 folded_rows o [] = refl
 folded_rows o (p ∷ files) = one (own_cut p.1) (λ w. folded_rows w files)
   where
@@ -242,10 +242,10 @@ same_reach (Some a) n own x f = at a.cut.key a.cut.cpu a.cut.page a.file own f
     ]
 
 -- the reached items of the rows
-abbrev row_items : ℕ × Given → List FileItem
+abbrev row_items : ℕ × ShownFile → List FileItem
 row_items p = map (in_file p.0) (reached_of p.1.layout p.1.bytes p.1.parts)
 
-together_rows : (files : List (ℕ × Given)) → together (map file_row files) ≡ flat_map row_items files
+together_rows : (files : List (ℕ × ShownFile)) → together (map file_row files) ≡ flat_map row_items files
 together_rows [] = refl
 together_rows (p ∷ files) = ap (λ xs. row_items p ++ xs) (together_rows files)
 
@@ -254,7 +254,7 @@ module _ (o : Option FileCut) (k : ℕ) where
   abbrev reaches : FileItem → Bool
   reaches x = up_to (option_map mark o) (key_in x) (file_in x)
 
-  one_file : (p : ℕ × Given) → Fits o p.0 (own_cut p.1)
+  one_file : (p : ℕ × ShownFile) → Fits o p.0 (own_cut p.1)
       → filter (is_up_to o) (with_key key_in k (items_of p)) ≡ filter reaches (with_key key_in k (row_items p))
   unfolding reached_of arranged_one
   one_file p f =
@@ -273,12 +273,12 @@ module _ (o : Option FileCut) (k : ℕ) where
       ∙ ap (map (in_file n)) (filter_agree (λ x. is_up_to o (in_file n x)) (λ x. up_to (option_map mark o) (key_of x) n && is_up_to_one own x) (λ x. same_reach o n own x f) here)
       ∙ sym right
 
-  each_file : (files : List (ℕ × Given)) → Each (λ p. Fits o p.0 (own_cut p.1)) files
+  each_file : (files : List (ℕ × ShownFile)) → Each (λ p. Fits o p.0 (own_cut p.1)) files
       → Each (λ p. filter (is_up_to o) (with_key key_in k (items_of p)) ≡ filter reaches (with_key key_in k (row_items p))) files
   each_file [] h = tt
   each_file (p ∷ files) h = (one_file p h.0, each_file files h.1)
 
-  all_files : (files : List (ℕ × Given)) → Each (λ p. Fits o p.0 (own_cut p.1)) files
+  all_files : (files : List (ℕ × ShownFile)) → Each (λ p. Fits o p.0 (own_cut p.1)) files
       → filter (is_up_to o) (with_key key_in k (flat_map items_of files)) ≡ filter reaches (with_key key_in k (flat_map row_items files))
   all_files files h =
       ap (filter (is_up_to o)) (filter_flat (λ x. eqb (key_in x) k) items_of files)
@@ -290,16 +290,16 @@ module _ (o : Option FileCut) (k : ℕ) where
   of_key : (test : FileItem → Bool) (xs : List FileItem) → with_key key_in k (filter test (by_key key_in xs)) ≡ filter test (with_key key_in k xs)
   of_key test xs = filter-filter (λ x. eqb (key_in x) k) test (by_key key_in xs) ∙ ap (filter test) (by_key-with_key key_in k xs)
 
-pub cut_of_rows : (files : List Given) → least_cut (map file_row (numbered files)) ≡ option_map mark (cut_of_files files)
+pub cut_of_rows : (files : List ShownFile) → least_cut (map file_row (numbered files)) ≡ option_map mark (cut_of_files files)
 unfolding cut_of_files
 cut_of_rows files = folded_rows None (numbered files)
 
-pub fits_of : (files : List Given) → Each (λ p. Fits (cut_of_files files) p.0 (own_cut p.1)) (numbered files)
+pub fits_of : (files : List ShownFile) → Each (λ p. Fits (cut_of_files files) p.0 (own_cut p.1)) (numbered files)
 unfolding cut_of_files
 fits_of files = (fit_all 0 None files tt).here
 
 -- The items of all files up to the least cut are those that each file reaches, merged up to the least cut.
-pub reached_merged : (files : List Given) → reached files ≡ merged files
+pub reached_merged : (files : List ShownFile) → reached files ≡ merged files
 unfolding reached arranged
 reached_merged files =
     let ps = numbered files in

@@ -20,7 +20,7 @@ use Rattle.time_merge.proofs.Advancing.{same_length}
 use Rattle.time_merge.proofs.Going.{still_parts}
 use Rattle.time_merge.proofs.OneLane.{in_step_but}
 use Rattle.time_merge.proofs.PartReads.{all_reading_in, none_reading, stepping_unread}
-use Rattle.multi_report.specs.Order.{Given}
+use Rattle.multi_report.specs.Order.{ShownFile}
 use Rattle.multi_report.specs.Sources.{Seen, IsUsable, IsKnown, IsPrepared, IsReadied, Keeps, bytes_of}
 use Rattle.multi_report.specs.Nexts.{IsLaneStepped}
 
@@ -33,8 +33,8 @@ module _ (name : List ℕ) (cpus : ℕ) (layout : Layout) (text : ℕ → ItemDa
   made told size faults reads lanes nexts =
       record { name = name; cpus = cpus; layout = layout; text = text; told = told; size = size; faults = faults; reads = reads; lanes = lanes; nexts = nexts }
 
-  abbrev given_with : List ℕ → List (ℕ × Part) → Given
-  given_with bytes parts = record { name = name; cpus = cpus; layout = layout; bytes = bytes; parts = parts; text = text }
+  abbrev shown_with : List ℕ → List (ℕ × Part) → ShownFile
+  shown_with bytes parts = record { name = name; cpus = cpus; layout = layout; bytes = bytes; parts = parts; text = text }
 
   -- what is so of a file with these lanes is so where they were lent and given back
   given_back : (P : Seen → Type 0) (told told_now : Option (List ℕ)) (size size_now faults reads : ℕ) (lanes now : List Lane) (keys : List (Option (Option ℕ)))
@@ -72,7 +72,7 @@ module _ (name : List ℕ) (cpus : ℕ) (layout : Layout) (text : ℕ → ItemDa
         → Keeps before after
     keeps_with usable le in_order parts slots most rows stands reads less = record {
       same = record {
-        given = ap (given_with (bytes_of before)) parts;
+        shown = ap (shown_with (bytes_of before)) parts;
         told = refl;
         size = refl;
         faults = le;

@@ -8,29 +8,30 @@ use Rattle.trace_outside.specs.Writing.{GainedPrefix}
 use Rattle.trace_outside.proofs.PendingLemmas.{holds_nothing}
 use Rattle.multi_report.specs.declared.report.FilesEnd.{FilesEnd}
 use Rattle.multi_report.specs.declared.report.FilesEnd.TheVariants as code
-use Rattle.multi_report.specs.Order.{Given, cut_of_files, reached}
-use Rattle.multi_report.specs.Sources.{Seen, IsFreshSource, IsKnown, Keeps, given_of, next_key, to_come_of}
-use Rattle.multi_report.specs.Reports.{AreSame, IsEnded, IsFilesReport, ReadRose, head_line, joined, lines, pieces}
+use Rattle.multi_report.specs.Order.{ShownFile, cut_of_files, reached}
+use Rattle.multi_report.specs.Sources.{Seen, IsFreshSource, IsKnown, Keeps, shown_of, next_key, to_come_of}
+use Rattle.multi_report.specs.Pieces.{text_of}
+use Rattle.multi_report.specs.Reports.{AreSame, IsEnded, IsFilesReport, ReadRose, head_line, lines, pieces}
 use Rattle.multi_report.specs.Turns.{EndsWith, Going, IsUnderway, lines_left}
-use Rattle.multi_report.proofs.Files.{Tied, all_fresh_known, fresh_left, keeps_same, known_all, left_keeps, same_given}
+use Rattle.multi_report.proofs.Files.{Tied, all_fresh_known, fresh_left, keeps_same, known_all, left_keeps, same_shown}
 use Rattle.multi_report.proofs.Going.{end_read, prefix_of_whole}
 
 -- all pieces of files
 abbrev pub whole_of : List Seen → List (List ℕ)
-whole_of sources = pieces (map given_of sources)
+whole_of sources = pieces (map shown_of sources)
 
 abbrev pub heads_of : List Seen → List (List ℕ)
-heads_of sources = map head_line (map given_of sources)
+heads_of sources = map head_line (map shown_of sources)
 
 -- the first lines are on their way, and all items are left
 pub going_heads : (first now : List Seen) (before written : Option (List ℕ)) (waiting waiting_now : List ℕ) → All IsFreshSource first → All (λ source. IsSome source.told) first → waiting ≡ []
     → length now ≡ length first → Tied Keeps first now
-    → ((b : Option (List ℕ)) (text : List ℕ) → Holds b before waiting text → Holds b written waiting_now (text ++ joined (heads_of first)))
+    → ((b : Option (List ℕ)) (text : List ℕ) → Holds b before waiting text → Holds b written waiting_now (text ++ text_of (heads_of first)))
     → Going before (whole_of first) written waiting_now (lines_left now)
 going_heads first now before written waiting waiting_now fresh told empty long tied puts =
-    let givens : map given_of now ≡ map given_of first = same_given first now (keeps_same first now long tied) in
-    let left : to_come_of now ≡ reached (map given_of first) = left_keeps first now long tied (all_fresh_known first fresh told) ∙ fresh_left first fresh in
-    let rest : lines_left now ≡ lines (map given_of first) (reached (map given_of first)) = ap (λ (gs : List Given). lines gs (to_come_of now)) givens ∙ ap (lines (map given_of first)) left in
+    let all_shown : map shown_of now ≡ map shown_of first = same_shown first now (keeps_same first now long tied) in
+    let left : to_come_of now ≡ reached (map shown_of first) = left_keeps first now long tied (all_fresh_known first fresh told) ∙ fresh_left first fresh in
+    let rest : lines_left now ≡ lines (map shown_of first) (reached (map shown_of first)) = ap (λ (gs : List ShownFile). lines gs (to_come_of now)) all_shown ∙ ap (lines (map shown_of first)) left in
     record {
       done = heads_of first;
       holds = puts before [] (subst (λ (w : List ℕ). Holds before before w []) (sym empty) (holds_nothing before));
@@ -39,15 +40,15 @@ going_heads first now before written waiting waiting_now fresh told empty long t
 
 -- the first lines could not be written
 pub heads_stopped : (first : List Seen) (before written : Option (List ℕ)) (waiting : List ℕ) → waiting ≡ []
-    → ((b : Option (List ℕ)) (text : List ℕ) → Holds b before waiting text → GainedPrefix b written (text ++ joined (heads_of first)))
-    → GainedPrefix before written (joined (whole_of first))
+    → ((b : Option (List ℕ)) (text : List ℕ) → Holds b before waiting text → GainedPrefix b written (text ++ text_of (heads_of first)))
+    → GainedPrefix before written (text_of (whole_of first))
 heads_stopped first before written waiting empty puts =
-    prefix_of_whole before written (whole_of first) (heads_of first) (lines (map given_of first) (reached (map given_of first))) refl
+    prefix_of_whole before written (whole_of first) (heads_of first) (lines (map shown_of first) (reached (map shown_of first))) refl
     (puts before [] (subst (λ (w : List ℕ). Holds before before w []) (sym empty) (holds_nothing before)))
 
 pub underway_first : (first now : List Seen) (keys : List (Option (Option ℕ))) (before written : Option (List ℕ)) (waiting waiting_now : List ℕ) → All IsFreshSource first → All (λ source. IsSome source.told) first → waiting ≡ []
     → length now ≡ length first → Tied Keeps first now → (All IsKnown now → keys ≡ map next_key now)
-    → ((b : Option (List ℕ)) (text : List ℕ) → Holds b before waiting text → Holds b written waiting_now (text ++ joined (heads_of first)))
+    → ((b : Option (List ℕ)) (text : List ℕ) → Holds b before waiting text → Holds b written waiting_now (text ++ text_of (heads_of first)))
     → IsUnderway before (whole_of first) now keys written waiting_now
 underway_first first now keys before written waiting waiting_now fresh told empty long tied keys_are puts =
     let known = known_all first now long tied (all_fresh_known first fresh told) in
@@ -56,11 +57,11 @@ underway_first first now keys before written waiting waiting_now fresh told empt
 -- a read failed before the first item
 pub read_first : (first now : List Seen) (before written new : Option (List ℕ)) (waiting waiting_now : List ℕ) (source : ℕ) (result : FilesEnd) → All IsFreshSource first → All (λ source. IsSome source.told) first → waiting ≡ []
     → length now ≡ length first → Tied Keeps first now
-    → ((b : Option (List ℕ)) (text : List ℕ) → Holds b before waiting text → Holds b written waiting_now (text ++ joined (heads_of first)))
+    → ((b : Option (List ℕ)) (text : List ℕ) → Holds b before waiting text → Holds b written waiting_now (text ++ text_of (heads_of first)))
     → ((b : Option (List ℕ)) (text : List ℕ) → Holds b written waiting_now text → EndsWith b new text (code.Read source) result)
-    → IsEnded (whole_of first) (cut_of_files (map given_of now)) before new result
+    → IsEnded (whole_of first) (cut_of_files (map shown_of now)) before new result
 read_first first now before written new waiting waiting_now source result fresh told empty long tied puts ends =
-    end_read before (whole_of first) (cut_of_files (map given_of now)) written new waiting_now (lines_left now) source result ends
+    end_read before (whole_of first) (cut_of_files (map shown_of now)) written new waiting_now (lines_left now) source result ends
     (going_heads first now before written waiting waiting_now fresh told empty long tied puts)
 
 -- a count that rose since a turn began rose since the report began
@@ -76,9 +77,9 @@ abbrev pub IsOnWay : List Seen → List Seen → List (Option (Option ℕ)) → 
 IsOnWay first now keys before written waiting = All (λ source. IsSome source.told) first → IsUnderway before (whole_of first) now keys written waiting
 
 -- a report that began and ended, told by what the files were
-pub report_is : (first now : List Seen) (before new : Option (List ℕ)) (end : FilesEnd) → AreSame first now → IsEnded (whole_of first) (cut_of_files (map given_of now)) before new end
-    → IsFilesReport (map given_of first) before new end
-report_is first now before new end same ended = subst (λ (gs : List Given). IsEnded (whole_of first) (cut_of_files gs) before new end) (same_given first now same) ended
+pub report_is : (first now : List Seen) (before new : Option (List ℕ)) (end : FilesEnd) → AreSame first now → IsEnded (whole_of first) (cut_of_files (map shown_of now)) before new end
+    → IsFilesReport (map shown_of first) before new end
+report_is first now before new end same ended = subst (λ (gs : List ShownFile). IsEnded (whole_of first) (cut_of_files gs) before new end) (same_shown first now same) ended
 
 -- a tree has a slot for each file still
 pub slots_on : {S : Type 0} (f : S → Seen) (xs ys : List S) (keys now : List (Option (Option ℕ))) → AreSame (map f xs) (map f ys) → length keys ≡ length xs → length now ≡ length keys → length now ≡ length ys

@@ -21,8 +21,8 @@ use Rattle.time_merge.proofs.Going.{still_parts}
 use Rattle.time_merge.proofs.Starting.{cut_of_rows as one_cut}
 use Rattle.multi_report.specs.declared.taking.Taken.{Taken}
 use Rattle.multi_report.specs.declared.taking.Taken.TheVariants as took
-use Rattle.multi_report.specs.Order.{Given, own_cut}
-use Rattle.multi_report.specs.Sources.{Seen, IsKnown, IsReadied, IsSame, Keeps, bytes_of, due, given_of, next_key}
+use Rattle.multi_report.specs.Order.{ShownFile, own_cut}
+use Rattle.multi_report.specs.Sources.{Seen, IsKnown, IsReadied, IsSame, Keeps, bytes_of, due, shown_of, next_key}
 use Rattle.multi_report.specs.Nexts.{IsLaneStepped, cut_at}
 use Rattle.multi_report.specs.Reports.{line_of}
 use Rattle.multi_report.specs.Taking.{IsGoing, IsStill, ItemTaken, LineStopped, TakenFrom, TakenOf, cut_left, left_in}
@@ -46,14 +46,14 @@ known_stepped a b i e lt s known =
           subst (λ (l : Layout). All (Stands l (bytes_of b)) b.lanes) (sym s.layout) there;
     }
 
-given_stepped : (a b : Seen) (i : ℕ) (e : Lane) → i < length a.lanes → IsLaneStepped a i b → given_of b ≡ given_of a
-given_stepped a b i e lt s =
+shown_stepped : (a b : Seen) (i : ℕ) (e : Lane) → i < length a.lanes → IsLaneStepped a i b → shown_of b ≡ shown_of a
+shown_stepped a b i e lt s =
     let parts : parts_of b.lanes ≡ parts_of a.lanes = ap parts_of s.lanes ∙ still_parts a.layout a.lanes i e s.lane lt (s.stepped e) in
     cc (s.name, s.cpus, s.layout, s.text, s.told, parts)
 
 pub same_stepped : (a b : Seen) (i : ℕ) → i < length a.lanes → IsLaneStepped a i b → IsSame a b
 same_stepped a b i lt s = record {
-  given = given_stepped a b i (some_lane a.lanes i lt) lt s;
+  shown = shown_stepped a b i (some_lane a.lanes i lt) lt s;
   told = s.told;
   size = s.size;
   faults = omega (arith, s.faults);
@@ -68,7 +68,7 @@ pub same_used : (a b c : Seen) (i : ℕ) → i < length a.lanes → IsLaneSteppe
 same_used a b c i lt s keeps =
     let one = same_stepped a b i lt s in
     record {
-      given = keeps.same.given ∙ one.given;
+      shown = keeps.same.shown ∙ one.shown;
       told = keeps.same.told ∙ one.told;
       size = keeps.same.size ∙ one.size;
       faults = omega (arith, one.faults, keeps.same.faults);
@@ -86,10 +86,10 @@ pub rose_used : (a b c : Seen) (i : ℕ) → IsLaneStepped a i b → Rose b.faul
 rose_used a b c i s rose = omega (arith, s.faults, rose)
 
 abbrev put_of : Seen → ℕ → Lane → List ℕ
-put_of a i d = unwrap_or (option_map (line_of (given_of a)) (first_of (keyed_held a.layout (get_or a.lanes i d)))) []
+put_of a i d = unwrap_or (option_map (line_of (shown_of a)) (first_of (keyed_held a.layout (get_or a.lanes i d)))) []
 
-line_put : (a : Seen) (i : ℕ) (d : Lane) (next : IsNextLane a.layout (bytes_of a) a.lanes i) → put_of a i d ≡ line_of (given_of a) next.item
-line_put a i d next = ap (λ (o : Option Keyed). unwrap_or (option_map (line_of (given_of a)) o) []) (next.first d)
+line_put : (a : Seen) (i : ℕ) (d : Lane) (next : IsNextLane a.layout (bytes_of a) a.lanes i) → put_of a i d ≡ line_of (shown_of a) next.item
+line_put a i d next = ap (λ (o : Option Keyed). unwrap_or (option_map (line_of (shown_of a)) o) []) (next.first d)
 
 pub item_taken : {T E : Type 0} (v : T) (a b c : Seen) (i : ℕ) (way way_now : OnWay) → i < length a.lanes → IsNextLane a.layout (bytes_of a) a.lanes i → IsLaneStepped a i b → Keeps b c → IsKnown a
     → ((d : Lane) → PutsText {T = T} {E = E} (put_of a i d) way way_now (Ok v)) → ItemTaken a c way way_now
@@ -105,7 +105,7 @@ item_taken v a b c i way way_now lt next s keeps known puts =
       item = next.item;
       come = next.used e s.lane (s.stepped e) ∙ ap (λ (xs : List Keyed). next.item ∷ xs) (sym same ∙ sym kept);
       cut = ap least_cut (keeps.rows known_b)
-          ∙ one_cut b.layout (bytes_of b) b.lanes ∙ ap (λ (g : Given). own_cut g) (given_stepped a b i e lt s) ∙ sym (one_cut a.layout (bytes_of a) a.lanes);
+          ∙ one_cut b.layout (bytes_of b) b.lanes ∙ ap (λ (g : ShownFile). own_cut g) (shown_stepped a b i e lt s) ∙ sym (one_cut a.layout (bytes_of a) a.lanes);
       known = keeps.known known_b;
       puts = λ first text held. subst (λ (p : List ℕ). Holds first way_now.written way_now.waiting (text ++ p)) (line_put a i e next) ((puts e).puts first text held);
     }

@@ -17,9 +17,10 @@ use Rattle.multi_report.specs.declared.report.FilesEnd.{FilesEnd}
 use Rattle.multi_report.specs.declared.report.FilesEnd.TheVariants as code
 use Rattle.multi_report.specs.declared.taking.Taken.{Taken}
 use Rattle.multi_report.specs.declared.taking.Taken.TheVariants as took
-use Rattle.multi_report.specs.Order.{Given, cut_in, in_file, cut_of_files}
-use Rattle.multi_report.specs.Sources.{Seen, IsKnown, IsPrepared, IsSame, IsUsable, due, given_of, next_key, to_come_of, work}
-use Rattle.multi_report.specs.Reports.{AreSame, IsEnded, ReadRose, WriteRose, joined, line_in, line_of, lines}
+use Rattle.multi_report.specs.Order.{ShownFile, cut_in, in_file, cut_of_files}
+use Rattle.multi_report.specs.Sources.{Seen, IsKnown, IsPrepared, IsSame, IsUsable, due, shown_of, next_key, to_come_of, work}
+use Rattle.multi_report.specs.Pieces.{text_of}
+use Rattle.multi_report.specs.Reports.{AreSame, IsEnded, ReadRose, WriteRose, line_in, line_of, lines}
 use Rattle.multi_report.specs.Taking.{ItemTaken, TakenFrom, cut_left}
 use Rattle.multi_report.specs.Turns.{AreReadied, EndsWith, Going, IsTold, IsUnderway, lines_left}
 use Rattle.multi_report.proofs.FileRows.{file_next, file_cut, file_first, file_none, file_some}
@@ -55,16 +56,16 @@ told_read end result before now first after own told = elim told [
 
 none_left : (sources : List Seen) → to_come_of sources ≡ [] → lines_left sources ≡ []
 unfolding lines
-none_left sources e = ap (map (line_in (map given_of sources))) e
+none_left sources e = ap (map (line_in (map shown_of sources))) e
 
 -- nothing comes of any file
 pub turn_done : (before : Option (List ℕ)) (whole : List (List ℕ)) (sources : List Seen) (keys : List (Option (Option ℕ))) (old new : Option (List ℕ)) (waiting : List ℕ) (result : FilesEnd)
     → IsLeastAt keys None
     → ((b : Option (List ℕ)) (text : List ℕ) → Holds b old waiting text → EndsWith b new text code.Done result)
-    → IsUnderway before whole sources keys old waiting → IsEnded whole (cut_of_files (map given_of sources)) before new result
+    → IsUnderway before whole sources keys old waiting → IsEnded whole (cut_of_files (map shown_of sources)) before new result
 turn_done before whole sources keys old new waiting result none ends under =
     let law = file_none sources (subst (λ (ks : List (Option (Option ℕ))). IsLeastAt ks None) under.keys_are none) in
-    end_whole before whole (cut_of_files (map given_of sources)) old new waiting (lines_left sources) code.Done result ends under.going (none_left sources law.0) (λ gained. (gained, no_cut sources law.1))
+    end_whole before whole (cut_of_files (map shown_of sources)) old new waiting (lines_left sources) code.Done result ends under.going (none_left sources law.0) (λ gained. (gained, no_cut sources law.1))
 
 -- One of several files changed, and the others are as they were.
 module _ (sources : List Seen) (j : ℕ) (lt : j < length sources) (way way_now : OnWay) where
@@ -109,8 +110,8 @@ module _ (before : Option (List ℕ)) (whole : List (List ℕ)) (sources : List 
   abbrev d : Seen
   d = some_seen sources j lt
 
-  same_givens : (one : Seen) → given_of one ≡ given_of (get_or sources j d) → map given_of (set sources j one) ≡ map given_of sources
-  same_givens one e = map-set_same given_of sources j one d e
+  same_givens : (one : Seen) → shown_of one ≡ shown_of (get_or sources j d) → map shown_of (set sources j one) ≡ map shown_of sources
+  same_givens one e = map-set_same shown_of sources j one d e
 
   -- the keys are those of what comes next of each file
   least_here : (here : Option ℕ) → IsLeastOf keys j here → IsUnderway before whole sources keys way.written way.waiting → IsLeastOf (map next_key sources) j here
@@ -121,18 +122,18 @@ module _ (before : Option (List ℕ)) (whole : List (List ℕ)) (sources : List 
 
   -- the line of an item is on its way, and the others are left
   going_one : (one : Seen) (here : Option ℕ) → IsLeastOf keys j here → IsUnderway before whole sources keys way.written way.waiting
-      → given_of one ≡ given_of (get_or sources j d) → ItemTaken (get_or sources j d) one way way_now
+      → shown_of one ≡ shown_of (get_or sources j d) → ItemTaken (get_or sources j d) one way way_now
       → Going before whole way_now.written way_now.waiting (lines_left (set sources j one))
   unfolding lines
-  going_one one here least under given t =
+  going_one one here least under shown t =
       let after = set sources j one in
       let come : to_come_of sources ≡ in_file j t.item ∷ to_come_of after = file_next sources j here d one t.item lt (least_here here least under) t.come t.cut in
-      let givens : map given_of after ≡ map given_of sources = same_givens one given in
-      let piece : List ℕ = line_of (given_of (get_or sources j d)) t.item in
+      let all_shown : map shown_of after ≡ map shown_of sources = same_givens one shown in
+      let piece : List ℕ = line_of (shown_of (get_or sources j d)) t.item in
       let rest : lines_left sources ≡ piece ∷ lines_left after =
-      ap (map (line_in (map given_of sources))) come
-      ∙ ap (λ (p : List ℕ). p ∷ map (line_in (map given_of sources)) (to_come_of after)) (line_at sources j d t.item lt)
-      ∙ ap (λ (gs : List Given). piece ∷ map (line_in gs) (to_come_of after)) (sym givens) in
+      ap (map (line_in (map shown_of sources))) come
+      ∙ ap (λ (p : List ℕ). p ∷ map (line_in (map shown_of sources)) (to_come_of after)) (line_at sources j d t.item lt)
+      ∙ ap (λ (gs : List ShownFile). piece ∷ map (line_in gs) (to_come_of after)) (sym all_shown) in
       put_one before whole way.written way_now.written way.waiting way_now.waiting piece (lines_left after) t.puts (subst (Going before whole way.written way.waiting) rest under.going)
 
   -- an item was taken
@@ -146,45 +147,45 @@ module _ (before : Option (List ℕ)) (whole : List (List ℕ)) (sources : List 
       subst (λ (ss : List Seen). IsUnderway before whole ss (set keys j key) way_now.written way_now.waiting) (sym from.set) (record {
         known = All-set IsKnown sources j from.one t.0.known under.known;
         keys_are = same_keys;
-        going = going_one from.one here least under is.same.given t.0;
+        going = going_one from.one here least under is.same.shown t.0;
       })
 
   -- an item was taken, and then a read failed
   pub turn_read : (now : List Seen) (here : Option ℕ) (new : Option (List ℕ)) (result : FilesEnd) → IsLeastOf keys j here → TakenFrom sources j way took.Read now way_now
       → ((b : Option (List ℕ)) (text : List ℕ) → Holds b way_now.written way_now.waiting text → EndsWith b new text (code.Read j) result)
-      → IsUnderway before whole sources keys way.written way.waiting → IsEnded whole (cut_of_files (map given_of now)) before new result
+      → IsUnderway before whole sources keys way.written way.waiting → IsEnded whole (cut_of_files (map shown_of now)) before new result
   turn_read now here new result least from ends under =
       let is = from.is d in
-      end_read before whole (cut_of_files (map given_of now)) way_now.written new way_now.waiting (lines_left (set sources j from.one)) j result ends
-      (going_one from.one here least under is.same.given (is.taken (one_known under)))
+      end_read before whole (cut_of_files (map shown_of now)) way_now.written new way_now.waiting (lines_left (set sources j from.one)) j result ends
+      (going_one from.one here least under is.same.shown (is.taken (one_known under)))
 
   -- its line could not be written
   pub turn_stopped : (now : List Seen) (here : Option ℕ) → IsLeastOf keys j here → TakenFrom sources j way took.Write now way_now
-      → IsUnderway before whole sources keys way.written way.waiting → GainedPrefix before way_now.written (joined whole)
+      → IsUnderway before whole sources keys way.written way.waiting → GainedPrefix before way_now.written (text_of whole)
   unfolding lines
   turn_stopped now here least from under =
       let t = (from.is d).taken (one_known under) in
       let s = get_or sources j d in
       let first = file_first sources j here d t.item t.rest lt (least_here here least under) t.come in
-      let rest : lines_left sources ≡ line_of (given_of s) t.item ∷ map (line_in (map given_of sources)) first.0 =
-      ap (map (line_in (map given_of sources))) first.1 ∙ ap (λ (p : List ℕ). p ∷ map (line_in (map given_of sources)) first.0) (line_at sources j d t.item lt) in
-      put_stopped before whole way.written way_now.written way.waiting (line_of (given_of s) t.item) (map (line_in (map given_of sources)) first.0) t.puts
+      let rest : lines_left sources ≡ line_of (shown_of s) t.item ∷ map (line_in (map shown_of sources)) first.0 =
+      ap (map (line_in (map shown_of sources))) first.1 ∙ ap (λ (p : List ℕ). p ∷ map (line_in (map shown_of sources)) first.0) (line_at sources j d t.item lt) in
+      put_stopped before whole way.written way_now.written way.waiting (line_of (shown_of s) t.item) (map (line_in (map shown_of sources)) first.0) t.puts
       (subst (Going before whole way.written way.waiting) rest under.going)
 
   -- the cut of a file
   pub turn_cut : (now : List Seen) (here : Option ℕ) (cpu page : ℕ) (new : Option (List ℕ)) (result : FilesEnd) → IsLeastOf keys j here
       → TakenFrom sources j way (took.Cut cpu page) now way_now
       → ((b : Option (List ℕ)) (text : List ℕ) → Holds b way_now.written way_now.waiting text → EndsWith b new text (code.Malformed j cpu page) result)
-      → IsUnderway before whole sources keys way.written way.waiting → IsEnded whole (cut_of_files (map given_of now)) before new result
+      → IsUnderway before whole sources keys way.written way.waiting → IsEnded whole (cut_of_files (map shown_of now)) before new result
   turn_cut now here cpu page new result least from ends under =
       let is = from.is d in
       let t = is.taken (one_known under) in
       let cut : Cut = record { key = t.1.0; cpu = cpu; page = page } in
       let law = file_cut sources j here d cut lt (least_here here least under) t.0.none t.1.1 in
-      let found : cut_of_files (map given_of sources) ≡ Some (cut_in j cut) = one_cut_is sources j d cut lt law.1 t.1.1 in
-      let givens : map given_of now ≡ map given_of sources = ap (map given_of) from.set ∙ same_givens from.one is.same.given in
-      subst (λ (gs : List Given). IsEnded whole (cut_of_files gs) before new result) (sym givens)
-      (end_whole before whole (cut_of_files (map given_of sources)) way_now.written new way_now.waiting (lines_left sources) (code.Malformed j cpu page) result ends
+      let found : cut_of_files (map shown_of sources) ≡ Some (cut_in j cut) = one_cut_is sources j d cut lt law.1 t.1.1 in
+      let all_shown : map shown_of now ≡ map shown_of sources = ap (map shown_of) from.set ∙ same_givens from.one is.same.shown in
+      subst (λ (gs : List ShownFile). IsEnded whole (cut_of_files gs) before new result) (sym all_shown)
+      (end_whole before whole (cut_of_files (map shown_of sources)) way_now.written new way_now.waiting (lines_left sources) (code.Malformed j cpu page) result ends
       (subst (λ (w : OnWay). Going before whole w.written w.waiting (lines_left sources)) (sym t.0.nothing_put) under.going) (none_left sources law.0) (λ gained. (gained, (t.1.0, found))))
 
   -- nothing is left of the file of which the least comes next: that is not so

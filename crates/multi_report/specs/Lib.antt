@@ -1,6 +1,7 @@
 pub mod Order
 pub mod Merge
 pub mod Sources
+pub mod Pieces
 pub mod Reports
 pub mod Nexts
 pub mod Taking

@@ -9,9 +9,9 @@ use Rattle.subpage.specs.ItemData.{ItemData}
 use Rattle.subpage.specs.Arrangement.{Keyed, IsRising, with_key, by_key, all_keyed}
 use Rattle.subpage.specs.Cut.{Cut, is_before, cut_of, cuts_of, lists_of}
 
--- One of several files: its name, the number of its processors, the parts of those that are selected, and the line of
--- an item of a processor.
-pub record Given : Type 0 where
+-- What is shown of one of several files: its name, the number of its processors, the parts of those that are selected, and
+-- the line of an item of a processor.
+pub record ShownFile : Type 0 where
   pub name : List ℕ
   pub cpus : ℕ
   pub layout : Layout
@@ -45,22 +45,22 @@ abbrev pub cpu_in : FileItem → ℕ
 cpu_in x = x.item.cpu
 
 -- the items of all files, one file and one processor behind another
-abbrev pub items_of : ℕ × Given → List FileItem
+abbrev pub items_of : ℕ × ShownFile → List FileItem
 items_of file = map (in_file file.0) (all_keyed (lists_of file.1.layout file.1.bytes file.1.parts))
 
-abbrev pub all_items : List Given → List FileItem
+abbrev pub all_items : List ShownFile → List FileItem
 all_items files = flat_map items_of (numbered files)
 
 -- The items of all files: keys rise, those of one key rise by file, those of one key and one file rise by processor, and
 -- those of one processor of a file stand as they stand in its list.
-pub record IsArranged (files : List Given) (xs : List FileItem) : Type 0 where
+pub record IsArranged (files : List ShownFile) (xs : List FileItem) : Type 0 where
   pub by_keys : IsRising key_in xs
   pub by_files : (k : ℕ) → IsRising file_in (with_key key_in k xs)
   pub by_processors : (k f : ℕ) → IsRising cpu_in (with_key file_in f (with_key key_in k xs))
   pub by_positions : (f c : ℕ) → with_key cpu_in c (with_key file_in f xs) ≡ with_key cpu_in c (with_key file_in f (all_items files))
 
 -- the same, computed
-unfoldable pub arranged : List Given → List FileItem
+unfoldable pub arranged : List ShownFile → List FileItem
 arranged files = by_key key_in (all_items files)
 
 -- a cut with its file
@@ -72,7 +72,7 @@ abbrev pub cut_in : ℕ → Cut → FileCut
 cut_in n cut = record { file = n; cut = cut }
 
 -- the cuts of all processors of all files
-abbrev pub all_cuts : List Given → List FileCut
+abbrev pub all_cuts : List ShownFile → List FileCut
 all_cuts files = flat_map (λ file. map (cut_in file.0) (cuts_of file.1.layout file.1.bytes file.1.parts)) (numbered files)
 
 -- of one key, or both at the very start
@@ -98,13 +98,13 @@ abbrev pub sooner : Option FileCut → FileCut → Option FileCut
 sooner None b = Some b
 sooner (Some a) b = if is_before b.cut.key b.file a.cut.key a.file then Some b else Some a
 
-abbrev pub own_cut : Given → Option Cut
+abbrev pub own_cut : ShownFile → Option Cut
 own_cut file = cut_of file.layout file.bytes file.parts
 
-abbrev pub own_cut_in : ℕ × Given → Option FileCut
+abbrev pub own_cut_in : ℕ × ShownFile → Option FileCut
 own_cut_in file = option_map (cut_in file.0) (own_cut file.1)
 
-unfoldable pub cut_of_files : List Given → Option FileCut
+unfoldable pub cut_of_files : List ShownFile → Option FileCut
 cut_of_files files = fold sooner None (filter_map own_cut_in (numbered files))
 
 -- at or before a cut by key, then file, then processor; any item where there is none
@@ -117,5 +117,5 @@ is_up_to (Some cut) x = reaches cut.cut.key
     reaches (Some key) = nat_lt x.item.key key || (x.item.key == key && (nat_lt x.file cut.file || (x.file == cut.file && nat_le x.item.cpu cut.cut.cpu)))
 
 -- the arranged items up to the least cut
-unfoldable pub reached : List Given → List FileItem
+unfoldable pub reached : List ShownFile → List FileItem
 reached files = filter (is_up_to (cut_of_files files)) (arranged files)

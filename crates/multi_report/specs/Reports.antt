@@ -1,14 +1,14 @@
 -- What a report of several files writes, and how it ends.
 -- Source: trace-cmd-report(1), which puts a file's name before each of its lines where there are several.
 use Rattle.std.specs.Prelude.{◌≡◌, ◌<◌, ℕ, ◌++◌, List, [], ◌∷◌, codes, length, map, take, Option, Some, None, option_map, unwrap_or, slice_get, slice_index_or}
-use Rattle.std.specs.List.{flat_map}
 use Rattle.std.specs.Fmt.{decimal}
 use Rattle.trace_outside.specs.Causes.{Rose}
 use Rattle.trace_outside.specs.Writing.{Gained, GainedPrefix}
 use Rattle.subpage.specs.Arrangement.{Keyed}
 use Rattle.multi_report.specs.declared.report.FilesEnd.{FilesEnd}
 use Rattle.multi_report.specs.declared.report.FilesEnd.TheVariants as code
-use Rattle.multi_report.specs.Order.{Given, FileItem, FileCut, cut_of_files, reached}
+use Rattle.multi_report.specs.Order.{ShownFile, FileItem, FileCut, cut_of_files, reached}
+use Rattle.multi_report.specs.Pieces.{text_of}
 use Rattle.multi_report.specs.Sources.{Seen, IsSame, ReadsItsParts}
 
 -- a file's name, a colon and a space
@@ -16,7 +16,7 @@ abbrev pub label : List ℕ → List ℕ
 label name = name ++ codes ": "
 
 -- the first line of a file
-abbrev pub head_line : Given → List ℕ
+abbrev pub head_line : ShownFile → List ℕ
 head_line file = label file.name ++ (codes "cpus=" ++ (decimal file.cpus ++ codes "\n"))
 
 -- a line with the file's name before it; an empty line stays empty
@@ -25,35 +25,32 @@ labelled name [] = []
 labelled name (b ∷ bs) = label name ++ (b ∷ bs)
 
 -- the line of an item of a file
-abbrev pub line_of : Given → Keyed → List ℕ
+abbrev pub line_of : ShownFile → Keyed → List ℕ
 line_of file x = labelled file.name (file.text x.cpu x.item).bytes
 
 -- the line of an item of one of the files
-abbrev pub line_in : List Given → FileItem → List ℕ
+abbrev pub line_in : List ShownFile → FileItem → List ℕ
 line_in files x = unwrap_or (option_map (λ file. line_of file x.item) (slice_get files x.file)) []
 
-unfoldable pub lines : List Given → List FileItem → List (List ℕ)
+unfoldable pub lines : List ShownFile → List FileItem → List (List ℕ)
 lines files items = map (line_in files) items
 
 -- the pieces between which a fault of reading may end a report: the files' first lines, and those of the reached items
-abbrev pub pieces : List Given → List (List ℕ)
+abbrev pub pieces : List ShownFile → List (List ℕ)
 pieces files = map head_line files ++ lines files (reached files)
-
-abbrev pub joined : List (List ℕ) → List ℕ
-joined texts = flat_map (λ text. text) texts
 
 -- Done and Malformed: all pieces were written, and there is no cut, or the least one is this. Read: the first of them.
 -- Write: a prefix of their text.
 abbrev pub IsEnded : List (List ℕ) → Option FileCut → Option (List ℕ) → Option (List ℕ) → FilesEnd → Type 0
-IsEnded whole cut old new code.Done = Gained old new (joined whole) × (cut ≡ None)
+IsEnded whole cut old new code.Done = Gained old new (text_of whole) × (cut ≡ None)
 IsEnded whole cut old new (code.Malformed source cpu page) =
-    Gained old new (joined whole)
+    Gained old new (text_of whole)
     × ((key : Option ℕ) × (cut ≡ Some (record { file = source; cut = record { key = key; cpu = cpu; page = page } })))
-IsEnded whole cut old new (code.Read source) = (count : ℕ) × Gained old new (joined (take count whole))
-IsEnded whole cut old new code.Write = GainedPrefix old new (joined whole)
+IsEnded whole cut old new (code.Read source) = (count : ℕ) × Gained old new (text_of (take count whole))
+IsEnded whole cut old new code.Write = GainedPrefix old new (text_of whole)
 
 -- what a report of files writes behind what was written before
-abbrev pub IsFilesReport : List Given → Option (List ℕ) → Option (List ℕ) → FilesEnd → Type 0
+abbrev pub IsFilesReport : List ShownFile → Option (List ℕ) → Option (List ℕ) → FilesEnd → Type 0
 IsFilesReport files old new end = IsEnded (pieces files) (cut_of_files files) old new end
 
 -- They are the same files in the same order, and their counts are as a report may leave them.

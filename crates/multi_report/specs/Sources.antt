@@ -15,7 +15,7 @@ use Rattle.time_merge.specs.Rows.{Row, bound_of, coming, least_cut}
 use Rattle.time_merge.specs.LaneRows.{IsReady, next_of, parts_of, rows_of, to_come}
 use Rattle.time_merge.specs.Reads.{all_unread}
 use Rattle.multi_report.specs.declared.source.Source.{Source}
-use Rattle.multi_report.specs.Order.{Given, FileItem, key_in, file_in, numbered}
+use Rattle.multi_report.specs.Order.{ShownFile, FileItem, key_in, file_in, numbered}
 use Rattle.multi_report.specs.Merge.{row_with}
 
 -- a source at one moment
@@ -69,9 +69,9 @@ pub record IsKnown (source : Seen) : Type 0 where
   pub told : IsSome source.told
   pub stands : All (Stands source.layout (bytes_of source)) source.lanes
 
--- the file, as a definition over whole files sees it
-abbrev pub given_of : Seen → Given
-given_of source = record {
+-- what is shown of its file
+abbrev pub shown_of : Seen → ShownFile
+shown_of source = record {
   name = source.name;
   cpus = source.cpus;
   layout = source.layout;
@@ -90,7 +90,7 @@ due source = raised source.reads (unread_of source)
 
 -- It is the same file, its count of faults did not fall, and no more was read than had not been read before.
 pub record IsSame (before now : Seen) : Type 0 where
-  pub given : given_of now ≡ given_of before
+  pub shown : shown_of now ≡ shown_of before
   pub told : now.told ≡ before.told
   pub size : now.size ≡ before.size
   pub faults : before.faults ≤ now.faults

@@ -9,7 +9,7 @@ use Rattle.time_merge.specs.Rows.{least_cut}
 use Rattle.time_merge.specs.LaneRows.{rows_of, to_come}
 use Rattle.multi_report.specs.declared.taking.Taken.{Taken}
 use Rattle.multi_report.specs.declared.taking.Taken.TheVariants as code
-use Rattle.multi_report.specs.Sources.{Seen, IsKnown, IsReadied, IsSame, IsUsable, bytes_of, given_of, next_key, work}
+use Rattle.multi_report.specs.Sources.{Seen, IsKnown, IsReadied, IsSame, IsUsable, bytes_of, shown_of, next_key, work}
 use Rattle.multi_report.specs.Reports.{line_of}
 
 -- what a file has left, and its least cut
@@ -36,14 +36,14 @@ pub record ItemTaken (before now : Seen) (way way_now : OnWay) : Type 0 where
   pub come : left_in before ≡ item ∷ left_in now
   pub cut : cut_left now ≡ cut_left before
   pub known : IsKnown now
-  pub puts : Put (line_of (given_of before) item) way way_now
+  pub puts : Put (line_of (shown_of before) item) way way_now
 
 -- Its line could not be written.
 pub record LineStopped (before : Seen) (way way_now : OnWay) : Type 0 where
   pub item : Keyed
   pub rest : List Keyed
   pub come : left_in before ≡ item ∷ rest
-  pub puts : PutPart (line_of (given_of before) item) way way_now
+  pub puts : PutPart (line_of (shown_of before) item) way way_now
 
 -- Nothing was put: nothing is left before a cut, or nothing at all.
 pub record IsStill (before : Seen) (way way_now : OnWay) : Type 0 where

@@ -7,17 +7,18 @@ use Rattle.trace_outside.specs.Writing.{Gained, GainedPrefix}
 use Rattle.multi_report.specs.declared.report.FilesEnd.{FilesEnd}
 use Rattle.multi_report.specs.declared.report.FilesEnd.TheVariants as code
 use Rattle.multi_report.specs.Order.{cut_of_files}
-use Rattle.multi_report.specs.Sources.{Seen, IsKnown, IsPrepared, IsUsable, due, given_of, next_key, to_come_of}
-use Rattle.multi_report.specs.Reports.{IsEnded, joined, lines}
+use Rattle.multi_report.specs.Sources.{Seen, IsKnown, IsPrepared, IsUsable, due, shown_of, next_key, to_come_of}
+use Rattle.multi_report.specs.Pieces.{text_of}
+use Rattle.multi_report.specs.Reports.{IsEnded, lines}
 
 -- what is left of the files, as lines
 abbrev pub lines_left : List Seen → List (List ℕ)
-lines_left sources = lines (map given_of sources) (to_come_of sources)
+lines_left sources = lines (map shown_of sources) (to_come_of sources)
 
 -- since `before` the first pieces of a whole are on their way, and the rest is to come
 pub record Going (before : Option (List ℕ)) (whole : List (List ℕ)) (written : Option (List ℕ)) (waiting : List ℕ) (rest : List (List ℕ)) : Type 0 where
   pub done : List (List ℕ)
-  pub holds : Holds before written waiting (joined done)
+  pub holds : Holds before written waiting (text_of done)
   pub parted : whole ≡ done ++ rest
 
 -- All files are known, keys tell what comes next of each, and what they have left is what is to come.
@@ -28,7 +29,7 @@ pub record IsUnderway (before : Option (List ℕ)) (whole : List (List ℕ)) (so
 
 -- the report ended, or goes on
 abbrev pub IsTurned : Option (List ℕ) → List (List ℕ) → List Seen → List (Option (Option ℕ)) → Option (List ℕ) → List ℕ → Option FilesEnd → Type 0
-IsTurned before whole now keys written waiting (Some end) = IsEnded whole (cut_of_files (map given_of now)) before written end
+IsTurned before whole now keys written waiting (Some end) = IsEnded whole (cut_of_files (map shown_of now)) before written end
 IsTurned before whole now keys written waiting None = IsUnderway before whole now keys written waiting
 
 -- The files are ready to be gone on with, and what was read of them is not to be read again.

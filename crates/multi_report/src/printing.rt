@@ -8,7 +8,7 @@ ghost use Rattle.event_cursor.specs.Keys.{first_of};
 ghost use Rattle.event_cursor.specs.Standing.{keyed_held};
 ghost use Rattle.page_pool.specs.declared.lane.Lane.{Lane};
 ghost use Rattle.multi_report.specs.Reports.{head_line, label, labelled, line_of};
-ghost use Rattle.multi_report.specs.Sources.{HasRoom, IsUsable, given_of, seen};
+ghost use Rattle.multi_report.specs.Sources.{HasRoom, IsUsable, shown_of, seen};
 
 use crate::source::Source;
 use cpu_workers::Form;
@@ -24,7 +24,7 @@ fn put_head<F: File, L: Form, O: Sink>(
     pending: &mut Pending,
     out: &mut O,
 ) -> Result<(), Failed>
-    ensures { PutsText (head_line (given_of (seen F.File L.text source.now)))
+    ensures { PutsText (head_line (shown_of (seen F.File L.text source.now)))
         (on_way O.written O.name O.faults out.old pending.old)
         (on_way O.written O.name O.faults out.new pending.new) result }
 {
@@ -41,7 +41,7 @@ pub(crate) fn put_heads<F: File, L: Form, O: Sink>(
     pending: &mut Pending,
     out: &mut O,
 ) -> Result<(), Failed>
-    ensures { PutsText (flat_map (λ source. head_line (given_of (seen F.File L.text source))) sources.now)
+    ensures { PutsText (flat_map (λ source. head_line (shown_of (seen F.File L.text source))) sources.now)
         (on_way O.written O.name O.faults out.old pending.old)
         (on_way O.written O.name O.faults out.new pending.new) result }
 {
@@ -158,7 +158,7 @@ pub(crate) fn put_item<F: File, L: Form, O: Sink>(
     ensures long { length buffer.new ≡ length buffer.old }
     ensures cause { HasCause (O.faults out.old) (O.faults out.new) result }
     ensures keeps_out { KeepsSink O.Sink out.old out.new }
-    ensures puts { (d : Lane) → PutsText (unwrap_or (option_map (line_of (given_of (seen F.File L.text source.now)))
+    ensures puts { (d : Lane) → PutsText (unwrap_or (option_map (line_of (shown_of (seen F.File L.text source.now)))
         (first_of (keyed_held source.now.layout (slice_index_or source.now.pool i d)))) [])
         (on_way O.written O.name O.faults out.old pending.old)
         (on_way O.written O.name O.faults out.new pending.new) result }

@@ -2,7 +2,7 @@ ghost use Rattle.std.specs.Prelude.{◌≡◌, ◌≤◌, ◌<◌, [], List, ℕ
 ghost use Rattle.trace_outside.specs.Keeping.{KeepsSink};
 ghost use Rattle.trace_outside.specs.Pending.{Holds};
 ghost use Rattle.multi_report.specs.Reports.{AllReadTheirParts, AreSame, IsFilesReport, ReadRose, WriteRose, pieces};
-ghost use Rattle.multi_report.specs.Sources.{HasRoom, IsFreshSource, IsPrepared, IsUsable, given_of, seen, work};
+ghost use Rattle.multi_report.specs.Sources.{HasRoom, IsFreshSource, IsPrepared, IsUsable, shown_of, seen, work};
 ghost use Rattle.multi_report.specs.Turns.{AreReadied, EndsWith, IsTold, IsTurned, IsUnderway};
 
 use crate::printing::put_heads;
@@ -56,7 +56,7 @@ fn begin<F: File, L: Form, O: Sink>(
     ensures readied { IfNone result
         (AreReadied (map (seen F.File L.text) sources.old) (map (seen F.File L.text) sources.new)) }
     ensures turned { All (λ source. IsSome source.told) (map (seen F.File L.text) sources.old)
-        → IsTurned (O.written out.old) (pieces (map given_of (map (seen F.File L.text) sources.old)))
+        → IsTurned (O.written out.old) (pieces (map shown_of (map (seen F.File L.text) sources.old)))
         (map (seen F.File L.text) sources.new) nexts.new (O.written out.new) pending.new result }
     ensures read { IfSome result (λ end. ReadRose end (map (seen F.File L.text) sources.old)
         (map (seen F.File L.text) sources.new)) }
@@ -142,7 +142,7 @@ pub fn report_files<F: File, L: Form, O: Sink>(
     requires slots { length nexts.old ≡ length sources.old }
     requires empty { pending.old ≡ [] }
     ensures report { All (λ source. IsSome source.told) (map (seen F.File L.text) sources.old)
-        → IsFilesReport (map given_of (map (seen F.File L.text) sources.old))
+        → IsFilesReport (map shown_of (map (seen F.File L.text) sources.old))
         (O.written out.old) (O.written out.new) result }
     ensures read { ReadRose result (map (seen F.File L.text) sources.old) (map (seen F.File L.text) sources.new) }
     ensures write { WriteRose result (O.faults out.old) (O.faults out.new) }

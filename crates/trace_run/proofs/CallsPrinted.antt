@@ -16,16 +16,16 @@ use Rattle.trace_run.specs.Calls.{called_text, status_at}
 use Rattle.trace_run.specs.Meaning.{Meaning, calls_report, ended}
 use Rattle.trace_run.specs.Outside.{SinkSeen}
 use Rattle.trace_run.specs.Report.{call_pieces, cpus_line, events_on}
-use Rattle.trace_run.specs.Text.{text}
+use Rattle.multi_report.specs.Pieces.{text_of}
 use Rattle.trace_run.specs.Output.{Shows, Writes, WritesFor}
 
-calls_lines : (given : Given) (calls : List Call) → flat_map (call_line given) calls ≡ text (map (call_line given) calls)
+calls_lines : (given : Given) (calls : List Call) → flat_map (call_line given) calls ≡ text_of (map (call_line given) calls)
 calls_lines given [] = refl
 calls_lines given (x ∷ xs) =
     flat_map-cons (call_line given) x xs ∙ ap (λ rest. call_line given x ++ rest) (calls_lines given xs)
     ∙ sym (flat_map-cons (λ piece. piece) (call_line given x) (map (call_line given) xs))
 
-calls_text : (cpus : ℕ) (given : Given) (calls : List Call) → called_text cpus given calls ≡ text (call_pieces cpus given calls)
+calls_text : (cpus : ℕ) (given : Given) (calls : List Call) → called_text cpus given calls ≡ text_of (call_pieces cpus given calls)
 calls_text cpus given calls =
     ap (λ rest. cpus_line cpus ++ rest) (calls_lines given calls)
     ∙ sym (flat_map-cons (λ piece. piece) (cpus_line cpus) (map (call_line given) calls))
@@ -34,7 +34,7 @@ ended_at : (cut : Option Cut) → status_at (cut_place cut) ≡ ended cut
 ended_at None = refl
 ended_at (Some cut) = refl
 
-writes_at : (m : Meaning) (cut : Option (ℕ × ℕ)) (old now : Option (List ℕ)) → status_at cut ≡ m.status → Gained old now (text m.pieces) → Writes m (status_at cut) old now
+writes_at : (m : Meaning) (cut : Option (ℕ × ℕ)) (old now : Option (List ℕ)) → status_at cut ≡ m.status → Gained old now (text_of m.pieces) → Writes m (status_at cut) old now
 writes_at m None old now is gained = (is, gained)
 writes_at m (Some place) old now is gained = (is, gained)
 
@@ -48,8 +48,8 @@ module _ (given : Given) (shown : List (ℕ × Part)) (header : Header) where
   means bytes = calls_report (events_on given shown header bytes)
 
   -- the text that was put is that of the meaning
-  text_is : (list : List Call) (bytes : List ℕ) → list ≡ reached_calls given header.layout bytes shown → called_text header.cpus given list ≡ text ((means bytes).pieces)
-  text_is list bytes list_is = calls_text header.cpus given list ∙ ap (λ (calls : List Call). text (call_pieces header.cpus given calls)) list_is
+  text_is : (list : List Call) (bytes : List ℕ) → list ≡ reached_calls given header.layout bytes shown → called_text header.cpus given list ≡ text_of ((means bytes).pieces)
+  text_is list bytes list_is = calls_text header.cpus given list ∙ ap (λ (calls : List Call). text_of (call_pieces header.cpus given calls)) list_is
 
   pub calls_written : (told : Option (List ℕ)) (list put : List Call) (cut : Option (ℕ × ℕ)) (old now : Option (List ℕ)) → put ≡ list
       → IfSome told (λ bytes. list ≡ reached_calls given header.layout bytes shown)

@@ -24,7 +24,7 @@ use Rattle.trace_run.specs.Job.{FileCommand, Report, Dump, Split, Job, OnFile, O
 use Rattle.trace_run.specs.Meaning.{Meaning, Target, on_nothing, on_out, on_folder, only, header_means, file_means, input_means, command_means, command_meaning, meaning_read, input_of, target_of, target_read}
 use Rattle.trace_run.specs.Outside.{FolderSeen, Outside, SinkSeen, beside}
 use Rattle.trace_run.specs.Ran.{KeepsOff, MissesNothingElse, Ran, Unread}
-use Rattle.trace_run.specs.Text.{text}
+use Rattle.multi_report.specs.Pieces.{text_of}
 use Rattle.trace_run.specs.Work.{Worked}
 
 -- what holds of anything holds of what is known
@@ -258,7 +258,7 @@ module _ (before opened worked now : Outside) (around : Around before opened wor
   finished_around : (m : Meaning) (status : Status) → Finished m status opened worked → Finished m status before now
   finished_around m status ends = record {
     answer = ends.answer;
-    output = written_around (λ old new. Gained old new (text m.pieces)) ends.output;
+    output = written_around (λ old new. Gained old new (text_of m.pieces)) ends.output;
     files = files_around (λ old new. FilesStored m.files old new) ends.files;
     created = created_around (λ old new. new ≡ raised old (length m.files)) ends.created;
   }
@@ -266,12 +266,12 @@ module _ (before opened worked now : Outside) (around : Around before opened wor
   ends_around : (m : Meaning) (status : Status) → Ends m status opened worked → Ends m status before now
   ends_around m NoMemory ends = untouched_around ends
   ends_around m ReadFault ends = record {
-    output = written_around (λ old new. (count : ℕ) × Gained old new (text (take count m.pieces))) ends.output;
+    output = written_around (λ old new. (count : ℕ) × Gained old new (text_of (take count m.pieces))) ends.output;
     files = files_around (λ old new. (count : ℕ) × FilesStored (take count m.files) old new) ends.files;
     created = created_around (λ old new. new ≤ raised old (length m.files)) ends.created;
   }
   ends_around m WriteFault ends = record {
-    output = written_around (λ old new. GainedPrefix old new (text m.pieces)) ends.output;
+    output = written_around (λ old new. GainedPrefix old new (text_of m.pieces)) ends.output;
     files = files_around (λ old new. FirstFilesStored m.files before.folder.counts now.folder.counts old new)
         (unfinished_around (λ old new. FirstStored m.files old new opened.folder.files worked.folder.files) ends.files);
     created = created_around (λ old new. new ≤ raised old (length m.files)) ends.created;

@@ -15,7 +15,7 @@ use Rattle.trace_run.specs.Job.{OnFiles}
 use Rattle.trace_run.specs.Meaning.{files_meaning, on_out}
 use Rattle.trace_run.specs.Outside.{FolderSeen, SinkSeen, beside}
 use Rattle.trace_run.specs.Ran.{MissesNothingElse, Ran}
-use Rattle.trace_run.specs.Sources.{Shown}
+use Rattle.trace_run.specs.Sources.{FilesReported}
 use Rattle.trace_run.proofs.Endings.{Around, ended_around, ended_complete, not_usage}
 use Rattle.trace_run.proofs.Reading.{both_behind, no_input}
 
@@ -35,7 +35,7 @@ module _ (words : ReportData) (held : List FileSeen) (status : Status) (name : L
       by_inputs (Err wrong) most = tt
 
   -- a report came to its end, and the files that were open still were closed
-  pub shown_ran : Shown words held status name (beside before out) (beside mid out_now) → ClosesMany held mid.counts now.counts → now.files ≡ mid.files
+  pub shown_ran : FilesReported words held status name (beside before out) (beside mid out_now) → ClosesMany held mid.counts now.counts → now.files ≡ mid.files
       → Ran (Ok (OnFiles words)) status (beside before out) (beside now out_now)
   shown_ran shown closed files =
       let around : Around (beside before out) (beside before out) (beside mid out_now) (beside now out_now) = record {

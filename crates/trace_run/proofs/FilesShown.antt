@@ -16,7 +16,7 @@ use Rattle.multi_report.specs.Order as several
 use Rattle.multi_report.specs.Order.{FileCut, cut_in, cut_of_files, numbered_from, own_cut, own_cut_in, sooner}
 use Rattle.multi_report.specs.Reports.{AllReadTheirParts, AreSame, IsFilesReport, ReadRose, WriteRose}
 use Rattle.multi_report.specs.declared.source.Source.{Source}
-use Rattle.multi_report.specs.Sources.{HasRoom, Seen, given_of}
+use Rattle.multi_report.specs.Sources.{HasRoom, Seen, shown_of}
 use Rattle.trace_outside.specs.declared.outside.File as outside_file
 use Rattle.subpage.specs.Cut.{Cut, is_before}
 use Rattle.restore_tool.specs.Answers.{SomeFaulty}
@@ -31,7 +31,7 @@ use Rattle.trace_run.specs.Naming.{IsInputOf}
 use Rattle.trace_run.specs.Outside.{FolderSeen, SinkSeen, beside}
 use Rattle.trace_run.specs.Output.{Shows, Writes}
 use Rattle.trace_run.specs.Ran.{MissesNothingElse}
-use Rattle.trace_run.specs.Sources.{AreInputs, AreOpened, Shown, file_in, reads_due, source_of, source_seen, status_of}
+use Rattle.trace_run.specs.Sources.{AreInputs, AreOpened, FilesReported, file_in, reads_due, source_of, source_seen, status_of}
 use Rattle.trace_run.specs.declared.lines.ItemLines.{ItemLines}
 use Rattle.trace_run.proofs.LineLength.{line_short}
 use Rattle.trace_run.proofs.Endings.{Around, ended_around, known_so, if_known}
@@ -52,7 +52,7 @@ sooner_below n (Some a) cut below lt = by_test (is_before cut.cut.key cut.file a
     by_test true = lt
     by_test false = below
 
-cuts_below : (n from : ℕ) (files : List several.Given) (found : Option FileCut) → from + length files ≤ n → IsBelow n found
+cuts_below : (n from : ℕ) (files : List several.ShownFile) (found : Option FileCut) → from + length files ≤ n → IsBelow n found
     → IsBelow n (fold sooner found (filter_map own_cut_in (numbered_from from files)))
 cuts_below n from [] found few below = below
 cuts_below n from (file ∷ files) found few below = by_cut (own_cut file) (λ next fine. cuts_below n (from + 1) files next (omega (arith, few)) fine)
@@ -62,7 +62,7 @@ cuts_below n from (file ∷ files) found few below = by_cut (own_cut file) (λ n
     by_cut None rest = rest found below
     by_cut (Some cut) rest = rest (sooner found (cut_in from cut)) (sooner_below n found (cut_in from cut) below (omega (arith, few)))
 
-cut_below : (files : List several.Given) (found : Option FileCut) → cut_of_files files ≡ found → IsBelow (length files) found
+cut_below : (files : List several.ShownFile) (found : Option FileCut) → cut_of_files files ≡ found → IsBelow (length files) found
 unfolding cut_of_files
 cut_below files found is = subst (IsBelow (length files)) is (cuts_below (length files) 0 files None (omega arith) tt)
 
@@ -91,13 +91,13 @@ faulty_at xs i lt each = (i, omega (arith, lt, length-map xs file_in), at (slice
 -- THE END
 
 module _ (words : ReportData) (old new : List Seen) (before now : FolderSeen) (out out_now : SinkSeen) (answer : FilesEnd) (name : List ℕ) (opened : AreOpened words (names_in words) old before now) where
-  abbrev givens : List several.Given
-  givens = map given_of old
+  abbrev all_shown : List several.ShownFile
+  all_shown = map shown_of old
 
   abbrev unread : Type 0
   unread = Rose before.counts.reading now.counts.reading ⊎ SomeFaulty (map file_in new)
 
-  writes : (e : FilesEnd) → IsFilesReport givens out.written out_now.written e → Writes (files_report givens) (status_of e) out.written out_now.written
+  writes : (e : FilesEnd) → IsFilesReport all_shown out.written out_now.written e → Writes (files_report all_shown) (status_of e) out.written out_now.written
   writes end.Done report = (sym (ap ended_in report.1), report.0)
   writes (end.Malformed source cpu page) report = (sym (ap ended_in report.1.1), report.0)
   writes (end.Read source) report = report
@@ -109,11 +109,11 @@ module _ (words : ReportData) (old new : List Seen) (before now : FolderSeen) (o
   shows (end.Read source) read write same = inr (faulty_at new source (omega (arith, same, read.0)) (λ d. let rose = read.1 d in omega (arith, rose)))
   shows end.Write read write same = write
 
-  meant : (files : NamedFiles) → AreInputs words files (names_in words) old → files_report givens ≡ files_meaning words files
-  meant files inputs = ap files_report inputs.given ∙ sym (ap (inputs_mean words) inputs.read)
+  meant : (files : NamedFiles) → AreInputs words files (names_in words) old → files_report all_shown ≡ files_meaning words files
+  meant files inputs = ap files_report inputs.shown ∙ sym (ap (inputs_mean words) inputs.read)
 
   written : (told : Option NamedFiles) → IfSome told (λ files. AreInputs words files (names_in words) old)
-      → (All (λ source. IsSome source.told) old → IsFilesReport givens out.written out_now.written answer)
+      → (All (λ source. IsSome source.told) old → IsFilesReport all_shown out.written out_now.written answer)
       → IfSome (option_map (files_meaning words) told) (λ m. (m.files ≡ []) × Writes m (status_of answer) out.written out_now.written)
   written None inputs report = tt
   written (Some files) inputs report =
@@ -157,19 +157,19 @@ module _ (words : ReportData) (old new : List Seen) (before now : FolderSeen) (o
 
     cut_named : (files : NamedFiles) (source cpu page : ℕ) → AreInputs words files (names_in words) old
         → IfSome (slice_get (names_in words) source) (λ n. n ≡ name)
-        → (key : Option ℕ) × (cut_of_files givens ≡ Some (record { file = source; cut = record { key = key; cpu = cpu; page = page } }))
+        → (key : Option ℕ) × (cut_of_files all_shown ≡ Some (record { file = source; cut = record { key = key; cpu = cpu; page = page } }))
         → IsInputOf words (inputs_in files (names_in words)) (Malformed cpu page) name
     cut_named files source cpu page inputs is cut =
         let whole : FileCut = record { file = source; cut = record { key = cut.0; cpu = cpu; page = page } } in
-        let inside : source < length givens = cut_below givens (Some whole) cut.1 in
-        let lt : source < length (names_in words) = omega (arith, inside, length-map old given_of, opened.count) in
+        let inside : source < length all_shown = cut_below all_shown (Some whole) cut.1 in
+        let lt : source < length (names_in words) = omega (arith, inside, length-map old shown_of, opened.count) in
         subst (λ (r : Result (List NamedInput) WrongInput). IsInputOf words r (Malformed cpu page) name) (sym inputs.read)
-        (subst (λ (gs : List several.Given). IfSome (cut_of_files gs) (λ c. slice_get (names_in words) c.file ≡ Some name)) inputs.given
+        (subst (λ (gs : List several.ShownFile). IfSome (cut_of_files gs) (λ c. slice_get (names_in words) c.file ≡ Some name)) inputs.shown
         (subst (λ (o : Option FileCut). IfSome o (λ c. slice_get (names_in words) c.file ≡ Some name)) (sym cut.1) (there source lt is)))
 
     named_told : (told : Option NamedFiles) (e : FilesEnd) → IfSome told (λ files. AreInputs words files (names_in words) old)
         → IfSome (source_of e) (λ source. IfSome (slice_get (names_in words) source) (λ n. n ≡ name))
-        → (All (λ source. IsSome source.told) old → IsFilesReport givens out.written out_now.written e)
+        → (All (λ source. IsSome source.told) old → IsFilesReport all_shown out.written out_now.written e)
         → IfSome told (λ files. IsInputOf words (inputs_in files (names_in words)) (status_of e) name)
     named_told None e inputs is report = tt
     named_told (Some files) end.Done inputs is report = tt
@@ -177,9 +177,9 @@ module _ (words : ReportData) (old new : List Seen) (before now : FolderSeen) (o
     named_told (Some files) (end.Read source) inputs is report = tt
     named_told (Some files) end.Write inputs is report = tt
 
-    pub files_shown : (All (λ source. IsSome source.told) old → IsFilesReport givens out.written out_now.written answer)
+    pub files_shown : (All (λ source. IsSome source.told) old → IsFilesReport all_shown out.written out_now.written answer)
         → ReadRose answer old new → WriteRose answer out.faults out_now.faults → AllReadTheirParts old new → AreSame old new
-        → Shown words (map file_in new) (status_of answer) name (beside before out) (beside now out_now)
+        → FilesReported words (map file_in new) (status_of answer) name (beside before out) (beside now out_now)
     files_shown report read write reads same = record {
       ended = ended_around (beside before out) (beside now out) (beside now out_now) (beside now out_now) around on_out unread unread (option_map (files_meaning words) before.files) (status_of answer) (λ why. why)
           (printed_known unread (option_map (files_meaning words) before.files) (status_of answer) out out_now
@@ -201,9 +201,9 @@ module _ (words : ReportData) (old new : List Seen) (before now : FolderSeen) (o
     }
 
   -- there was no memory for it
-  pub files_unheld : Contains (names_in words) name → out_now ≡ out → new ≡ old → Shown words (map file_in new) NoMemory name (beside before out) (beside now out_now)
+  pub files_unheld : Contains (names_in words) name → out_now ≡ out → new ≡ old → FilesReported words (map file_in new) NoMemory name (beside before out) (beside now out_now)
   files_unheld named same kept =
-      subst (λ (o : SinkSeen). Shown words (map file_in new) NoMemory name (beside before out) (beside now o)) (sym same) record {
+      subst (λ (o : SinkSeen). FilesReported words (map file_in new) NoMemory name (beside before out) (beside now o)) (sym same) record {
         ended = record {
           ends = if_known (λ m. Ends m NoMemory (beside before out) (beside now out)) (option_map (files_meaning words) before.files)
               (λ m. record { output = refl; files = opened.files; created = opened.counts.created });

@@ -25,7 +25,7 @@ use Rattle.trace_run.specs.Outside.{FolderSeen, SinkSeen, beside}
 use Rattle.trace_run.specs.Report.{report_pieces}
 use Rattle.trace_run.specs.Selection.{Every, chosen, has}
 use Rattle.trace_run.specs.Selftest.{plain_report, generated_items, generated_report}
-use Rattle.trace_run.specs.Text.{text}
+use Rattle.multi_report.specs.Pieces.{text_of}
 use Rattle.trace_run.proofs.Endings.{known_so}
 use Rattle.trace_run.proofs.Filters.{filter-all, filter-same}
 
@@ -64,14 +64,14 @@ all_chosen parts =
 
 -- what an answer Done leaves on the output
 abbrev Written : Option (List ℕ) → Option (List ℕ) → Meaning → Type 0
-Written old now m = Gained old now (text m.pieces)
+Written old now m = Gained old now (text_of m.pieces)
 
 reported : (header : Header) (parts : List Part) (bytes : List ℕ) (lists : List (List ItemData)) (old now : Option (List ℕ))
     → map (list_of header.layout bytes) parts ≡ lists → All (λ part. bad_of header.layout bytes part ≡ None) parts
     → Written old now (report_by None plain_report (written header parts) bytes)
-    → Gained old now (text (report_pieces header.cpus (context_of plain_report header) (arranged (enumerate_from 0 lists))))
+    → Gained old now (text_of (report_pieces header.cpus (context_of plain_report header) (arranged (enumerate_from 0 lists))))
 reported header parts bytes lists old now are sound writes =
-    subst (λ (items : List Keyed). Gained old now (text (report_pieces header.cpus (context_of plain_report header) items)))
+    subst (λ (items : List Keyed). Gained old now (text_of (report_pieces header.cpus (context_of plain_report header) items)))
     (ap (reached_of header.layout bytes) (all_chosen parts) ∙ all_reached header.layout bytes parts lists are sound) writes
 
 ok_is : {T E : Type 0} (x y : T) (read : Result T E) → read ≡ Ok x → read ≡ Ok y → x ≡ y

@@ -1,17 +1,13 @@
 -- The names of a report's inputs, and the one that a message names.
-use Rattle.std.proofs.Common.{◌≡◌, ◌<◌, ◌+◌, ℕ, suc, List, [], ◌∷◌, length, get_or, map, Option, Result, Ok, Err, IfSome, refl, sym, ap, ◌∙◌, subst, arith}
+use Rattle.std.proofs.Common.{◌≡◌, ◌<◌, ◌+◌, ℕ, suc, List, ◌∷◌, length, get_or, map, Option, Result, IfSome, refl, sym, ap, ◌∙◌, subst, arith}
 use Rattle.std.specs.Prelude.{Contains, slice_get}
 use Rattle.std.proofs.lemmas.List.{get_or-map, length-map}
 use Rattle.std.proofs.lemmas.Option.{slice_get-get_or, slice_get_past}
 use Rattle.trace_outside.specs.Names.{NamedFiles}
 use Rattle.trace_args.specs.Command.{ReportData}
 use Rattle.trace_run.specs.declared.status.Status.{Status}
-use Rattle.trace_run.specs.declared.status.Status.TheVariants.{NoMemory}
-use Rattle.trace_run.specs.declared.usage.UsageFault.{UsageFault}
-use Rattle.trace_run.specs.Job.{Job, OnFile, OnFiles, SelfTest, Restore}
-use Rattle.trace_run.specs.Messages.{Says, message}
 use Rattle.trace_run.specs.Inputs.{NamedInput, WrongInput, inputs_in, names_in}
-use Rattle.trace_run.specs.Naming.{IsInputOf, IsNameIn, NamesInput, SaysInput}
+use Rattle.trace_run.specs.Naming.{IsInputOf, IsNameIn}
 use Rattle.trace_run.proofs.Endings.{if_known}
 
 -- one of the inputs, of an answer that may be of any
@@ -23,33 +19,10 @@ named_any words told name status has any =
 pub first_of : (words : ReportData) → Contains (names_in words) words.input
 first_of words = (0, omega arith, refl)
 
--- what is said of a job, by the file that it names
-pub input_said : (job : Job) (read : Result Job UsageFault) (told : Option NamedFiles) (status : Status) (name : List ℕ) (before now : Option (List ℕ)) (faults_before faults_now : ℕ)
-    → read ≡ Ok job → NamesInput job told status name → Says (message name status) before now faults_before faults_now
-    → SaysInput read told status before now faults_before faults_now
-input_said job read told status name before now faults_before faults_now is named says =
-    subst (λ (r : Result Job UsageFault). SaysInput r told status before now faults_before faults_now) (sym is) (by_job job named)
-  where
-    by_job : (j : Job) → NamesInput j told status name → SaysInput (Ok j) told status before now faults_before faults_now
-    by_job (OnFile command) named = tt
-    by_job (OnFiles words) named = (name, named, says)
-    by_job (SelfTest words) named = tt
-    by_job (Restore words) named = tt
-
--- there was no memory to read the words
-pub wanting_said : (read : Result Job UsageFault) (told : Option NamedFiles) (before now : Option (List ℕ)) (faults_before faults_now : ℕ)
-    → Says (message [] NoMemory) before now faults_before faults_now → SaysInput read told NoMemory before now faults_before faults_now
-wanting_said (Ok (OnFile command)) told before now faults_before faults_now says = tt
-wanting_said (Ok (OnFiles words)) told before now faults_before faults_now says = (words.input, named_any words told words.input NoMemory (first_of words) (λ inputs. tt), says)
-wanting_said (Ok (SelfTest words)) told before now faults_before faults_now says = tt
-wanting_said (Ok (Restore words)) told before now faults_before faults_now says = tt
-wanting_said (Err fault) told before now faults_before faults_now says = tt
-
--- words without a reading name none
-pub none_named : (fault : UsageFault) (read : Result Job UsageFault) (told : Option NamedFiles) (status : Status) (before now : Option (List ℕ)) (faults_before faults_now : ℕ)
-    → read ≡ Err fault → SaysInput read told status before now faults_before faults_now
-none_named fault read told status before now faults_before faults_now is =
-    subst (λ (r : Result Job UsageFault). SaysInput r told status before now faults_before faults_now) (sym is) tt
+-- one of those behind the first
+pub behind_one : {N : Type 0} (name_of : N → List ℕ) (input : List ℕ) (names : List N) (i : ℕ) (name : N) → i < length names → name ≡ get_or names i name → Contains (input ∷ map name_of names) (name_of name)
+behind_one name_of input names i name lt is =
+    (suc i, omega (arith, lt, length-map names name_of), get_or-map name_of names i name (name_of name) lt ∙ ap name_of (sym is))
 
 -- THE INPUT OF A PLACE
 

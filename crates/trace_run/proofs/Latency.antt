@@ -9,21 +9,21 @@ use Rattle.trace_outside.proofs.PendingLemmas.{prefix_longer}
 use Rattle.trace_run.specs.Meaning.{latency_report}
 use Rattle.trace_run.specs.Report.{cpus_line}
 use Rattle.trace_run.specs.Output.{WritesFor}
-use Rattle.trace_run.specs.Text.{text}
+use Rattle.multi_report.specs.Pieces.{text_of}
 use Rattle.trace_run.specs.declared.status.Status.TheVariants.{Done, ReadFault, WriteFault}
 
-bytes_alone : (bytes : List ℕ) (n : ℕ) → text (take n (map (λ byte. byte ∷ []) bytes)) ≡ take n bytes
+bytes_alone : (bytes : List ℕ) (n : ℕ) → text_of (take n (map (λ byte. byte ∷ []) bytes)) ≡ take n bytes
 bytes_alone [] zero = refl
 bytes_alone [] (suc n) = refl
 bytes_alone (byte ∷ bytes) zero = refl
 bytes_alone (byte ∷ bytes) (suc n) =
     flat_map-cons (λ piece. piece) (byte ∷ []) (take n (map (λ b. b ∷ []) bytes)) ∙ ap (λ rest. byte ∷ rest) (bytes_alone bytes n)
 
-all_alone : (bytes : List ℕ) → text (map (λ byte. byte ∷ []) bytes) ≡ bytes
+all_alone : (bytes : List ℕ) → text_of (map (λ byte. byte ∷ []) bytes) ≡ bytes
 all_alone [] = refl
 all_alone (byte ∷ bytes) = flat_map-cons (λ piece. piece) (byte ∷ []) (map (λ b. b ∷ []) bytes) ∙ ap (λ rest. byte ∷ rest) (all_alone bytes)
 
-whole_text : (cpus end : ℕ) (bytes : List ℕ) → text ((latency_report cpus end bytes).pieces) ≡ cpus_line cpus ++ drop end bytes
+whole_text : (cpus end : ℕ) (bytes : List ℕ) → text_of ((latency_report cpus end bytes).pieces) ≡ cpus_line cpus ++ drop end bytes
 whole_text cpus end bytes =
     flat_map-cons (λ piece. piece) (cpus_line cpus) (map (λ byte. byte ∷ []) (drop end bytes)) ∙ ap (λ rest. cpus_line cpus ++ rest) (all_alone (drop end bytes))
 
@@ -58,7 +58,7 @@ pub latency_unwritten : (told : Option (List ℕ)) (size cpus end : ℕ) (old mi
     → WritesFor (latency_report cpus end) told WriteFault old now
 latency_unwritten None size cpus end old mid now is first copied = tt
 latency_unwritten (Some bytes) size cpus end old mid now is first copied =
-    prefix_behind old mid now (cpus_line cpus) (drop end bytes) [] (text ((latency_report cpus end bytes).pieces))
+    prefix_behind old mid now (cpus_line cpus) (drop end bytes) [] (text_of ((latency_report cpus end bytes).pieces))
     (whole_text cpus end bytes ∙ ap (λ rest. cpus_line cpus ++ rest) (sym (append-nil (drop end bytes))))
     first
     (subst (λ (rest : List ℕ). GainedPrefix mid now rest) (rest_is size end bytes is) copied)

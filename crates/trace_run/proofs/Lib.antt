@@ -26,7 +26,7 @@ pub mod Shared
 pub mod DueReading
 pub mod Restorings
 pub mod FewValues
-pub mod UnreadNames
+pub mod RestoreNames
 pub mod RestoreWords
 pub mod InputWords
 pub mod InputNames

@@ -13,7 +13,7 @@ use Rattle.trace_outside.specs.Folders.{misses_after}
 use Rattle.trace_outside.specs.Names.{NamedFiles}
 use Rattle.trace_outside.proofs.Gains.{gained_nothing}
 use Rattle.dat_options.specs.declared.fault.OpenFault.{OpenFault}
-use Rattle.multi_report.specs.Sources.{IsFreshSource, IsUsable, Seen, given_of}
+use Rattle.multi_report.specs.Sources.{IsFreshSource, IsUsable, Seen, shown_of}
 use Rattle.restore_tool.specs.Open.{ClosesMany}
 use Rattle.restore_tool.proofs.OpenFiles.{opens_more}
 use Rattle.trace_outside.specs.declared.counts.Counts.{Counts}
@@ -22,12 +22,12 @@ use Rattle.trace_run.specs.declared.status.Status.{Status}
 use Rattle.trace_run.specs.declared.status.Status.TheVariants.{Done, Usage, Refused, Malformed, ReadFault, WriteFault, NoMemory}
 use Rattle.trace_run.specs.Ending.{Ends, Finished, Untouched}
 use Rattle.trace_run.specs.Input.{input_share}
-use Rattle.trace_run.specs.Inputs.{NamedInput, WrongInput, given_in, input_found, input_named, inputs_in, names_in}
+use Rattle.trace_run.specs.Inputs.{NamedInput, WrongInput, shown_in, input_found, input_named, inputs_in, names_in}
 use Rattle.trace_run.specs.Meaning.{files_meaning, inputs_mean, only}
 use Rattle.trace_run.specs.Naming.{IsInputOf}
 use Rattle.trace_run.specs.Outside.{FolderSeen, SinkSeen, beside}
 use Rattle.trace_run.specs.Ran.{MissesNothingElse}
-use Rattle.trace_run.specs.Sources.{AreInputs, AreOpened, IsInput, IsOpened, IsUnopened, LeavesHeld, Shown, StandsAt, file_in, reads_due}
+use Rattle.trace_run.specs.Sources.{AreInputs, AreOpened, IsInput, IsOpened, IsUnopened, LeavesHeld, FilesReported, StandsAt, file_in, reads_due}
 use Rattle.trace_run.proofs.Endings.{if_known, stored_none}
 use Rattle.trace_run.proofs.InputLists.{inputs_more, inputs_wrong}
 use Rattle.trace_run.proofs.InputNames.{named_any}
@@ -53,11 +53,11 @@ module _ (words : ReportData) (names : List (List ℕ)) (name : List ℕ) (sourc
     inputs = all.inputs ++ one.input ∷ [];
     read = inputs_more files names name all.inputs one.input all.read one.read;
     told = All-push (λ (s : Seen). IsSome s.told) sources source all.told one.told;
-    given =
-        map-append given_of sources (source ∷ [])
-        ∙ ap (λ gs. gs ++ given_of source ∷ []) all.given
-        ∙ ap (λ g. map (given_in words) all.inputs ++ g ∷ []) one.given
-        ∙ sym (map-append (given_in words) all.inputs (one.input ∷ []));
+    shown =
+        map-append shown_of sources (source ∷ [])
+        ∙ ap (λ gs. gs ++ shown_of source ∷ []) all.shown
+        ∙ ap (λ g. map (shown_in words) all.inputs ++ g ∷ []) one.shown
+        ∙ sym (map-append (shown_in words) all.inputs (one.input ∷ []));
     reads = omega (arith, sum_push reads_due sources source, sum_push (input_share words) all.inputs one.input, all.reads, one.reads);
   }
 
@@ -157,7 +157,7 @@ module _ (words : ReportData) (names : List (List ℕ)) (name : List ℕ) (sourc
         (subst (λ (t : Option NamedFiles). IfSome t (λ fs. input_named fs name ≡ Err (record { name = name; status = Refused fault }))) is wrong)
 
     -- an input could not be shown
-    pub unopened_shown : (status : Status) → IsUnopened name status mid now → Shown words (map file_in sources) status name (beside before out) (beside now out)
+    pub unopened_shown : (status : Status) → IsUnopened name status mid now → FilesReported words (map file_in sources) status name (beside before out) (beside now out)
     unopened_shown (Refused fault) one =
         let meaning = refused_meaning fault before.files mid.files all.files all.inputs one.reason.1 in
         record {
@@ -245,7 +245,7 @@ none_opened words folder = record {
     unfinished = refl;
     bytes = refl;
   };
-  inputs = if_known (λ files. AreInputs words files [] []) folder.files (λ files. record { inputs = []; read = refl; told = All-nil (λ (s : Seen). IsSome s.told); given = refl; reads = omega arith });
+  inputs = if_known (λ files. AreInputs words files [] []) folder.files (λ files. record { inputs = []; read = refl; told = All-nil (λ (s : Seen). IsSome s.told); shown = refl; reads = omega arith });
   misses = if_known (λ files. folder.counts.misses ≡ folder.counts.misses) folder.files (λ files. refl);
 }
 

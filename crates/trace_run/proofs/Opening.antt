@@ -20,15 +20,15 @@ use Rattle.line_holes.specs.Holes.{LineText}
 use Rattle.subpage.specs.ItemData.{ItemData}
 use Rattle.subpage.specs.Arrangement.{CpusRise}
 use Rattle.multi_report.specs.Order as several
-use Rattle.multi_report.specs.Sources.{IsFreshSource, IsUsable, given_of}
+use Rattle.multi_report.specs.Sources.{IsFreshSource, IsUsable, shown_of}
 use Rattle.restore_tool.specs.Copying.{FileSeen}
 use Rattle.restore_tool.specs.Open.{OpensMany}
 use Rattle.trace_args.specs.Command.{ReportData}
 use Rattle.trace_run.specs.declared.sources.Basis.{Basis}
 use Rattle.trace_run.specs.declared.status.Status.{Status}
 use Rattle.trace_run.specs.declared.status.Status.TheVariants.{Done, Usage, Refused, Malformed, ReadFault, WriteFault, NoMemory}
-use Rattle.trace_run.specs.Input.{shown_share}
-use Rattle.trace_run.specs.Inputs.{given_in, input_found, input_named, input_with, shown_parts}
+use Rattle.trace_run.specs.Input.{parts_size}
+use Rattle.trace_run.specs.Inputs.{shown_in, input_found, input_named, input_with, shown_parts}
 use Rattle.trace_run.specs.Outside.{FolderSeen}
 use Rattle.trace_run.specs.Report.{item_line}
 use Rattle.trace_run.specs.Selection.{has, set_or_all}
@@ -53,17 +53,17 @@ module _ (words : ReportData) (header : Header) (basis : Basis) (is : IsBasis wo
   pub basis_fresh : (name : List ℕ) (file : FileSeen) → IsFreshSource (seen_with name file basis)
   basis_fresh name file = unused_fresh header.layout.page 0 basis.pool is.unused
 
-  basis_given : (name bytes : List ℕ) (file : FileSeen) → file.told ≡ Some bytes
-      → given_of (seen_with name file basis) ≡ given_in words (record { name = name; header = header; bytes = bytes })
-  basis_given name bytes file told =
-      same_given name is.cpus is.layout (ap (λ (t : Option (List ℕ)). unwrap_or t []) told) is.parts (ap item_line is.context)
+  basis_shown : (name bytes : List ℕ) (file : FileSeen) → file.told ≡ Some bytes
+      → shown_of (seen_with name file basis) ≡ shown_in words (record { name = name; header = header; bytes = bytes })
+  basis_shown name bytes file told =
+      same_shown name is.cpus is.layout (ap (λ (t : Option (List ℕ)). unwrap_or t []) told) is.parts (ap item_line is.context)
     where
-      of : List ℕ → ℕ → Layout → List ℕ → List (ℕ × Part) → (ℕ → ItemData → LineText) → several.Given
+      of : List ℕ → ℕ → Layout → List ℕ → List (ℕ × Part) → (ℕ → ItemData → LineText) → several.ShownFile
       of name cpus layout bytes parts text = record { name = name; cpus = cpus; layout = layout; bytes = bytes; parts = parts; text = text }
 
-      same_given : (name : List ℕ) {c d : ℕ} {l m : Layout} {b e : List ℕ} {p q : List (ℕ × Part)} {t u : ℕ → ItemData → LineText}
+      same_shown : (name : List ℕ) {c d : ℕ} {l m : Layout} {b e : List ℕ} {p q : List (ℕ × Part)} {t u : ℕ → ItemData → LineText}
           → c ≡ d → l ≡ m → b ≡ e → p ≡ q → t ≡ u → of name c l b p t ≡ of name d m e q u
-      same_given name {d = d} {l = l} {m = m} {b = b} {e = e} {p = p} {q = q} {t = t} c_is l_is b_is p_is t_is =
+      same_shown name {d = d} {l = l} {m = m} {b = b} {e = e} {p = p} {q = q} {t = t} c_is l_is b_is p_is t_is =
           ap (λ (x : ℕ). of name x l b p t) c_is ∙ ap (λ (x : Layout). of name d x b p t) l_is ∙ ap (λ (x : List ℕ). of name d m x p t) b_is
           ∙ ap (λ (x : List (ℕ × Part)). of name d m e x t) p_is ∙ ap (λ (x : ℕ → ItemData → LineText). of name d m e q x) t_is
 
@@ -74,8 +74,8 @@ module _ (words : ReportData) (header : Header) (basis : Basis) (is : IsBasis wo
     input = record { name = name; header = header; bytes = bytes };
     read = ap (input_found name) found ∙ ap (input_with name bytes) read;
     told = subst (λ (t : Option (List ℕ)). IsSome t) (sym told) refl;
-    given = basis_given name bytes file told;
-    reads = omega (arith, reads, ap shown_share is.parts);
+    shown = basis_shown name bytes file told;
+    reads = omega (arith, reads, ap parts_size is.parts);
   }
 
 -- the same where it is not known whether the files are told

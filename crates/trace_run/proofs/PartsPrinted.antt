@@ -20,30 +20,30 @@ use Rattle.dat_header.specs.declared.header.Header.{Header}
 use Rattle.trace_run.specs.declared.status.Status.TheVariants.{WriteFault}
 use Rattle.trace_run.specs.Meaning.{Meaning, ended, events_report, prints}
 use Rattle.trace_run.specs.Report.{cpus_line, entry_line, events_on, item_line, report_pieces}
-use Rattle.trace_run.specs.Split.{status_of}
-use Rattle.trace_run.specs.Text.{text}
+use Rattle.trace_run.specs.Ends.{status_of}
+use Rattle.multi_report.specs.Pieces.{text_of}
 use Rattle.trace_run.specs.Output.{Writes, WritesFor}
 
-lines_are : (given : Given) (items : List Keyed) → lines_text (item_line given) items ≡ text (filled_lines None (map (entry_line given) items))
+lines_are : (given : Given) (items : List Keyed) → lines_text (item_line given) items ≡ text_of (filled_lines None (map (entry_line given) items))
 lines_are given items = refl
 
 -- the report's text: the first line, and then those of the items
-report_text : (cpus : ℕ) (given : Given) (items : List Keyed) → cpus_line cpus ++ lines_text (item_line given) items ≡ text (report_pieces cpus given items)
+report_text : (cpus : ℕ) (given : Given) (items : List Keyed) → cpus_line cpus ++ lines_text (item_line given) items ≡ text_of (report_pieces cpus given items)
 report_text cpus given items =
     ap (λ rest. cpus_line cpus ++ rest) (lines_are given items)
     ∙ sym (flat_map-cons (λ piece. piece) (cpus_line cpus) (filled_lines None (map (entry_line given) items)))
 
 -- the first few of its pieces
 first_text : (cpus : ℕ) (given : Given) (items : List Keyed) (count : ℕ)
-    → cpus_line cpus ++ lines_text (item_line given) (take count items) ≡ text (take (suc count) (report_pieces cpus given items))
+    → cpus_line cpus ++ lines_text (item_line given) (take count items) ≡ text_of (take (suc count) (report_pieces cpus given items))
 first_text cpus given items count =
-    report_text cpus given (take count items) ∙ ap (λ (lines : List (List ℕ)). text (cpus_line cpus ∷ lines)) (sym (along_take hole_time filled_bytes count None (map (entry_line given) items) ∙ ap (filled_lines None) (take-map (entry_line given) count items)))
+    report_text cpus given (take count items) ∙ ap (λ (lines : List (List ℕ)). text_of (cpus_line cpus ∷ lines)) (sym (along_take hole_time filled_bytes count None (map (entry_line given) items) ∙ ap (filled_lines None) (take-map (entry_line given) count items)))
 
 module _ (cpus : ℕ) (given : Given) (layout : Layout) (bytes : List ℕ) (parts : List (ℕ × Part)) where
   abbrev items : List Keyed
   items = reached_of layout bytes parts
 
-  whole : (old mid now : Option (List ℕ)) → Gained old mid (cpus_line cpus) → Gained mid now (lines_text (item_line given) items) → Gained old now (text (report_pieces cpus given items))
+  whole : (old mid now : Option (List ℕ)) → Gained old mid (cpus_line cpus) → Gained mid now (lines_text (item_line given) items) → Gained old now (text_of (report_pieces cpus given items))
   whole old mid now first gained =
       gained_both old mid now (cpus_line cpus) (lines_text (item_line given) items) first gained ∙ ap (append_known old) (report_text cpus given items)
 
@@ -58,7 +58,7 @@ module _ (cpus : ℕ) (given : Given) (layout : Layout) (bytes : List ℕ) (part
         ∙ ap (append_known old) (first_text cpus given items report.0),
   )
   report_written old mid now code.Write first report =
-      prefix_behind old mid now (cpus_line cpus) (lines_text (item_line given) items) [] (text (report_pieces cpus given items))
+      prefix_behind old mid now (cpus_line cpus) (lines_text (item_line given) items) [] (text_of (report_pieces cpus given items))
       (sym (report_text cpus given items) ∙ ap (λ rest. cpus_line cpus ++ rest) (sym (append-nil (lines_text (item_line given) items))))
       first report
 

@@ -13,8 +13,8 @@ use Rattle.trace_run.specs.Ending.{Ends, IsCaused, LeavesAll, Prints}
 use Rattle.trace_run.specs.Meaning.{Meaning, on_out, prints}
 use Rattle.trace_run.specs.Outside.{FolderSeen, Outside, SinkSeen, beside}
 use Rattle.trace_run.specs.Output.{Shows, Writes, WritesFor}
-use Rattle.trace_run.specs.Split.{status_of}
-use Rattle.trace_run.specs.Text.{text}
+use Rattle.trace_run.specs.Ends.{status_of}
+use Rattle.multi_report.specs.Pieces.{text_of}
 use Rattle.trace_run.proofs.Endings.{known_so, stored_none, stored_first_none}
 
 module _ (unread : Type 0) (folder : FolderSeen) (before now : SinkSeen) where
@@ -103,7 +103,7 @@ printed_known unread means status before now writes shows = λ folder. record {
   causes = caused unread folder before now status shows;
 }
 
-one_piece : (piece : List ℕ) → text (piece ∷ []) ≡ piece
+one_piece : (piece : List ℕ) → text_of (piece ∷ []) ≡ piece
 one_piece piece = append-nil piece
 
 -- one piece was printed, or a prefix of it

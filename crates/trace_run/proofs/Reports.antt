@@ -1,5 +1,5 @@
 -- A report, by what its words ask for: what its parts did is what the whole was to do.
-use Rattle.std.proofs.Common.{◌≡◌, ◌≤◌, ◌-◌, ◌*◌, ℕ, Bool, true, false, List, [], Option, None, Some, IfSome, sum_by, sym, subst, arith}
+use Rattle.std.proofs.Common.{◌≡◌, ◌≤◌, ◌-◌, ◌*◌, ℕ, Bool, true, false, List, [], Option, None, Some, IfSome, sym, subst, arith}
 use Rattle.std.specs.Option.{option_map}
 use Rattle.trace_base.specs.declared.part.Part.{Part}
 use Rattle.trace_outside.specs.Causes.{Rose, raised}
@@ -14,7 +14,7 @@ use Rattle.trace_run.specs.declared.status.Status.{Status}
 use Rattle.trace_run.specs.declared.status.Status.TheVariants.{NoMemory}
 use Rattle.trace_run.specs.Ending.{Prints}
 use Rattle.trace_run.specs.Context.{context_of}
-use Rattle.trace_run.specs.Input.{ReadsDue, parts_share, report_share}
+use Rattle.trace_run.specs.Input.{ReadsDue, parts_share, parts_size, report_share}
 use Rattle.trace_run.specs.Meaning.{calls_report, events_report, latency_report, list_report, report_by, shown_report}
 use Rattle.trace_run.specs.Outside.{SinkSeen}
 use Rattle.trace_run.specs.Report.{events_on, listed_events}
@@ -35,7 +35,7 @@ module _ (words : ReportData) (header : Header) (told : Option (List ℕ)) (stat
   abbrev by_list : Option Listing → ℕ → Task
   by_list list size = record {
     means = report_by list words header;
-    share = report_share list words.wakeups words.cpus header.end size header.body;
+    share = report_share list words header size;
     events = listed_events list words header;
   }
 
@@ -80,13 +80,13 @@ module _ (words : ReportData) (header : Header) (told : Option (List ℕ)) (stat
 
 module _ (given : Given) (shown : List (ℕ × Part)) (header : Header) (told : Option (List ℕ)) (before now : AtWork) where
   -- calls are gathered in one pass
-  calls_share : (wakeups : Bool) → now.reads ≤ raised before.reads (sum_by (λ part. part.1.size) shown) → now.reads ≤ raised before.reads (parts_share wakeups shown)
+  calls_share : (wakeups : Bool) → now.reads ≤ raised before.reads (parts_size shown) → now.reads ≤ raised before.reads (parts_share wakeups shown)
   calls_share false reads = reads
   calls_share true reads = omega (arith, reads)
 
   pub calls_reported : (calls wakeups : Bool) (status : Status) → calls ≡ true
       → Prints (Rose before.faults now.faults) (option_map (λ bytes. calls_report (events_on given shown header bytes)) told) status before.out now.out
-      → now.reads ≤ raised before.reads (sum_by (λ part. part.1.size) shown)
+      → now.reads ≤ raised before.reads (parts_size shown)
       → Reported (parts_task calls wakeups given shown header) told status before now
   calls_reported calls wakeups status is prints reads =
       subst (λ (asked : Bool). Reported (parts_task asked wakeups given shown header) told status before now) (sym is)
@@ -101,14 +101,14 @@ module _ (given : Given) (shown : List (ℕ × Part)) (header : Header) (told : 
 
   pub waits_reported : (calls wakeups : Bool) (status : Status) → calls ≡ false → wakeups ≡ true
       → Prints (Rose before.faults now.faults) (option_map (λ bytes. shown_report true (events_on given shown header bytes)) told) status before.out now.out
-      → now.reads ≤ raised before.reads (2 * sum_by (λ part. part.1.size) shown)
+      → now.reads ≤ raised before.reads (2 * parts_size shown)
       → Reported (parts_task calls wakeups given shown header) told status before now
   waits_reported calls wakeups status is behind prints reads =
       by_words calls wakeups true status is behind (record { prints = prints; reads = reads; due = if_known _ told (λ bytes. tt) })
 
   pub lines_reported : (calls wakeups : Bool) (status : Status) → calls ≡ false → wakeups ≡ false
       → Prints (Rose before.faults now.faults) (option_map (λ bytes. events_report (events_on given shown header bytes)) told) status before.out now.out
-      → now.reads ≤ raised before.reads (sum_by (λ part. part.1.size) shown)
+      → now.reads ≤ raised before.reads (parts_size shown)
       → IfSome told (λ bytes. ReadsDue (events_on given shown header bytes) 0 (progress_of before) (progress_of now))
       → Reported (parts_task calls wakeups given shown header) told status before now
   lines_reported calls wakeups status is behind prints reads due =

@@ -1,7 +1,5 @@
 -- All that is said of a run that is a restore.
-use Rattle.std.proofs.Common.{◌≡◌, ◌≢◌, ◌≤◌, ◌<◌, ◌+◌, ◌∙◌, ℕ, suc, List, [], ◌∷◌, length, get_or, map, Option, None, Some, IfSome, Ok, inl, inr, refl, sym, ap, subst, arith}
-use Rattle.std.specs.List.{Contains}
-use Rattle.std.proofs.lemmas.List.{get_or-map, length-map}
+use Rattle.std.proofs.Common.{◌≡◌, ◌≢◌, ◌≤◌, ◌+◌, ◌∙◌, ℕ, List, [], ◌∷◌, length, Option, None, Some, IfSome, Ok, inl, inr, refl, sym, subst, arith}
 use Rattle.std.specs.Option.{IsSomeAnd, option_map}
 use Rattle.trace_outside.specs.Causes.{Rose, raised}
 use Rattle.trace_outside.specs.Names.{NamedFiles, SameBut}
@@ -19,7 +17,6 @@ use Rattle.trace_run.specs.Ending.{Ended, Ends, Finished, IsCaused, LeavesAll}
 use Rattle.trace_run.specs.Input.{progress}
 use Rattle.trace_run.specs.Job.{Restore}
 use Rattle.trace_run.specs.Meaning.{Meaning, names_of, on_folder, only, restore_meaning, task_means}
-use Rattle.trace_run.specs.Messages.{IsNameOf}
 use Rattle.trace_run.specs.Outside.{FolderSeen, SinkSeen, beside}
 use Rattle.trace_run.specs.Ran.{MissesNothingElse, Ran}
 use Rattle.trace_run.specs.Restore.{status_of}
@@ -168,15 +165,3 @@ restored_ran words answer status out before now told done causes kept created mi
         → IfSome (option_map (restore_meaning words) known) (λ m. MissesNothingElse m before.counts now.counts)
     missed None misses = tt
     missed (Some named) misses = λ other. task_misses (task_of named (names_of words)) before.counts.misses now.counts.misses misses other
-
--- THE FILE THAT A MESSAGE NAMES
-
--- the partial file
-pub input_named : (words : RestoreData) (status : Status) → IsNameOf (Restore words) status words.input
-input_named words ReadFault = (0, omega arith, refl)
-input_named words status = refl
-
--- one of the data files
-pub file_named : {N : Type 0} (name_of : N → List ℕ) (input : List ℕ) (names : List N) (i : ℕ) (name : N) → i < length names → name ≡ get_or names i name → Contains (input ∷ map name_of names) (name_of name)
-file_named name_of input names i name lt is =
-    (suc i, omega (arith, lt, length-map names name_of), get_or-map name_of names i name (name_of name) lt ∙ ap name_of (sym is))

@@ -14,7 +14,8 @@ use Rattle.new_files.specs.Stored.{NewFile}
 use Rattle.trace_run.specs.Ending.{Ends, IsCaused, LeavesAll, MakesFiles}
 use Rattle.trace_run.specs.Meaning.{on_folder, split_by}
 use Rattle.trace_run.specs.Outside.{FolderSeen, SinkSeen, beside}
-use Rattle.trace_run.specs.Split.{split_end, split_files, status_of, taken_of}
+use Rattle.trace_run.specs.Ends.{status_of}
+use Rattle.trace_run.specs.Split.{split_end, split_files, taken_of}
 
 module _ (words : SplitData) (header : Header) (before now : FolderSeen) (out : SinkSeen) where
   -- the four answers of a split

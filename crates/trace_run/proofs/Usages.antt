@@ -7,7 +7,10 @@ use Rattle.trace_args.specs.Command.{ReportData, FilterData, filter_view}
 use Rattle.trace_run.specs.Job.{Job, job_of}
 use Rattle.std.specs.Result.{result_unwrap_or}
 use Rattle.filter_lang.specs.Filter as lang
+use Rattle.filter_lang.specs.FaultView.{IsRefusedAt, IsPlaceIn}
 use Rattle.filter_lang.specs.Texts.{IsFilterText, RefusedText}
+use Rattle.filter_lang.specs.declared.fault.FilterFault.{FilterFault}
+use Rattle.filter_lang.specs.declared.fault.FilterFault.TheVariants as code
 use Rattle.filter_lang.proofs.Computed.{filter_read, refusal_read}
 use Rattle.filter_truth.specs.Selection.{UseData}
 use Rattle.filter_truth.specs.SelectionView.{use_of}
@@ -17,7 +20,7 @@ use Rattle.trace_run.specs.declared.usage.UsageFault.TheVariants.{Word, Filter}
 use Rattle.trace_run.specs.declared.usage.AskFault.{AskFault}
 use Rattle.trace_run.specs.declared.usage.AskFault.TheVariants.{Usage, Memory}
 use Rattle.trace_run.specs.Usage.{use_by, use_read, before_others, filters_read, job_filters, with_filters, asked_by, asked, uses_in}
-use Rattle.trace_run.specs.UsageView.{IsFaultOf}
+use Rattle.trace_run.specs.UsageView.{IsFaultOf, ask_fault}
 use Rattle.trace_run.specs.Selftest.{plain_report}
 
 abbrev use' : Bool → lang.FilterData → UseData
@@ -103,10 +106,15 @@ word_asked words fault read = ap asked_by read
 pub text_read : (w : FilterData) (filter : lang.FilterData) → IsFilterText w.text filter → use_read w ≡ Ok (use' w.hide filter)
 text_read w filter is = ap (use_by w) (filter_read w.text filter is)
 
-pub text_refused : (w : FilterData) (place : ℕ) → RefusedText w.text (drop place w.text) → place ≤ length w.text → use_read w ≡ Err (Filter w.word place)
+text_refused : (w : FilterData) (place : ℕ) → RefusedText w.text (drop place w.text) → place ≤ length w.text → use_read w ≡ Err (Filter w.word place)
 text_refused w place refused within =
     let long : length w.text - length (drop place w.text) ≡ place = omega (arith, length-drop place w.text) in
     ap (use_by w) (refusal_read w.text (drop place w.text) refused) ∙ ap (no_use w.word) long
+
+-- a filter's fault is one of the words
+pub fault_asked : (w : FilterData) (fault : FilterFault) → IsRefusedAt w.text fault → IsPlaceIn w.text fault → IsFaultOf (use_read w) (ask_fault w.word fault)
+fault_asked w (code.At place) refused within = text_refused w place refused within
+fault_asked w code.Memory refused within = tt
 
 -- the filters of words that were read
 pub uses_known : (ws : List FilterData) (uses : List UseData) → filters_read ws ≡ Ok uses → uses_in ws ≡ uses

@@ -25,16 +25,16 @@ use Rattle.trace_run.specs.declared.status.Status.TheVariants.{NoMemory, ReadFau
 use Rattle.trace_run.specs.Ending.{Prints}
 use Rattle.trace_run.specs.Meaning.{Meaning, events_report, shown_report}
 use Rattle.trace_run.specs.Outside.{SinkSeen}
-use Rattle.trace_run.specs.Output.{Shows, Writes, WritesFor, is_whole, status_or_memory}
+use Rattle.trace_run.specs.Output.{Shows, Writes, WritesFor}
 use Rattle.trace_run.specs.Report.{Events, events_on, reached_items, waits_section}
-use Rattle.trace_run.specs.Split.{status_of}
-use Rattle.trace_run.specs.Text.{text}
+use Rattle.trace_run.specs.Ends.{is_whole, status_of, status_or_memory}
+use Rattle.multi_report.specs.Pieces.{text_of}
 use Rattle.trace_run.proofs.Endings.{unprinted}
 use Rattle.trace_run.proofs.Printed.{printed_of}
 
 -- a piece behind others
-text_more : (pieces : List (List ℕ)) (piece : List ℕ) → text (pieces ++ piece ∷ []) ≡ text pieces ++ piece
-text_more pieces piece = flat_map-append (λ p. p) pieces (piece ∷ []) ∙ ap (λ (rest : List ℕ). text pieces ++ rest) (append-nil piece)
+text_more : (pieces : List (List ℕ)) (piece : List ℕ) → text_of (pieces ++ piece ∷ []) ≡ text_of pieces ++ piece
+text_more pieces piece = flat_map-append (λ p. p) pieces (piece ∷ []) ∙ ap (λ (rest : List ℕ). text_of pieces ++ rest) (append-nil piece)
 
 -- the first few pieces are also the first few of more
 first_of_more : (pieces more : List (List ℕ)) (count : ℕ) → (few : ℕ) × (take few (pieces ++ more) ≡ take count pieces)
@@ -70,10 +70,10 @@ module _ (given : Given) (shown : List (ℕ × Part)) (header : Header) where
   stopped_one bytes (code.Malformed cpu page) old now other writes = absurd cc
   stopped_one bytes code.Read old now other writes =
       let few = first_of_more (lines bytes).pieces (waits_section (events bytes) ∷ []) writes.0 in
-      (few.0, writes.1 ∙ ap (λ (pieces : List (List ℕ)). append_known old (text pieces)) (sym few.1))
+      (few.0, writes.1 ∙ ap (λ (pieces : List (List ℕ)). append_known old (text_of pieces)) (sym few.1))
   stopped_one bytes code.Write old now other writes =
       subst (λ (whole : List ℕ). GainedPrefix old now whole) (sym (text_more (lines bytes).pieces (waits_section (events bytes))))
-      (prefix_longer old now (text (lines bytes).pieces) (waits_section (events bytes)) writes)
+      (prefix_longer old now (text_of (lines bytes).pieces) (waits_section (events bytes)) writes)
 
   pub waits_stopped : (told old now : Option (List ℕ)) (end : End) → is_whole end ≡ false → WritesFor lines told (status_of end) old now → WritesFor both told (status_of end) old now
   waits_stopped None old now end other writes = tt
@@ -94,13 +94,13 @@ module _ (given : Given) (shown : List (ℕ × Part)) (header : Header) where
 
   -- all of them were
   whole_lines : (bytes : List ℕ) (end : End) (old mid : Option (List ℕ)) → is_whole end ≡ true → Writes (lines bytes) (status_of end) old mid
-      → (status_of end ≡ (lines bytes).status) × Gained old mid (text (lines bytes).pieces)
+      → (status_of end ≡ (lines bytes).status) × Gained old mid (text_of (lines bytes).pieces)
   whole_lines bytes code.Done old mid whole writes = writes
   whole_lines bytes (code.Malformed cpu page) old mid whole writes = writes
   whole_lines bytes code.Read old mid whole writes = absurd cc
   whole_lines bytes code.Write old mid whole writes = absurd cc
 
-  whole_both : (bytes : List ℕ) (end : End) (old now : Option (List ℕ)) → is_whole end ≡ true → status_of end ≡ (both bytes).status → Gained old now (text (both bytes).pieces) → Writes (both bytes) (status_of end) old now
+  whole_both : (bytes : List ℕ) (end : End) (old now : Option (List ℕ)) → is_whole end ≡ true → status_of end ≡ (both bytes).status → Gained old now (text_of (both bytes).pieces) → Writes (both bytes) (status_of end) old now
   whole_both bytes code.Done old now whole is gained = (is, gained)
   whole_both bytes (code.Malformed cpu page) old now whole is gained = (is, gained)
   whole_both bytes code.Read old now whole is gained = absurd cc
@@ -110,9 +110,9 @@ module _ (given : Given) (shown : List (ℕ × Part)) (header : Header) where
   abbrev pub HasPairs : List Pair → List ℕ → Type 0
   HasPairs pairs bytes = ArePairs (all_seen given (reached_of header.layout bytes shown)) pairs
 
-  both_text : (bytes : List ℕ) (pairs : List Pair) → HasPairs pairs bytes → text (lines bytes).pieces ++ section given pairs ≡ text (both bytes).pieces
+  both_text : (bytes : List ℕ) (pairs : List Pair) → HasPairs pairs bytes → text_of (lines bytes).pieces ++ section given pairs ≡ text_of (both bytes).pieces
   both_text bytes pairs are =
-      ap (λ (piece : List ℕ). text (lines bytes).pieces ++ piece) (waits_are (events bytes) pairs are)
+      ap (λ (piece : List ℕ). text_of (lines bytes).pieces ++ piece) (waits_are (events bytes) pairs are)
       ∙ sym (text_more (lines bytes).pieces (waits_section (events bytes)))
 
   pub waits_written : (told old mid now : Option (List ℕ)) (end : End) (pairs : List Pair) → is_whole end ≡ true → WritesFor lines told (status_of end) old mid
@@ -121,15 +121,15 @@ module _ (given : Given) (shown : List (ℕ × Part)) (header : Header) where
   waits_written (Some bytes) old mid now end pairs whole writes are gained =
       let first = whole_lines bytes end old mid whole writes in
       whole_both bytes end old now whole first.0
-      (gained_both old mid now (text (lines bytes).pieces) (section given pairs) first.1 gained ∙ ap (append_known old) (both_text bytes pairs are))
+      (gained_both old mid now (text_of (lines bytes).pieces) (section given pairs) first.1 gained ∙ ap (append_known old) (both_text bytes pairs are))
 
   pub waits_unwritten : (told old mid now : Option (List ℕ)) (end : End) (pairs : List Pair) → is_whole end ≡ true → WritesFor lines told (status_of end) old mid
       → IfSome told (HasPairs pairs) → GainedPrefix mid now (section given pairs) → WritesFor both told WriteFault old now
   waits_unwritten None old mid now end pairs whole writes are gained = tt
   waits_unwritten (Some bytes) old mid now end pairs whole writes are gained =
       let first = whole_lines bytes end old mid whole writes in
-      prefix_behind old mid now (text (lines bytes).pieces) (section given pairs) [] (text (both bytes).pieces)
-      (sym (both_text bytes pairs are) ∙ ap (λ (rest : List ℕ). text (lines bytes).pieces ++ rest) (sym (append-nil (section given pairs))))
+      prefix_behind old mid now (text_of (lines bytes).pieces) (section given pairs) [] (text_of (both bytes).pieces)
+      (sym (both_text bytes pairs are) ∙ ap (λ (rest : List ℕ). text_of (lines bytes).pieces ++ rest) (sym (append-nil (section given pairs))))
       first.1 gained
 
   pub waits_shows : (unread : Type 0) (end : End) (before now : SinkSeen) → is_whole end ≡ true → Shows unread (status_of end) before now

@@ -9,12 +9,12 @@ use Rattle.trace_run.specs.declared.status.Status.{Status}
 use Rattle.trace_run.specs.declared.status.Status.TheVariants.{Done, Usage, Refused, ReadFault, WriteFault, NoMemory}
 use Rattle.trace_run.specs.Meaning.{Meaning, Target, on_nothing, on_out, on_folder}
 use Rattle.trace_run.specs.Outside.{FolderSeen, SinkSeen, Outside, beside}
-use Rattle.trace_run.specs.Text.{text}
+use Rattle.multi_report.specs.Pieces.{text_of}
 
 -- it did all that it means, and made no file beside
 pub record Finished (m : Meaning) (status : Status) (before now : Outside) : Type 0 where
   pub answer : status ≡ m.status
-  pub output : Gained before.out.written now.out.written (text m.pieces)
+  pub output : Gained before.out.written now.out.written (text_of m.pieces)
   pub files : FilesStored m.files before.folder.files now.folder.files
   pub created : now.folder.counts.created ≡ raised before.folder.counts.created (length m.files)
 
@@ -26,14 +26,14 @@ pub record Untouched (before now : Outside) : Type 0 where
 
 -- a read failed: the first few pieces were written and the first few files stored
 pub record StoppedReading (m : Meaning) (before now : Outside) : Type 0 where
-  pub output : (count : ℕ) × Gained before.out.written now.out.written (text (take count m.pieces))
+  pub output : (count : ℕ) × Gained before.out.written now.out.written (text_of (take count m.pieces))
   pub files : (count : ℕ) × FilesStored (take count m.files) before.folder.files now.folder.files
   pub created : now.folder.counts.created ≤ raised before.folder.counts.created (length m.files)
 
 -- a write failed: a prefix of the output was written and the first few files stored; of the next one's name nothing is said
 -- only where a file could not be finished
 pub record StoppedWriting (m : Meaning) (before now : Outside) : Type 0 where
-  pub output : GainedPrefix before.out.written now.out.written (text m.pieces)
+  pub output : GainedPrefix before.out.written now.out.written (text_of m.pieces)
   pub files : FirstFilesStored m.files before.folder.counts now.folder.counts before.folder.files now.folder.files
   pub created : now.folder.counts.created ≤ raised before.folder.counts.created (length m.files)
 

@@ -56,30 +56,34 @@ input_of_run (Err fault) told = None
 
 -- HOW MUCH A COMMAND NEEDS
 
+-- how many bytes parts of processors have
+abbrev pub parts_size : List (ℕ × Part) → ℕ
+parts_size parts = sum_by (λ part. part.1.size) parts
+
 -- how many bytes behind the header a report of events needs: the parts of the chosen processors, and these twice where the
 -- latencies are gathered before
 abbrev pub parts_share : Bool → List (ℕ × Part) → ℕ
-parts_share false parts = sum_by (λ part. part.1.size) parts
-parts_share true parts = 2 * sum_by (λ part. part.1.size) parts
+parts_share false parts = parts_size parts
+parts_share true parts = 2 * parts_size parts
 
--- or the rest of a latency file
-abbrev pub body_share : Bool → Option (List Bool) → ℕ → ℕ → Body → ℕ
-body_share wakeups cpus end size Latency = size - end
-body_share wakeups cpus end size (Fly parts) = parts_share wakeups (chosen (set_or_all cpus) parts)
+-- or the rest of a latency file, which has this size
+abbrev pub body_share : ReportData → Header → Body → ℕ → ℕ
+body_share words header Latency size = size - header.end
+body_share words header (Fly parts) size = parts_share words.wakeups (chosen (set_or_all words.cpus) parts)
 
 -- a list needs none
-abbrev pub report_share : Option Listing → Bool → Option (List Bool) → ℕ → ℕ → Body → ℕ
-report_share None wakeups cpus end size body = body_share wakeups cpus end size body
-report_share (Some list) wakeups cpus end size body = 0
+abbrev pub report_share : Option Listing → ReportData → Header → ℕ → ℕ
+report_share None words header size = body_share words header header.body size
+report_share (Some list) words header size = 0
 
 -- a split reads the parts of the processors that it takes at most three times: to measure its pieces, and to pack of each
 -- sub-buffer the piece that ends in it and the one that begins there
 abbrev pub split_share : Option ℕ → Body → ℕ
-split_share one body = 3 * sum_by (λ part. part.1.size) (taken_of one body)
+split_share one body = 3 * parts_size (taken_of one body)
 
 -- how many bytes behind the header a command needs, of a file of this size
 abbrev pub share : FileCommand → Header → ℕ → ℕ
-share (Report words) header size = report_share words.list words.wakeups words.cpus header.end size header.body
+share (Report words) header size = report_share words.list words header size
 share (Dump words) header size = 0
 share (Split words) header size = split_share words.cpu header.body
 
@@ -135,11 +139,8 @@ abbrev pub ReadsInput : Option Input → Status → Progress → Progress → Ty
 ReadsInput known status before now = BehindHeader status (IfSome known (λ input. ReadsNoMore input.header.end input before now))
 
 -- of one of several files in one report its header is needed, and the parts that are shown of it
-abbrev pub shown_share : List (ℕ × Part) → ℕ
-shown_share parts = sum_by (λ part. part.1.size) parts
-
 abbrev pub input_share : ReportData → NamedInput → ℕ
-input_share words input = input.header.end + shown_share (shown_parts words.cpus input.header.body)
+input_share words input = input.header.end + parts_size (shown_parts words.cpus input.header.body)
 
 -- then no more is read of several files than each of them needs
 abbrev pub ReadsInputs : Result Job UsageFault → Option NamedFiles → Status → Progress → Progress → Type 0

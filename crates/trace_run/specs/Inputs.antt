@@ -10,7 +10,7 @@ use Rattle.dat_header.specs.declared.header.Header.{Header}
 use Rattle.dat_header.specs.declared.header.Body.{Body}
 use Rattle.dat_header.specs.declared.header.Body.TheVariants.{Latency, Fly}
 use Rattle.dat_header.specs.Header.{header_of}
-use Rattle.multi_report.specs.Order.{Given}
+use Rattle.multi_report.specs.Order.{ShownFile}
 use Rattle.trace_args.specs.Command.{ReportData}
 use Rattle.trace_run.specs.declared.status.Status.{Status}
 use Rattle.trace_run.specs.declared.status.Status.TheVariants.{Refused, ReadFault}
@@ -59,9 +59,9 @@ abbrev pub shown_parts : Option (List Bool) → Body → List (ℕ × Part)
 shown_parts cpus Latency = []
 shown_parts cpus (Fly parts) = chosen (set_or_all cpus) parts
 
--- an input, as the report of all of them sees it
-abbrev pub given_in : ReportData → NamedInput → Given
-given_in words input = record {
+-- what is shown of an input
+abbrev pub shown_in : ReportData → NamedInput → ShownFile
+shown_in words input = record {
   name = input.name;
   cpus = input.header.cpus;
   layout = input.header.layout;

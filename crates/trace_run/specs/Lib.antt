@@ -1,4 +1,3 @@
-pub mod Text
 pub mod Selection
 pub mod Context
 pub mod Lists
@@ -8,6 +7,7 @@ pub mod Restore
 pub mod Job
 pub mod Allowed
 pub mod Split
+pub mod Ends
 pub mod Usage
 pub mod UsageView
 pub mod Selftest
@@ -20,9 +20,8 @@ pub mod Work
 pub mod Input
 pub mod Reported
 pub mod Ran
-pub mod Messages
 pub mod Naming
+pub mod Messages
 pub mod Sources
-pub mod Unread
 pub mod StatusNumber
 pub mod Answers

@@ -21,13 +21,14 @@ use Rattle.trace_run.specs.Job.{FileCommand, Report, Dump, Split, Job, OnFile, O
 use Rattle.graph_report.specs.Gathered.{reached_calls}
 use Rattle.trace_run.specs.Report.{Events, call_pieces, cpus_line, parts_events, report_pieces, waits_section}
 use Rattle.trace_run.specs.Selftest.{self_test_line}
-use Rattle.trace_run.specs.Split.{split_end, split_files, status_of}
+use Rattle.trace_run.specs.Ends.{status_of}
+use Rattle.trace_run.specs.Split.{split_end, split_files}
 use Rattle.dump_tool.specs.Dump.{dump_text}
 use Rattle.new_files.specs.Stored.{NewFile}
 use Rattle.multi_report.specs.Order as several
 use Rattle.multi_report.specs.Order.{FileCut, cut_of_files}
 use Rattle.multi_report.specs.Reports as several_text
-use Rattle.trace_run.specs.Inputs.{NamedInput, WrongInput, given_in, inputs_in, names_in}
+use Rattle.trace_run.specs.Inputs.{NamedInput, WrongInput, shown_in, inputs_in, names_in}
 use Rattle.restore_tool.specs.Meaning.{NamesData, Task, missing, refused, made, task_of}
 
 -- what a command writes to, whose fault a fault of writing is; words without a reading write to nothing
@@ -133,12 +134,12 @@ ended_in None = Done
 ended_in (Some cut) = Malformed cut.cut.cpu cut.cut.page
 
 -- first a line for each file, and then the lines of the reached items of all, in the order in which these happened
-abbrev pub files_report : List several.Given → Meaning
+abbrev pub files_report : List several.ShownFile → Meaning
 files_report files = prints (several_text.pieces files) (ended_in (cut_of_files files))
 
 -- the report of inputs that have headers, or the answer for the first that is wrong
 abbrev pub inputs_mean : ReportData → Result (List NamedInput) WrongInput → Meaning
-inputs_mean words (Ok inputs) = files_report (map (given_in words) inputs)
+inputs_mean words (Ok inputs) = files_report (map (shown_in words) inputs)
 inputs_mean words (Err wrong) = only wrong.status
 
 abbrev pub files_meaning : ReportData → NamedFiles → Meaning
@@ -184,13 +185,6 @@ job_target (OnFile command) = target_of command
 job_target (OnFiles words) = on_out
 job_target (SelfTest words) = on_out
 job_target (Restore words) = on_folder
-
--- the name of a job's input, of which a self-test has none, and which is the first of several, and the partial file of a restore
-abbrev pub job_input : Job → List ℕ
-job_input (OnFile command) = input_of command
-job_input (OnFiles words) = words.input
-job_input (SelfTest words) = []
-job_input (Restore words) = words.input
 
 abbrev pub target_read : Result Job UsageFault → Target
 target_read (Ok job) = job_target job

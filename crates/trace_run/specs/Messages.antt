@@ -1,5 +1,5 @@
 -- The one line that a run says of an answer that is not Done.
-use Rattle.std.specs.Prelude.{◌≡◌, Contains, Option, Result, Ok, Err, ℕ, List, [], ◌∷◌, codes}
+use Rattle.std.specs.Prelude.{◌≡◌, Result, Ok, Err, ℕ, List, [], ◌∷◌, codes}
 use Rattle.std.specs.Fmt.{decimal}
 use Rattle.dat_options.specs.declared.fault.OpenFault.{OpenFault}
 use Rattle.dat_options.specs.declared.fault.OpenFault.TheVariants.{NotTrace, Compressed, OtherVersion, BadEndian, BadLong, BadPageSize, BadHeaderPage, BadSection, Truncated, TooManyCpus, Read, Memory}
@@ -7,14 +7,13 @@ use Rattle.trace_outside.specs.Causes.{Rose}
 use Rattle.trace_outside.specs.Writing.{Gained, GainedPrefix}
 use Rattle.trace_run.specs.declared.status.Status.{Status}
 use Rattle.trace_run.specs.declared.status.Status.TheVariants.{Done, Usage, Refused, Malformed, ReadFault, WriteFault, NoMemory}
-use Rattle.trace_run.specs.Text.{text}
+use Rattle.multi_report.specs.Pieces.{text_of}
 use Rattle.trace_run.specs.declared.usage.UsageFault.{UsageFault}
 use Rattle.trace_run.specs.declared.usage.UsageFault.TheVariants.{Word, Filter}
-use Rattle.trace_run.specs.Usage.{asked}
 use Rattle.trace_args.specs.KindText.{kind_text}
-use Rattle.trace_run.specs.Inputs.{names_in}
-use Rattle.trace_run.specs.Job.{Job, OnFiles, Restore}
-use Rattle.trace_run.specs.Meaning.{job_input}
+use Rattle.trace_run.specs.Job.{Job}
+use Rattle.trace_run.specs.Naming.{IsNamed}
+use Rattle.trace_run.specs.Outside.{FolderSeen, SinkSeen}
 
 abbrev pub fault_text : OpenFault → List ℕ
 fault_text (NotTrace place) = codes "not a trace file"
@@ -46,51 +45,40 @@ fault_place Memory = 0
 
 -- the line for a fault of the words, or of a filter of theirs
 abbrev pub usage_line : UsageFault → List ℕ
-usage_line (Word fault) = text (codes "trace-cmd: word " ∷ decimal fault.word ∷ codes ": " ∷ kind_text fault.kind ∷ codes "\n" ∷ [])
+usage_line (Word fault) = text_of (codes "trace-cmd: word " ∷ decimal fault.word ∷ codes ": " ∷ kind_text fault.kind ∷ codes "\n" ∷ [])
 usage_line (Filter word place) =
-    text (codes "trace-cmd: word " ∷ decimal word ∷ codes ": bad filter at byte " ∷ decimal place ∷ codes "\n" ∷ [])
+    text_of (codes "trace-cmd: word " ∷ decimal word ∷ codes ": bad filter at byte " ∷ decimal place ∷ codes "\n" ∷ [])
 
 -- what is wrong with an input, and where
 abbrev pub refused_text : OpenFault → List ℕ
-refused_text fault = text (fault_text fault ∷ codes " at byte " ∷ decimal (fault_place fault) ∷ [])
+refused_text fault = text_of (fault_text fault ∷ codes " at byte " ∷ decimal (fault_place fault) ∷ [])
 
 abbrev pub malformed_text : ℕ → ℕ → List ℕ
-malformed_text cpu page = text (codes "malformed sub-page " ∷ decimal page ∷ codes " of processor " ∷ decimal cpu ∷ [])
+malformed_text cpu page = text_of (codes "malformed sub-page " ∷ decimal page ∷ codes " of processor " ∷ decimal cpu ∷ [])
 
 -- the line for another answer, of an input of this name; nothing for Done
 abbrev pub message : List ℕ → Status → List ℕ
 message input Done = []
 message input Usage = []
-message input (Refused fault) = text (codes "trace-cmd: " ∷ input ∷ codes ": " ∷ refused_text fault ∷ codes "\n" ∷ [])
-message input (Malformed cpu page) = text (codes "trace-cmd: " ∷ input ∷ codes ": " ∷ malformed_text cpu page ∷ codes "\n" ∷ [])
-message input ReadFault = text (codes "trace-cmd: " ∷ input ∷ codes ": read failed\n" ∷ [])
+message input (Refused fault) = text_of (codes "trace-cmd: " ∷ input ∷ codes ": " ∷ refused_text fault ∷ codes "\n" ∷ [])
+message input (Malformed cpu page) = text_of (codes "trace-cmd: " ∷ input ∷ codes ": " ∷ malformed_text cpu page ∷ codes "\n" ∷ [])
+message input ReadFault = text_of (codes "trace-cmd: " ∷ input ∷ codes ": read failed\n" ∷ [])
 message input WriteFault = codes "trace-cmd: write failed\n"
 message input NoMemory = codes "trace-cmd: out of memory\n"
 
--- the file that a message names: the input, of which a self-test has none, one of several inputs, and where a restore could not
--- read, one of the files that it reads
-abbrev pub IsNameOf : Job → Status → List ℕ → Type 0
-IsNameOf (OnFiles words) status name = Contains (names_in words) name
-IsNameOf (Restore words) ReadFault name = Contains (words.input ∷ words.files) name
-IsNameOf job status name = name ≡ job_input job
-
--- the line for this reading and this answer
-abbrev pub IsLineRead : Result Job UsageFault → Status → List ℕ → Type 0
-IsLineRead (Ok job) status line = (name : List ℕ) × IsNameOf job status name × (line ≡ message name status)
-IsLineRead (Err fault) Usage line = line ≡ usage_line fault
-IsLineRead (Err fault) status line = line ≡ message [] status
-
--- the line for these words and this answer
-abbrev pub IsLineOf : List (List ℕ) → Status → List ℕ → Type 0
-IsLineOf words status line = IsLineRead (asked words) status line
+-- the line for what was read of the words, for this answer, and for what is seen of the folder before and after
+abbrev pub IsLineRead : Result Job UsageFault → Status → FolderSeen → FolderSeen → List ℕ → Type 0
+IsLineRead (Ok job) status before now line = (name : List ℕ) × IsNamed job status before now name × (line ≡ message name status)
+IsLineRead (Err fault) Usage before now line = line ≡ usage_line fault
+IsLineRead (Err fault) status before now line = line ≡ message [] status
 
 -- the sink gained the line, or a prefix of it where its own count of faults rose
-pub record Says (line : List ℕ) (before now : Option (List ℕ)) (faults_before faults_now : ℕ) : Type 0 where
-  pub prefix : GainedPrefix before now line
-  pub whole : ¬ (Rose faults_before faults_now) → Gained before now line
+pub record Says (line : List ℕ) (before now : SinkSeen) : Type 0 where
+  pub prefix : GainedPrefix before.written now.written line
+  pub whole : ¬ (Rose before.faults now.faults) → Gained before.written now.written line
 
--- the line for these words and this answer was said
-pub record SaysOf (words : List (List ℕ)) (status : Status) (before now : Option (List ℕ)) (faults_before faults_now : ℕ) : Type 0 where
+-- and the line is that one
+pub record SaysOf (read : Result Job UsageFault) (status : Status) (before now : FolderSeen) (said_before said_now : SinkSeen) : Type 0 where
   pub line : List ℕ
-  pub is : IsLineOf words status line
-  pub says : Says line before now faults_before faults_now
+  pub is : IsLineRead read status before now line
+  pub says : Says line said_before said_now

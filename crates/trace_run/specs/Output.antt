@@ -1,36 +1,21 @@
 -- What a command that only prints leaves on the output, where there was memory.
-use Rattle.std.specs.Prelude.{Option, None, Some, ◌≡◌, ℕ, Bool, true, false, List, take, IfSome}
+use Rattle.std.specs.Prelude.{Option, ◌≡◌, ℕ, List, take, IfSome}
 use Rattle.trace_outside.specs.Causes.{Rose}
 use Rattle.trace_outside.specs.Writing.{Gained, GainedPrefix}
-use Rattle.time_merge.specs.declared.ending.End.{End}
-use Rattle.time_merge.specs.declared.ending.End.TheVariants as end
 use Rattle.trace_run.specs.declared.status.Status.{Status}
 use Rattle.trace_run.specs.declared.status.Status.TheVariants.{Done, Usage, Refused, Malformed, ReadFault, WriteFault, NoMemory}
 use Rattle.trace_run.specs.Meaning.{Meaning}
 use Rattle.trace_run.specs.Outside.{SinkSeen}
-use Rattle.trace_run.specs.Split.{status_of}
-use Rattle.trace_run.specs.Text.{text}
+use Rattle.multi_report.specs.Pieces.{text_of}
 
 -- all of it, after a fault of reading its first few pieces, after one of writing a prefix
 abbrev pub Writes : Meaning → Status → Option (List ℕ) → Option (List ℕ) → Type 0
-Writes m ReadFault old now = (count : ℕ) × Gained old now (text (take count m.pieces))
-Writes m WriteFault old now = GainedPrefix old now (text m.pieces)
-Writes m status old now = (status ≡ m.status) × Gained old now (text m.pieces)
+Writes m ReadFault old now = (count : ℕ) × Gained old now (text_of (take count m.pieces))
+Writes m WriteFault old now = GainedPrefix old now (text_of m.pieces)
+Writes m status old now = (status ≡ m.status) × Gained old now (text_of m.pieces)
 
 abbrev pub WritesFor : (List ℕ → Meaning) → Option (List ℕ) → Status → Option (List ℕ) → Option (List ℕ) → Type 0
 WritesFor means told status old now = IfSome told (λ bytes. Writes (means bytes) status old now)
-
--- the answer for the end of the lines, or for no memory to print them
-abbrev pub status_or_memory : Option End → Status
-status_or_memory None = NoMemory
-status_or_memory (Some last) = status_of last
-
--- all lines of a report were written
-abbrev pub is_whole : End → Bool
-is_whole end.Done = true
-is_whole (end.Malformed cpu page) = true
-is_whole end.Read = false
-is_whole end.Write = false
 
 -- why the answer is a fault, and that it is none that leaves all as it was
 abbrev pub Shows : Type 0 → Status → SinkSeen → SinkSeen → Type 0

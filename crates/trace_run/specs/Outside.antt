@@ -1,6 +1,8 @@
 -- What is seen of the outside at one moment: a folder, and the output beside it.
 use Rattle.std.specs.Prelude.{Option, ℕ, List}
 use Rattle.trace_outside.specs.declared.counts.Counts.{Counts}
+use Rattle.trace_outside.specs.declared.outside.Folder as folder_trait
+use Rattle.trace_outside.specs.declared.outside.Sink as sink_trait
 use Rattle.trace_outside.specs.Names.{NamedFiles}
 
 pub record FolderSeen : Type 0 where
@@ -15,12 +17,15 @@ pub record Outside : Type 0 where
   pub folder : FolderSeen
   pub out : SinkSeen
 
-abbrev pub folder_seen : {F : Type 0} → (F → Option NamedFiles) → (F → Counts) → F → FolderSeen
-folder_seen files counts folder = record { files = files folder; counts = counts folder }
+abbrev pub folder_seen : {F In Out : Type 0} → folder_trait.Ghosts F In Out → F → FolderSeen
+folder_seen f folder = record { files = f.files folder; counts = f.counts folder }
 
-abbrev pub sink_seen : {O : Type 0} → (O → Option (List ℕ)) → (O → ℕ) → O → SinkSeen
-sink_seen written faults out = record { written = written out; faults = faults out }
+abbrev pub sink_seen : {O : Type 0} → sink_trait.Ghosts O → O → SinkSeen
+sink_seen o out = record { written = o.written out; faults = o.faults out }
 
 -- a folder beside an output
 abbrev pub beside : FolderSeen → SinkSeen → Outside
 beside folder out = record { folder = folder; out = out }
+
+abbrev pub outside_seen : {F In Out O : Type 0} → folder_trait.Ghosts F In Out → sink_trait.Ghosts O → F → O → Outside
+outside_seen f o folder out = beside (folder_seen f folder) (sink_seen o out)

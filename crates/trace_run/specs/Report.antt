@@ -21,11 +21,11 @@ use Rattle.wakeup_lat.specs.Section.{section}
 use Rattle.trace_run.specs.Context.{context_of}
 use Rattle.word_values.specs.declared.listing.Listing.{Listing}
 use Rattle.trace_run.specs.Selection.{chosen, set_or_all}
-use Rattle.trace_run.specs.Text.{text}
+use Rattle.multi_report.specs.Pieces.{text_of}
 
 -- a report's first line
 abbrev pub cpus_line : ℕ → List ℕ
-cpus_line cpus = text (codes "cpus=" ∷ decimal cpus ∷ codes "\n" ∷ [])
+cpus_line cpus = text_of (codes "cpus=" ∷ decimal cpus ∷ codes "\n" ∷ [])
 
 -- the line of an item, with its hole
 abbrev pub item_line : Given → ℕ → ItemData → LineText

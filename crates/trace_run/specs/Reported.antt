@@ -2,7 +2,6 @@
 use Rattle.std.specs.Prelude.{Option, ◌≡◌, ◌≤◌, ℕ, Bool, List, map, length, IfSome}
 use Rattle.std.specs.Option.{option_map}
 use Rattle.trace_base.specs.Layout.{IsLayout}
-use Rattle.trace_base.specs.declared.layout.Layout.{Layout}
 use Rattle.trace_base.specs.declared.part.Part.{Part}
 use Rattle.trace_outside.specs.declared.outside.File as file
 use Rattle.trace_outside.specs.declared.outside.Sink as sink
@@ -14,6 +13,8 @@ use Rattle.filter_truth.specs.declared.select.FilterUse.{FilterUse}
 use Rattle.filter_truth.specs.SelectionView.{use_of}
 use Rattle.report_print.specs.Given.{Given}
 use Rattle.trace_args.specs.Command.{ReportData}
+use Rattle.trace_run.specs.declared.report.ReportPlan.{ReportPlan}
+use Rattle.trace_run.specs.declared.report.Shown.{Shown}
 use Rattle.trace_run.specs.declared.status.Status.{Status}
 use Rattle.trace_run.specs.Allowed.{IsWorkers}
 use Rattle.trace_run.specs.Context.{context_of}
@@ -51,7 +52,7 @@ file_task words header size = record {
 abbrev pub body_task : ReportData → Header → Body → ℕ → Task
 body_task words header body size = record {
   means = body_report words header body;
-  share = body_share words.wakeups words.cpus header.end size body;
+  share = body_share words header body size;
   events = body_events words header body;
 }
 
@@ -68,12 +69,20 @@ abbrev pub chosen_task : ReportData → Header → List Part → Task
 chosen_task words header parts =
     parts_task words.calls words.wakeups (context_of words header) (chosen (set_or_all words.cpus) parts) header
 
+-- the events of what is shown of a file with these bytes
+abbrev pub events_shown : ReportPlan → Shown → List ℕ → Events
+events_shown plan shown bytes = events_on shown.form.now.context shown.parts.now plan.header.now bytes
+
+abbrev pub shown_task : ReportPlan → Shown → Task
+shown_task plan shown =
+    parts_task plan.words.now.calls plan.words.now.wakeups shown.form.now.context shown.parts.now plan.header.now
+
 -- parts that are shown are those of processors in order, and from 1 to 64 threads form their lines
-pub record IsShown (threads : ℕ) (by : Layout) (parts : List (ℕ × Part)) : Type 0 where
-  pub workers : IsWorkers threads
-  pub layout : IsLayout by
-  pub few : length parts ≤ 1024
-  pub rise : CpusRise parts
+pub record IsShown (plan : ReportPlan) (shown : Shown) : Type 0 where
+  pub workers : IsWorkers plan.words.now.workers
+  pub layout : IsLayout plan.header.now.layout
+  pub few : length shown.parts.now ≤ 1024
+  pub rise : CpusRise shown.parts.now
 
 -- what is seen at one moment: how often the file failed, how many of its bytes were read, and the output
 pub record AtWork : Type 0 where
@@ -82,7 +91,7 @@ pub record AtWork : Type 0 where
   pub out : SinkSeen
 
 abbrev pub at_work : {I O : Type 0} → file.Ghosts I → sink.Ghosts O → I → O → AtWork
-at_work i o file out = record { faults = i.faults file; reads = i.reads file; out = sink_seen o.written o.faults out }
+at_work i o file out = record { faults = i.faults file; reads = i.reads file; out = sink_seen o out }
 
 abbrev pub progress_of : AtWork → Progress
 progress_of seen = progress_at seen.out.written seen.reads

@@ -10,7 +10,7 @@ use Rattle.trace_gen.specs.GeneratedHeader.{header_but_parts}
 use Rattle.trace_gen.specs.Summary.{summary_line}
 use Rattle.trace_run.specs.Context.{context_of}
 use Rattle.trace_run.specs.Report.{report_pieces}
-use Rattle.trace_run.specs.Text.{text}
+use Rattle.multi_report.specs.Pieces.{text_of}
 
 -- the words of a report without options
 abbrev pub plain_report : ReportData
@@ -39,7 +39,7 @@ generated_items seed events = arranged (enumerate_from 0 (lists_of seed events))
 -- the report of them
 unfoldable pub generated_report : ℕ → ℕ → List ℕ
 generated_report seed events =
-    text (report_pieces header_but_parts.cpus (context_of plain_report header_but_parts) (generated_items seed events))
+    text_of (report_pieces header_but_parts.cpus (context_of plain_report header_but_parts) (generated_items seed events))
 
 -- the line that sums it up
 unfoldable pub self_test_line : SelfData → List ℕ

@@ -14,7 +14,7 @@ use Rattle.time_merge.specs.LaneRows.{parts_of}
 use Rattle.multi_report.specs.declared.report.FilesEnd.{FilesEnd}
 use Rattle.multi_report.specs.declared.report.FilesEnd.TheVariants as end
 use Rattle.multi_report.specs.declared.source.Source.{Source}
-use Rattle.multi_report.specs.Sources.{Seen, seen, given_of, IsFreshSource, IsUsable}
+use Rattle.multi_report.specs.Sources.{Seen, seen, shown_of, IsFreshSource, IsUsable}
 use Rattle.restore_tool.specs.Answers.{SomeFaulty}
 use Rattle.restore_tool.specs.Copying.{FileSeen}
 use Rattle.restore_tool.specs.Open.{OpensMany}
@@ -26,8 +26,8 @@ use Rattle.trace_run.specs.declared.status.Status.{Status}
 use Rattle.trace_run.specs.declared.status.Status.TheVariants.{Done, Refused, Malformed, ReadFault, WriteFault, NoMemory}
 use Rattle.trace_run.specs.Context.{context_of}
 use Rattle.trace_run.specs.Ending.{Ended}
-use Rattle.trace_run.specs.Input.{BehindHeader, input_share, shown_share}
-use Rattle.trace_run.specs.Inputs.{NamedInput, given_in, input_named, inputs_in, names_in, shown_parts}
+use Rattle.trace_run.specs.Input.{BehindHeader, input_share, parts_size}
+use Rattle.trace_run.specs.Inputs.{NamedInput, shown_in, input_named, inputs_in, names_in, shown_parts}
 use Rattle.time_merge.specs.Unused.{IsUnused}
 use Rattle.trace_run.specs.Meaning.{files_meaning, on_out}
 use Rattle.trace_run.specs.Naming.{IsNameIn}
@@ -84,14 +84,14 @@ IsUnread told rose status = ⊥
 
 -- what was read of it, and what its parts have
 abbrev pub reads_due : Seen → ℕ
-reads_due source = source.reads + shown_share (parts_of source.lanes)
+reads_due source = source.reads + parts_size (parts_of source.lanes)
 
 -- it is the input of this name, of which no more than the header was read
 pub record IsInput (words : ReportData) (files : NamedFiles) (name : List ℕ) (source : Seen) : Type 0 where
   pub input : NamedInput
   pub read : input_named files name ≡ Ok input
   pub told : IsSome source.told
-  pub given : given_of source ≡ given_in words input
+  pub shown : shown_of source ≡ shown_in words input
   pub reads : reads_due source ≤ input_share words input
 
 -- they are the inputs of these names, in their order
@@ -99,7 +99,7 @@ pub record AreInputs (words : ReportData) (files : NamedFiles) (names : List (Li
   pub inputs : List NamedInput
   pub read : inputs_in files names ≡ Ok inputs
   pub told : All (λ source. IsSome source.told) sources
-  pub given : map given_of sources ≡ map (given_in words) inputs
+  pub shown : map shown_of sources ≡ map (shown_in words) inputs
   pub reads : sum_by reads_due sources ≤ sum_by (input_share words) inputs
 
 -- an input was opened and stands before its first item
@@ -155,7 +155,7 @@ pub record LeavesHeld (held most : ℕ) (before now : Counts) : Type 0 where
   pub closed : now.closed ≡ raised before.closed count
 
 -- A report of several files came to its end, and these are open still.
-pub record Shown (words : ReportData) (held : List FileSeen) (status : Status) (name : List ℕ) (before now : Outside) : Type 0 where
+pub record FilesReported (words : ReportData) (held : List FileSeen) (status : Status) (name : List ℕ) (before now : Outside) : Type 0 where
   pub ended : Ended on_out (Rose before.folder.counts.reading now.folder.counts.reading ⊎ SomeFaulty held)
       (option_map (files_meaning words) before.folder.files) status before now
   pub misses : IfSome before.folder.files (λ files. MissesNothingElse (files_meaning words files) before.folder.counts now.folder.counts)
@@ -169,13 +169,13 @@ pub record Shown (words : ReportData) (held : List FileSeen) (status : Status) (
 abbrev pub OpensNext : ReportData → FolderSeen → List (List ℕ) → List ℕ → List Seen → FolderSeen → Result Unit Outcome → Type 0
 OpensNext words before names name sources now (Ok done) = AreOpened words (names ++ name ∷ []) sources before now
 OpensNext words before names name sources now (Err outcome) = (rest : List (List ℕ)) (out : SinkSeen) → names_in words ≡ names ++ name ∷ rest
-    → Shown words (map file_in sources) outcome.status outcome.file.now (beside before out) (beside now out)
+    → FilesReported words (map file_in sources) outcome.status outcome.file.now (beside before out) (beside now out)
 
 -- all inputs are open, or that is the end of the report
 abbrev pub OpensAll : ReportData → List Seen → FolderSeen → FolderSeen → Result Unit Outcome → Type 0
 OpensAll words sources before now (Ok done) = AreOpened words (names_in words) sources before now
 OpensAll words sources before now (Err outcome) = (out : SinkSeen)
-    → Shown words (map file_in sources) outcome.status outcome.file.now (beside before out) (beside now out)
+    → FilesReported words (map file_in sources) outcome.status outcome.file.now (beside before out) (beside now out)
 
 -- the answer for an end of the report
 abbrev pub status_of : FilesEnd → Status

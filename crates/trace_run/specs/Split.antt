@@ -8,15 +8,12 @@ use Rattle.dat_header.specs.declared.header.Body.{Body}
 use Rattle.dat_header.specs.declared.header.Body.TheVariants.{Latency, Fly}
 use Rattle.dat_header.specs.Written.{without_instances}
 use Rattle.time_merge.specs.declared.ending.End.{End}
-use Rattle.time_merge.specs.declared.ending.End.TheVariants as end
 use Rattle.split_pieces.specs.Cuts.{file_items}
 use Rattle.subpage.specs.Arrangement.{Keyed}
 use Rattle.split_tool.specs.Rules.{rules_of}
 use Rattle.split_tool.specs.NewFiles.{new_files, end_of}
 use Rattle.new_files.specs.Stored.{NewFile}
 use Rattle.trace_run.specs.Selection.{chosen, one_or_all}
-use Rattle.trace_run.specs.declared.status.Status.{Status}
-use Rattle.trace_run.specs.declared.status.Status.TheVariants.{Done, Malformed, ReadFault, WriteFault}
 
 -- the processors that a split takes; a latency file has data of none
 abbrev pub taken_of : Option ℕ → Body → List (ℕ × Part)
@@ -34,10 +31,3 @@ split_end words header bytes = end_of words (without_instances header) bytes (ta
 -- the items of each new file, in order
 abbrev pub split_items : SplitData → Header → List ℕ → List (List Keyed)
 split_items words header bytes = file_items (rules_of words) header.layout bytes (taken_of words.cpu header.body)
-
--- the answer of a run for the answer of a split
-abbrev pub status_of : End → Status
-status_of end.Done = Done
-status_of (end.Malformed cpu page) = Malformed cpu page
-status_of end.Read = ReadFault
-status_of end.Write = WriteFault

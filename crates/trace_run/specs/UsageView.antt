@@ -1,6 +1,9 @@
 -- Why it is not known what the words ask for.
-use Rattle.std.specs.Prelude.{◌≡◌, Result, Err}
+use Rattle.std.specs.Prelude.{◌≡◌, ℕ, Result, Err}
+use Rattle.filter_lang.specs.declared.fault.FilterFault.{FilterFault}
+use Rattle.filter_lang.specs.declared.fault.FilterFault.TheVariants as code
 use Rattle.trace_run.specs.declared.usage.UsageFault.{UsageFault}
+use Rattle.trace_run.specs.declared.usage.UsageFault.TheVariants.{Filter}
 use Rattle.trace_run.specs.declared.usage.AskFault.{AskFault}
 use Rattle.trace_run.specs.declared.usage.AskFault.TheVariants.{Usage, Memory}
 
@@ -8,3 +11,8 @@ use Rattle.trace_run.specs.declared.usage.AskFault.TheVariants.{Usage, Memory}
 abbrev pub IsFaultOf : {A : Type 0} → Result A UsageFault → AskFault → Type 0
 IsFaultOf read (Usage fault) = read ≡ Err fault
 IsFaultOf read Memory = Unit {0}
+
+-- the fault of the filter of a word
+abbrev pub ask_fault : ℕ → FilterFault → AskFault
+ask_fault word (code.At place) = Usage (Filter word place)
+ask_fault word code.Memory = Memory

@@ -1,7 +1,7 @@
 // The function graph, printed in place of the events.
 
 ghost use Rattle.std.specs.Option.{option_map};
-ghost use Rattle.std.specs.Prelude.{◌≡◌, ◌≤◌, [], Err, length, sum_by, IfOk, IfSome, OnOk, OnErr};
+ghost use Rattle.std.specs.Prelude.{◌≡◌, ◌≤◌, [], Err, length, IfOk, IfSome, OnOk, OnErr};
 ghost use Rattle.trace_base.specs.Layout.{IsLayout};
 ghost use Rattle.trace_outside.specs.Causes.{HasCause, Rose, raised};
 ghost use Rattle.trace_outside.specs.Pending.{PutsText, on_way};
@@ -12,10 +12,10 @@ ghost use Rattle.graph_report.specs.Gathered.{cut_place, reached_calls};
 ghost use Rattle.trace_run.specs.Calls as spec;
 ghost use Rattle.trace_run.specs.Calls.{called_text};
 ghost use Rattle.trace_run.specs.Ending.{Prints};
+ghost use Rattle.trace_run.specs.Input.{parts_size};
 ghost use Rattle.trace_run.specs.Meaning.{calls_report};
 ghost use Rattle.trace_run.specs.Outside.{sink_seen};
-ghost use Rattle.trace_run.specs.Report.{events_on};
-ghost use Rattle.trace_run.specs.Reported.{IsShown};
+ghost use Rattle.trace_run.specs.Reported.{IsShown, events_shown};
 
 use crate::events::line_buffer;
 use crate::lines::put_cpus;
@@ -33,18 +33,18 @@ use trace_outside::{Failed, File, Pending, Sink};
 /// Prints the first line of a report, and behind it the calls of the reached items of the parts that are shown. All memory is
 /// taken and all calls are gathered before the first byte.
 pub(crate) fn print_calls<I: File, O: Sink>(
+    alloc: Global,
     plan: &ReportPlan<'_, '_>,
     shown: &Shown<'_>,
     file: &mut I,
     out: &mut O,
 ) -> Status
-    requires { IsShown plan.now.words.now.workers plan.now.header.now.layout shown.now.parts.now }
+    requires { IsShown plan.now shown.now }
     ensures prints { Prints (Rose (I.faults file.old) (I.faults file.new))
-        (option_map (λ bytes. calls_report (events_on shown.now.form.now.context shown.now.parts.now plan.now.header.now bytes)) (I.bytes file.old)) result
-        (sink_seen O.written O.faults out.old) (sink_seen O.written O.faults out.new) }
-    ensures reads { I.reads file.new ≤ raised (I.reads file.old) (sum_by (λ part. part.1.size) shown.now.parts.now) }
+        (option_map (λ bytes. calls_report (events_shown plan.now shown.now bytes)) (I.bytes file.old)) result
+        (sink_seen O.Sink out.old) (sink_seen O.Sink out.new) }
+    ensures reads { I.reads file.new ≤ raised (I.reads file.old) (parts_size shown.now.parts.now) }
 {
-    let alloc = plan.alloc;
     let header = plan.header;
     let context = &shown.form.context;
     let (Ok(mut buffer), Ok(mut pending)) = (line_buffer(alloc), Pending::new(alloc)) else {
@@ -76,7 +76,7 @@ fn gathered<I: File>(
     ensures list { IfSome (I.bytes file.old) (λ bytes. IfOk result (λ calls. calls.list.items ≡ reached_calls context.now layout.now bytes chosen.now)) }
     ensures cut { IfSome (I.bytes file.old) (λ bytes. IfOk result (λ calls. calls.cut ≡ cut_place (cut_of layout.now bytes chosen.now))) }
     ensures read { result ≡ Err CallsFault.Read → Rose (I.faults file.old) (I.faults file.new) }
-    ensures reads { I.reads file.new ≤ raised (I.reads file.old) (sum_by (λ part. part.1.size) chosen.now) }
+    ensures reads { I.reads file.new ≤ raised (I.reads file.old) (parts_size chosen.now) }
 {
     // No lines are kept.
     let Ok(mut pool) = Pool::new(alloc, chosen.len() as u32, layout.page, 0) else {

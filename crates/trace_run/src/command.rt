@@ -12,10 +12,8 @@ ghost use Rattle.trace_run.specs.Input.{ReadsDue, ReadsInput, events_of, input_t
 ghost use Rattle.trace_run.specs.Job.{OnFile, command_view, job_view};
 ghost use Rattle.trace_run.specs.Meaning as spec;
 ghost use Rattle.trace_run.specs.Meaning.{header_means, input_means};
-ghost use Rattle.trace_run.specs.Messages.{IsNameOf};
-ghost use Rattle.trace_run.specs.Naming.{NamesInput};
-ghost use Rattle.trace_run.specs.Unread.{NamesUnread};
-ghost use Rattle.trace_run.specs.Outside.{beside, folder_seen, sink_seen};
+ghost use Rattle.trace_run.specs.Naming.{IsNamed};
+ghost use Rattle.trace_run.specs.Outside.{folder_seen, outside_seen};
 ghost use Rattle.trace_run.specs.Ran.{Ran};
 ghost use Rattle.trace_run.specs.Usage.{command_filters, job_filters, uses_in};
 ghost use Rattle.trace_run.specs.Work.{Worked};
@@ -24,6 +22,7 @@ ghost use Rattle.filter_truth.specs.SelectionView.{use_of};
 use crate::dump::print_dump;
 use crate::job::{FileCommand, Job};
 use crate::report::{ReportPlan, print_report};
+use crate::resources::Resources;
 use crate::restore::restore_files;
 use crate::selftest::print_self_test;
 use crate::several::print_files;
@@ -31,7 +30,6 @@ use crate::split::cut_file;
 use crate::status::Status;
 use dat_header::{Header, OpenFault, read_header};
 use filter_truth::FilterUse;
-use std::alloc::Global;
 use std::thread::Threads;
 use trace_outside::{Failed, Folder, Gate, Sink};
 
@@ -55,61 +53,50 @@ fn input_of<'a>(command: &FileCommand<'a>) -> &'a str
 
 /// Does one job on the files of the folder. The filters are those of its words.
 pub(crate) fn run_job<'a, R: Threads + Sync, F: Folder, O: Sink, G: Gate>(
-    rt: &R,
-    alloc: Global,
+    resources: &Resources<'_, R, G>,
     job: &Job<'a>,
     filters: Vec<FilterUse>,
     folder: &mut F,
     out: &mut O,
-    gate: &G,
 ) -> Outcome<'a>
     requires allowed { IsAllowedJob (job_view job.now) }
     requires filters { uses_in (job_filters (job_view job.now)) ≡ map use_of filters.items }
     ensures ran { Ran (Ok (job_view job.now)) result.status
-        (beside (folder_seen F.files F.counts folder.old) (sink_seen O.written O.faults out.old))
-        (beside (folder_seen F.files F.counts folder.new) (sink_seen O.written O.faults out.new)) }
-    ensures named { IsNameOf (job_view job.now) result.status result.file.now }
-    ensures input { NamesInput (job_view job.now) (F.files folder.old) result.status result.file.now }
-    ensures unread { NamesUnread (job_view job.now) result.status (folder_seen F.files F.counts folder.old) (folder_seen F.files F.counts folder.new) result.file.now }
+        (outside_seen F.Folder O.Sink folder.old out.old) (outside_seen F.Folder O.Sink folder.new out.new) }
+    ensures named { IsNamed (job_view job.now) result.status (folder_seen F.Folder folder.old) (folder_seen F.Folder folder.new) result.file.now }
 {
     match job {
         Job::OnFile(command) => {
-            let status = run_command(rt, alloc, command, filters, folder, out, gate);
+            let status = run_command(resources, command, filters, folder, out);
             let file = input_of(command);
             Outcome { status, file }
         }
-        Job::OnFiles(words) => print_files(alloc, words, folder, out),
+        Job::OnFiles(words) => print_files(resources.alloc, words, folder, out),
         Job::SelfTest(words) => {
-            let status = print_self_test(rt, alloc, words, out, gate);
+            let status = print_self_test(resources, words, out);
             Outcome { status, file: "" }
         }
-        Job::Restore(words) => {
-            let (status, file) = restore_files(alloc, words, folder);
-            Outcome { status, file }
-        }
+        Job::Restore(words) => restore_files(resources.alloc, words, folder),
     }
 }
 
 // Does one command on a file of the folder.
 fn run_command<R: Threads + Sync, F: Folder, O: Sink, G: Gate>(
-    rt: &R,
-    alloc: Global,
+    resources: &Resources<'_, R, G>,
     command: &FileCommand<'_>,
     filters: Vec<FilterUse>,
     folder: &mut F,
     out: &mut O,
-    gate: &G,
 ) -> Status
     requires allowed { IsAllowed (command_view command.now) }
     requires filters { uses_in (command_filters (command_view command.now)) ≡ map use_of filters.items }
     ensures { Ran (Ok (OnFile (command_view command.now))) result
-        (beside (folder_seen F.files F.counts folder.old) (sink_seen O.written O.faults out.old))
-        (beside (folder_seen F.files F.counts folder.new) (sink_seen O.written O.faults out.new)) }
+        (outside_seen F.Folder O.Sink folder.old out.old) (outside_seen F.Folder O.Sink folder.new out.new) }
 {
     match folder.open_file(input_of(command)) {
         Err(Failed) => Status::ReadFault,
         Ok(mut file) => {
-            let status = run_on_file(rt, alloc, command, filters, &mut file, folder, out, gate);
+            let status = run_on_file(resources, command, filters, &mut file, folder, out);
             folder.close_file(file);
             status
         }
@@ -118,28 +105,23 @@ fn run_command<R: Threads + Sync, F: Folder, O: Sink, G: Gate>(
 
 // Does a command on a file that was just opened. Its header is read once.
 fn run_on_file<R: Threads + Sync, F: Folder, O: Sink, G: Gate>(
-    rt: &R,
-    alloc: Global,
+    resources: &Resources<'_, R, G>,
     command: &FileCommand<'_>,
     filters: Vec<FilterUse>,
     file: &mut F::In,
     folder: &mut F,
     out: &mut O,
-    gate: &G,
 ) -> Status
     requires allowed { IsAllowed (command_view command.now) }
     requires filters { uses_in (command_filters (command_view command.now)) ≡ map use_of filters.items }
     ensures worked { Worked (command_view command.now) (Rose (F.In.faults file.old) (F.In.faults file.new))
         (option_map (input_means (command_view command.now)) (F.In.bytes file.old)) result
-        (beside (folder_seen F.files F.counts folder.old) (sink_seen O.written O.faults out.old))
-        (beside (folder_seen F.files F.counts folder.new) (sink_seen O.written O.faults out.new)) }
+        (outside_seen F.Folder O.Sink folder.old out.old) (outside_seen F.Folder O.Sink folder.new out.new) }
     ensures reads { ReadsInput (input_told (command_view command.now) (F.In.bytes file.old)) result
         (progress_at (O.written out.old) (F.In.reads file.old)) (progress_at (O.written out.new) (F.In.reads file.new)) }
 {
-    match read_header(alloc, file) {
-        Ok(header) => {
-            run_on_header(rt, alloc, command, filters, header, file, folder, out, gate)
-        }
+    match read_header(resources.alloc, file) {
+        Ok(header) => run_on_header(resources, command, filters, header, file, folder, out),
         Err(OpenFault::Read) => Status::ReadFault,
         Err(OpenFault::Memory) => Status::NoMemory,
         Err(fault) => Status::Refused(fault),
@@ -149,15 +131,13 @@ fn run_on_file<R: Threads + Sync, F: Folder, O: Sink, G: Gate>(
 // Does a command on a file that has this header. A command that only prints is a function over the file and the output,
 // and one that makes files a function over the file and the folder.
 fn run_on_header<R: Threads + Sync, F: Folder, O: Sink, G: Gate>(
-    rt: &R,
-    alloc: Global,
+    resources: &Resources<'_, R, G>,
     command: &FileCommand<'_>,
     filters: Vec<FilterUse>,
     header: Header,
     file: &mut F::In,
     folder: &mut F,
     out: &mut O,
-    gate: &G,
 ) -> Status
     requires words { IsAllowed (command_view command.now) }
     requires filters { uses_in (command_filters (command_view command.now)) ≡ map use_of filters.items }
@@ -167,8 +147,7 @@ fn run_on_header<R: Threads + Sync, F: Folder, O: Sink, G: Gate>(
     requires inside { header.end ≤ F.In.size file.old }
     ensures worked { Worked (command_view command.now) (Rose (F.In.faults file.old) (F.In.faults file.new))
         (option_map (header_means (command_view command.now) header) (F.In.bytes file.old)) result
-        (beside (folder_seen F.files F.counts folder.old) (sink_seen O.written O.faults out.old))
-        (beside (folder_seen F.files F.counts folder.new) (sink_seen O.written O.faults out.new)) }
+        (outside_seen F.Folder O.Sink folder.old out.old) (outside_seen F.Folder O.Sink folder.new out.new) }
     ensures reads { F.In.reads file.new ≤ raised (F.In.reads file.old) (share (command_view command.now) header (F.In.size file.old)) }
     ensures due { IfSome (F.In.bytes file.old) (λ bytes. IfSome (events_of (command_view command.now) header bytes)
         (λ events. ReadsDue events 0 (progress_at (O.written out.old) (F.In.reads file.old)) (progress_at (O.written out.new) (F.In.reads file.new)))) }
@@ -176,13 +155,12 @@ fn run_on_header<R: Threads + Sync, F: Folder, O: Sink, G: Gate>(
     match command {
         FileCommand::Report(words) => {
             let plan = ReportPlan {
-                alloc,
                 words,
                 header: &header,
             };
-            print_report(rt, &plan, filters, file, out, gate)
+            print_report(resources, &plan, filters, file, out)
         }
-        FileCommand::Dump(words) => print_dump(alloc, words, &header, out),
-        FileCommand::Split(words) => cut_file(alloc, words, header, file, folder),
+        FileCommand::Dump(words) => print_dump(resources.alloc, words, &header, out),
+        FileCommand::Split(words) => cut_file(resources.alloc, words, header, file, folder),
     }
 }

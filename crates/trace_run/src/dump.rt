@@ -17,7 +17,7 @@ pub(crate) fn print_dump<O: Sink>(
     header: &Header,
     out: &mut O,
 ) -> Status
-    ensures { Prints ⊥ (Some (dump_of (dump_view words.now) header.now)) result (sink_seen O.written O.faults out.old) (sink_seen O.written O.faults out.new) }
+    ensures { Prints ⊥ (Some (dump_of (dump_view words.now) header.now)) result (sink_seen O.Sink out.old) (sink_seen O.Sink out.new) }
 {
     let Ok(mut pending) = Pending::new(alloc) else {
         return Status::NoMemory;

@@ -1,23 +1,23 @@
 // A report of events: the lines of the items, and behind them how long woken tasks waited.
 
 ghost use Rattle.std.specs.Option.{option_map};
-ghost use Rattle.std.specs.Prelude.{◌≡◌, ◌≤◌, ◌*◌, [], length, sum_by, true, IfNone, IfOk, IfSome, OnOk, OnErr};
+ghost use Rattle.std.specs.Prelude.{◌≡◌, ◌≤◌, ◌*◌, [], length, true, IfNone, IfOk, IfSome, OnOk, OnErr};
 ghost use Rattle.trace_outside.specs.Causes.{HasCause, Rose, raised};
 ghost use Rattle.trace_outside.specs.Writing.{Gained, GainedPrefix};
 ghost use Rattle.wakeup_lat.specs.Section.{section};
 ghost use Rattle.trace_run.specs.Ending.{Prints};
-ghost use Rattle.trace_run.specs.Input.{ReadsDue, progress_at};
+ghost use Rattle.trace_run.specs.Ends.{status_of};
+ghost use Rattle.trace_run.specs.Input.{ReadsDue, parts_size, progress_at};
 ghost use Rattle.trace_run.specs.Meaning.{events_report, shown_report};
 ghost use Rattle.trace_run.specs.Outside.{sink_seen};
-ghost use Rattle.trace_run.specs.Output as spec;
 ghost use Rattle.trace_run.specs.Output.{Shows, WritesFor};
-ghost use Rattle.trace_run.specs.Report.{cpus_line, events_on};
-ghost use Rattle.trace_run.specs.Reported.{IsShown};
-ghost use Rattle.trace_run.specs.Split as ends;
+ghost use Rattle.trace_run.specs.Report.{cpus_line};
+ghost use Rattle.trace_run.specs.Reported.{IsShown, events_shown};
 
-use crate::ends::status_of;
+use crate::ends::{is_whole, status_of};
 use crate::lines::{LINES_ROOM, put_cpus};
 use crate::report::{ReportPlan, Shown};
+use crate::resources::Resources;
 use crate::status::Status;
 use least_tree::LeastTree;
 use page_pool::Pool;
@@ -33,25 +33,24 @@ use wakeup_pairs::Wakeups;
 /// Prints the first line, and behind it the lines of the processors' items in the order in which they happened. All memory
 /// is taken before; `None`: there was none, and nothing was done.
 pub(crate) fn print_lines<R: Threads + Sync, I: File, O: Sink, G: Gate>(
-    rt: &R,
+    resources: &Resources<'_, R, G>,
     plan: &ReportPlan<'_, '_>,
     shown: &Shown<'_>,
     file: &mut I,
     out: &mut O,
-    gate: &G,
 ) -> Option<End>
-    requires { IsShown plan.now.words.now.workers plan.now.header.now.layout shown.now.parts.now }
-    ensures writes { IfSome result (λ end. WritesFor (λ bytes. events_report (events_on shown.now.form.now.context shown.now.parts.now plan.now.header.now bytes))
-        (I.bytes file.old) (ends.status_of end) (O.written out.old) (O.written out.new)) }
-    ensures shows { IfSome result (λ end. Shows (Rose (I.faults file.old) (I.faults file.new)) (ends.status_of end)
-        (sink_seen O.written O.faults out.old) (sink_seen O.written O.faults out.new)) }
-    ensures untouched { IfNone result (sink_seen O.written O.faults out.new ≡ sink_seen O.written O.faults out.old) }
+    requires { IsShown plan.now shown.now }
+    ensures writes { IfSome result (λ end. WritesFor (λ bytes. events_report (events_shown plan.now shown.now bytes))
+        (I.bytes file.old) (status_of end) (O.written out.old) (O.written out.new)) }
+    ensures shows { IfSome result (λ end. Shows (Rose (I.faults file.old) (I.faults file.new)) (status_of end)
+        (sink_seen O.Sink out.old) (sink_seen O.Sink out.new)) }
+    ensures untouched { IfNone result (sink_seen O.Sink out.new ≡ sink_seen O.Sink out.old) }
     ensures out_later { O.faults out.old ≤ O.faults out.new }
-    ensures reads { I.reads file.new ≤ raised (I.reads file.old) (sum_by (λ part. part.1.size) shown.now.parts.now) }
-    ensures due { IfSome (I.bytes file.old) (λ bytes. ReadsDue (events_on shown.now.form.now.context shown.now.parts.now plan.now.header.now bytes) 0
+    ensures reads { I.reads file.new ≤ raised (I.reads file.old) (parts_size shown.now.parts.now) }
+    ensures due { IfSome (I.bytes file.old) (λ bytes. ReadsDue (events_shown plan.now shown.now bytes) 0
         (progress_at (O.written out.old) (I.reads file.old)) (progress_at (O.written out.new) (I.reads file.new))) }
 {
-    let alloc = plan.alloc;
+    let alloc = resources.alloc;
     let header = plan.header;
     let count = shown.parts.len() as u32;
     let (Ok(mut pool), Ok(mut heads), Ok(mut pending)) = (
@@ -69,13 +68,13 @@ pub(crate) fn print_lines<R: Threads + Sync, I: File, O: Sink, G: Gate>(
     }
     let layout = &header.layout;
     Some(report_rounds(
-        rt,
+        resources.rt,
         shown.form,
         layout,
         file,
         lanes,
         plan.words.workers,
-        gate,
+        resources.gate,
         &mut heads,
         &mut pending,
         out,
@@ -85,20 +84,19 @@ pub(crate) fn print_lines<R: Threads + Sync, I: File, O: Sink, G: Gate>(
 /// Prints the same, and behind it how long woken tasks waited. This is gathered before, in a pass of its own over the file,
 /// and all memory is taken before the first line.
 pub(crate) fn print_waits<R: Threads + Sync, I: File, O: Sink, G: Gate>(
-    rt: &R,
+    resources: &Resources<'_, R, G>,
     plan: &ReportPlan<'_, '_>,
     shown: &Shown<'_>,
     file: &mut I,
     out: &mut O,
-    gate: &G,
 ) -> Status
-    requires { IsShown plan.now.words.now.workers plan.now.header.now.layout shown.now.parts.now }
+    requires { IsShown plan.now shown.now }
     ensures prints { Prints (Rose (I.faults file.old) (I.faults file.new))
-        (option_map (λ bytes. shown_report true (events_on shown.now.form.now.context shown.now.parts.now plan.now.header.now bytes)) (I.bytes file.old)) result
-        (sink_seen O.written O.faults out.old) (sink_seen O.written O.faults out.new) }
-    ensures reads { I.reads file.new ≤ raised (I.reads file.old) (2 * sum_by (λ part. part.1.size) shown.now.parts.now) }
+        (option_map (λ bytes. shown_report true (events_shown plan.now shown.now bytes)) (I.bytes file.old)) result
+        (sink_seen O.Sink out.old) (sink_seen O.Sink out.new) }
+    ensures reads { I.reads file.new ≤ raised (I.reads file.old) (2 * parts_size shown.now.parts.now) }
 {
-    let alloc = plan.alloc;
+    let alloc = resources.alloc;
     let context = &shown.form.context;
     let wakeups = match gather(alloc, context, &plan.header.layout, file, shown.parts) {
         Ok(wakeups) => wakeups,
@@ -108,7 +106,7 @@ pub(crate) fn print_waits<R: Threads + Sync, I: File, O: Sink, G: Gate>(
     let (Ok(mut buffer), Ok(mut pending)) = (line_buffer(alloc), Pending::new(alloc)) else {
         return Status::NoMemory;
     };
-    let Some(end) = print_lines(rt, plan, shown, file, out, gate) else {
+    let Some(end) = print_lines(resources, plan, shown, file, out) else {
         return Status::NoMemory;
     };
     if !is_whole(end) {
@@ -125,16 +123,6 @@ pub(crate) fn line_buffer(alloc: Global) -> Result<Vec<u8>, AllocError>
     ensures { IfOk result (λ buffer. length buffer.items ≡ 65537) }
 {
     vec![in alloc; 0; 65_537]
-}
-
-// Whether all lines were written.
-fn is_whole(end: End) -> bool
-    ensures { result ≡ spec.is_whole end }
-{
-    match end {
-        End::Done | End::Malformed { .. } => true,
-        End::Read | End::Write => false,
-    }
 }
 
 // Prints the section of the latencies. Nothing waits behind it.

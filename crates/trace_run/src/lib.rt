@@ -13,6 +13,7 @@ mod lines;
 mod list;
 mod messages;
 mod report;
+mod resources;
 mod restore;
 mod selection;
 mod selftest;

@@ -26,7 +26,7 @@ pub(crate) fn print_list<O: Sink>(
     header: &Header,
     out: &mut O,
 ) -> Status
-    ensures { Prints ⊥ (Some (list_report header.now list)) result (sink_seen O.written O.faults out.old) (sink_seen O.written O.faults out.new) }
+    ensures { Prints ⊥ (Some (list_report header.now list)) result (sink_seen O.Sink out.old) (sink_seen O.Sink out.new) }
 {
     let Ok(formats) = read_formats(alloc, header) else {
         return Status::NoMemory;

@@ -1,8 +1,9 @@
 ghost use Rattle.std.specs.Prelude.{◌≡◌, ◌≤◌, [], ◌∷◌, codes, length};
 ghost use Rattle.std.specs.List.{flat_map};
-ghost use Rattle.trace_run.specs.Text.{text};
+ghost use Rattle.multi_report.specs.Pieces.{text_of};
 ghost use Rattle.trace_run.specs.Messages as spec;
 ghost use Rattle.trace_run.specs.Messages.{message, usage_line, fault_text, fault_place, Says};
+ghost use Rattle.trace_run.specs.Outside.{sink_seen};
 
 use crate::status::Status;
 use crate::usage::UsageFault;
@@ -14,7 +15,7 @@ use trace_outside::{Sink, write_parts};
 
 /// Says the line of the answer, of an input of this name. Nothing is said of `Done`.
 pub(crate) fn say<E: Sink>(input: &str, status: Status, err: &mut E)
-    ensures { Says (message input.now status) (E.written err.old) (E.written err.new) (E.faults err.old) (E.faults err.new) }
+    ensures { Says (message input.now status) (sink_seen E.Sink err.old) (sink_seen E.Sink err.new) }
 {
     let input = input.as_bytes();
     match status {
@@ -32,7 +33,7 @@ pub(crate) fn say<E: Sink>(input: &str, status: Status, err: &mut E)
 
 /// Says what is wrong with the words, or with a filter of theirs.
 pub(crate) fn say_usage<E: Sink>(fault: UsageFault, err: &mut E)
-    ensures { Says (usage_line fault) (E.written err.old) (E.written err.new) (E.faults err.old) (E.faults err.new) }
+    ensures { Says (usage_line fault) (sink_seen E.Sink err.old) (sink_seen E.Sink err.new) }
 {
     match fault {
         UsageFault::Word(fault) => say_word(fault, err),
@@ -41,7 +42,7 @@ pub(crate) fn say_usage<E: Sink>(fault: UsageFault, err: &mut E)
 }
 
 fn say_word<E: Sink>(fault: WordFault, err: &mut E)
-    ensures { Says (usage_line (UsageFault.Word fault)) (E.written err.old) (E.written err.new) (E.faults err.old) (E.faults err.new) }
+    ensures { Says (usage_line (UsageFault.Word fault)) (sink_seen E.Sink err.old) (sink_seen E.Sink err.new) }
 {
     let mut digits = Buffer::new();
     let word = digits.format(fault.word).as_bytes();
@@ -58,7 +59,7 @@ fn say_word<E: Sink>(fault: WordFault, err: &mut E)
 }
 
 fn say_filter<E: Sink>(word: u64, place: u64, err: &mut E)
-    ensures { Says (usage_line (UsageFault.Filter word place)) (E.written err.old) (E.written err.new) (E.faults err.old) (E.faults err.new) }
+    ensures { Says (usage_line (UsageFault.Filter word place)) (sink_seen E.Sink err.old) (sink_seen E.Sink err.new) }
 {
     let mut word_digits = Buffer::new();
     let mut place_digits = Buffer::new();
@@ -78,8 +79,8 @@ fn say_filter<E: Sink>(word: u64, place: u64, err: &mut E)
 
 // Says this of an input.
 fn say_of<'a, E: Sink>(input: &'a [u8], what: &'a [u8], err: &mut E)
-    ensures { Says (text (codes "trace-cmd: " ∷ input.now ∷ codes ": " ∷ what.now ∷ codes "\n" ∷ []))
-        (E.written err.old) (E.written err.new) (E.faults err.old) (E.faults err.new) }
+    ensures { Says (text_of (codes "trace-cmd: " ∷ input.now ∷ codes ": " ∷ what.now ∷ codes "\n" ∷ []))
+        (sink_seen E.Sink err.old) (sink_seen E.Sink err.new) }
 {
     let parts: [&'a [u8]; 5] = [b"trace-cmd: ", input, b": ", what, b"\n"];
     say_parts(&parts, err)
@@ -93,9 +94,9 @@ fn refused_text(fault: OpenFault) -> ArrayString<LONGEST>
 {
     let mut digits = Buffer::new();
     let mut what = ArrayString::new();
-    what.push_str(text_of(fault));
+    what.push_str(fault_text(fault));
     what.push_str(" at byte ");
-    what.push_str(digits.format(place_of(fault)));
+    what.push_str(digits.format(fault_place(fault)));
     what
 }
 
@@ -114,12 +115,12 @@ fn malformed_text(cpu: u32, page: u64) -> ArrayString<LONGEST>
 
 // A fault of the message's own sink changes nothing else.
 fn say_parts<E: Sink>(parts: &[&[u8]], err: &mut E)
-    ensures { Says (flat_map (λ part. part.now) parts.now) (E.written err.old) (E.written err.new) (E.faults err.old) (E.faults err.new) }
+    ensures { Says (flat_map (λ part. part.now) parts.now) (sink_seen E.Sink err.old) (sink_seen E.Sink err.new) }
 {
     let _ = write_parts(err, parts);
 }
 
-fn text_of(fault: OpenFault) -> &'static str
+fn fault_text(fault: OpenFault) -> &'static str
     ensures value { result.now ≡ fault_text fault }
     ensures short { length result.now ≤ 22 }
 {
@@ -138,7 +139,7 @@ fn text_of(fault: OpenFault) -> &'static str
     }
 }
 
-fn place_of(fault: OpenFault) -> u64
+fn fault_place(fault: OpenFault) -> u64
     ensures { result ≡ fault_place fault }
 {
     match fault {

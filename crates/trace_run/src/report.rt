@@ -6,15 +6,15 @@ ghost use Rattle.trace_args.specs.Command.{report_view};
 ghost use Rattle.trace_run.specs.Ending.{Prints};
 ghost use Rattle.trace_run.specs.Meaning.{latency_report};
 ghost use Rattle.trace_run.specs.Outside.{sink_seen};
-ghost use Rattle.trace_run.specs.Output.{status_or_memory};
-ghost use Rattle.trace_run.specs.Reported.{IsAsked, IsShown, Reported, at_work, body_task, chosen_task, file_task, parts_task};
+ghost use Rattle.trace_run.specs.Reported.{IsAsked, IsShown, Reported, at_work, body_task, chosen_task, file_task, shown_task};
 
 use crate::calls::print_calls;
 use crate::context::context_of;
-use crate::ends::status_of;
+use crate::ends::status_or_memory;
 use crate::events::{print_cpus, print_lines, print_waits};
 use crate::lines::ItemLines;
 use crate::list::print_list;
+use crate::resources::Resources;
 use crate::selection::Selection;
 use crate::status::Status;
 use dat_header::{Body, Header};
@@ -22,7 +22,6 @@ use filter_truth::FilterUse;
 use new_files::{CopyFault, copy_rest};
 use std::alloc::{AllocError, Global};
 use std::thread::Threads;
-use time_merge::End;
 use trace_args::ReportWords;
 use trace_base::Part;
 use trace_outside::{Failed, File, Gate, Pending, Sink};
@@ -30,7 +29,6 @@ use trace_outside::{Failed, File, Gate, Pending, Sink};
 /// A report of one file: what it is asked for, and what the file's header says.
 #[derive(Clone, Copy)]
 pub(crate) struct ReportPlan<'a, 'w> {
-    pub(crate) alloc: Global,
     pub(crate) words: &'a ReportWords<'w>,
     pub(crate) header: &'a Header,
 }
@@ -44,12 +42,11 @@ pub(crate) struct Shown<'a> {
 
 /// Prints the report of a file: the events, or the calls or the list that the words ask for.
 pub(crate) fn print_report<R: Threads + Sync, I: File, O: Sink, G: Gate>(
-    rt: &R,
+    resources: &Resources<'_, R, G>,
     plan: &ReportPlan<'_, '_>,
     filters: Vec<FilterUse>,
     file: &mut I,
     out: &mut O,
-    gate: &G,
 ) -> Status
     requires asked { IsAsked (report_view plan.now.words.now) filters.items plan.now.header.now }
     requires inside { plan.now.header.now.end ≤ I.size file.old }
@@ -59,19 +56,18 @@ pub(crate) fn print_report<R: Threads + Sync, I: File, O: Sink, G: Gate>(
         (at_work I.File O.Sink file.old out.old) (at_work I.File O.Sink file.new out.new) }
 {
     match plan.words.list {
-        None => print_events(rt, plan, filters, file, out, gate),
-        Some(list) => print_list(plan.alloc, list, plan.header, out),
+        None => print_events(resources, plan, filters, file, out),
+        Some(list) => print_list(resources.alloc, list, plan.header, out),
     }
 }
 
 // Prints the events of a file or the calls among them, or the rest of a latency file.
 fn print_events<R: Threads + Sync, I: File, O: Sink, G: Gate>(
-    rt: &R,
+    resources: &Resources<'_, R, G>,
     plan: &ReportPlan<'_, '_>,
     filters: Vec<FilterUse>,
     file: &mut I,
     out: &mut O,
-    gate: &G,
 ) -> Status
     requires asked { IsAsked (report_view plan.now.words.now) filters.items plan.now.header.now }
     requires inside { plan.now.header.now.end ≤ I.size file.old }
@@ -82,30 +78,30 @@ fn print_events<R: Threads + Sync, I: File, O: Sink, G: Gate>(
 {
     let header = plan.header;
     match &header.body {
-        Body::Latency => print_latency(plan.alloc, header.cpus, header.end, file, out),
-        Body::Fly(parts) => print_parts(rt, plan, filters, parts.as_slice(), file, out, gate),
+        Body::Latency => print_latency(resources.alloc, header.cpus, header.end, file, out),
+        Body::Fly(parts) => print_parts(resources, plan, filters, parts.as_slice(), file, out),
     }
 }
 
 // Prints the events of processors' parts, or in their place the calls among them.
 fn print_parts<R: Threads + Sync, I: File, O: Sink, G: Gate>(
-    rt: &R,
+    resources: &Resources<'_, R, G>,
     plan: &ReportPlan<'_, '_>,
     filters: Vec<FilterUse>,
     parts: &[Part],
     file: &mut I,
     out: &mut O,
-    gate: &G,
 ) -> Status
     requires asked { IsAsked (report_view plan.now.words.now) filters.items plan.now.header.now }
     requires few { length parts.now ≤ 1024 }
     ensures { Reported (chosen_task (report_view plan.now.words.now) plan.now.header.now parts.now) (I.bytes file.old) result
         (at_work I.File O.Sink file.old out.old) (at_work I.File O.Sink file.new out.new) }
 {
-    let Ok(context) = context_of(plan.alloc, plan.words, filters, plan.header) else {
+    let alloc = resources.alloc;
+    let Ok(context) = context_of(alloc, plan.words, filters, plan.header) else {
         return Status::NoMemory;
     };
-    let Ok(chosen) = Selection::set_or_all(&plan.words.cpus).chosen(plan.alloc, parts) else {
+    let Ok(chosen) = Selection::set_or_all(&plan.words.cpus).chosen(alloc, parts) else {
         return Status::NoMemory;
     };
     let form = ItemLines { context };
@@ -113,31 +109,30 @@ fn print_parts<R: Threads + Sync, I: File, O: Sink, G: Gate>(
         form: &form,
         parts: chosen.as_slice(),
     };
-    print_shown(rt, plan, &shown, file, out, gate)
+    print_shown(resources, plan, &shown, file, out)
 }
 
 // Prints what is shown: the calls, or the lines of the items, and behind these the latencies, as the words ask.
 fn print_shown<R: Threads + Sync, I: File, O: Sink, G: Gate>(
-    rt: &R,
+    resources: &Resources<'_, R, G>,
     plan: &ReportPlan<'_, '_>,
     shown: &Shown<'_>,
     file: &mut I,
     out: &mut O,
-    gate: &G,
 ) -> Status
-    requires shown { IsShown plan.now.words.now.workers plan.now.header.now.layout shown.now.parts.now }
-    ensures { Reported (parts_task plan.now.words.now.calls plan.now.words.now.wakeups shown.now.form.now.context shown.now.parts.now plan.now.header.now) (I.bytes file.old) result
+    requires shown { IsShown plan.now shown.now }
+    ensures { Reported (shown_task plan.now shown.now) (I.bytes file.old) result
         (at_work I.File O.Sink file.old out.old) (at_work I.File O.Sink file.new out.new) }
 {
     let calls = plan.words.calls;
     let wakeups = plan.words.wakeups;
     if calls {
-        return print_calls(plan, shown, file, out);
+        return print_calls(resources.alloc, plan, shown, file, out);
     }
     if wakeups {
-        return print_waits(rt, plan, shown, file, out, gate);
+        return print_waits(resources, plan, shown, file, out);
     }
-    status_or_memory(print_lines(rt, plan, shown, file, out, gate))
+    status_or_memory(print_lines(resources, plan, shown, file, out))
 }
 
 // Prints the rest of a latency file.
@@ -151,7 +146,7 @@ fn print_latency<I: File, O: Sink>(
     requires { end ≤ I.size file.old }
     ensures prints { Prints (Rose (I.faults file.old) (I.faults file.new))
         (option_map (latency_report cpus end) (I.bytes file.old)) result
-        (sink_seen O.written O.faults out.old) (sink_seen O.written O.faults out.new) }
+        (sink_seen O.Sink out.old) (sink_seen O.Sink out.new) }
     ensures reads { I.reads file.new ≤ raised (I.reads file.old) (I.size file.old - end) }
 {
     let (Ok(mut buffer), Ok(mut pending)) = (copy_buffer(alloc), Pending::new(alloc)) else {
@@ -172,14 +167,4 @@ fn copy_buffer(alloc: Global) -> Result<Vec<u8>, AllocError>
     ensures { IfOk result (λ buffer. length buffer.items ≡ 65536) }
 {
     vec![in alloc; 0; Pending::ROOM]
-}
-
-// The answer for the end of the lines, or for no memory to print them.
-fn status_or_memory(end: Option<End>) -> Status
-    ensures { result ≡ status_or_memory end }
-{
-    match end {
-        Some(end) => status_of(end),
-        None => Status::NoMemory,
-    }
 }

@@ -1,15 +1,15 @@
 // A restore: the files are opened, and the new one is made of them.
 
 ghost use Rattle.std.specs.Prelude.{◌≡◌, Ok, ◌≤◌, length, suc};
-ghost use Rattle.restore_tool.specs.Failing.{IfRead, place_of};
+ghost use Rattle.restore_tool.specs.Failing.{place_of};
 ghost use Rattle.trace_args.specs.Command.{restore_view};
 ghost use Rattle.trace_run.specs.Job.{Restore};
-ghost use Rattle.trace_run.specs.Messages.{IsNameOf};
+ghost use Rattle.trace_run.specs.Naming.{IsNameAt, IsNameOf, IsNamed};
 ghost use Rattle.trace_run.specs.Outside.{SinkSeen, beside, folder_seen};
 ghost use Rattle.trace_run.specs.Ran.{Ran};
 ghost use Rattle.trace_run.specs.Restore.{status_of};
-ghost use Rattle.trace_run.specs.Unread.{IsNameAt, NamesUnread};
 
+use crate::command::Outcome;
 use crate::status::Status;
 use restore_tool::{Answer, Names, Source, restore_named};
 use std::alloc::Global;
@@ -21,13 +21,12 @@ pub(crate) fn restore_files<'a, F: Folder>(
     alloc: Global,
     words: &RestoreWords<'a>,
     folder: &mut F,
-) -> (Status, &'a str)
+) -> Outcome<'a>
     requires few { length words.now.files.items ≤ 256 }
-    ensures ran { (out : SinkSeen) → Ran (Ok (Restore (restore_view words.now))) result.0
-        (beside (folder_seen F.files F.counts folder.old) out) (beside (folder_seen F.files F.counts folder.new) out) }
-    ensures named { IsNameOf (Restore (restore_view words.now)) result.0 result.1.now }
-    ensures unread { NamesUnread (Restore (restore_view words.now)) result.0
-        (folder_seen F.files F.counts folder.old) (folder_seen F.files F.counts folder.new) result.1.now }
+    ensures ran { (out : SinkSeen) → Ran (Ok (Restore (restore_view words.now))) result.status
+        (beside (folder_seen F.Folder folder.old) out) (beside (folder_seen F.Folder folder.new) out) }
+    ensures named { IsNamed (Restore (restore_view words.now)) result.status
+        (folder_seen F.Folder folder.old) (folder_seen F.Folder folder.new) result.file.now }
 {
     let names = Names {
         partial: words.input,
@@ -35,7 +34,10 @@ pub(crate) fn restore_files<'a, F: Folder>(
         output: words.output,
     };
     let answer = restore_named(alloc, &names, folder);
-    (status_of(answer), file_of(words, answer))
+    Outcome {
+        status: status_of(answer),
+        file: file_of(words, answer),
+    }
 }
 
 fn status_of(answer: Answer) -> Status
@@ -51,10 +53,8 @@ fn status_of(answer: Answer) -> Status
 }
 
 // The file that the message of an answer names.
-#[tactic(auto, using(crate::proofs::Restorings::input_named))]
 fn file_of<'a>(words: &RestoreWords<'a>, answer: Answer) -> &'a str
-    ensures named { IsNameOf (Restore (restore_view words.now)) (status_of answer) result.now }
-    ensures place { IfRead answer (λ source. IsNameAt (restore_view words.now) (place_of source) result.now) }
+    ensures { IsNameOf (restore_view words.now) answer result.now }
 {
     match answer {
         Answer::Read(source) => source_name(words, source),
@@ -63,10 +63,9 @@ fn file_of<'a>(words: &RestoreWords<'a>, answer: Answer) -> &'a str
 }
 
 // The name of one of the files that are read.
-#[tactic(auto, using(crate::proofs::Restorings::input_named))]
+#[tactic(auto, using(crate::proofs::RestoreNames::input_at))]
 fn source_name<'a>(words: &RestoreWords<'a>, source: Source) -> &'a str
-    ensures named { IsNameOf (Restore (restore_view words.now)) Status.ReadFault result.now }
-    ensures place { IsNameAt (restore_view words.now) (place_of source) result.now }
+    ensures { IsNameAt (restore_view words.now) (place_of source) result.now }
 {
     match source {
         Source::Partial => words.input,
@@ -75,10 +74,8 @@ fn source_name<'a>(words: &RestoreWords<'a>, source: Source) -> &'a str
 }
 
 // The data file of this place.
-#[tactic(auto, using(crate::proofs::Restorings::input_named))]
 fn name_at<'a>(words: &RestoreWords<'a>, place: usize) -> &'a str
-    ensures named { IsNameOf (Restore (restore_view words.now)) Status.ReadFault result.now }
-    ensures place { IsNameAt (restore_view words.now) (suc place) result.now }
+    ensures { IsNameAt (restore_view words.now) (suc place) result.now }
 {
     if place < words.files.len() {
         words.files[place]

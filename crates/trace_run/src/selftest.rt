@@ -10,6 +10,7 @@ ghost use Rattle.trace_run.specs.Outside.{sink_seen};
 ghost use Rattle.trace_run.specs.Selftest.{generated_report, plain_report, self_test_line};
 
 use crate::report::{ReportPlan, print_report};
+use crate::resources::Resources;
 use crate::status::Status;
 use dat_header::read_header;
 use std::alloc::{AllocError, Global};
@@ -21,16 +22,14 @@ use trace_outside::{Failed, Gate, MemSink, Sink, write_all};
 
 /// Prints the line of a self-test. No file of a folder is opened.
 pub(crate) fn print_self_test<R: Threads + Sync, O: Sink, G: Gate>(
-    rt: &R,
-    alloc: Global,
+    resources: &Resources<'_, R, G>,
     words: &SelfWords,
     out: &mut O,
-    gate: &G,
 ) -> Status
     requires { IsWorkers words.now.workers }
-    ensures { Prints ⊥ (Some (self_test (self_view words.now))) result (sink_seen O.written O.faults out.old) (sink_seen O.written O.faults out.new) }
+    ensures { Prints ⊥ (Some (self_test (self_view words.now))) result (sink_seen O.Sink out.old) (sink_seen O.Sink out.new) }
 {
-    let Ok(line) = line_of(rt, alloc, words, gate) else {
+    let Ok(line) = line_of(resources, words) else {
         return Status::NoMemory;
     };
     match write_all(out, line.as_bytes()) {
@@ -41,30 +40,28 @@ pub(crate) fn print_self_test<R: Threads + Sync, O: Sink, G: Gate>(
 
 // The line that sums up the report of the generated file.
 fn line_of<R: Threads + Sync, G: Gate>(
-    rt: &R,
-    alloc: Global,
+    resources: &Resources<'_, R, G>,
     words: &SelfWords,
-    gate: &G,
 ) -> Result<ByteText, AllocError>
     requires { IsWorkers words.now.workers }
     ensures { IfOk result (λ line. line ≡ self_test_line (self_view words.now)) }
 {
+    let alloc = resources.alloc;
     let mut report = MemSink::new(alloc);
-    report_generated(rt, alloc, words, &mut report, gate)?;
+    report_generated(resources, words, &mut report)?;
     summary_line(alloc, words.seed, words.events, report.bytes())
 }
 
 // Reports the generated file to a sink in memory.
 fn report_generated<R: Threads + Sync, G: Gate>(
-    rt: &R,
-    alloc: Global,
+    resources: &Resources<'_, R, G>,
     words: &SelfWords,
     report: &mut MemSink,
-    gate: &G,
 ) -> Result<(), AllocError>
     requires { IsWorkers words.now.workers }
     ensures { OnOk result (Gained (⟦<MemSink as Sink>⟧.written report.old) (⟦<MemSink as Sink>⟧.written report.new) (generated_report words.now.seed words.now.events)) }
 {
+    let alloc = resources.alloc;
     let plain = plain_words(alloc, words.workers);
     let mut file = generate(alloc, words.seed, words.events)?;
     let Ok(header) = read_header(alloc, &mut file) else {
@@ -72,11 +69,10 @@ fn report_generated<R: Threads + Sync, G: Gate>(
     };
     let filters = Vec::new(alloc);
     let plan = ReportPlan {
-        alloc,
         words: &plain,
         header: &header,
     };
-    match print_report(rt, &plan, filters, &mut file, report, gate) {
+    match print_report(resources, &plan, filters, &mut file, report) {
         Status::Done => Ok(()),
         // The file is sound, and its reads and the sink's writes fail only for want of memory.
         _ => Err(AllocError),

@@ -6,10 +6,10 @@ ghost use Rattle.trace_args.specs.Command.{report_view};
 ghost use Rattle.trace_run.specs.Inputs.{names_in};
 ghost use Rattle.trace_run.specs.Job.{OnFiles};
 ghost use Rattle.trace_run.specs.Naming.{IsNameIn};
-ghost use Rattle.trace_run.specs.Outside.{FolderSeen, beside, folder_seen, sink_seen};
+ghost use Rattle.trace_run.specs.Outside.{FolderSeen, beside, outside_seen, sink_seen};
 ghost use Rattle.trace_run.specs.Ran.{Ran};
 ghost use Rattle.trace_run.specs.Sources as spec;
-ghost use Rattle.trace_run.specs.Sources.{AreOpened, IsNameOfEnd, Shown, file_in, source_seen};
+ghost use Rattle.trace_run.specs.Sources.{AreOpened, IsNameOfEnd, FilesReported, file_in, source_seen};
 
 use crate::command::Outcome;
 use crate::events::line_buffer;
@@ -32,8 +32,7 @@ pub(crate) fn print_files<'a, F: Folder, O: Sink>(
 ) -> Outcome<'a>
     requires few { length words.now.more.items ≤ 7 }
     ensures ran { Ran (Ok (OnFiles (report_view words.now))) result.status
-        (beside (folder_seen F.files F.counts folder.old) (sink_seen O.written O.faults out.old))
-        (beside (folder_seen F.files F.counts folder.new) (sink_seen O.written O.faults out.new)) }
+        (outside_seen F.Folder O.Sink folder.old out.old) (outside_seen F.Folder O.Sink folder.new out.new) }
     ensures named { IsNameIn (report_view words.now) (F.files folder.old) result.status result.file.now }
 {
     let Ok(mut sources) = Vec::with_capacity(alloc, words.more.len() + 1) else {
@@ -58,9 +57,8 @@ fn print_opened<'a, F: Folder, O: Sink>(
     requires few { length words.now.more.items ≤ 7 }
     requires none { sources.old.items ≡ [] }
     requires room { length words.now.more.items < vec_capacity sources.old }
-    ensures { Shown (report_view words.now) (map file_in (map (source_seen F.In.File) sources.new.items)) result.status result.file.now
-        (beside (folder_seen F.files F.counts folder.old) (sink_seen O.written O.faults out.old))
-        (beside (folder_seen F.files F.counts folder.new) (sink_seen O.written O.faults out.new)) }
+    ensures { FilesReported (report_view words.now) (map file_in (map (source_seen F.In.File) sources.new.items)) result.status result.file.now
+        (outside_seen F.Folder O.Sink folder.old out.old) (outside_seen F.Folder O.Sink folder.new out.new) }
 {
     match open_sources(alloc, words, sources, folder) {
         Ok(()) => print_sources(alloc, words, sources.as_mut_slice(), out),
@@ -79,8 +77,8 @@ fn print_sources<'a, I: File, O: Sink>(
     requires usable { All IsUsable (map (source_seen I.File) sources.old) }
     requires fresh { All IsFreshSource (map (source_seen I.File) sources.old) }
     ensures { (before now : FolderSeen) → AreOpened (report_view words.now) (names_in (report_view words.now)) (map (source_seen I.File) sources.old) before now
-        → Shown (report_view words.now) (map file_in (map (source_seen I.File) sources.new)) result.status result.file.now
-        (beside before (sink_seen O.written O.faults out.old)) (beside now (sink_seen O.written O.faults out.new)) }
+        → FilesReported (report_view words.now) (map file_in (map (source_seen I.File) sources.new)) result.status result.file.now
+        (beside before (sink_seen O.Sink out.old)) (beside now (sink_seen O.Sink out.new)) }
 {
     let (Ok(mut nexts), Ok(mut buffer), Ok(mut pending)) = (
         LeastTree::new(alloc, sources.len() as u32),

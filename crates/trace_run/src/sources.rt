@@ -123,9 +123,9 @@ fn open_source<'a, F: Folder>(
     folder: &mut F,
 ) -> Result<Source<'a, F::In, ItemLines>, Status>
     ensures opened { IfOk result (λ source. IsOpened (report_view words.now) name.now (source_seen F.In.File source)
-        (folder_seen F.files F.counts folder.old) (folder_seen F.files F.counts folder.new)) }
+        (folder_seen F.Folder folder.old) (folder_seen F.Folder folder.new)) }
     ensures unopened { IfErr result (λ status. IsUnopened name.now status
-        (folder_seen F.files F.counts folder.old) (folder_seen F.files F.counts folder.new)) }
+        (folder_seen F.Folder folder.old) (folder_seen F.Folder folder.new)) }
 {
     match folder.open_file(name) {
         Err(Failed) => Err(Status::ReadFault),
@@ -173,8 +173,8 @@ fn open_next<'a, F: Folder>(
     ensures room { vec_capacity sources.new ≡ vec_capacity sources.old }
     ensures count { OnOk result (length sources.new.items ≡ length sources.old.items + 1) }
     ensures next { (before : FolderSeen) (names : List (List ℕ))
-        → AreOpened (report_view words.now) names (map (source_seen F.In.File) sources.old.items) before (folder_seen F.files F.counts folder.old)
-        → OpensNext (report_view words.now) before names name.now (map (source_seen F.In.File) sources.new.items) (folder_seen F.files F.counts folder.new) result }
+        → AreOpened (report_view words.now) names (map (source_seen F.In.File) sources.old.items) before (folder_seen F.Folder folder.old)
+        → OpensNext (report_view words.now) before names name.now (map (source_seen F.In.File) sources.new.items) (folder_seen F.Folder folder.new) result }
 {
     match open_source(alloc, words, name, folder) {
         Ok(source) => {
@@ -212,7 +212,7 @@ pub(crate) fn open_sources<'a, F: Folder>(
     requires none { sources.old.items ≡ [] }
     requires room { length words.now.more.items < vec_capacity sources.old }
     ensures { OpensAll (report_view words.now) (map (source_seen F.In.File) sources.new.items)
-        (folder_seen F.files F.counts folder.old) (folder_seen F.files F.counts folder.new) result }
+        (folder_seen F.Folder folder.old) (folder_seen F.Folder folder.new) result }
 {
     let count = words.more.len() + 1;
     for place in 0..count {

@@ -39,7 +39,7 @@ pub(crate) fn cut_file<F: Folder>(
     requires read { ReadsHeader (F.In.bytes file.old) (Ok header) }
     ensures makes { MakesFiles (Rose (F.In.faults file.old) (F.In.faults file.new))
         (option_map (split_by (split_view words.now) header) (F.In.bytes file.old)) result
-        (folder_seen F.files F.counts folder.old) (folder_seen F.files F.counts folder.new) }
+        (folder_seen F.Folder folder.old) (folder_seen F.Folder folder.new) }
     ensures counts { KeepsCounts (F.counts folder.old) (F.counts folder.new) }
     ensures reads { F.In.reads file.new ≤ raised (F.In.reads file.old) (split_share words.now.cpu header.body) }
 {

@@ -1,12 +1,11 @@
 ghost use Rattle.trace_run.specs.Usage.{asked};
-ghost use Rattle.trace_run.specs.Messages.{Says, SaysOf, message};
-ghost use Rattle.trace_run.specs.Naming.{SaysInput};
-ghost use Rattle.trace_run.specs.Unread.{SaysUnread};
-ghost use Rattle.trace_run.specs.Outside.{beside, folder_seen, sink_seen};
+ghost use Rattle.trace_run.specs.Messages.{SaysOf};
+ghost use Rattle.trace_run.specs.Outside.{folder_seen, outside_seen, sink_seen};
 ghost use Rattle.trace_run.specs.Ran.{Ran};
 
 use crate::command::run_job;
 use crate::messages::{say, say_usage};
+use crate::resources::Resources;
 use crate::status::Status;
 use crate::usage::{AskFault, ask};
 use std::alloc::Global;
@@ -32,17 +31,14 @@ pub fn run<R: Threads + Sync, F: Folder, O: Sink, E: Sink, G: Gate>(
     gate: &G,
 ) -> Status
     ensures ran { Ran (asked words.now) result
-        (beside (folder_seen F.files F.counts folder.old) (sink_seen O.written O.faults out.old))
-        (beside (folder_seen F.files F.counts folder.new) (sink_seen O.written O.faults out.new)) }
-    ensures says { SaysOf words.now result (E.written err.old) (E.written err.new) (E.faults err.old) (E.faults err.new) }
-    ensures names { SaysInput (asked words.now) (F.files folder.old) result
-        (E.written err.old) (E.written err.new) (E.faults err.old) (E.faults err.new) }
-    ensures unread { SaysUnread (asked words.now) result (folder_seen F.files F.counts folder.old) (folder_seen F.files F.counts folder.new)
-        (λ name. Says (message name Status.ReadFault) (E.written err.old) (E.written err.new) (E.faults err.old) (E.faults err.new)) }
+        (outside_seen F.Folder O.Sink folder.old out.old) (outside_seen F.Folder O.Sink folder.new out.new) }
+    ensures says { SaysOf (asked words.now) result
+        (folder_seen F.Folder folder.old) (folder_seen F.Folder folder.new) (sink_seen E.Sink err.old) (sink_seen E.Sink err.new) }
 {
     match ask(alloc, words) {
         Ok((job, filters)) => {
-            let outcome = run_job(rt, alloc, &job, filters, folder, out, gate);
+            let resources = Resources { rt, alloc, gate };
+            let outcome = run_job(&resources, &job, filters, folder, out);
             say(outcome.file, outcome.status, err);
             outcome.status
         }

@@ -6,7 +6,7 @@ ghost use Rattle.filter_truth.specs.SelectionView.{use_of};
 ghost use Rattle.trace_run.specs.Allowed.{IsAllowedJob};
 ghost use Rattle.trace_run.specs.Job.{command_view, job_view};
 ghost use Rattle.trace_run.specs.Usage.{asked, command_filters, filters_read, job_filters, use_read, uses_in};
-ghost use Rattle.trace_run.specs.UsageView.{IsFaultOf};
+ghost use Rattle.trace_run.specs.UsageView.{IsFaultOf, ask_fault};
 ghost use Rattle.trace_run.specs.declared.usage.AskFault.TheVariants.{Memory};
 
 use crate::job::{FileCommand, Job, read_job};
@@ -112,10 +112,16 @@ fn read_filter(alloc: Global, filter: &FilterWord<'_>) -> Result<FilterUse, AskF
             hide: filter.hide,
             filter: parsed,
         }),
-        Err(FilterFault::At(place)) => Err(AskFault::Usage(UsageFault::Filter {
-            word: filter.word,
-            place,
-        })),
-        Err(FilterFault::Memory) => Err(AskFault::Memory),
+        Err(fault) => Err(ask_fault(filter.word, fault)),
+    }
+}
+
+// Why it is not known what the words ask for, where the filter of this word has this fault.
+fn ask_fault(word: u64, fault: FilterFault) -> AskFault
+    ensures { result ≡ ask_fault word fault }
+{
+    match fault {
+        FilterFault::At(place) => AskFault::Usage(UsageFault::Filter { word, place }),
+        FilterFault::Memory => AskFault::Memory,
     }
 }

@@ -1,7 +1,4 @@
-pub mod GatherSteps
-pub mod Skips
-pub mod Reading
-pub mod RolePlaces
+pub mod Mattering
 pub mod Putting
 pub mod NoNewline
 pub mod ThreePuts

@@ -1,12 +1,8 @@
 -- Texts that are put one behind another.
-use Rattle.std.proofs.Common.{◌≡◌, ℕ, ◌+◌, ◌<◌, ◌≤◌, suc, List, [], ◌∷◌, ◌++◌, length, take, get_or, append_assoc, Option, Result, Ok, Err, IsErr, OnOk, OnErr, subst, sym, ap, refl, ◌∙◌}
-use Rattle.std.proofs.lemmas.List.{append-nil, take_all, take_more}
-use Rattle.std.proofs.lemmas.List.Concat.{flat_map-cons}
-use Rattle.std.proofs.lemmas.Grind.{flat_map-append}
-use Rattle.std.specs.List.{flat_map}
-use Rattle.trace_outside.specs.Writing.{Gained, GainedPrefix}
-use Rattle.trace_outside.specs.Pending.{Holds, Puts, Flushes}
-use Rattle.trace_outside.proofs.PendingLemmas.{holds_nothing, prefix_longer, parts_stopped, flushed, flush_stopped}
+use Rattle.std.proofs.Common.{ℕ, List, ◌++◌, append_assoc, Option, Result, Ok, Err, IsErr, subst}
+use Rattle.trace_outside.specs.Writing.{GainedPrefix}
+use Rattle.trace_outside.specs.Pending.{Holds, Puts}
+use Rattle.trace_outside.proofs.PendingLemmas.{prefix_longer}
 
 -- a piece was put behind any text
 abbrev pub Put : List ℕ → Option (List ℕ) → List ℕ → Option (List ℕ) → List ℕ → Type 0
@@ -32,28 +28,3 @@ pub stopped_first : {T E : Type 0} (first then : List ℕ) (old now : Option (Li
 stopped_first first then old now waiting waiting_now (Ok value) failed stopped = absurd (let bad : ⊥ = cc in bad)
 stopped_first first then old now waiting waiting_now (Err error) failed stopped = λ before text held.
     subst (λ (whole : List ℕ). GainedPrefix before now whole) (append_assoc text first then) (prefix_longer before now (text ++ first) then (stopped before text held))
-
--- the piece of an entry was stopped behind those of the entries before it
-pub stopped_at : {T E X : Type 0} (f : X → List ℕ) (xs : List X) (i : ℕ) (d : X) (piece : List ℕ) (old mid now : Option (List ℕ))
-    (waiting waiting_mid waiting_now : List ℕ) (result : Result T E)
-    → i < length xs → IsErr result → Put (flat_map f (take i xs)) old waiting mid waiting_mid → Stopped piece mid waiting_mid now → piece ≡ f (get_or xs i d)
-    → Puts (flat_map f xs) old waiting now waiting_now result
-stopped_at f xs i d piece old mid now waiting waiting_mid waiting_now result inside failed one two is =
-    parts_stopped f xs i d old mid now waiting waiting_mid waiting_now result inside failed one
-    (subst (λ (piece : List ℕ). Stopped piece mid waiting_mid now) is two)
-
-pub flat_map_up_to : {X : Type 0} (f : X → List ℕ) (xs : List X) (i : ℕ) (d : X) → i < length xs
-    → flat_map f (take (i + 1) xs) ≡ flat_map f (take i xs) ++ f (get_or xs i d)
-flat_map_up_to f xs i d inside =
-    ap (flat_map f) (take_more xs i d inside) ∙ flat_map-append f (take i xs) (get_or xs i d ∷ [])
-    ∙ ap (λ tail. flat_map f (take i xs) ++ tail) (flat_map-cons f (get_or xs i d) [] ∙ append-nil (f (get_or xs i d)))
-
--- the piece of one more entry was put
-pub put_more : {X : Type 0} (f : X → List ℕ) (xs : List X) (i : ℕ) (d : X) (piece : List ℕ) (old mid now : Option (List ℕ)) (waiting waiting_mid waiting_now : List ℕ)
-    → i < length xs → Put (flat_map f (take i xs)) old waiting mid waiting_mid → Put piece mid waiting_mid now waiting_now → piece ≡ f (get_or xs i d)
-    → Put (flat_map f (take (i + 1) xs)) old waiting now waiting_now
-put_more f xs i d piece old mid now waiting waiting_mid waiting_now inside one two is = λ before text held.
-    subst (λ (whole : List ℕ). Holds before now waiting_now whole)
-    (append_assoc text (flat_map f (take i xs)) piece
-    ∙ ap (λ tail. text ++ tail) (ap (λ tail. flat_map f (take i xs) ++ tail) is ∙ sym (flat_map_up_to f xs i d inside)))
-    (two before (text ++ flat_map f (take i xs)) (one before text held))

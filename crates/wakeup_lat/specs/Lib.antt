@@ -1,3 +1,4 @@
 pub mod Roles
-pub mod Skipping
+pub mod Matter
+pub mod Faults
 pub mod Section

@@ -1,6 +1,7 @@
 -- What items are for the latencies: events by their formats.
 -- Source: the kernel's Documentation/trace/events.rst, for the events of the scheduler; trace-cmd-report(1), `-w`.
 use Rattle.std.specs.Prelude.{ℕ, ◌||◌, if◌then◌else◌, List, codes, map, Option, Some, None}
+use Rattle.std.specs.Option.{option_map_or}
 use Rattle.std.specs.Str.{bytes_eq}
 use Rattle.trace_base.specs.declared.field.Field.{Field}
 use Rattle.subpage.specs.ItemData.{ItemData, EventAt, LossAt}
@@ -43,8 +44,7 @@ abbrev pub role_of : EventFormat → Role
 role_of format = if bytes_eq format.system (codes "sched") then named_role format.name format.fields else Other
 
 abbrev pub role_by : Option EventFormat → Role
-role_by None = Other
-role_by (Some format) = role_of format
+role_by format = option_map_or role_of format Other
 
 -- what an event is, by the format of its number
 abbrev pub role_in : Given → List ℕ → Role

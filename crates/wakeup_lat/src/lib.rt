@@ -11,8 +11,7 @@ mod lines;
 mod role;
 mod section;
 mod seeing;
-mod skipping;
-mod taking;
+mod sight;
 
 pub use gathering::{GatherFault, gather};
 pub use section::put_wakeups;

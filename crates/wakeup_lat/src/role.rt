@@ -5,6 +5,7 @@ ghost use Rattle.std.specs.Option.{option_copied};
 ghost use Rattle.wakeup_lat.specs.Roles.{number_of, waking, switching, named_role, role_of};
 
 use format_parse::EventFormat;
+use format_places::FormatRole;
 use report_print::CommonField;
 use trace_base::{Field, field_named};
 
@@ -19,11 +20,10 @@ pub(crate) enum Role {
     Other,
 }
 
-impl Role {
-    /// What the events of this format are.
-    pub(crate) fn of(format: &EventFormat) -> Role
-        ensures { result ≡ role_of format.now }
-    {
+impl FormatRole for Role {
+    ghost role_of = { role_of };
+
+    fn of(format: &EventFormat) -> Role {
         if format.system.as_bytes() == b"sched".as_slice() {
             named_role(format.name.as_bytes(), format.fields.as_slice())
         } else {

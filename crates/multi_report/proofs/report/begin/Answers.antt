@@ -4,7 +4,7 @@ use Rattle.trace_outside.specs.Pending.{Holds}
 use Rattle.trace_outside.specs.Writing.{GainedPrefix}
 use Rattle.multi_report.specs.Sources.{seen}
 use Rattle.multi_report.proofs.Files.{keeps_same, same_self}
-use Rattle.multi_report.proofs.HeadLines.{heads_joined}
+use Rattle.multi_report.proofs.HeadLines.{heads_text}
 use Rattle.multi_report.proofs.Loops.{as_long}
 use Rattle.multi_report.proofs.ReportLaws.{heads_stopped, read_first, underway_first}
 use Rattle.multi_report.proofs.TurnLaws.{rose_from, told_read, told_write}
@@ -17,7 +17,7 @@ pub returns-in-Err-clause-turned : goal.returns-in-Err-clause-turned
 returns-in-Err-clause-turned g c = λ told.
     let f = seen g.F.File g.L.Form.text in
     heads_stopped (map f c.args.sources.now) (g.O.Sink.written c.args.out.now) (g.O.Sink.written c.put_heads.new.out) c.args.pending.now c.requires.empty
-    (λ b text held. subst (λ (t : List ℕ). GainedPrefix b (g.O.Sink.written c.put_heads.new.out) (text ++ t)) (heads_joined f c.args.sources.now) (c.in-Err.ensures.puts b text held))
+    (λ b text held. subst (λ (t : List ℕ). GainedPrefix b (g.O.Sink.written c.put_heads.new.out) (text ++ t)) (heads_text f c.args.sources.now) (c.in-Err.ensures.puts b text held))
 
 pub returns-in-None-clause-same : goal.returns-in-None-clause-same
 returns-in-None-clause-same g c =
@@ -31,7 +31,7 @@ returns-in-None-clause-turned g c = λ told.
     let now = c.make_sources_ready.new.sources in
     underway_first (map f c.args.sources.now) (map f now) c.make_sources_ready.new.nexts (g.O.Sink.written c.args.out.now) (g.O.Sink.written c.put_heads.new.out) c.args.pending.now c.put_heads.new.pending c.requires.fresh told c.requires.empty
     (as_long f now c.args.sources.now c.make_sources_ready.ensures.count) c.make_sources_ready.ensures.keeps c.in-None.ensures.keys
-    (λ b text held. subst (λ (t : List ℕ). Holds b (g.O.Sink.written c.put_heads.new.out) c.put_heads.new.pending (text ++ t)) (heads_joined f c.args.sources.now) (c.in-Ok.ensures.puts b text held))
+    (λ b text held. subst (λ (t : List ℕ). Holds b (g.O.Sink.written c.put_heads.new.out) c.put_heads.new.pending (text ++ t)) (heads_text f c.args.sources.now) (c.in-Ok.ensures.puts b text held))
 
 pub returns-in-Some-clause-same : goal.returns-in-Some-clause-same
 returns-in-Some-clause-same g c =
@@ -45,7 +45,7 @@ returns-in-Some-clause-turned g c = λ told.
     let now = c.make_sources_ready.new.sources in
     read_first (map f c.args.sources.now) (map f now) (g.O.Sink.written c.args.out.now) (g.O.Sink.written c.put_heads.new.out) (g.O.Sink.written c.end_with.new.out) c.args.pending.now c.put_heads.new.pending c.in-Some.j c.end_with.result
     c.requires.fresh told c.requires.empty (as_long f now c.args.sources.now c.make_sources_ready.ensures.count) c.make_sources_ready.ensures.keeps
-    (λ b text held. subst (λ (t : List ℕ). Holds b (g.O.Sink.written c.put_heads.new.out) c.put_heads.new.pending (text ++ t)) (heads_joined f c.args.sources.now) (c.in-Ok.ensures.puts b text held))
+    (λ b text held. subst (λ (t : List ℕ). Holds b (g.O.Sink.written c.put_heads.new.out) c.put_heads.new.pending (text ++ t)) (heads_text f c.args.sources.now) (c.in-Ok.ensures.puts b text held))
     c.end_with.ensures.ended
 
 pub returns-in-Some-clause-read : goal.returns-in-Some-clause-read

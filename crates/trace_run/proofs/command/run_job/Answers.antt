@@ -6,16 +6,13 @@ pub returns-in-SelfTest-clause-ran : goal.returns-in-SelfTest-clause-ran
 returns-in-SelfTest-clause-ran g c = rw c.in-SelfTest.is (self_tested _ c.print_self_test-status.result _ _ _ c.print_self_test-status.ensures)
 
 pub returns-in-Restore-clause-ran : goal.returns-in-Restore-clause-ran
-returns-in-Restore-clause-ran g c = rw c.in-Restore.is (c.restore_files-status.ensures.ran (sink_seen g.O.Sink.written g.O.Sink.faults c.args.out.now))
+returns-in-Restore-clause-ran g c = rw c.in-Restore.is (c.restore_files.ensures.ran (sink_seen g.O.Sink c.args.out.now))
 
 pub returns-in-OnFiles-clause-ran : goal.returns-in-OnFiles-clause-ran
 returns-in-OnFiles-clause-ran g c = rw c.in-OnFiles.is c.print_files.ensures.ran
 
 pub returns-in-OnFiles-clause-named : goal.returns-in-OnFiles-clause-named
-returns-in-OnFiles-clause-named g c = rw c.in-OnFiles.is c.print_files.ensures.named.0
+returns-in-OnFiles-clause-named g c = rw c.in-OnFiles.is c.print_files.ensures.named
 
-pub returns-in-OnFiles-clause-input : goal.returns-in-OnFiles-clause-input
-returns-in-OnFiles-clause-input g c = rw c.in-OnFiles.is c.print_files.ensures.named
-
-pub returns-in-Restore-clause-unread : goal.returns-in-Restore-clause-unread
-returns-in-Restore-clause-unread g c = rw c.in-Restore.is c.restore_files-status.ensures.unread
+pub returns-in-Restore-clause-named : goal.returns-in-Restore-clause-named
+returns-in-Restore-clause-named g c = rw c.in-Restore.is c.restore_files.ensures.named

@@ -45,7 +45,7 @@ returns-clause-writes g c =
 
 pub returns-clause-shows : goal.returns-clause-shows
 returns-clause-shows g c =
-    end_shows _ c.report_rounds.result (sink_seen g.O.Sink.written g.O.Sink.faults c.args.out.now) (sink_seen g.O.Sink.written g.O.Sink.faults c.report_rounds.new.out) c.report_rounds.ensures.read (λ is.
+    end_shows _ c.report_rounds.result (sink_seen g.O.Sink c.args.out.now) (sink_seen g.O.Sink c.report_rounds.new.out) c.report_rounds.ensures.read (λ is.
     let rose : Rose (g.O.Sink.faults c.print_cpus.new.out) (g.O.Sink.faults c.report_rounds.new.out) = c.report_rounds.ensures.write is in
     omega (arith, rose, c.in-Ok.ensures.cause.later))
 

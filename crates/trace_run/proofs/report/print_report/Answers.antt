@@ -10,5 +10,5 @@ returns-in-None g c =
 pub returns-in-Some : goal.returns-in-Some
 returns-in-Some g c =
     list_reported (report_view c.args.plan.now.words.now) c.args.plan.now.header.now _ c.print_list.result c.in-Some.list _ (g.I.File.faults c.args.file.now) (g.I.File.reads c.args.file.now)
-    (sink_seen g.O.Sink.written g.O.Sink.faults c.args.out.now) (sink_seen g.O.Sink.written g.O.Sink.faults c.print_list.new.out)
+    (sink_seen g.O.Sink c.args.out.now) (sink_seen g.O.Sink c.print_list.new.out)
     c.in-Some.is c.print_list.ensures

@@ -6,9 +6,9 @@ use Rattle.trace_run.specs.Job.{Restore}
 use Rattle.trace_run.specs.Outside.{beside, folder_seen}
 use Rattle.trace_run.specs.Ran.{Ran}
 use Rattle.restore_tool.specs.Failing.{IfRead, IsUnread, place_of}
-use Rattle.trace_run.specs.Unread.{restore_inputs}
+use Rattle.trace_run.specs.Naming.{restore_inputs}
 use Rattle.trace_run.proofs.Restorings.{restored_ran}
-use Rattle.trace_run.proofs.UnreadNames.{unread_named}
+use Rattle.trace_run.proofs.RestoreNames.{restore_named}
 use Rattle.trace_run.proofs.restore.restore_files.Goals as goal
 
 abbrev of : List ℕ → List ℕ → List (Bor (List ℕ)) → RestoreData
@@ -19,20 +19,20 @@ returns-clause-ran g c = λ out.
     let did = c.restore_named-answer.ensures in
     let words = c.args.words.now in
     let files = c.as_slice.result.now in
-    let before = folder_seen g.F.Folder.files g.F.Folder.counts c.args.folder.now in
-    let now = folder_seen g.F.Folder.files g.F.Folder.counts c.restore_named-answer.new.folder in
+    let before = folder_seen g.F.Folder c.args.folder.now in
+    let now = folder_seen g.F.Folder c.restore_named-answer.new.folder in
     subst (λ (files : List (Bor (List ℕ))). Ran (Ok (Restore (of words.input.now words.output.now files))) c.status_of.result (beside before out) (beside now out)) c.as_slice.ensures.value
     (restored_ran (of words.input.now words.output.now files) c.restore_named-answer.result c.status_of.result out before now c.status_of.ensures
     did.done did.causes did.kept did.created did.misses
     (subst (λ (n : ℕ). ClosesAll (n + 1) (g.F.Folder.counts c.args.folder.now) (g.F.Folder.counts c.restore_named-answer.new.folder)) (sym (length-map files (λ name. name.now))) did.counts))
 
-pub returns-clause-unread : goal.returns-clause-unread
-returns-clause-unread g c =
+pub returns-clause-named : goal.returns-clause-named
+returns-clause-named g c =
     let words = c.args.words.now in
-    let before = folder_seen g.F.Folder.files g.F.Folder.counts c.args.folder.now in
-    let now = folder_seen g.F.Folder.files g.F.Folder.counts c.restore_named-answer.new.folder in
+    let before = folder_seen g.F.Folder c.args.folder.now in
+    let now = folder_seen g.F.Folder c.restore_named-answer.new.folder in
     let answer = c.restore_named-answer.result in
-    unread_named (restore_view words) answer c.status_of.result c.file_of.result.now before now c.status_of.ensures
+    restore_named (restore_view words) answer c.status_of.result c.file_of.result.now before now c.status_of.ensures
     (subst (λ (files : List (Bor (List ℕ))). IfRead answer (λ source. IsUnread before.files (restore_inputs (of words.input.now words.output.now files)) before.counts.misses now.counts.misses (place_of source)))
     c.as_slice.ensures.value c.restore_named-answer.ensures.unread)
-    c.file_of.ensures.place
+    c.file_of.ensures

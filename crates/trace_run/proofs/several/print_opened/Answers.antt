@@ -7,7 +7,7 @@ use Rattle.trace_args.specs.Command.{report_view}
 use Rattle.trace_run.specs.declared.lines.ItemLines.{ItemLines}
 use Rattle.trace_run.specs.Inputs.{names_in}
 use Rattle.trace_run.specs.Outside.{beside, folder_seen, sink_seen}
-use Rattle.trace_run.specs.Sources.{AreOpened, Shown, file_in, source_seen}
+use Rattle.trace_run.specs.Sources.{AreOpened, FilesReported, file_in, source_seen}
 use Rattle.trace_run.proofs.several.print_opened.Goals as goal
 
 pub print_sources-requires-clause-few : goal.print_sources-requires-clause-few
@@ -34,15 +34,15 @@ returns-in-Ok g c =
     let f = source_seen g.F.In.File in
     let words = report_view c.args.words.now in
     let now = c.print_sources.new.sources in
-    let before = folder_seen g.F.Folder.files g.F.Folder.counts c.args.folder.now in
-    let mid = folder_seen g.F.Folder.files g.F.Folder.counts c.open_sources.new.folder in
-    let out = sink_seen g.O.Sink.written g.O.Sink.faults c.args.out.now in
-    let out_now = sink_seen g.O.Sink.written g.O.Sink.faults c.print_sources.new.out in
+    let before = folder_seen g.F.Folder c.args.folder.now in
+    let mid = folder_seen g.F.Folder c.open_sources.new.folder in
+    let out = sink_seen g.O.Sink c.args.out.now in
+    let out_now = sink_seen g.O.Sink c.print_sources.new.out in
     let long : length now ≡ c.open_sources.new.sources.len = omega (arith, c.as_mut_slice.ensures.len, c.print_sources.auto.sources) in
-    subst (λ (xs : List (Source g.row.F-In.Denot ItemLines)). Shown words (map file_in (map f xs)) c.print_sources.result.status c.print_sources.result.file.now (beside before out) (beside mid out_now))
+    subst (λ (xs : List (Source g.row.F-In.Denot ItemLines)). FilesReported words (map file_in (map f xs)) c.print_sources.result.status c.print_sources.result.file.now (beside before out) (beside mid out_now))
     (sym (take_at now _ c.open_sources.new.sources.len long))
     (c.print_sources.ensures before mid
     (subst (λ (xs : List (Source g.row.F-In.Denot ItemLines)). AreOpened words (names_in words) (map f xs) before mid) (sym c.as_mut_slice.ensures.value) c.in-Ok.ensures))
 
 pub returns-in-Err : goal.returns-in-Err
-returns-in-Err g c = c.in-Err.ensures (sink_seen g.O.Sink.written g.O.Sink.faults c.args.out.now)
+returns-in-Err g c = c.in-Err.ensures (sink_seen g.O.Sink c.args.out.now)

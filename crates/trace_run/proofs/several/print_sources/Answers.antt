@@ -3,7 +3,7 @@ use Rattle.multi_report.specs.declared.report.FilesEnd.TheVariants as end
 use Rattle.trace_args.specs.Command.{report_view}
 use Rattle.trace_run.specs.declared.status.Status.{Status}
 use Rattle.trace_run.specs.Outside.{beside, sink_seen}
-use Rattle.trace_run.specs.Sources.{Shown, file_in, source_seen}
+use Rattle.trace_run.specs.Sources.{FilesReported, file_in, source_seen}
 use Rattle.trace_run.proofs.FilesShown.{files_shown, files_unheld, lines_room}
 use Rattle.trace_run.proofs.InputNames.{first_of}
 use Rattle.trace_run.proofs.Shared.{lines_sync}
@@ -21,9 +21,9 @@ returns-in_default g c = λ before now opened. files_unheld (report_view c.args.
 pub returns : goal.returns
 returns g c = λ before now opened.
     let words = report_view c.args.words.now in
-    let out = sink_seen g.O.Sink.written g.O.Sink.faults c.args.out.now in
-    let out_now = sink_seen g.O.Sink.written g.O.Sink.faults c.report_files-end.new.out in
+    let out = sink_seen g.O.Sink c.args.out.now in
+    let out_now = sink_seen g.O.Sink c.report_files-end.new.out in
     let new = map (source_seen g.I.File) c.report_files-end.new.sources in
-    subst (λ (s : Status). Shown words (map file_in new) s c.outcome_of.result.file.now (beside before out) (beside now out_now)) (sym c.outcome_of.ensures.status)
+    subst (λ (s : Status). FilesReported words (map file_in new) s c.outcome_of.result.file.now (beside before out) (beside now out_now)) (sym c.outcome_of.ensures.status)
     (files_shown words (map (source_seen g.I.File) c.args.sources.now) new before now out out_now c.report_files-end.result c.outcome_of.result.file.now opened c.outcome_of.ensures.named c.outcome_of.ensures.source
     c.report_files-end.ensures.report c.report_files-end.ensures.read c.report_files-end.ensures.write c.report_files-end.ensures.reads c.report_files-end.ensures.same)

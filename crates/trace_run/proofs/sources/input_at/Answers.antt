@@ -1,14 +1,13 @@
 use Rattle.std.proofs.Common.{rules, arith, ◌-◌, ◌<◌, length, map}
 use Rattle.std.proofs.lemmas.List.{length-map}
-use Rattle.trace_run.proofs.InputNames.{behind_there, past_there}
-use Rattle.trace_run.proofs.Restorings.{file_named}
+use Rattle.trace_run.proofs.InputNames.{behind_one, behind_there, past_there}
 use Rattle.trace_run.proofs.sources.input_at.Goals as goal
 
 pub returns-then-behind-len-clause-named : goal.returns-then-behind-len-clause-named
 returns-then-behind-len-clause-named c =
     let names = c.args.words.now.more.items in
     let lt : c.args.place - 1 < length names = search rules in
-    file_named (λ name. name.now) c.args.words.now.input.now names (c.args.place - 1) c.index.result.now lt c.index.ensures
+    behind_one (λ name. name.now) c.args.words.now.input.now names (c.args.place - 1) c.index.result.now lt c.index.ensures
 
 pub returns-then-behind-len-clause-there : goal.returns-then-behind-len-clause-there
 returns-then-behind-len-clause-there c =

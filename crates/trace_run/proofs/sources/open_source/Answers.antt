@@ -13,8 +13,8 @@ returns-in-Err-clause-unopened g c =
 
 pub returns-in-Ok-read_basis-clause-opened : goal.returns-in-Ok-read_basis-clause-opened
 returns-in-Ok-read_basis-clause-opened g c =
-    let before = folder_seen g.F.Folder.files g.F.Folder.counts c.args.folder.now in
-    let now = folder_seen g.F.Folder.files g.F.Folder.counts c.open_file.new.self in
+    let before = folder_seen g.F.Folder c.args.folder.now in
+    let now = folder_seen g.F.Folder c.open_file.new.self in
     let words = report_view c.args.words.now in
     subst (λ (s : Seen). IsOpened words c.args.name.now s before now) (sym c.source_on.ensures)
     (source_opened words c.args.name.now (seen g.F.In.File.bytes g.F.In.File.size g.F.In.File.faults g.F.In.File.reads c.read_basis.new.file) (g.F.In.File.bytes c.in-Ok.file) (g.F.In.File.reads c.in-Ok.file)

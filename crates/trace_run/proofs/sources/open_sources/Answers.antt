@@ -10,7 +10,7 @@ use Rattle.trace_run.proofs.sources.open_sources.Goals as goal
 pub loop-place-init : goal.loop-place-init
 loop-place-init g c =
     let words = report_view c.args.words.now in
-    let before = folder_seen g.F.Folder.files g.F.Folder.counts c.args.folder.now in
+    let before = folder_seen g.F.Folder c.args.folder.now in
     record {
       room = refl;
       count = ap length c.requires.none;
@@ -23,8 +23,8 @@ loop-place-preserved g c =
     let names = names_in words in
     let l = c.loop-place in
     let so_far = l.invariant in
-    let before = folder_seen g.F.Folder.files g.F.Folder.counts c.args.folder.now in
-    let now = folder_seen g.F.Folder.files g.F.Folder.counts c.open_next.new.folder in
+    let before = folder_seen g.F.Folder c.args.folder.now in
+    let now = folder_seen g.F.Folder c.open_next.new.folder in
     let lt : l.place < length names = omega (arith, length-map c.args.words.now.more.items (λ name. name.now)) in
     record {
       room = c.open_next.ensures.room ∙ so_far.room;
@@ -37,7 +37,7 @@ pub returns-in-Err : goal.returns-in-Err
 returns-in-Err g c =
     let names = names_in (report_view c.args.words.now) in
     let l = c.loop-place in
-    let before = folder_seen g.F.Folder.files g.F.Folder.counts c.args.folder.now in
+    let before = folder_seen g.F.Folder c.args.folder.now in
     let lt : l.place < length names = omega (arith, length-map c.args.words.now.more.items (λ name. name.now)) in
     λ out. c.in-Err.ensures.next before (take l.place names) l.invariant.opened (drop (l.place + 1) names) out (names_split names l.place c.input_at.result.now lt c.input_at.ensures.there)
 
@@ -46,7 +46,7 @@ returns g c =
     let words = report_view c.args.words.now in
     let names = names_in words in
     let l = c.loop-place in
-    let before = folder_seen g.F.Folder.files g.F.Folder.counts c.args.folder.now in
-    let now = folder_seen g.F.Folder.files g.F.Folder.counts l.folder in
+    let before = folder_seen g.F.Folder c.args.folder.now in
+    let now = folder_seen g.F.Folder l.folder in
     subst (λ (ns : List (List ℕ)). AreOpened words ns (map (source_seen g.F.In.File) l.sources.items) before now)
     (take_all l.place names (omega (arith, length-map c.args.words.now.more.items (λ name. name.now)))) l.invariant.opened

@@ -10,5 +10,5 @@ invariant-loop-place g l = record {
   room : vec_capacity l.sources ≡ vec_capacity l.fn.sources;
   count : length l.sources.items ≡ l.place;
   opened : AreOpened (report_view l.words) (take l.place (names_in (report_view l.words))) (map (source_seen g.F.In.File) l.sources.items)
-      (folder_seen g.F.Folder.files g.F.Folder.counts l.fn.folder) (folder_seen g.F.Folder.files g.F.Folder.counts l.folder);
+      (folder_seen g.F.Folder l.fn.folder) (folder_seen g.F.Folder l.folder);
 }

@@ -4,36 +4,31 @@ use Rattle.trace_run.specs.declared.usage.UsageFault.{UsageFault}
 use Rattle.trace_run.specs.declared.status.Status.TheVariants.{NoMemory, Usage}
 use Rattle.trace_run.specs.Job.{Job}
 use Rattle.trace_run.specs.Messages.{Says, message, usage_line}
-use Rattle.trace_run.specs.Outside.{beside, folder_seen, sink_seen}
+use Rattle.trace_run.specs.Outside.{outside_seen, sink_seen}
 use Rattle.trace_run.specs.Ran.{Ran}
 use Rattle.trace_run.specs.Usage.{asked}
 use Rattle.trace_run.specs.UsageView.{IsFaultOf}
 use Rattle.trace_run.proofs.Endings.{ran_unasked, ran_unread}
-use Rattle.trace_run.proofs.InputNames.{input_said, none_named, wanting_said}
 use Rattle.trace_run.proofs.Said.{usage_said, job_said, wanting}
-use Rattle.trace_run.proofs.UnreadNames.{job_unread, none_unread}
 use Rattle.trace_run.proofs.top.run.Goals as goal
 
 pub returns-in-Ok : goal.returns-in-Ok
 returns-in-Ok g c =
     let read = c.in-Ok.ensures.job in
     let outcome = c.run_job-outcome.result in
-    let before = beside (folder_seen g.F.Folder.files g.F.Folder.counts c.args.folder.now) (sink_seen g.O.Sink.written g.O.Sink.faults c.args.out.now) in
-    let now = beside (folder_seen g.F.Folder.files g.F.Folder.counts c.run_job-outcome.new.folder) (sink_seen g.O.Sink.written g.O.Sink.faults c.run_job-outcome.new.out) in
+    let before = outside_seen g.F.Folder g.O.Sink c.args.folder.now c.args.out.now in
+    let now = outside_seen g.F.Folder g.O.Sink c.run_job-outcome.new.folder c.run_job-outcome.new.out in
     record {
       ran = subst (λ (reading : Result Job UsageFault). Ran reading outcome.status before now) (sym read) c.run_job-outcome.ensures.ran;
-      says = record { line = message outcome.file.now outcome.status; is = job_said _ _ outcome.file.now outcome.status read c.run_job-outcome.ensures.named; says = c.say.ensures };
-      names = input_said _ _ _ outcome.status outcome.file.now _ _ _ _ read c.run_job-outcome.ensures.input c.say.ensures;
-      unread = job_unread _ _ outcome.status before.folder now.folder outcome.file.now
-          (λ name status. Says (message name status) (g.E.Sink.written c.args.err.now) (g.E.Sink.written c.say.new.err) (g.E.Sink.faults c.args.err.now) (g.E.Sink.faults c.say.new.err))
-          read c.run_job-outcome.ensures.unread c.say.ensures;
+      says = record {
+        line = message outcome.file.now outcome.status;
+        is = job_said _ _ outcome.file.now outcome.status before.folder now.folder read c.run_job-outcome.ensures.named;
+        says = c.say.ensures;
+      };
     }
 
 pub returns-in-Err-Memory-clause-says : goal.returns-in-Err-Memory-clause-says
-returns-in-Err-Memory-clause-says g c = record { line = message [] NoMemory; is = wanting (asked c.args.words.now); says = c.say-in-Err-Memory.ensures }
-
-pub returns-in-Err-Memory-clause-names : goal.returns-in-Err-Memory-clause-names
-returns-in-Err-Memory-clause-names g c = wanting_said (asked c.args.words.now) _ _ _ _ _ c.say-in-Err-Memory.ensures
+returns-in-Err-Memory-clause-says g c = record { line = message [] NoMemory; is = wanting (asked c.args.words.now) _; says = c.say-in-Err-Memory.ensures }
 
 pub returns-in-Err-Memory-clause-ran : goal.returns-in-Err-Memory-clause-ran
 returns-in-Err-Memory-clause-ran g c = ran_unread (asked c.args.words.now) _
@@ -42,19 +37,12 @@ pub returns-in-Err-Usage : goal.returns-in-Err-Usage
 returns-in-Err-Usage g c =
     let fault = c.in-Err-Usage.fault in
     let read = subst (λ (why : AskFault). IsFaultOf (asked c.args.words.now) why) c.in-Err-Usage.field-0-is c.in-Err-Usage.ensures.fault in
-    let before = beside (folder_seen g.F.Folder.files g.F.Folder.counts c.args.folder.now) (sink_seen g.O.Sink.written g.O.Sink.faults c.args.out.now) in
+    let before = outside_seen g.F.Folder g.O.Sink c.args.folder.now c.args.out.now in
     record {
       ran = subst (λ (reading : Result Job UsageFault). Ran reading Usage before before) (sym read) (ran_unasked fault before);
       says = record {
         line = usage_line fault;
-        is = usage_said fault (asked c.args.words.now) read;
-        says = subst (λ (f : UsageFault). Says (usage_line f) (g.E.Sink.written c.args.err.now) (g.E.Sink.written c.say_usage.new.err) (g.E.Sink.faults c.args.err.now) (g.E.Sink.faults c.say_usage.new.err)) c.in-Err-Usage.fault-is c.say_usage.ensures;
+        is = usage_said fault (asked c.args.words.now) before.folder before.folder read;
+        says = subst (λ (f : UsageFault). Says (usage_line f) (sink_seen g.E.Sink c.args.err.now) (sink_seen g.E.Sink c.say_usage.new.err)) c.in-Err-Usage.fault-is c.say_usage.ensures;
       };
-      names = none_named fault (asked c.args.words.now) _ Usage _ _ _ _ read;
-      unread = none_unread (asked c.args.words.now) Usage before.folder before.folder _ (λ is. cc);
     }
-
-pub returns-in-Err-Memory-clause-unread : goal.returns-in-Err-Memory-clause-unread
-returns-in-Err-Memory-clause-unread g c =
-    let folder = folder_seen g.F.Folder.files g.F.Folder.counts c.args.folder.now in
-    none_unread (asked c.args.words.now) NoMemory folder folder _ (λ is. cc)

@@ -1,6 +1,5 @@
-use Rattle.std.proofs.Common.{◌≡◌, ◌≤◌, length, sym, subst, ◌∙◌, false, ℕ}
+use Rattle.std.proofs.Common.{◌≤◌, sym, subst, ◌∙◌, false, ℕ}
 use Rattle.trace_base.specs.TailView.{held}
-use Rattle.report_print.specs.Ending.{closed}
 use Rattle.report_print.proofs.LineLength.{closed_short}
 use Rattle.report_print.proofs.LineLemmas.{line_is, length_is}
 use Rattle.wakeup_lat.specs.Section.{pair_text}

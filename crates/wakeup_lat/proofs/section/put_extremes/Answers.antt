@@ -1,4 +1,4 @@
-use Rattle.std.proofs.Common.{rules, ap, ◌∙◌, sym, ◌++◌}
+use Rattle.std.proofs.Common.{rules}
 use Rattle.std.specs.Prelude.{codes}
 use Rattle.wakeup_lat.specs.Section.{extreme_line}
 use Rattle.wakeup_lat.proofs.Putting.{put_both, stopped_first}

@@ -1,4 +1,4 @@
-use Rattle.std.proofs.Common.{rules, ap, ◌∙◌, sym, ◌++◌, ◌∷◌, ◌≡◌}
+use Rattle.std.proofs.Common.{rules, ap, ◌∙◌, ◌++◌, ◌∷◌, ◌≡◌}
 use Rattle.std.specs.Prelude.{codes}
 use Rattle.wakeup_pairs.specs.Figures.{average, longest, shortest}
 use Rattle.wakeup_lat.specs.Section.{average_line, extreme_line}

@@ -1,4 +1,4 @@
-use Rattle.std.proofs.Common.{rules, ap, ◌∙◌, sym, ◌++◌, flat_map, length}
+use Rattle.std.proofs.Common.{rules, ◌++◌, flat_map, length}
 use Rattle.wakeup_lat.specs.Section.{pair_line, count_line, figures}
 use Rattle.wakeup_lat.proofs.Putting.{put_both, stopped_first}
 use Rattle.wakeup_lat.proofs.section.put_section.Goals as goal

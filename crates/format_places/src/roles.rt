@@ -1,0 +1,77 @@
+ghost use Rattle.std.specs.Prelude.{◌≡◌, ◌++◌, [], List, map, IfOk, OnOk};
+ghost use Rattle.std.specs.List.{cons_option};
+ghost use Rattle.std.specs.Option.{option_copied, option_map_or};
+ghost use Rattle.format_parse.specs.declared.format.EventFormat.{EventFormat};
+ghost use Rattle.format_parse.specs.Table.{format_at};
+
+use crate::places::FormatPlaces;
+use format_parse::{EventFormat, FormatTable};
+use std::alloc::{AllocError, Global};
+use std::marker::Model;
+
+/// What the events of a format are for someone.
+pub trait FormatRole: Copy {
+    /// What its events are.
+    ghost role_of: { EventFormat → Self };
+
+    /// What the events of this format are.
+    fn of(format: &EventFormat) -> Self
+        ensures { result ≡ role_of format.now };
+}
+
+/// What the events of each format of a table are, in the formats' order: found once, before any event.
+#[derive(Drop)]
+pub struct FormatRoles<R> {
+    places: FormatPlaces,
+    roles: Vec<R>,
+}
+
+impl<R> Model for FormatRoles<R> {
+    ghost Value = { List R };
+
+    ghost view = { λ r. r.roles.items };
+}
+
+/// Puts the role of the format, if there is one.
+fn put_role<R: FormatRole>(
+    format: Option<&EventFormat>,
+    roles: &mut Vec<R>,
+) -> Result<(), AllocError>
+    ensures { OnOk result (roles.new.items ≡ roles.old.items ++ map R.role_of (cons_option (option_copied format.entry) [])) }
+{
+    if let Some(format) = format {
+        roles.push(R::of(format))?;
+    }
+    Ok(())
+}
+
+impl<R: FormatRole> FormatRoles<R> {
+    /// The roles of these formats. They take a role for each, and 8 KiB for the places of the formats.
+    #[tactic(auto, using(crate::proofs::RolePlaces::roles_more))]
+    pub fn of(alloc: Global, formats: &FormatTable) -> Result<FormatRoles<R>, AllocError>
+        ensures { IfOk result (λ roles. roles ≡ map R.role_of formats.now) }
+    {
+        let places = FormatPlaces::of(alloc, formats)?;
+        let mut roles = Vec::new(alloc);
+        for i in 0..formats.len() {
+            put_role(formats.get(i), &mut roles)?;
+        }
+        Ok(FormatRoles { places, roles })
+    }
+
+    /// The role of the format with this number, and another where there is none. The roles are those of these formats.
+    #[tactic(auto, using(crate::proofs::RolePlaces::role_none, crate::proofs::RolePlaces::role_past))]
+    #[inline(always)]
+    pub fn role(&self, formats: &FormatTable, id: u32, other: R) -> R
+        requires { self.now ≡ map R.role_of formats.now }
+        ensures { result ≡ option_map_or R.role_of (format_at id formats.now) other }
+    {
+        let Some(place) = self.places.place(formats, id) else {
+            return other;
+        };
+        match self.roles.get(place) {
+            Some(role) => *role,
+            None => other,
+        }
+    }
+}

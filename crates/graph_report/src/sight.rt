@@ -1,0 +1,103 @@
+// Entries, exits and losses, as a pass over a trace gathers them.
+
+ghost use Rattle.std.specs.Prelude.{◌≡◌, ◌++◌, true, List, OnOk, map, option_to_list};
+ghost use Rattle.format_parse.specs.Table.{format_at};
+ghost use Rattle.report_print.specs.Line.{id_of};
+ghost use Rattle.subpage.specs.ItemView.{item_view};
+ghost use Rattle.call_pairs.specs.declared.seen.Seen.{Seen};
+ghost use Rattle.call_pairs.specs.Tracings.{WasSeen};
+ghost use Rattle.graph_report.specs.Gathered.{seen_in, HasSeen};
+ghost use Rattle.graph_report.specs.Roles.{role_by, role_of, seen_as, seen_of};
+
+use crate::role::Role;
+use crate::seeing::{graph_event, ran_by};
+use call_pairs::{Seen, Tracing};
+use format_places::FormatRoles;
+use item_pass::Gatherer;
+use report_print::Context;
+use std::alloc::AllocError;
+use subpage::Item;
+
+/// What items are for the calls. The roles are those of the context's formats.
+#[derive(Drop)]
+pub(crate) struct Sight<'a> {
+    pub context: &'a Context,
+    pub roles: &'a FormatRoles<Role>,
+}
+
+// An event is seen, if it is an entry or an exit. Each of them goes from here to the list of calls in one piece of code: what
+// is seen is never put together in memory.
+#[inline(always)]
+fn note_event(
+    context: &Context,
+    roles: &FormatRoles<Role>,
+    cpu: u32,
+    time: u64,
+    payload: &[u8],
+    tracing: &mut Tracing,
+) -> Result<(), AllocError>
+    requires roles { roles.now ≡ map role_of context.now.formats }
+    requires known { WasSeen tracing.old }
+    ensures known { OnOk result (WasSeen tracing.new) }
+    ensures noted { (before : List Seen) → HasSeen before tracing.old
+        → OnOk result (HasSeen (before ++ option_to_list (seen_as context.now cpu time payload.now (role_by (format_at (id_of context.now payload.now) context.now.formats)))) tracing.new) }
+{
+    let id = context.id(payload);
+    match roles.role(context.formats(), id, Role::Other) {
+        Role::Enters(called) => {
+            let entry = graph_event(context, cpu, time, id, payload, called);
+            tracing.see(&Seen::Entry(entry))
+        }
+        Role::Leaves(called, times) => {
+            let exit = graph_event(context, cpu, time, id, payload, called);
+            let ran = ran_by(context.order(), payload, times);
+            tracing.see(&Seen::Exit(exit, ran))
+        }
+        Role::Other => Ok(()),
+    }
+}
+
+// An item of this processor is seen, if it is one for the calls.
+#[inline(always)]
+#[tactic(auto, unfolding(crate::specs::Roles::seen_of))]
+fn note_item(
+    context: &Context,
+    roles: &FormatRoles<Role>,
+    cpu: u32,
+    item: &Item<'_>,
+    tracing: &mut Tracing,
+) -> Result<(), AllocError>
+    requires roles { roles.now ≡ map role_of context.now.formats }
+    requires known { WasSeen tracing.old }
+    ensures known { OnOk result (WasSeen tracing.new) }
+    ensures noted { (before : List Seen) → HasSeen before tracing.old
+        → OnOk result (HasSeen (before ++ option_to_list (seen_of context.now cpu (item_view item.now))) tracing.new) }
+{
+    match item {
+        Item::Event { time, payload } => note_event(context, roles, cpu, *time, payload, tracing),
+        Item::Loss { time: _, count } => tracing.see(&Seen::Loss { cpu, count: *count }),
+    }
+}
+
+impl Gatherer for Sight<'_> {
+    type Gathered = Tracing;
+
+    // In a trace of calls there is little else.
+    const LOOKS_AHEAD: bool = false;
+
+    ghost is_sound = { λ sight. sight.roles.now ≡ map role_of sight.context.now.formats };
+
+    ghost matters = { λ _ _ _. true };
+
+    ghost holds = { λ sight xs tracing. HasSeen (seen_in sight.context.now xs) tracing };
+
+    #[inline(always)]
+    fn is_other(&self, _cpu: u32, _item: &Item<'_>) -> bool {
+        false
+    }
+
+    #[inline(always)]
+    fn take(&self, cpu: u32, item: &Item<'_>, tracing: &mut Tracing) -> Result<(), AllocError> {
+        note_item(self.context, self.roles, cpu, item, tracing)
+    }
+}

@@ -1,0 +1,120 @@
+-- A pass, item by item.
+use Rattle.std.proofs.Common.{◌≡◌, ℕ, ◌<◌, List, [], ◌∷◌, ◌++◌, Bool, length, get_or, set, Option, Some, None, refl, sym, ap, subst, ◌∙◌, append_assoc, append-nil, arith}
+use Rattle.std.specs.Option.{IfSome}
+use Rattle.std.specs.List.{All, filter}
+use Rattle.std.proofs.lemmas.List.{get_or-set_same, length-set, set-set}
+use Rattle.std.proofs.lemmas.List.Elements.{All-set, All-get_or, All-weaker}
+use Rattle.trace_base.specs.declared.layout.Layout.{Layout}
+use Rattle.subpage.specs.ItemData.{ItemData}
+use Rattle.subpage.specs.Arrangement.{Keyed, key_of, cpu_of}
+use Rattle.subpage.specs.Cut.{reached_of, cut_of}
+use Rattle.subpage.proofs.Filters.{filter-append}
+use Rattle.page_pool.specs.Fresh.{IsFresh}
+use Rattle.page_pool.specs.declared.lane.Lane.{Lane}
+use Rattle.event_cursor.specs.Stepping.{IsStepped}
+use Rattle.event_cursor.specs.Keys.{first_of}
+use Rattle.event_cursor.specs.Standing.{Stands, keyed_held}
+use Rattle.event_cursor.proofs.Standing.{stands_stepped}
+use Rattle.time_merge.specs.Rows.{coming, least_cut}
+use Rattle.time_merge.specs.LaneRows.{parts_of, rows_of, to_come}
+use Rattle.time_merge.specs.Nexts.{IsNextLane, IsNext}
+use Rattle.time_merge.specs.Reads.{all_unread}
+use Rattle.time_merge.specs.declared.next_lanes.Next.{Next}
+use Rattle.time_merge.proofs.Starting.{fresh_stands, fresh_come, cut_of_rows}
+use Rattle.time_merge.proofs.PartReads.{same_unread, set_unread}
+use Rattle.time_merge.proofs.Readying.{set_parts}
+use Rattle.item_pass.specs.Skipping.{IsSkipped, IsUsedUp, and_item, by_item, cut_place}
+use Rattle.item_pass.proofs.Skips.{skipped_come}
+
+-- items that are used up read nothing, and their lane keeps its part
+pub using_unread : (m : ℕ → ItemData → Bool) (l : Layout) (len : ℕ) (lanes : List Lane) (i : ℕ) (d now : Lane) → i < length lanes → IsUsedUp m l (get_or lanes i d) now → all_unread l len (set lanes i now) ≡ all_unread l len lanes
+using_unread m l len lanes i d now lt s =
+    set_unread l len lanes i d now lt (same_unread l len (get_or lanes i d) now (s.skipped.part ∙ s.stepped.page.part) (s.skipped.state ∙ s.stepped.page.state) (s.skipped.next ∙ s.stepped.page.next))
+
+pub used_parts : (m : ℕ → ItemData → Bool) (l : Layout) (lanes : List Lane) (i : ℕ) (d now : Lane) → i < length lanes → IsUsedUp m l (get_or lanes i d) now → parts_of (set lanes i now) ≡ parts_of lanes
+used_parts m l lanes i d now lt s = set_parts lanes i d now lt (s.skipped.cpu ∙ s.stepped.page.cpu) (s.skipped.part ∙ s.stepped.page.part)
+
+-- These items matter, and were taken from the front of what lanes have to come.
+pub record Passed (m : ℕ → ItemData → Bool) (H : List Keyed → Type 0) (layout : Layout) (file : List ℕ) (first now : List Lane) : Type 0 where
+  pub taken : List Keyed
+  pub stands : All (Stands layout file) now
+  pub came : filter (by_item m) (to_come layout file first) ≡ taken ++ filter (by_item m) (to_come layout file now)
+  pub holds : H taken
+
+module _ (m : ℕ → ItemData → Bool) (l : Layout) where
+  pub begins : (H : List Keyed → Type 0) (file : List ℕ) (lanes : List Lane) → All (λ (a : Lane). IsFresh a.cursor) lanes → H [] → Passed m H l file lanes lanes
+  begins H file lanes fresh holds = record {
+    taken = [];
+    stands = All-weaker (λ (a : Lane). IsFresh a.cursor) (Stands l file) (fresh_stands l file) lanes fresh;
+    came = refl;
+    holds = holds;
+  }
+
+  on_loaded : (H : List Keyed → Type 0) (file : List ℕ) (first lanes lanes1 : List Lane) → rows_of l file lanes1 ≡ rows_of l file lanes → All (Stands l file) lanes1
+      → Passed m H l file first lanes → Passed m H l file first lanes1
+  on_loaded H file first lanes lanes1 rows stands p = record {
+    taken = p.taken;
+    stands = stands;
+    came = p.came ∙ ap (λ (xs : List Keyed). p.taken ++ filter (by_item m) xs) (ap (coming key_of cpu_of) (sym rows));
+    holds = p.holds;
+  }
+
+  pub loaded : (H : List Keyed → Type 0) (told now_told : Option (List ℕ)) (first lanes lanes1 : List Lane) (end : Next) → now_told ≡ told
+      → IfSome told (λ file. Passed m H l file first lanes)
+      → IfSome now_told (λ file. rows_of l file lanes1 ≡ rows_of l file lanes)
+      → IfSome now_told (λ file. All (Stands l file) lanes → All (Stands l file) lanes1)
+      → IfSome now_told (λ file. All (Stands l file) lanes → IsNext l file lanes1 end)
+      → IfSome told (λ file. Passed m H l file first lanes1 × IsNext l file lanes1 end)
+  loaded H None now_told first lanes lanes1 end e p rows stands next = tt
+  loaded H (Some file) now_told first lanes lanes1 end e p rows stands next =
+      let rows_are : rows_of l file lanes1 ≡ rows_of l file lanes = subst (λ (o : Option (List ℕ)). IfSome o (λ file. rows_of l file lanes1 ≡ rows_of l file lanes)) e rows in
+      let stand : All (Stands l file) lanes → All (Stands l file) lanes1 = subst (λ (o : Option (List ℕ)). IfSome o (λ file. All (Stands l file) lanes → All (Stands l file) lanes1)) e stands in
+      let comes : All (Stands l file) lanes → IsNext l file lanes1 end = subst (λ (o : Option (List ℕ)). IfSome o (λ file. All (Stands l file) lanes → IsNext l file lanes1 end)) e next in
+      (on_loaded H file first lanes lanes1 rows_are (stand p.stands) p, comes p.stands)
+
+  -- an item is taken of lane i, and it is used up
+  stepped : (H K : List Keyed → Type 0) (file : List ℕ) (first lanes : List Lane) (i : ℕ) (d now : Lane) → Passed m H l file first lanes → i < length lanes → IsStepped l (get_or lanes i d) now
+      → IsNextLane l file lanes i → ((xs : List Keyed) (x : Keyed) → first_of (keyed_held l (get_or lanes i d)) ≡ Some x → H xs → K (and_item m xs x)) → Passed m K l file first (set lanes i now)
+  stepped H K file first lanes i d now p lt s next taken =
+      let x = next.item in
+      let rest = to_come l file (set lanes i now) in
+      let come : to_come l file lanes ≡ x ∷ rest = next.used d now s in
+      let parted : filter (by_item m) (x ∷ rest) ≡ filter (by_item m) (x ∷ []) ++ filter (by_item m) rest = filter-append (by_item m) (x ∷ []) rest in
+      record {
+        taken = and_item m p.taken x;
+        stands = All-set (Stands l file) lanes i now (stands_stepped l file (get_or lanes i d) now s (All-get_or (Stands l file) lanes i d lt p.stands)) p.stands;
+        came = p.came ∙ ap (λ (xs : List Keyed). p.taken ++ xs) (ap (filter (by_item m)) come ∙ parted) ∙ sym (append_assoc p.taken (filter (by_item m) (x ∷ [])) (filter (by_item m) rest));
+        holds = taken p.taken x (next.first d) p.holds;
+      }
+
+  -- items that do not matter were used up too
+  skipped : (K : List Keyed → Type 0) (file : List ℕ) (first lanes : List Lane) (i : ℕ) (a b : Lane) → Passed m K l file first (set lanes i a) → i < length lanes → IsSkipped m l a b
+      → Passed m K l file first (set lanes i b)
+  skipped K file first lanes i a b p lt s =
+      let here : Stands l file a = subst (Stands l file) (get_or-set_same lanes i a a lt) (All-get_or (Stands l file) (set lanes i a) i a (omega (arith, lt, length-set lanes i a)) p.stands) in
+      record {
+        taken = p.taken;
+        stands = subst (All (Stands l file)) (set-set lanes i a b) (All-set (Stands l file) (set lanes i a) i b (s.stands file here) p.stands);
+        came = p.came ∙ ap (λ (xs : List Keyed). p.taken ++ xs) (skipped_come m l file lanes i a b lt s);
+        holds = p.holds;
+      }
+
+  pub goes_on : (H K : List Keyed → Type 0) (file : List ℕ) (first lanes : List Lane) (i : ℕ) (d now : Lane) → i < length lanes → IsUsedUp m l (get_or lanes i d) now
+      → ((xs : List Keyed) (x : Keyed) → first_of (keyed_held l (get_or lanes i d)) ≡ Some x → H xs → K (and_item m xs x))
+      → Passed m H l file first lanes × IsNextLane l file lanes i → Passed m K l file first (set lanes i now)
+  goes_on H K file first lanes i d now lt s taken p = skipped K file first lanes i s.mid now (stepped H K file first lanes i d s.mid p.0 lt s.stepped p.1 taken) lt s.skipped
+
+  -- nothing is to come
+  pub all_passed : (H : List Keyed → Type 0) (file : List ℕ) (first now : List Lane) → All (λ (a : Lane). IsFresh a.cursor) first → to_come l file now ≡ [] → Passed m H l file first now
+      → H (filter (by_item m) (reached_of l file (parts_of first)))
+  all_passed H file first now fresh none p =
+      let all : filter (by_item m) (to_come l file first) ≡ p.taken = p.came ∙ ap (λ (xs : List Keyed). p.taken ++ filter (by_item m) xs) none ∙ append-nil p.taken in
+      subst H (sym all ∙ ap (filter (by_item m)) (fresh_come l file first fresh)) p.holds
+
+-- where nothing is left, the cut is the first lanes'
+pub no_cut : (l : Layout) (file : List ℕ) (first now : List Lane) → parts_of now ≡ parts_of first → least_cut (rows_of l file now) ≡ None → None ≡ cut_place (cut_of l file (parts_of first))
+no_cut l file first now parts is = ap cut_place (sym is ∙ cut_of_rows l file now ∙ ap (cut_of l file) parts)
+
+pub one_cut : (l : Layout) (file : List ℕ) (first now : List Lane) (cpu page : ℕ) → parts_of now ≡ parts_of first
+    → (key : Option ℕ) × (least_cut (rows_of l file now) ≡ Some (record { key = key; cpu = cpu; page = page })) → Some (cpu, page) ≡ cut_place (cut_of l file (parts_of first))
+one_cut l file first now cpu page parts is = ap cut_place (sym is.1 ∙ cut_of_rows l file now ∙ ap (cut_of l file) parts)

@@ -1,0 +1,98 @@
+ghost use Rattle.std.specs.Prelude.{◌≡◌, ◌≤◌, [], Err, All, IfOk, IfSome, OnOk, length, filter, sum_by};
+ghost use Rattle.trace_base.specs.Layout.{IsLayout};
+ghost use Rattle.trace_outside.specs.Causes.{Rose, raised};
+ghost use Rattle.trace_outside.specs.Keeping.{KeepsFile};
+ghost use Rattle.subpage.specs.Arrangement.{CpusRise};
+ghost use Rattle.subpage.specs.Cut.{cut_of, reached_of};
+ghost use Rattle.page_pool.specs.Fresh.{IsFresh};
+ghost use Rattle.event_cursor.specs.Standing.{IsInOrder};
+ghost use Rattle.time_merge.specs.LaneRows.{parts_of};
+ghost use Rattle.item_pass.specs.Skipping.{by_item, cut_place};
+ghost use Rattle.item_pass.specs.declared.passing.PassFault.TheVariants.{Read};
+
+use crate::gatherer::Gatherer;
+use crate::skipping::use_up;
+use crate::taking::take_head;
+use least_tree::LeastTree;
+use page_pool::Lane;
+use std::alloc::Global;
+use time_merge::{Next, next_lane_by};
+use trace_base::Layout;
+use trace_outside::{Failed, File};
+
+/// Why a pass ended early.
+#[derive(Clone, Copy, Debug, PartialEq, Eq)]
+pub enum PassFault {
+    /// A read failed. The lanes are not to be used again.
+    Read,
+    /// There is no memory.
+    Memory,
+}
+
+impl From<Failed> for PassFault {
+    ghost from_gives = { λ failed fault. fault ≡ Read };
+
+    fn from(_failed: Failed) -> PassFault {
+        PassFault::Read
+    }
+}
+
+/// Gathers of all reached items of the lanes' parts that matter, in their order, and tells the processor and the number of the
+/// first malformed sub-buffer in the order of the items, if there is one. Each sub-buffer is read once. A malformed one is no
+/// fault: the items end before it. It takes memory for one number a lane, and what the gatherer takes.
+pub fn pass<G: Gatherer, F: File>(
+    alloc: Global,
+    gatherer: &G,
+    layout: &Layout,
+    file: &mut F,
+    lanes: &mut [Lane],
+    gathered: &mut G::Gathered,
+) -> Result<Option<(u32, u64)>, PassFault>
+    requires allowed { IsLayout layout.now }
+    requires fresh { All (λ lane. IsFresh lane.cursor) lanes.old }
+    requires in_order { All (IsInOrder layout.now) lanes.old }
+    requires rise { CpusRise (parts_of lanes.old) }
+    requires sound { G.is_sound gatherer.now }
+    requires none { G.holds gatherer.now [] gathered.old }
+    ensures gathered { OnOk result (IfSome (F.bytes file.old) (λ bytes. G.holds gatherer.now
+        (filter (by_item (G.matters gatherer.now)) (reached_of layout.now bytes (parts_of lanes.old))) gathered.new)) }
+    ensures cut { IfOk result (λ cut. IfSome (F.bytes file.old) (λ bytes.
+        cut ≡ cut_place (cut_of layout.now bytes (parts_of lanes.old)))) }
+    ensures in_order { All (IsInOrder layout.now) lanes.new }
+    ensures parts { parts_of lanes.new ≡ parts_of lanes.old }
+    ensures reads { F.reads file.new
+        ≤ raised (F.reads file.old) (sum_by (λ part. part.1.size) (parts_of lanes.old)) }
+    ensures read { result ≡ Err PassFault.Read → Rose (F.faults file.old) (F.faults file.new) }
+    ensures keeps { KeepsFile F.File file.old file.new }
+{
+    let Some(mut nexts) = tree_for(alloc, lanes) else {
+        return Err(PassFault::Memory);
+    };
+    let mut used = None;
+    loop {
+        match next_lane_by(layout, file, lanes, &mut nexts, used)? {
+            Next::Lane(i) => match take_head(gatherer, layout, &lanes[i], gathered) {
+                Ok(()) => {
+                    use_up(gatherer, layout, &mut lanes[i]);
+                    used = Some(i);
+                }
+                Err(_) => return Err(PassFault::Memory),
+            },
+            Next::Done => return Ok(None),
+            Next::Malformed { cpu, page } => return Ok(Some((cpu, page))),
+        }
+    }
+}
+
+// A tree with a slot for each lane. For more lanes than 32 bits count there is no memory.
+fn tree_for(alloc: Global, lanes: &[Lane]) -> Option<LeastTree>
+    ensures { IfSome result (λ nexts. length nexts ≡ length lanes.now) }
+{
+    let Ok(slots) = u32::try_from(lanes.len()) else {
+        return None;
+    };
+    match LeastTree::new(alloc, slots) {
+        Ok(nexts) => Some(nexts),
+        Err(_) => None,
+    }
+}

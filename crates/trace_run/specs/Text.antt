@@ -1,7 +1,0 @@
--- Texts as rows of pieces.
-use Rattle.std.specs.Prelude.{ℕ, List}
-use Rattle.std.specs.List.{flat_map}
-
--- the pieces, one behind another
-abbrev pub text : List (List ℕ) → List ℕ
-text pieces = flat_map (λ piece. piece) pieces

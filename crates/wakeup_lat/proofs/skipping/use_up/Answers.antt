@@ -1,4 +1,0 @@
-use Rattle.wakeup_lat.proofs.skipping.use_up.Goals as goal
-
-pub returns-clause-used : goal.returns-clause-used
-returns-clause-used c = record { mid = c.step.new.lane; stepped = c.step.ensures.used; skipped = c.skip_others.ensures.skipped }

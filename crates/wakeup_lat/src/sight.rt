@@ -1,0 +1,53 @@
+// Wake-ups and switches, as a pass over a trace gathers them.
+
+ghost use Rattle.std.specs.Prelude.{◌≡◌, true, false, map};
+ghost use Rattle.wakeup_pairs.specs.Gathered.{gathered};
+ghost use Rattle.wakeup_lat.specs.Roles.{all_seen, role_of};
+ghost use Rattle.wakeup_lat.specs.Matter.{is_seen, matters};
+
+use crate::role::Role;
+use crate::seeing::see;
+use format_places::FormatRoles;
+use item_pass::Gatherer;
+use report_print::Context;
+use std::alloc::AllocError;
+use subpage::Item;
+use wakeup_pairs::{Seen, Wakeups};
+
+/// What items are for the latencies. The roles are those of the context's formats.
+#[derive(Drop)]
+pub(crate) struct Sight<'a> {
+    pub context: &'a Context,
+    pub roles: &'a FormatRoles<Role>,
+}
+
+fn is_other(seen: Seen) -> bool
+    ensures { result ≡ true → is_seen seen ≡ false }
+{
+    match seen {
+        Seen::Other => true,
+        Seen::Wakes(_) | Seen::Switches(_) | Seen::Lost => false,
+    }
+}
+
+impl Gatherer for Sight<'_> {
+    type Gathered = Wakeups;
+
+    // In most traces few events are wake-ups and switches.
+    const LOOKS_AHEAD: bool = true;
+
+    ghost is_sound = { λ sight. sight.roles.now ≡ map role_of sight.context.now.formats };
+
+    ghost matters = { λ sight. matters sight.context.now };
+
+    ghost holds = { λ sight xs wakeups. wakeups ≡ gathered (all_seen sight.context.now xs) };
+
+    fn is_other(&self, cpu: u32, item: &Item<'_>) -> bool {
+        is_other(see(self.context, self.roles, cpu, item))
+    }
+
+    fn take(&self, cpu: u32, item: &Item<'_>, wakeups: &mut Wakeups) -> Result<(), AllocError> {
+        let seen = see(self.context, self.roles, cpu, item);
+        wakeups.see(seen)
+    }
+}
