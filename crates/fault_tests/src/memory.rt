@@ -1,14 +1,14 @@
 // Runs that may find no memory. By themselves they have all that they ask for and must be done; with the allocation of some
 // number refused (`rt try --test --fail-alloc N`, apart from the gate) each must end as one of these does.
 
-use super::runs::{REPORT, folder_of, run_line};
-use std::alloc::{Alloc, Global};
+use super::runs::{folder_of, run_line};
+use std::alloc::{Alloc, AllocError, Global};
 use std::process::Abort;
 use std::test::Fail;
 use std::thread::Threads;
 use trace_outside::{MemFolder, MemSink};
 use trace_run::Status;
-use trace_samples::switch_file;
+use trace_samples::{SWITCH_REPORT, TraceFile, switch_file};
 
 const WAITS: &[u8] = b"cpus=2
             bash-1234  [000]     1.000000: sched_switch:         prev_comm=bash prev_pid=1234 prev_prio=120 prev_state=S ==> next_comm=swapper/0 next_pid=0 next_prio=120
@@ -51,6 +51,26 @@ options 1
 body flyrecord
 ";
 
+const WAKES: &[u8] =
+    b"name: sched_wakeup\nID: 10\n\tfield:int pid;\toffset:8;\tsize:4;\tsigned:1;\n\nprint fmt: \"x\"\n";
+
+const SWITCHES: &[u8] =
+    b"name: sched_switch\nID: 11\n\tfield:int next_pid;\toffset:8;\tsize:4;\tsigned:1;\n\nprint fmt: \"x\"\n";
+
+/// A wake-up of task 42 at a microsecond, and a switch to it at two.
+const WOKEN: &[u8] =
+    b"\xe8\x03\0\0\0\0\0\0\x20\0\0\0\0\0\0\0\x03\0\0\0\x0a\0\0\0\x05\0\0\0\x2a\0\0\0\x03\x7d\0\0\x0b\0\0\0\x05\0\0\0\x2a\0\0\0";
+
+const PAIRED: &[u8] = b"cpus=1
+           <...>-5     [000]     0.000001: sched_wakeup:         x
+           <...>-5     [000]     0.000002: sched_switch:         x
+wakeups=1
+           <...>-42    [000]     0.000002: latency 1.000 us
+average 1.000 us
+maximum 1.000 us at 0.000002
+minimum 1.000 us at 0.000002
+";
+
 /// How many bytes the one new file of a split has: a header of less than 4,096 bytes and a sub-buffer of each processor.
 const NEW_FILE: usize = 12_288;
 
@@ -58,6 +78,15 @@ const NEW_FILE: usize = 12_288;
 fn folder(alloc: Global) -> Option<MemFolder> {
     let file = switch_file(alloc).ok()?;
     folder_of(alloc, &file).ok()
+}
+
+// The same with a task that waits.
+fn woken(alloc: Global) -> Result<MemFolder, AllocError> {
+    let mut trace = TraceFile::new(alloc);
+    trace.add_sched(WAKES)?;
+    trace.add_sched(SWITCHES)?;
+    trace.add_processor(WOKEN)?;
+    folder_of(alloc, &trace.bytes(alloc)?)
 }
 
 // Whether nothing was printed and made.
@@ -94,34 +123,50 @@ fn ends<R: Alloc<A = Global> + Abort + Threads + Sync>(
     told: &[u8],
     size: usize,
 ) {
+    if let Some(mut folder) = folder(rt.alloc()) {
+        ends_over(rt, &mut folder, line, told, size);
+    }
+}
+
+fn ends_over<R: Alloc<A = Global> + Abort + Threads + Sync>(
+    rt: &R,
+    folder: &mut MemFolder,
+    line: &str,
+    told: &[u8],
+    size: usize,
+) {
     let alloc = rt.alloc();
-    let Some(mut folder) = folder(alloc) else {
-        return;
-    };
     let mut out = MemSink::new(alloc);
     let mut err = MemSink::new(alloc);
-    let Ok(status) = run_line(rt, line, &mut folder, &mut out, &mut err) else {
+    let Ok(status) = run_line(rt, line, folder, &mut out, &mut err) else {
         return;
     };
     assert!(rt;
-        may_end(status, &folder, &out, told, size),
+        may_end(status, folder, &out, told, size),
         "{line}: {status:?}"
     );
 }
 
 #[test]
 fn memory_of_a_report(rt: HostRuntime) {
-    ends(&rt, "report", REPORT, 0);
+    ends(&rt, "report", SWITCH_REPORT, 0);
 }
 
 #[test]
 fn memory_of_a_report_on_threads(rt: HostRuntime) {
-    ends(&rt, "report --workers 3", REPORT, 0);
+    ends(&rt, "report --workers 3", SWITCH_REPORT, 0);
 }
 
 #[test]
 fn memory_of_a_report_with_wake_ups(rt: HostRuntime) {
     ends(&rt, "report -w", WAITS, 0);
+}
+
+#[test]
+fn memory_of_tasks_that_wait(rt: HostRuntime) {
+    if let Ok(mut folder) = woken(rt.alloc()) {
+        ends_over(&rt, &mut folder, "report -w", PAIRED, 0);
+    }
 }
 
 #[test]
@@ -169,16 +214,25 @@ fn memory_of_a_self_test(rt: HostRuntime) {
     );
 }
 
+fn is_done<R: Alloc<A = Global> + Abort + Threads + Sync>(
+    rt: &R,
+    folder: &mut MemFolder,
+    line: &str,
+) -> Result<(), Fail> {
+    let mut out = MemSink::new(rt.alloc());
+    let mut err = MemSink::new(rt.alloc());
+    let status = run_line(rt, line, folder, &mut out, &mut err)?;
+    assert!(rt; status == Status::Done && err.bytes().is_empty(), "{line}");
+    Ok(())
+}
+
 // Without this the tests above would pass by ends of any kind that may be.
 #[test]
 fn memory_at_hand(rt: HostRuntime) -> Result<(), Fail> {
-    let alloc = rt.alloc();
     for line in ["report", "split -o p", "dump", "selftest 7 10"] {
-        let mut folder = folder(alloc).ok_or("no memory")?;
-        let mut out = MemSink::new(alloc);
-        let mut err = MemSink::new(alloc);
-        let status = run_line(&rt, line, &mut folder, &mut out, &mut err)?;
-        assert!(rt; status == Status::Done && err.bytes().is_empty(), "{line}");
+        let mut folder = folder(rt.alloc()).ok_or("no memory")?;
+        is_done(&rt, &mut folder, line)?;
     }
-    Ok(())
+    let mut folder = woken(rt.alloc())?;
+    is_done(&rt, &mut folder, "report -w")
 }

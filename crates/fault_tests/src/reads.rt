@@ -1,18 +1,15 @@
 // A byte of the file that cannot be read, and a file that cannot be opened.
 
-use super::runs::{REPORT, folder_of, is_first_lines, run_line};
+use super::runs::{folder_of, is_first_lines, run_line};
 use std::alloc::{Alloc, Global};
 use std::process::Abort;
 use std::test::Fail;
 use std::thread::Threads;
 use trace_outside::{MemFault, MemSink};
 use trace_run::Status;
-use trace_samples::switch_file;
+use trace_samples::{SWITCH_HEADER, SWITCH_REPORT, switch_file};
 
 const READ_FAILED: &[u8] = b"trace-cmd: trace.dat: read failed\n";
-
-/// The length of the trace's header. From there on up to the first sub-buffer nothing is read.
-const HEADER: u64 = 2218;
 
 // A report while this byte cannot be read, by reads of at most so many bytes.
 fn reports_before<R: Alloc<A = Global> + Abort + Threads + Sync>(
@@ -28,18 +25,18 @@ fn reports_before<R: Alloc<A = Global> + Abort + Threads + Sync>(
     let mut out = MemSink::new(alloc);
     let mut err = MemSink::new(alloc);
     let status = run_line(rt, "report", &mut folder, &mut out, &mut err)?;
-    let is_read = byte < HEADER || byte >= 16_384 && byte < 24_576;
+    let is_read = byte < SWITCH_HEADER || byte >= 16_384 && byte < 24_576;
     let counts = folder.counts();
     if is_read {
         assert!(rt;
             status == Status::ReadFault && err.bytes() == READ_FAILED,
             "{byte}"
         );
-        assert!(rt; is_first_lines(out.bytes(), REPORT), "{byte}");
-        assert_eq!(rt; out.bytes().is_empty(), byte < HEADER, "{byte}");
+        assert!(rt; is_first_lines(out.bytes(), SWITCH_REPORT), "{byte}");
+        assert_eq!(rt; out.bytes().is_empty(), byte < SWITCH_HEADER, "{byte}");
     } else {
         assert!(rt; status == Status::Done && err.bytes().is_empty(), "{byte}");
-        assert!(rt; out.bytes() == REPORT, "{byte}");
+        assert!(rt; out.bytes() == SWITCH_REPORT, "{byte}");
     }
     assert!(rt;
         counts.opened == 1 && counts.closed == 1 && counts.misses == 0,
@@ -59,7 +56,7 @@ fn each_byte_of_the_header_and_each_ninety_seventh(rt: HostRuntime) -> Result<()
     for byte in [0, 30, 16_384, 20_480, 24_575, 24_576, u64::MAX] {
         reports_before(&rt, &file, byte, u32::MAX)?;
     }
-    for byte in 0..HEADER {
+    for byte in 0..SWITCH_HEADER {
         reports_before(&rt, &file, byte, u32::MAX)?;
     }
     for i in 0..254_u64 {

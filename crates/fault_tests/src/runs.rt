@@ -2,15 +2,9 @@
 
 use std::alloc::{Alloc, AllocError, Global};
 use std::thread::Threads;
-use trace_base::Words;
 use trace_outside::{MemFolder, MemSink, NoGate};
 use trace_run::{Status, run};
-
-pub(super) const REPORT: &[u8] = b"cpus=2
-            bash-1234  [000]     1.000000: sched_switch:         prev_comm=bash prev_pid=1234 prev_prio=120 prev_state=S ==> next_comm=swapper/0 next_pid=0 next_prio=120
-          <idle>-0     [001]     1.000002: sched_switch:         prev_comm=swapper/1 prev_pid=0 prev_prio=120 prev_state=R ==> next_comm=kworker/0:1 next_pid=42 next_prio=120
-     kworker/0:1-42    [001]     1.000250: function:              schedule <-- do_idle
-";
+use trace_samples::words_of_line;
 
 /// Runs the words of a line, with a blank between any two.
 pub(super) fn run_line<R: Alloc<A = Global> + Threads + Sync>(
@@ -21,10 +15,7 @@ pub(super) fn run_line<R: Alloc<A = Global> + Threads + Sync>(
     err: &mut MemSink,
 ) -> Result<Status, AllocError> {
     let alloc = rt.alloc();
-    let mut words = Words::new(alloc);
-    for word in line.split(' ') {
-        words.push(word)?;
-    }
+    let words = words_of_line(alloc, line)?;
     Ok(run(rt, alloc, &words, folder, out, err, &NoGate))
 }
 

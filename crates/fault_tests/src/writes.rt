@@ -1,6 +1,6 @@
 // Outputs that fail from one write on, and messages that cannot be written.
 
-use super::runs::{REPORT, folder_of, run_line};
+use super::runs::{folder_of, run_line};
 use dat_header::OpenFault;
 use std::alloc::{Alloc, Global};
 use std::process::Abort;
@@ -8,7 +8,7 @@ use std::test::Fail;
 use std::thread::Threads;
 use trace_outside::MemSink;
 use trace_run::Status;
-use trace_samples::{TraceFile, switch_file};
+use trace_samples::{SWITCH_REPORT, TraceFile, switch_file};
 
 const WRITE_FAILED: &[u8] = b"trace-cmd: write failed\n";
 
@@ -50,8 +50,8 @@ fn writes_before<R: Alloc<A = Global> + Abort + Threads + Sync>(
 
 /// Lines, and what they print of the trace.
 const LINES: &[(&str, &[u8])] = &[
-    ("report", REPORT),
-    ("report --workers 3", REPORT),
+    ("report", SWITCH_REPORT),
+    ("report --workers 3", SWITCH_REPORT),
     ("report -E", b"ftrace/function\nsched/sched_switch\n"),
     (
         "report -f",

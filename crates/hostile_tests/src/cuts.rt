@@ -7,16 +7,16 @@ use std::process::Abort;
 use std::test::Fail;
 use std::thread::Threads;
 use trace_run::Status;
-use trace_samples::switch_file;
+use trace_samples::{SWITCH_HEADER, SWITCH_REPORT, switch_file};
 
-/// The length of its header, by a script that writes the same file without this one.
-const HEADER: usize = 2218;
+const HEADER: usize = SWITCH_HEADER as usize;
 
-const REPORT: &[u8] = b"cpus=2
-            bash-1234  [000]     1.000000: sched_switch:         prev_comm=bash prev_pid=1234 prev_prio=120 prev_state=S ==> next_comm=swapper/0 next_pid=0 next_prio=120
-          <idle>-0     [001]     1.000002: sched_switch:         prev_comm=swapper/1 prev_pid=0 prev_prio=120 prev_state=R ==> next_comm=kworker/0:1 next_pid=42 next_prio=120
-     kworker/0:1-42    [001]     1.000250: function:              schedule <-- do_idle
-";
+fn front_of(file: &[u8], len: usize) -> &[u8] {
+    match file.split_at_checked(len) {
+        Some((front, _)) => front,
+        None => &[],
+    }
+}
 
 // The first so many bytes end inside the header: nothing is read of them.
 fn is_early<R: Alloc<A = Global> + Abort + Threads + Sync>(
@@ -24,7 +24,7 @@ fn is_early<R: Alloc<A = Global> + Abort + Threads + Sync>(
     file: &[u8],
     len: usize,
 ) -> Result<(), Fail> {
-    let (front, _) = file.split_at_checked(len).unwrap_or((&[], &[]));
+    let front = front_of(file, len);
     let status = Status::Refused(OpenFault::Truncated(len as u64));
     let early = format!(in rt.alloc(); "trace-cmd: trace.dat: file ends early at byte {len}\n")?;
     for line in ["report", "dump --validate"] {
@@ -55,7 +55,7 @@ fn told(status: Status) -> (&'static [u8], &'static [u8]) {
             b"cpus=2\n",
             b"trace-cmd: trace.dat: malformed sub-page 0 of processor 1\n",
         ),
-        _ => (REPORT, b""),
+        _ => (SWITCH_REPORT, b""),
     }
 }
 
@@ -65,7 +65,7 @@ fn is_reported<R: Alloc<A = Global> + Abort + Threads + Sync>(
     file: &[u8],
     len: usize,
 ) -> Result<(), Fail> {
-    let (front, _) = file.split_at_checked(len).unwrap_or((&[], &[]));
+    let front = front_of(file, len);
     assert_eq!(rt; front.len(), len);
     let status = status_of(len);
     let (out, err) = told(status);
@@ -101,13 +101,12 @@ fn is_split<R: Alloc<A = Global> + Abort + Threads + Sync>(
     file: &[u8],
     len: usize,
 ) -> Result<(), Fail> {
-    let (front, _) = file.split_at_checked(len).unwrap_or((&[], &[]));
     let status = if len < HEADER {
         Status::Refused(OpenFault::Truncated(len as u64))
     } else {
         status_of(len)
     };
-    let ran = run_line(rt, "split -o p", front)?;
+    let ran = run_line(rt, "split -o p", front_of(file, len))?;
     assert!(rt; ran.status == status, "{len}");
     assert_eq!(rt; ran.folder.get("p.1").is_some(), len >= HEADER, "{len}");
     assert!(rt; ran.folder.get("p.2").is_none(), "{len}");

@@ -1,11 +1,10 @@
 // Fields that lie outside of their event, on one another, or have sizes that no number has.
 
-use super::runs::prints;
+use super::runs::{file_of, prints};
 use std::alloc::{Alloc, Global};
 use std::process::Abort;
 use std::test::Fail;
 use std::thread::Threads;
-use trace_samples::TraceFile;
 
 /// An event of id 7 and pid 1 at a microsecond, with a payload of 24 bytes: behind its first eight ABCD, a word of an offset
 /// and a length of 65,535, one of offset 22 and that length, and wxyz.
@@ -68,14 +67,6 @@ fn format_of(alloc: Global, fields: &str, print: &str) -> Result<String, Fail> {
     Ok(text)
 }
 
-// The event, and the format of a row.
-fn file_of(alloc: Global, fields: &str, print: &str) -> Result<Vec<u8>, Fail> {
-    let mut trace = TraceFile::new(alloc);
-    trace.add_ftrace(format_of(alloc, fields, print)?.as_bytes())?;
-    trace.add_processor(EVENT)?;
-    Ok(trace.bytes(alloc)?)
-}
-
 fn row_is_answered<R: Alloc<A = Global> + Abort + Threads + Sync>(
     rt: &R,
     row: &str,
@@ -83,7 +74,8 @@ fn row_is_answered<R: Alloc<A = Global> + Abort + Threads + Sync>(
     let alloc = rt.alloc();
     let (fields, rest) = row.split_once(" | ").unwrap_or(("", ""));
     let (print, text) = rest.split_once(" | ").unwrap_or(("", ""));
-    let file = file_of(alloc, fields, print)?;
+    let format = format_of(alloc, fields, print)?;
+    let file = file_of(alloc, format.as_bytes(), EVENT)?;
     let out = format!(in alloc;
         "cpus=1\n           <...>-1     [000]     0.000001: odd:                  {text}\n"
     )?;
@@ -116,7 +108,8 @@ const SHOWN: &str = "cpus=1\n           <...>-1     [000]     0.000001: odd:    
 fn filters_over_fields_that_are_not_there(rt: HostRuntime) -> Result<(), Fail> {
     let alloc = rt.alloc();
     for (fields, filter, is_shown) in FILTERS {
-        let file = file_of(alloc, fields, "\"x\"")?;
+        let format = format_of(alloc, fields, "\"x\"")?;
+        let file = file_of(alloc, format.as_bytes(), EVENT)?;
         let line = format!(in alloc; "report -F {filter}")?;
         let out = if *is_shown { SHOWN } else { "cpus=1\n" };
         prints(&rt, line.as_str(), &file, out.as_bytes())?;

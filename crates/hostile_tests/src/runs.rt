@@ -7,6 +7,19 @@ use std::thread::Threads;
 use trace_base::Words;
 use trace_outside::{MemFolder, MemSink, NoGate};
 use trace_run::{Status, run};
+use trace_samples::{TraceFile, words_of_line};
+
+/// An event of id 7 and pid 1 at a microsecond.
+pub(super) const EVENT: &[u8] =
+    b"\xe8\x03\0\0\0\0\0\0\x0c\0\0\0\0\0\0\0\x02\0\0\0\x07\0\0\0\x01\0\0\0";
+
+/// The file of one processor that begins with this event, whose format is this text.
+pub(super) fn file_of(alloc: Global, format: &[u8], event: &[u8]) -> Result<Vec<u8>, Fail> {
+    let mut trace = TraceFile::new(alloc);
+    trace.add_ftrace(format)?;
+    trace.add_processor(event)?;
+    Ok(trace.bytes(alloc)?)
+}
 
 /// How a run ended, what it wrote, and the folder that it left.
 #[derive(Drop)]
@@ -37,17 +50,13 @@ pub(super) fn run_words<R: Alloc<A = Global> + Threads + Sync>(
     })
 }
 
-/// The same of the words of a line, with a blank between any two.
+/// The same of the words of a line.
 pub(super) fn run_line<R: Alloc<A = Global> + Threads + Sync>(
     rt: &R,
     line: &str,
     file: &[u8],
 ) -> Result<Ran, Fail> {
-    let mut words = Words::new(rt.alloc());
-    for word in line.split(' ') {
-        words.push(word)?;
-    }
-    run_words(rt, &words, file)
+    run_words(rt, &words_of_line(rt.alloc(), line)?, file)
 }
 
 /// The words of a line give this status, this output and this message over this file.

@@ -7,15 +7,12 @@ use std::alloc::{AllocError, Global};
 use std::test::Fail;
 use trace_run::Status;
 use trace_run::Status::{Done, Malformed, Refused};
-use trace_samples::TraceFile;
+use trace_samples::{ONE_EVENT, TraceFile};
 
 // A header of one processor without texts. Its sizes stand at 30 (header_page), 51 (header_event), 59 (ftrace formats), 63
 // (systems), 67 (kallsyms), 71 (printk formats) and 75 (command lines), the number of processors at 83, the last word at 87,
 // and the table at 97.
 const HEADER: usize = 113;
-
-// One event of pid 1,234 at one second.
-const ONE: &[u8] = b"\0\xca\x9a;\0\0\0\0\x0c\0\0\0\0\0\0\0\x02\0\0\0:\0\0\0\xd2\x04\0\0";
 
 /// What stands at a place of the header instead. Each asks for more than the file has.
 const EARLY: &[(usize, &[u8])] = &[
@@ -135,7 +132,7 @@ const OTHERS: &[(usize, &[u8], usize, &str, Status, &[u8], &[u8])] = &[
 // The first bytes of the file, with these at a place of its header.
 fn patched(alloc: Global, place: usize, bytes: &[u8], len: usize) -> Result<Vec<u8>, AllocError> {
     let mut trace = TraceFile::new(alloc);
-    trace.add_processor(ONE)?;
+    trace.add_processor(ONE_EVENT)?;
     let mut file = trace.bytes(alloc)?;
     file.truncate(len);
     for (i, byte) in bytes.iter().enumerate() {

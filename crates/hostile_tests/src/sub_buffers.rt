@@ -34,9 +34,7 @@ fn malformed_sub_buffers(rt: HostRuntime) -> Result<(), Fail> {
     let status = Status::Malformed { cpu: 0, page: 0 };
     let err = b"trace-cmd: trace.dat: malformed sub-page 0 of processor 0\n";
     for bytes in &MALFORMED {
-        let mut trace = TraceFile::new(rt.alloc());
-        trace.add_processor(bytes)?;
-        let file = trace.bytes(rt.alloc())?;
+        let file = file_of(rt.alloc(), &[*bytes])?;
         answers(&rt, "report", &file, status, b"cpus=1\n", err)?;
     }
     Ok(())

@@ -1,7 +1,7 @@
 // Texts of a header that are long in every way: one part again and again.
 
 use super::long::{Long, text_of};
-use super::runs::{prints, run_line};
+use super::runs::{EVENT, file_of, prints, run_line};
 use std::alloc::{Alloc, Global};
 use std::process::Abort;
 use std::test::Fail;
@@ -9,18 +9,7 @@ use std::thread::Threads;
 use trace_run::Status;
 use trace_samples::TraceFile;
 
-/// An event of id 7 and pid 1 at a microsecond.
-const EVENT: &[u8] = b"\xe8\x03\0\0\0\0\0\0\x0c\0\0\0\0\0\0\0\x02\0\0\0\x07\0\0\0\x01\0\0\0";
-
 const HEAD: &str = "name: sum\nID: 7\nformat:\n\tfield:int a;\toffset:4;\tsize:4;\tsigned:1;\n\n";
-
-// The event and its format.
-fn file_of(alloc: Global, format: &str) -> Result<Vec<u8>, Fail> {
-    let mut trace = TraceFile::new(alloc);
-    trace.add_ftrace(format.as_bytes())?;
-    trace.add_processor(EVENT)?;
-    Ok(trace.bytes(alloc)?)
-}
 
 // The report of an event, whose format has this print fmt, is this text.
 fn print_fmt_gives<R: Alloc<A = Global> + Abort + Threads + Sync>(
@@ -34,12 +23,8 @@ fn print_fmt_gives<R: Alloc<A = Global> + Abort + Threads + Sync>(
     let out = format!(in alloc;
         "cpus=1\n           <...>-1     [000]     0.000001: sum:                  {text}\n"
     )?;
-    prints(
-        rt,
-        "report",
-        &file_of(alloc, format.as_str())?,
-        out.as_bytes(),
-    )
+    let file = file_of(alloc, format.as_bytes(), EVENT)?;
+    prints(rt, "report", &file, out.as_bytes())
 }
 
 /// Print fmts and their texts. A row of operators nests nothing; the 65th prefix or bracket is too deep.
@@ -172,7 +157,7 @@ const ONE: &[u8] = b"cpus=1\n           <...>-1     [000]     0.000001: sum:    
 fn format_texts_of_sixteen_megabytes(rt: HostRuntime) -> Result<(), Fail> {
     for long in LARGE {
         let format = text_of(rt.alloc(), long)?;
-        let file = file_of(rt.alloc(), format.as_str())?;
+        let file = file_of(rt.alloc(), format.as_bytes(), EVENT)?;
         prints(&rt, "report", &file, ONE)?;
     }
     Ok(())
@@ -189,7 +174,8 @@ fn a_text_longer_than_a_line(rt: HostRuntime) -> Result<(), Fail> {
         end: "%d\", REC->a\n",
     };
     let format = text_of(alloc, &long)?;
-    let ran = run_line(&rt, "report", &file_of(alloc, format.as_str())?)?;
+    let file = file_of(alloc, format.as_bytes(), EVENT)?;
+    let ran = run_line(&rt, "report", &file)?;
     assert_eq!(rt; ran.status, Status::Done);
     assert_eq!(rt; ran.out.bytes().len(), 7 + 65_537);
     assert!(rt; ran.out.bytes().ends_with(b"xxx...\n"));

@@ -1,15 +1,10 @@
 // Command lines and filters of a megabyte.
 
 use super::long::{Long, text_of};
-use super::runs::{answers, run_words};
-use std::alloc::Global;
+use super::runs::{EVENT, answers, file_of, run_words};
 use std::test::Fail;
 use trace_base::Words;
 use trace_run::Status;
-use trace_samples::TraceFile;
-
-/// An event of id 7 and pid 1 at a microsecond.
-const EVENT: &[u8] = b"\xe8\x03\0\0\0\0\0\0\x0c\0\0\0\0\0\0\0\x02\0\0\0\x07\0\0\0\x01\0\0\0";
 
 const FORMAT: &[u8] =
     b"name: sum\nID: 7\nformat:\n\tfield:int a;\toffset:4;\tsize:4;\tsigned:1;\n\nprint fmt: \"x\"\n";
@@ -17,13 +12,6 @@ const FORMAT: &[u8] =
 const SHOWN: &str = "cpus=1\n           <...>-1     [000]     0.000001: sum:                  x\n";
 
 const RAW: &str = "cpus=1\n           <...>-1     [000]     0.000001: sum:                  a=1\n";
-
-fn file_of(alloc: Global) -> Result<Vec<u8>, Fail> {
-    let mut trace = TraceFile::new(alloc);
-    trace.add_ftrace(FORMAT)?;
-    trace.add_processor(EVENT)?;
-    Ok(trace.bytes(alloc)?)
-}
 
 /// Filters behind `report -F`, what is printed, and the place at which the filter goes wrong, if it does.
 const FILTERS: &[(Long, &str, &str)] = &[
@@ -134,7 +122,7 @@ const FILTERS: &[(Long, &str, &str)] = &[
 #[test]
 fn filters_of_a_megabyte(rt: HostRuntime) -> Result<(), Fail> {
     let alloc = rt.alloc();
-    let file = file_of(alloc)?;
+    let file = file_of(alloc, FORMAT, EVENT)?;
     for (long, out, err) in FILTERS {
         let filter = text_of(alloc, long)?;
         let mut words = Words::new(alloc);
@@ -272,7 +260,7 @@ const LINES: &[(Long, Status, &str, &str)] = &[
 
 #[test]
 fn command_lines_of_a_megabyte(rt: HostRuntime) -> Result<(), Fail> {
-    let file = file_of(rt.alloc())?;
+    let file = file_of(rt.alloc(), FORMAT, EVENT)?;
     for (long, status, out, err) in LINES {
         let line = text_of(rt.alloc(), long)?;
         answers(

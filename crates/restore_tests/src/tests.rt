@@ -2,5 +2,4 @@
 
 mod faults;
 mod rows;
-mod shelf;
 mod told;

@@ -2,6 +2,7 @@
 
 mod calls;
 mod differences;
+mod faults;
 mod filters;
 mod gates;
 mod known;
@@ -13,17 +14,15 @@ mod sub_buffers;
 mod waits;
 
 use dat_header::OpenFault;
-use known::{
-    FUNCTION, SWITCH, Task, put_carried, put_entry, put_exit, put_function, put_graph, put_switch,
-    put_wide, put_woken,
-};
+use known::{FUNCTION, SWITCH, Task, carry, put_entry, put_exit, put_function, put_switch};
 use std::alloc::Global;
 use std::process::Abort;
 use std::test::Fail;
 use std::thread::Threads;
 use trace_base::Words;
-use trace_outside::{Folder, Gate, MemFault, MemFolder, MemSink, NoGate};
+use trace_outside::{Folder, Gate, MemFolder, MemSink, NoGate};
 use trace_run::{Status, run};
+use trace_samples::{LATENCY_FILE, ONE_EVENT, TraceFile};
 
 /// A header without processors. The count of processors stands at its byte 83.
 const HEADER: &[u8; 97] =
@@ -39,7 +38,7 @@ struct Row {
     err: &'static str,
 }
 
-/// What the folder has under the name trace.dat.
+/// What the folder has under the name trace.dat, but for the last.
 enum Input {
     Missing,
     Bytes(&'static [u8]),
@@ -47,6 +46,9 @@ enum Input {
     Processors(Carried, &'static [&'static [Page]]),
     /// One processor whose part begins at this place and should have so many bytes.
     PartAt(u64, u64),
+    /// The file of `ONE` taken apart: so many bytes of its header under the name p.dat, its sub-buffer under c0, and 100 zero
+    /// bytes under c1.
+    Apart(usize),
 }
 
 /// What a file carries beside its sub-buffers.
@@ -107,6 +109,38 @@ const IN_INTERRUPT: Input = Input::Processors(
     Carried::Nothing,
     &[&[Page::Of(1_000_000_000, &[Record::Event(0, 58, 1234, 9, 1)])]],
 );
+
+/// An event half a microsecond before one second.
+const BEFORE_A_SECOND: Input = Input::Processors(
+    Carried::Nothing,
+    &[&[Page::Of(999_999_500, &[Record::Event(0, 58, 1234, 0, 0)])]],
+);
+
+/// An event on each of two processors, both at one time.
+const TWO_AT_ONCE: Input = Input::Processors(
+    Carried::Nothing,
+    &[
+        &[Page::Of(5, &[Record::Event(0, 58, 1, 0, 0)])],
+        &[Page::Of(5, &[Record::Event(0, 58, 2, 0, 0)])],
+    ],
+);
+
+/// Times that fall, on each of two processors and between them.
+const FALLING: Input = Input::Processors(
+    Carried::Nothing,
+    &[
+        &[
+            Page::Of(5, &[Record::Event(0, 58, 1, 0, 0)]),
+            Page::Of(3, &[Record::Event(0, 58, 1, 0, 0)]),
+        ],
+        &[Page::Of(
+            4,
+            &[Record::Event(0, 58, 2, 0, 0), Record::Event(1, 58, 2, 0, 0)],
+        )],
+    ],
+);
+
+const LATENCY: Input = Input::Bytes(LATENCY_FILE);
 
 /// Processor 0 has a malformed sub-buffer alone, processor 1 an event at time 1.
 const MALFORMED_FIRST: Input = Input::Processors(
@@ -234,10 +268,7 @@ const ROWS: &[Row] = &[
     // rounding carries into the second
     Row {
         words: &["report", "-i", "trace.dat", "-N"],
-        file: Input::Processors(
-            Carried::Nothing,
-            &[&[Page::Of(999_999_500, &[Record::Event(0, 58, 1234, 0, 0)])]],
-        ),
+        file: BEFORE_A_SECOND,
         status: Status::Done,
         out: "cpus=1\n           <...>-1234  [000]     1.000000: [UNKNOWN EVENT 58]\n",
         err: "",
@@ -291,13 +322,7 @@ const ROWS: &[Row] = &[
     // a tie goes to the lower processor
     Row {
         words: &["report"],
-        file: Input::Processors(
-            Carried::Nothing,
-            &[
-                &[Page::Of(5, &[Record::Event(0, 58, 1, 0, 0)])],
-                &[Page::Of(5, &[Record::Event(0, 58, 2, 0, 0)])],
-            ],
-        ),
+        file: TWO_AT_ONCE,
         status: Status::Done,
         out: "cpus=2\n           <...>-1     [000]     0.000000: [UNKNOWN EVENT 58]\n           <...>-2     [001]     0.000000: [UNKNOWN EVENT 58]\n",
         err: "",
@@ -305,19 +330,7 @@ const ROWS: &[Row] = &[
     // a time that falls keeps its place behind the later one
     Row {
         words: &["report", "-t"],
-        file: Input::Processors(
-            Carried::Nothing,
-            &[
-                &[
-                    Page::Of(5, &[Record::Event(0, 58, 1, 0, 0)]),
-                    Page::Of(3, &[Record::Event(0, 58, 1, 0, 0)]),
-                ],
-                &[Page::Of(
-                    4,
-                    &[Record::Event(0, 58, 2, 0, 0), Record::Event(1, 58, 2, 0, 0)],
-                )],
-            ],
-        ),
+        file: FALLING,
         status: Status::Done,
         out: "cpus=2\n           <...>-2     [001]     0.000000004: [UNKNOWN EVENT 58]\n           <...>-1     [000]     0.000000005: [UNKNOWN EVENT 58]\n           <...>-1     [000]     0.000000003: [UNKNOWN EVENT 58]\n           <...>-2     [001]     0.000000005: [UNKNOWN EVENT 58]\n",
         err: "",
@@ -396,9 +409,7 @@ const ROWS: &[Row] = &[
     // the rest of a latency file
     Row {
         words: &["report"],
-        file: Input::Bytes(
-            b"\x17\x08\x44tracing6\0\0\x08\0\x10\0\0header_page\0\0\0\0\0\0\0\0\0header_event\0\0\0\0\0\0\0\0\0\0\0\0\0\0\0\0\0\0\0\0\0\0\0\0\0\0\0\0\0\0\0\0\0\x01\0\0\0latency  \0hello\n",
-        ),
+        file: LATENCY,
         status: Status::Done,
         out: "cpus=1\nhello\n",
         err: "",
@@ -488,28 +499,6 @@ const NUMBERS: &[(Status, u8)] = &[
     (Status::ReadFault, 4),
     (Status::WriteFault, 5),
     (Status::NoMemory, 6),
-];
-
-/// The byte at which reads fail, and what was printed of the report of `ONE` then.
-const FAILING: &[(u64, Status, &str, &str)] = &[
-    (
-        40,
-        Status::ReadFault,
-        "",
-        "trace-cmd: trace.dat: read failed\n",
-    ),
-    (
-        4096,
-        Status::ReadFault,
-        "cpus=1\n",
-        "trace-cmd: trace.dat: read failed\n",
-    ),
-    (
-        8192,
-        Status::Done,
-        "cpus=1\n           <...>-1234  [000]     1.000000: [UNKNOWN EVENT 58]\n",
-        "",
-    ),
 ];
 
 // A record's first word: its delta, and its length in words or what stands for it.
@@ -611,62 +600,45 @@ fn put_page(alloc: Global, file: &mut Vec<u8>, page: &Page) -> Result<(), Fail> 
     Ok(())
 }
 
-// A header with a table of these parts.
-fn put_table(file: &mut Vec<u8>, carried: &Carried, parts: &[(u64, u64)]) -> Result<(), Fail> {
-    let header: &[u8] = HEADER;
-    file.extend_from_slice(&header[..59])?;
-    match carried {
-        Carried::Nothing => file.extend_from_slice(&header[59..83])?,
-        Carried::Texts => put_carried(file)?,
-        Carried::Wide => put_wide(file)?,
-        Carried::Woken => put_woken(file)?,
-        Carried::Graph => put_graph(file)?,
-    }
-    file.extend_from_slice(&(parts.len() as u64).to_le_bytes()[..4])?;
-    file.extend_from_slice(b"flyrecord\0")?;
-    for (offset, size) in parts {
-        file.extend_from_slice(&offset.to_le_bytes())?;
-        file.extend_from_slice(&size.to_le_bytes())?;
-    }
-    Ok(())
-}
-
-// The same, filled up to a whole sub-buffer.
-fn with_table(alloc: Global, carried: &Carried, parts: &[(u64, u64)]) -> Result<Vec<u8>, Fail> {
-    let mut file = Vec::new(alloc);
-    put_table(&mut file, carried, parts)?;
-    file.resize(PAGE, 0)?;
-    Ok(file)
-}
-
 fn with_processors(
     alloc: Global,
     carried: &Carried,
     processors: &[&[Page]],
 ) -> Result<Vec<u8>, Fail> {
-    let mut parts = Vec::new(alloc);
-    let mut offset = PAGE as u64;
+    let mut trace = TraceFile::new(alloc);
+    carry(alloc, &mut trace, carried)?;
     for pages in processors {
-        let size = (PAGE as u64).wrapping_mul(pages.len() as u64);
-        parts.push((offset, size))?;
-        offset = offset.wrapping_add(size);
-    }
-    let mut file = with_table(alloc, carried, &parts)?;
-    for pages in processors {
+        let mut bytes = Vec::new(alloc);
         for page in *pages {
-            put_page(alloc, &mut file, page)?;
+            put_page(alloc, &mut bytes, page)?;
         }
+        trace.add_processor(&bytes)?;
     }
+    Ok(trace.bytes(alloc)?)
+}
+
+// The header of one processor with this header_page text, whose table has this part, up to the length of a sub-buffer.
+fn with_part(alloc: Global, page_text: &[u8], offset: u64, size: u64) -> Result<Vec<u8>, Fail> {
+    let mut trace = TraceFile::new(alloc);
+    trace.page_text.extend_from_slice(page_text)?;
+    trace.add_processor(&[])?;
+    let mut file = trace.bytes(alloc)?;
+    file.truncate(page_text.len().saturating_add(97));
+    file.extend_from_slice(&offset.to_le_bytes())?;
+    file.extend_from_slice(&size.to_le_bytes())?;
+    file.resize(PAGE, 0)?;
     Ok(file)
 }
 
-fn bytes_of(alloc: Global, file: &Input) -> Result<Vec<u8>, Fail> {
-    match file {
-        Input::Missing => Ok(Vec::new(alloc)),
-        Input::Bytes(bytes) => Ok(bytes.to_vec(alloc)?),
-        Input::Processors(carried, processors) => with_processors(alloc, carried, processors),
-        Input::PartAt(offset, size) => with_table(alloc, &Carried::Nothing, &[(*offset, *size)]),
-    }
+fn put_apart(alloc: Global, folder: &mut MemFolder, count: usize) -> Result<(), Fail> {
+    let mut trace = TraceFile::new(alloc);
+    trace.add_processor(ONE_EVENT)?;
+    let whole = trace.bytes(alloc)?;
+    let (header, pages) = whole.split_at_checked(PAGE).unwrap_or((&[], &[]));
+    folder.put("p.dat", &header[..count.min(header.len())])?;
+    folder.put("c0", pages)?;
+    folder.put("c1", &[0; 100])?;
+    Ok(())
 }
 
 fn words_of(alloc: Global, all: &[&str]) -> Result<Words, Fail> {
@@ -677,11 +649,19 @@ fn words_of(alloc: Global, all: &[&str]) -> Result<Words, Fail> {
     Ok(words)
 }
 
-// A folder that has this file, if any, under the name trace.dat.
 fn folder_of(alloc: Global, file: &Input) -> Result<MemFolder, Fail> {
     let mut folder = MemFolder::new(alloc);
-    if !matches!(file, Input::Missing) {
-        folder.put("trace.dat", &bytes_of(alloc, file)?)?;
+    match file {
+        Input::Missing => {}
+        Input::Bytes(bytes) => folder.put("trace.dat", bytes)?,
+        Input::Processors(carried, processors) => {
+            let bytes = with_processors(alloc, carried, processors)?;
+            folder.put("trace.dat", &bytes)?;
+        }
+        Input::PartAt(offset, size) => {
+            folder.put("trace.dat", &with_part(alloc, b"", *offset, *size)?)?;
+        }
+        Input::Apart(count) => put_apart(alloc, &mut folder, *count)?,
     }
     Ok(folder)
 }
@@ -736,8 +716,45 @@ fn runs_with<R: Alloc<A = Global> + Abort + Threads + Sync>(
     Ok(())
 }
 
-fn runs_as<R: Alloc<A = Global> + Abort + Threads + Sync>(rt: &R, row: &Row) -> Result<(), Fail> {
-    runs_with(rt, row, &[])
+fn run_all<R: Alloc<A = Global> + Abort + Threads + Sync>(
+    rt: &R,
+    rows: &[Row],
+    more: &[&str],
+) -> Result<(), Fail> {
+    for row in rows {
+        runs_with(rt, row, more)?;
+    }
+    Ok(())
+}
+
+// A new file has so many bytes, and its report with whole times ends so.
+fn is_made<R: Alloc<A = Global> + Abort + Threads + Sync>(
+    rt: &R,
+    folder: &mut MemFolder,
+    name: &str,
+    size: usize,
+    report: (Status, &str, &str),
+) -> Result<(), Fail> {
+    assert!(rt;
+        folder.get(name).is_some_and(|bytes| bytes.len() == size),
+        "{name}"
+    );
+    let words = words_of(rt.alloc(), &["report", "-t", name])?;
+    ends_as(rt, &words, folder, report);
+    Ok(())
+}
+
+// There is no file of this name.
+fn is_absent<R: Alloc<A = Global> + Abort + Threads + Sync>(
+    rt: &R,
+    folder: &mut MemFolder,
+    name: &str,
+) -> Result<(), Fail> {
+    assert!(rt; folder.get(name).is_none(), "{name}");
+    let words = words_of(rt.alloc(), &["report", name])?;
+    let err = format!(in rt.alloc(); "trace-cmd: {name}: read failed\n")?;
+    ends_as(rt, &words, folder, (Status::ReadFault, "", err.as_str()));
+    Ok(())
 }
 
 // Whether the row is a report that goes through its file.
@@ -761,10 +778,7 @@ fn reports_on_any_number_of_threads(rt: HostRuntime) -> Result<(), Fail> {
 
 #[test]
 fn whole_runs(rt: HostRuntime) -> Result<(), Fail> {
-    for row in ROWS {
-        runs_as(&rt, row)?;
-    }
-    Ok(())
+    run_all(&rt, ROWS, &[])
 }
 
 #[test]
@@ -772,26 +786,4 @@ fn numbers_of_statuses(rt: HostRuntime) {
     for (status, number) in NUMBERS {
         assert_eq!(rt; status.number(), *number);
     }
-}
-
-fn fails_as<R: Alloc<A = Global> + Abort + Threads + Sync>(
-    rt: &R,
-    byte: u64,
-    expected: (Status, &str, &str),
-) -> Result<(), Fail> {
-    let alloc = rt.alloc();
-    let words = words_of(alloc, &["report"])?;
-    let mut folder = folder_of(alloc, &ONE)?;
-    folder.fail(MemFault::ReadAt(byte));
-    ends_as(rt, &words, &mut folder, expected);
-    assert_eq!(rt; folder.counts().created, 0);
-    Ok(())
-}
-
-#[test]
-fn failing_reads(rt: HostRuntime) -> Result<(), Fail> {
-    for (byte, status, out, err) in FAILING {
-        fails_as(&rt, *byte, (*status, out, err))?;
-    }
-    Ok(())
 }

@@ -1,7 +1,7 @@
 // Trace files for the rows, told in a line.
 
 use std::alloc::{AllocError, Global};
-use trace_samples::TraceFile;
+use trace_samples::{LATENCY_FILE, TraceFile};
 
 /// A sub-buffer.
 pub(super) enum Sub {
@@ -35,14 +35,11 @@ impl File {
             File::Named(name, processors) => named(alloc, name, processors),
             File::Long(count) => long(alloc, *count),
             File::Big(processors) => big(alloc, processors),
-            File::Latency => text(alloc, LATENCY),
+            File::Latency => text(alloc, LATENCY_FILE),
             File::Bytes(bytes) => text(alloc, bytes),
         }
     }
 }
-
-const LATENCY: &[u8] =
-    b"\x17\x08\x44tracing6\0\0\x08\0\x10\0\0header_page\0\0\0\0\0\0\0\0\0header_event\0\0\0\0\0\0\0\0\0\0\0\0\0\0\0\0\0\0\0\0\0\0\0\0\0\0\0\0\0\0\0\0\0\x01\0\0\0latency  \0hello\n";
 
 /// The header of a big-endian file up to the number of its processors.
 const BIG: &[u8] =

@@ -6,9 +6,9 @@ use std::alloc::{Alloc, AllocError, Global};
 use std::process::Abort;
 use std::test::Fail;
 use std::thread::Threads;
-use trace_base::Words;
 use trace_outside::{MemFault, MemFolder, MemSink, NoGate};
 use trace_run::{Status, run};
+use trace_samples::words_of_line;
 
 fn run_line<R: Alloc<A = Global> + Threads + Sync>(
     rt: &R,
@@ -18,10 +18,7 @@ fn run_line<R: Alloc<A = Global> + Threads + Sync>(
     err: &mut MemSink,
 ) -> Result<Status, AllocError> {
     let alloc = rt.alloc();
-    let mut words = Words::new(alloc);
-    for word in line.split(' ') {
-        words.push(word)?;
-    }
+    let words = words_of_line(alloc, line)?;
     Ok(run(rt, alloc, &words, folder, out, err, &NoGate))
 }
 

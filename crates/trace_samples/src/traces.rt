@@ -126,8 +126,8 @@ impl TraceFile {
 pub fn switch_file(alloc: Global) -> Result<Vec<u8>, AllocError> {
     let mut trace = TraceFile::new(alloc);
     trace.page_text.extend_from_slice(PAGE_TEXT)?;
-    trace.add_ftrace(FUNCTION)?;
-    trace.add_sched(SCHED_SWITCH)?;
+    trace.add_ftrace(FUNCTION_FORMAT)?;
+    trace.add_sched(SWITCH_FORMAT)?;
     trace.kallsyms.extend_from_slice(SYMBOLS)?;
     trace.command_lines.extend_from_slice(TASKS)?;
     trace.options.extend_from_slice(OPTIONS)?;
@@ -137,9 +137,30 @@ pub fn switch_file(alloc: Global) -> Result<Vec<u8>, AllocError> {
     trace.bytes(alloc)
 }
 
-const SYMBOLS: &[u8] = b"ffffffff81000000 T schedule\nffffffff81000100 t do_idle\n";
+/// How long its header is, by a script that writes the same file without this one. From there on up to the first sub-buffer, at
+/// byte 16,384, nothing is told.
+pub const SWITCH_HEADER: u64 = 2218;
 
-const TASKS: &[u8] = b"1234 bash\n42 kworker/0:1\n";
+/// Its report.
+pub const SWITCH_REPORT: &[u8] = b"cpus=2
+            bash-1234  [000]     1.000000: sched_switch:         prev_comm=bash prev_pid=1234 prev_prio=120 prev_state=S ==> next_comm=swapper/0 next_pid=0 next_prio=120
+          <idle>-0     [001]     1.000002: sched_switch:         prev_comm=swapper/1 prev_pid=0 prev_prio=120 prev_state=R ==> next_comm=kworker/0:1 next_pid=42 next_prio=120
+     kworker/0:1-42    [001]     1.000250: function:              schedule <-- do_idle
+";
+
+/// The file of a latency tracer, of one processor, whose text is a word.
+pub const LATENCY_FILE: &[u8] =
+    b"\x17\x08\x44tracing6\0\0\x08\0\x10\0\0header_page\0\0\0\0\0\0\0\0\0header_event\0\0\0\0\0\0\0\0\0\0\0\0\0\0\0\0\0\0\0\0\0\0\0\0\0\0\0\0\0\0\0\0\0\x01\0\0\0latency  \0hello\n";
+
+/// What a sub-buffer with one event begins with: the event of id 58 and pid 1,234 at one second.
+pub const ONE_EVENT: &[u8] =
+    b"\x00\xca\x9a\x3b\0\0\0\0\x0c\0\0\0\0\0\0\0\x02\0\0\0\x3a\0\0\0\xd2\x04\0\0";
+
+/// The addresses of two functions.
+pub const SYMBOLS: &[u8] = b"ffffffff81000000 T schedule\nffffffff81000100 t do_idle\n";
+
+/// The names of two tasks.
+pub const TASKS: &[u8] = b"1234 bash\n42 kworker/0:1\n";
 
 const OPTIONS: &[u8] = b"options  \0\x01\0\x04\0\0\0\0\0\0\0\0\0";
 
@@ -149,7 +170,8 @@ const PAGE_TEXT: &[u8] = b"\tfield: u64 timestamp;\toffset:0;\tsize:8;\tsigned:0
 \tfield: char data;\toffset:16;\tsize:4080;\tsigned:1;
 ";
 
-const FUNCTION: &[u8] = b"name: function
+/// The format of a function's event, of id 1.
+pub const FUNCTION_FORMAT: &[u8] = b"name: function
 ID: 1
 format:
 \tfield:unsigned short common_type;\toffset:0;\tsize:2;\tsigned:0;
@@ -163,7 +185,8 @@ format:
 print fmt: \" %ps <-- %ps\", (void *)REC->ip, (void *)REC->parent_ip
 ";
 
-const SCHED_SWITCH: &[u8] = b"name: sched_switch
+/// The format of a switch, of id 316.
+pub const SWITCH_FORMAT: &[u8] = b"name: sched_switch
 ID: 316
 format:
 \tfield:unsigned short common_type;\toffset:0;\tsize:2;\tsigned:0;

@@ -1,10 +1,7 @@
 // Restorings in folders where nothing fails.
 
-use super::shelf::Fails;
-use super::told::{Data, Partial, Row, text_of};
+use super::told::{ALL, Data, Partial, Row, text_of};
 use std::test::Fail;
-
-const ALL: usize = usize::MAX;
 
 const ROWS: &[Row] = &[
     Row {
@@ -132,17 +129,10 @@ const ONE: &[(&str, Data)] = &[("c0", Data::Rising(3))];
 #[test]
 fn files_are_made(rt: HostRuntime) -> Result<(), Fail> {
     for row in ROWS {
-        let text = text_of(rt.alloc(), row, Fails::Nothing, ALL)?;
-        assert!(rt; text.as_str() == row.told, "{text}");
-    }
-    Ok(())
-}
-
-#[test]
-fn a_byte_at_a_time_makes_the_same(rt: HostRuntime) -> Result<(), Fail> {
-    for row in ROWS {
-        let text = text_of(rt.alloc(), row, Fails::Nothing, 1)?;
-        assert!(rt; text.as_str() == row.told, "{text}");
+        for most in [ALL, 1] {
+            let text = text_of(rt.alloc(), row, None, most)?;
+            assert!(rt; text.as_str() == row.told, "{most}: {text}");
+        }
     }
     Ok(())
 }
@@ -158,7 +148,7 @@ fn every_cut_of_the_partial_file(rt: HostRuntime) -> Result<(), Fail> {
             output: "out.dat",
             told: "",
         };
-        let text = text_of(alloc, &row, Fails::Nothing, ALL)?;
+        let text = text_of(alloc, &row, None, ALL)?;
         let told = match count {
             75 | 83 => format!(in alloc; "done 4099 4096+3")?,
             _ => format!(in alloc; "truncated {count}")?,
@@ -178,7 +168,7 @@ fn as_many_files_as_may_be(rt: HostRuntime) -> Result<(), Fail> {
         output: "out.dat",
         told: "",
     };
-    let text = text_of(rt.alloc(), &row, Fails::Nothing, ALL)?;
+    let text = text_of(rt.alloc(), &row, None, ALL)?;
     assert!(rt;
         text.as_str().starts_with("done 1052675 8192+3 12288+3 "),
         "{text}"

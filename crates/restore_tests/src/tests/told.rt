@@ -1,32 +1,22 @@
 // Restorings as rows: the files that there are, and in one text what comes of them.
 
-ghost use Rattle.std.specs.Prelude.{◌≤◌, length};
+ghost use Rattle.std.specs.Prelude.{◌≡◌, IfOk, vec_len};
 
-use super::shelf::{Fails, Shelf};
 use dat_header::{Body, OpenFault, read_header};
 use restore_tool::{Answer, Names, Source, restore_named};
 use std::alloc::Global;
 use std::test::Fail;
 use trace_base::{ByteText, Part};
-use trace_outside::MemFile;
+use trace_outside::{MemFault, MemFile, MemFolder};
+use trace_samples::{ONE_EVENT, TraceFile};
 
-/// A header of 83 bytes without formats and names, up to the number of processors. Its byte 12 tells the byte order, and its bytes
-/// 14 to 17 the page size; all other numbers are 0.
-const HEADER: &[u8; 83] =
-    b"\x17\x08\x44tracing6\0\0\x08\0\x10\0\0header_page\0\0\0\0\0\0\0\0\0header_event\0\0\0\0\0\0\0\0\0\
-\0\0\0\0\0\0\0\0\0\0\0\0\0\0\0\0\0\0\0\0\0\0\0\0";
+/// More bytes than any call has.
+pub(super) const ALL: u32 = u32::MAX;
 
-/// The same with sub-buffers of 8,192 bytes, by its header_page text.
-const LARGE: &[u8] = b"\x17\x08\x44tracing6\0\0\x08\0\x10\0\0header_page\0\x9a\0\0\0\0\0\0\0\
-\tfield: u64 timestamp;\toffset:0;\tsize:8;\tsigned:0;\n\
+/// The header_page text of sub-buffers of 8,192 bytes.
+const LARGE: &[u8] = b"\tfield: u64 timestamp;\toffset:0;\tsize:8;\tsigned:0;\n\
 \tfield: local_t commit;\toffset:8;\tsize:8;\tsigned:1;\n\
-\tfield: char data;\toffset:16;\tsize:8176;\tsigned:1;\n\
-header_event\0\0\0\0\0\0\0\0\0\
-\0\0\0\0\0\0\0\0\0\0\0\0\0\0\0\0\0\0\0\0\0\0\0\0";
-
-/// One event of pid 1,234 at one second: the time, the commit field, and the event's word and fields.
-const EVENT: &[u8; 28] =
-    b"\x00\xca\x9a\x3b\0\0\0\0\x0c\0\0\0\0\0\0\0\x02\0\0\0\x3a\0\0\0\xd2\x04\0\0";
+\tfield: char data;\toffset:16;\tsize:8176;\tsigned:1;\n";
 
 /// A partial file.
 #[derive(Clone, Copy)]
@@ -65,8 +55,21 @@ pub(super) struct Row {
     pub(super) told: &'static str,
 }
 
+// The first so many bytes of a header with this header_page text and without formats and names.
+fn header(alloc: Global, page_text: &[u8], len: usize) -> Result<Vec<u8>, Fail>
+    ensures { IfOk result (λ bytes. vec_len bytes ≡ len) }
+{
+    let mut trace = TraceFile::new(alloc);
+    trace.page_text.extend_from_slice(page_text)?;
+    let mut bytes = trace.bytes(alloc)?;
+    bytes.resize(len, 0)?;
+    Ok(bytes)
+}
+
+// The number of processors stands behind 83 bytes and the header_page text. Byte 12 tells the byte order, and the bytes 14 to 17
+// the page size.
 fn partial_bytes(alloc: Global, partial: Partial) -> Result<Option<Vec<u8>>, Fail> {
-    let mut bytes = HEADER.to_vec(alloc)?;
+    let mut bytes = header(alloc, b"", 83)?;
     match partial {
         Partial::Missing => return Ok(None),
         Partial::Cut(count) => bytes.truncate(count),
@@ -79,7 +82,7 @@ fn partial_bytes(alloc: Global, partial: Partial) -> Result<Option<Vec<u8>>, Fai
             bytes[15] = 0;
             bytes[16] = 1;
         }
-        Partial::Large => return Ok(Some(LARGE.to_vec(alloc)?)),
+        Partial::Large => return Ok(Some(header(alloc, LARGE, 83 + LARGE.len())?)),
         Partial::Longer(count) => {
             bytes[75] = count;
             bytes.resize(200, 7)?;
@@ -94,7 +97,7 @@ fn data_bytes(alloc: Global, data: Data) -> Result<Option<Vec<u8>>, Fail> {
         Data::Missing => return Ok(None),
         Data::Zeros(count) => bytes.resize(count, 0)?,
         Data::Event => {
-            bytes.extend_from_slice(EVENT)?;
+            bytes.extend_from_slice(ONE_EVENT)?;
             bytes.resize(4096, 0)?;
         }
         Data::Rising(count) => {
@@ -171,22 +174,37 @@ fn put_file(
     Ok(())
 }
 
-fn shelf_of(alloc: Global, row: &Row, fails: Fails, most: usize) -> Result<Shelf, Fail> {
-    let mut shelf = Shelf::new(alloc, fails, most);
+// The folder of a row, in which this fails, if anything, and a call takes at most so many bytes.
+fn folder_of(
+    alloc: Global,
+    row: &Row,
+    fault: Option<MemFault>,
+    most: u32,
+) -> Result<MemFolder, Fail> {
+    let mut folder = MemFolder::new(alloc);
     if let Some(bytes) = partial_bytes(alloc, row.partial)? {
-        shelf.put("p.dat", &bytes);
+        folder.put("p.dat", &bytes)?;
     }
     for (name, data) in row.files {
         if let Some(bytes) = data_bytes(alloc, *data)? {
-            shelf.put(name, &bytes);
+            folder.put(name, &bytes)?;
         }
     }
-    Ok(shelf)
+    folder.short(most);
+    if let Some(fault) = fault {
+        folder.fail(fault);
+    }
+    Ok(folder)
 }
 
 /// What comes of a row, and behind it the files that are open still, if any.
-pub(super) fn text_of(alloc: Global, row: &Row, fails: Fails, most: usize) -> Result<String, Fail> {
-    let mut shelf = shelf_of(alloc, row, fails, most)?;
+pub(super) fn text_of(
+    alloc: Global,
+    row: &Row,
+    fault: Option<MemFault>,
+    most: u32,
+) -> Result<String, Fail> {
+    let mut folder = folder_of(alloc, row, fault, most)?;
     let mut names = Vec::new(alloc);
     for (name, _) in row.files {
         names.push(*name)?;
@@ -200,12 +218,12 @@ pub(super) fn text_of(alloc: Global, row: &Row, fails: Fails, most: usize) -> Re
         files: names.as_slice(),
         output: row.output,
     };
-    let answer = restore_named(alloc, &names, &mut shelf);
+    let answer = restore_named(alloc, &names, &mut folder);
     put_answer(&mut text, answer)?;
-    if let Some(bytes) = shelf.get(row.output) {
+    if let Some(bytes) = folder.get(row.output) {
         put_file(alloc, &mut text, bytes, row.files)?;
     }
-    let counts = shelf.counts();
+    let counts = folder.counts();
     if counts.opened != counts.closed {
         text.push_str(" open")?;
     }

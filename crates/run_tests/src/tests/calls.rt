@@ -1,8 +1,7 @@
 // Reports of the function graph's calls.
 
-use super::{Carried, Input, Page, Record, Row, ends_as, folder_of, runs_as, words_of};
+use super::{Carried, Input, LATENCY, Page, Record, Row, run_all};
 use std::test::Fail;
-use trace_outside::MemFault;
 use trace_run::Status;
 
 const OUTER: u64 = 0x1000;
@@ -25,7 +24,7 @@ const NESTED: Input = Input::Processors(
 );
 
 /// An exit without its entry.
-const LONE: Input = Input::Processors(
+pub(super) const LONE: Input = Input::Processors(
     Carried::Graph,
     &[&[Page::Of(1000, &[Record::Leave(0, INNER, 1, 2000, 2600)])]],
 );
@@ -88,9 +87,7 @@ const ROWS: &[Row] = &[
     // the rest of a latency file
     Row {
         words: &["report", "--calls"],
-        file: Input::Bytes(
-            b"\x17\x08\x44tracing6\0\0\x08\0\x10\0\0header_page\0\0\0\0\0\0\0\0\0header_event\0\0\0\0\0\0\0\0\0\0\0\0\0\0\0\0\0\0\0\0\0\0\0\0\0\0\0\0\0\0\0\0\0\x01\0\0\0latency  \0hello\n",
-        ),
+        file: LATENCY,
         status: Status::Done,
         out: "cpus=1\nhello\n",
         err: "",
@@ -106,35 +103,5 @@ const ROWS: &[Row] = &[
 
 #[test]
 fn calls_are_reported(rt: HostRuntime) -> Result<(), Fail> {
-    for row in ROWS {
-        runs_as(&rt, row)?;
-    }
-    Ok(())
-}
-
-/// The byte that cannot be read, and what was printed of the call then: all is read before the first byte.
-const DISKS: &[(u64, Status, &str, &str)] = &[
-    (
-        4096,
-        Status::ReadFault,
-        "",
-        "trace-cmd: trace.dat: read failed\n",
-    ),
-    (
-        8192,
-        Status::Done,
-        "cpus=1\n              sh-7     [000]     0.000001:              |   } /* inner */\n",
-        "",
-    ),
-];
-
-#[test]
-fn a_failed_read_leaves_nothing_written(rt: HostRuntime) -> Result<(), Fail> {
-    for (from, status, out, err) in DISKS {
-        let words = words_of(rt.alloc(), &["report", "--calls"])?;
-        let mut folder = folder_of(rt.alloc(), &LONE)?;
-        folder.fail(MemFault::ReadAt(*from));
-        ends_as(&rt, &words, &mut folder, (*status, out, err));
-    }
-    Ok(())
+    run_all(&rt, ROWS, &[])
 }

@@ -1,12 +1,10 @@
 // Reports with the differences between times.
 
 use super::{
-    Carried, IN_INTERRUPT, Input, MALFORMED_LATER, Page, Record, Row, SWITCHES, runs_as, runs_with,
+    Carried, FALLING, IN_INTERRUPT, Input, LATENCY, MALFORMED_LATER, Page, Record, Row, SWITCHES,
+    TWO_AT_ONCE, run_all,
 };
-use std::alloc::Global;
-use std::process::Abort;
 use std::test::Fail;
-use std::thread::Threads;
 use trace_run::Status;
 
 /// Two losses behind one another between two events.
@@ -17,21 +15,6 @@ const LOSSES: Input = Input::Processors(
         Page::Lossy(1500, None, &[]),
         Page::Lossy(2000, Some(3), &[Record::Event(0, 58, 1, 0, 0)]),
     ]],
-);
-
-/// Times that fall, on each of two processors and between them.
-const FALLING: Input = Input::Processors(
-    Carried::Nothing,
-    &[
-        &[
-            Page::Of(5, &[Record::Event(0, 58, 1, 0, 0)]),
-            Page::Of(3, &[Record::Event(0, 58, 1, 0, 0)]),
-        ],
-        &[Page::Of(
-            4,
-            &[Record::Event(0, 58, 2, 0, 0), Record::Event(1, 58, 2, 0, 0)],
-        )],
-    ],
 );
 
 /// An event in a hard interrupt between two others.
@@ -82,13 +65,7 @@ const ROWS: &[Row] = &[
     // equal times
     Row {
         words: &["report", "--ts-diff"],
-        file: Input::Processors(
-            Carried::Nothing,
-            &[
-                &[Page::Of(5, &[Record::Event(0, 58, 1, 0, 0)])],
-                &[Page::Of(5, &[Record::Event(0, 58, 2, 0, 0)])],
-            ],
-        ),
+        file: TWO_AT_ONCE,
         status: Status::Done,
         out: "cpus=2\n           <...>-1     [000]     0.000000: [UNKNOWN EVENT 58]\n           <...>-2     [001]     0.000000 (+0): [UNKNOWN EVENT 58]\n",
         err: "",
@@ -171,32 +148,18 @@ const ROWS: &[Row] = &[
     },
     Row {
         words: &["report", "--ts-diff"],
-        file: Input::Bytes(
-            b"\x17\x08\x44tracing6\0\0\x08\0\x10\0\0header_page\0\0\0\0\0\0\0\0\0header_event\0\0\0\0\0\0\0\0\0\0\0\0\0\0\0\0\0\0\0\0\0\0\0\0\0\0\0\0\0\0\0\0\0\x01\0\0\0latency  \0hello\n",
-        ),
+        file: LATENCY,
         status: Status::Done,
         out: "cpus=1\nhello\n",
         err: "",
     },
 ];
 
-fn runs_on<R: Alloc<A = Global> + Abort + Threads + Sync>(
-    rt: &R,
-    workers: &str,
-) -> Result<(), Fail> {
-    for row in ROWS {
-        runs_with(rt, row, &["--workers", workers])?;
-    }
-    Ok(())
-}
-
 #[test]
 fn differences_on_any_number_of_threads(rt: HostRuntime) -> Result<(), Fail> {
-    for row in ROWS {
-        runs_as(&rt, row)?;
-    }
+    run_all(&rt, ROWS, &[])?;
     for workers in ["3", "64"] {
-        runs_on(&rt, workers)?;
+        run_all(&rt, ROWS, &["--workers", workers])?;
     }
     Ok(())
 }

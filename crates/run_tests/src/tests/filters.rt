@@ -1,7 +1,7 @@
 // Reports with filters, and words whose filters have no reading.
 
 use super::known::Task;
-use super::{Carried, Input, ONE, Page, Record, Row, SWITCHES, runs_as};
+use super::{Carried, Input, ONE, Page, Record, Row, SWITCHES, run_all};
 use std::test::Fail;
 use trace_run::Status;
 
@@ -159,8 +159,5 @@ const ROWS: &[Row] = &[
 
 #[test]
 fn reports_with_filters(rt: HostRuntime) -> Result<(), Fail> {
-    for row in ROWS {
-        runs_as(&rt, row)?;
-    }
-    Ok(())
+    run_all(&rt, ROWS, &[])
 }

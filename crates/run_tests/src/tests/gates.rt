@@ -1,6 +1,6 @@
 // Gates that see which lanes are formatted, and when.
 
-use super::{Carried, Input, Page, Record, folder_of, outcome_of, words_of};
+use super::{TWO_AT_ONCE, folder_of, outcome_of, words_of};
 use std::sync::atomic::AtomicU64;
 use std::sync::atomic::Ordering::SeqCst;
 use std::test::Fail;
@@ -34,15 +34,6 @@ fn each_lane_passes_the_gate(rt: HostRuntime) -> Result<(), Fail> {
     }
     Ok(())
 }
-
-/// An event on each of two processors.
-const TWO: Input = Input::Processors(
-    Carried::Nothing,
-    &[
-        &[Page::Of(5, &[Record::Event(0, 58, 1, 0, 0)])],
-        &[Page::Of(5, &[Record::Event(0, 58, 2, 0, 0)])],
-    ],
-);
 
 /// How often lane 0 looks for lane 1 before it goes on alone.
 const TURNS: u32 = 1_000_000_000;
@@ -78,7 +69,7 @@ fn two_lanes_are_formatted_at_once(rt: HostRuntime) -> Result<(), Fail> {
         entered: AtomicU64::new(0),
         alone: AtomicU64::new(0),
     };
-    let mut folder = folder_of(alloc, &TWO)?;
+    let mut folder = folder_of(alloc, &TWO_AT_ONCE)?;
     let outcome = outcome_of(&rt, &words, &mut folder, &gate);
     assert_eq!(rt; outcome.status, Status::Done);
     assert_eq!(rt; gate.alone.load(SeqCst), 0);

@@ -1,6 +1,9 @@
 // The texts that files carry, and the payloads of their events.
 
+use super::Carried;
+use std::alloc::{AllocError, Global};
 use std::test::Fail;
+use trace_samples::{FUNCTION_FORMAT, SWITCH_FORMAT, SYMBOLS, TASKS, TraceFile};
 
 /// The ids of a function and of a switch.
 pub(super) const FUNCTION: u16 = 1;
@@ -19,6 +22,16 @@ struct FormatText {
     print: &'static str,
 }
 
+impl FormatText {
+    fn text(&self, alloc: Global) -> Result<Vec<u8>, AllocError> {
+        let mut text = Vec::new(alloc);
+        for piece in [self.head, COMMON_FIELDS, self.fields, self.print] {
+            text.extend_from_slice(piece.as_bytes())?;
+        }
+        Ok(text)
+    }
+}
+
 const COMMON_FIELDS: &str = "\tfield:unsigned short common_type;\toffset:0;\tsize:2;\tsigned:0;
 \tfield:unsigned char common_flags;\toffset:2;\tsize:1;\tsigned:0;
 \tfield:unsigned char common_preempt_count;\toffset:3;\tsize:1;\tsigned:0;
@@ -26,69 +39,8 @@ const COMMON_FIELDS: &str = "\tfield:unsigned short common_type;\toffset:0;\tsiz
 
 ";
 
-const FUNCTION_TEXT: FormatText = FormatText {
-    head: "name: function\nID: 1\nformat:\n",
-    fields: "\tfield:unsigned long ip;\toffset:8;\tsize:8;\tsigned:0;
-\tfield:unsigned long parent_ip;\toffset:16;\tsize:8;\tsigned:0;
-
-",
-    print: "print fmt: \" %ps <-- %ps\", (void *)REC->ip, (void *)REC->parent_ip
-",
-};
-
-const SWITCH_TEXT: FormatText = FormatText {
-    head: "name: sched_switch\nID: 316\nformat:\n",
-    fields: "\tfield:char prev_comm[16];\toffset:8;\tsize:16;\tsigned:0;
-\tfield:pid_t prev_pid;\toffset:24;\tsize:4;\tsigned:1;
-\tfield:int prev_prio;\toffset:28;\tsize:4;\tsigned:1;
-\tfield:long prev_state;\toffset:32;\tsize:8;\tsigned:1;
-\tfield:char next_comm[16];\toffset:40;\tsize:16;\tsigned:0;
-\tfield:pid_t next_pid;\toffset:56;\tsize:4;\tsigned:1;
-\tfield:int next_prio;\toffset:60;\tsize:4;\tsigned:1;
-
-",
-    print: "print fmt: \"prev_comm=%s prev_pid=%d prev_prio=%d prev_state=%s%s ==> next_comm=%s next_pid=%d next_prio=%d\", REC->prev_comm, REC->prev_pid, REC->prev_prio, (REC->prev_state & ((((0x00 | 0x01 | 0x02 | 0x04 | 0x08 | 0x10 | 0x20 | 0x40) + 1) << 1) - 1)) ? __print_flags(REC->prev_state & ((((0x00 | 0x01 | 0x02 | 0x04 | 0x08 | 0x10 | 0x20 | 0x40) + 1) << 1) - 1), \"|\", { 0x01, \"S\" }, { 0x02, \"D\" }, { 0x04, \"T\" }, { 0x08, \"t\" }, { 0x10, \"X\" }, { 0x20, \"Z\" }, { 0x40, \"P\" }, { 0x80, \"I\" }) : \"R\", REC->prev_state & (((0x00 | 0x01 | 0x02 | 0x04 | 0x08 | 0x10 | 0x20 | 0x40) + 1) << 1) ? \"+\" : \"\", REC->next_comm, REC->next_pid, REC->next_prio
-",
-};
-
-const KALLSYMS: &str = "ffffffff81000000 T schedule\nffffffff81000100 t do_idle\n";
-
-const COMMAND_LINES: &str = "1234 bash\n42 kworker/0:1\n";
-
 /// A task at a switch: its name, pid and priority.
 pub(super) struct Task(pub &'static str, pub u32, pub u32);
-
-fn put_long(file: &mut Vec<u8>, text: &[u8]) -> Result<(), Fail> {
-    file.extend_from_slice(&(text.len() as u64).to_le_bytes())?;
-    file.extend_from_slice(text)?;
-    Ok(())
-}
-
-fn put_format(file: &mut Vec<u8>, format: &FormatText) -> Result<(), Fail> {
-    let mut text = Vec::new(*file.allocator());
-    for piece in [format.head, COMMON_FIELDS, format.fields, format.print] {
-        text.extend_from_slice(piece.as_bytes())?;
-    }
-    put_long(file, &text)
-}
-
-fn put_short(file: &mut Vec<u8>, text: &str) -> Result<(), Fail> {
-    file.extend_from_slice(&(text.len() as u64).to_le_bytes()[..4])?;
-    file.extend_from_slice(text.as_bytes())?;
-    Ok(())
-}
-
-/// What a header carries between its header_event text and its number of processors.
-pub(super) fn put_carried(file: &mut Vec<u8>) -> Result<(), Fail> {
-    file.extend_from_slice(&1u32.to_le_bytes())?;
-    put_format(file, &FUNCTION_TEXT)?;
-    file.extend_from_slice(&1u32.to_le_bytes())?;
-    file.extend_from_slice(b"sched\0\x01\0\0\0")?;
-    put_format(file, &SWITCH_TEXT)?;
-    put_short(file, KALLSYMS)?;
-    put_short(file, "")?;
-    put_long(file, COMMAND_LINES.as_bytes())
-}
 
 const WOKEN_TEXT: FormatText = FormatText {
     head: "name: sched_wakeup\nID: 10\nformat:\n",
@@ -108,18 +60,6 @@ const NEXT_TEXT: FormatText = FormatText {
 ",
 };
 
-/// The same for a file with wake-ups and switches, and without names.
-pub(super) fn put_woken(file: &mut Vec<u8>) -> Result<(), Fail> {
-    file.extend_from_slice(&0u32.to_le_bytes())?;
-    file.extend_from_slice(&1u32.to_le_bytes())?;
-    file.extend_from_slice(b"sched\0\x02\0\0\0")?;
-    put_format(file, &WOKEN_TEXT)?;
-    put_format(file, &NEXT_TEXT)?;
-    put_short(file, "")?;
-    put_short(file, "")?;
-    put_long(file, b"")
-}
-
 const WIDE_TEXT: FormatText = FormatText {
     head: "name: wide\nID: 7\nformat:\n",
     fields: "",
@@ -133,17 +73,6 @@ const WIDEST_TEXT: FormatText = FormatText {
     print: "print fmt: \"%65535d\", REC->common_pid
 ",
 };
-
-/// The same for a file with two formats of long lines, and without names.
-pub(super) fn put_wide(file: &mut Vec<u8>) -> Result<(), Fail> {
-    file.extend_from_slice(&2u32.to_le_bytes())?;
-    put_format(file, &WIDE_TEXT)?;
-    put_format(file, &WIDEST_TEXT)?;
-    file.extend_from_slice(&0u32.to_le_bytes())?;
-    put_short(file, "")?;
-    put_short(file, "")?;
-    put_long(file, b"")
-}
 
 const EXIT_TEXT: FormatText = FormatText {
     head: "name: funcgraph_exit\nID: 10\nformat:\n",
@@ -167,15 +96,37 @@ const ENTRY_TEXT: FormatText = FormatText {
 ",
 };
 
-/// The same for a file with the two formats of the function graph.
-pub(super) fn put_graph(file: &mut Vec<u8>) -> Result<(), Fail> {
-    file.extend_from_slice(&2u32.to_le_bytes())?;
-    put_format(file, &EXIT_TEXT)?;
-    put_format(file, &ENTRY_TEXT)?;
-    file.extend_from_slice(&0u32.to_le_bytes())?;
-    put_short(file, "1000 T outer\n2000 T inner\n")?;
-    put_short(file, "")?;
-    put_long(file, b"7 sh\n")
+/// Adds what a file carries beside its sub-buffers.
+pub(super) fn carry(
+    alloc: Global,
+    trace: &mut TraceFile,
+    carried: &Carried,
+) -> Result<(), AllocError> {
+    match carried {
+        Carried::Nothing => Ok(()),
+        Carried::Texts => {
+            trace.add_ftrace(FUNCTION_FORMAT)?;
+            trace.add_sched(SWITCH_FORMAT)?;
+            trace.kallsyms.extend_from_slice(SYMBOLS)?;
+            trace.command_lines.extend_from_slice(TASKS)
+        }
+        Carried::Wide => {
+            trace.add_ftrace(&WIDE_TEXT.text(alloc)?)?;
+            trace.add_ftrace(&WIDEST_TEXT.text(alloc)?)
+        }
+        Carried::Woken => {
+            trace.add_sched(&WOKEN_TEXT.text(alloc)?)?;
+            trace.add_sched(&NEXT_TEXT.text(alloc)?)
+        }
+        Carried::Graph => {
+            trace.add_ftrace(&EXIT_TEXT.text(alloc)?)?;
+            trace.add_ftrace(&ENTRY_TEXT.text(alloc)?)?;
+            trace
+                .kallsyms
+                .extend_from_slice(b"1000 T outer\n2000 T inner\n")?;
+            trace.command_lines.extend_from_slice(b"7 sh\n")
+        }
+    }
 }
 
 /// An entry into a function at this depth.

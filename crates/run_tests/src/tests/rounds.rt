@@ -1,12 +1,14 @@
 // Reports of many events and of long lines, on any number of threads.
 
-use super::{Carried, PAGE, outcome_of, put_common, put_head, put_table, words_of};
+use super::known::carry;
+use super::{Carried, PAGE, outcome_of, put_common, put_head, words_of};
 use std::alloc::Global;
 use std::process::Abort;
 use std::test::Fail;
 use std::thread::Threads;
 use trace_outside::{MemFolder, NoGate};
 use trace_run::Status;
+use trace_samples::{TraceFile, many_events, many_events_report};
 
 /// A sub-buffer of events, each a step behind the one before.
 #[derive(Clone, Copy)]
@@ -37,26 +39,18 @@ fn put_events(file: &mut Vec<u8>, cpu: u32, events: &Events) -> Result<(), Fail>
     Ok(())
 }
 
-// A file with these sub-buffers of each processor behind its first five.
-fn file_of(alloc: Global, processors: &[Vec<Events>]) -> Result<Vec<u8>, Fail> {
-    let mut parts = Vec::new(alloc);
-    let mut offset = 5 * PAGE as u64;
-    for pages in processors {
-        let size = (PAGE as u64).wrapping_mul(pages.len() as u64);
-        parts.push((offset, size))?;
-        offset = offset.wrapping_add(size);
-    }
-    let mut file = Vec::new(alloc);
-    put_table(&mut file, &Carried::Wide, &parts)?;
-    file.resize(5 * PAGE, 0)?;
+// A file with such a sub-buffer of each processor.
+fn file_of(alloc: Global, processors: &[Events]) -> Result<Vec<u8>, Fail> {
+    let mut trace = TraceFile::new(alloc);
+    carry(alloc, &mut trace, &Carried::Wide)?;
     let mut cpu = 0_u32;
-    for pages in processors {
-        for events in pages {
-            put_events(&mut file, cpu, events)?;
-        }
+    for events in processors {
+        let mut bytes = Vec::new(alloc);
+        put_events(&mut bytes, cpu, events)?;
+        trace.add_processor(&bytes)?;
         cpu = cpu.wrapping_add(1);
     }
-    Ok(file)
+    Ok(trace.bytes(alloc)?)
 }
 
 // The line of an event of a processor, with all digits of its time.
@@ -73,16 +67,16 @@ fn put_line(
     Ok(())
 }
 
-// Whether the report of these processors is this text on so many threads.
+// The report of this file is this text on so many threads.
 fn reports_on<R: Alloc<A = Global> + Abort + Threads + Sync>(
     rt: &R,
     workers: &str,
-    processors: &[Vec<Events>],
+    file: &[u8],
     text: &[u8],
 ) -> Result<(), Fail> {
     let alloc = rt.alloc();
     let mut folder = MemFolder::new(alloc);
-    folder.put("trace.dat", &file_of(alloc, processors)?)?;
+    folder.put("trace.dat", file)?;
     let words = words_of(alloc, &["report", "-t", "--workers", workers])?;
     let outcome = outcome_of(rt, &words, &mut folder, &NoGate);
     assert_eq!(rt; outcome.status, Status::Done);
@@ -91,75 +85,42 @@ fn reports_on<R: Alloc<A = Global> + Abort + Threads + Sync>(
     Ok(())
 }
 
-// Whether it is the same on one thread, on three and on sixty-four.
+// It is the same on one thread, on three and on sixty-four.
 fn reports<R: Alloc<A = Global> + Abort + Threads + Sync>(
     rt: &R,
-    processors: &[Vec<Events>],
+    file: &[u8],
     text: &[u8],
 ) -> Result<(), Fail> {
     for workers in ["1", "3", "64"] {
-        reports_on(rt, workers, processors, text)?;
+        reports_on(rt, workers, file, text)?;
     }
     Ok(())
-}
-
-fn one_page(alloc: Global, events: Events) -> Result<Vec<Events>, Fail> {
-    Ok(vec![in alloc; events]?)
 }
 
 #[test]
 fn many_events_of_one_processor_against_two_of_another(rt: HostRuntime) -> Result<(), Fail> {
     let alloc = rt.alloc();
-    let rest = "[UNKNOWN EVENT 58]";
-    let mut first = Vec::new(alloc);
-    for i in 0..9_u64 {
-        first.push(Events {
-            time: 340 * i + 1,
-            count: if i == 8 { 280 } else { 340 },
-            step: 1,
-            id: UNKNOWN,
-        })?;
-    }
-    let second = one_page(
-        alloc,
-        Events {
-            time: 1,
-            count: 2,
-            step: 4999,
-            id: UNKNOWN,
-        },
-    )?;
-    let mut text = b"cpus=2\n".to_vec(alloc)?;
-    put_line(alloc, &mut text, 0, 1, rest)?;
-    put_line(alloc, &mut text, 1, 1, rest)?;
-    for time in 2..=3000 {
-        put_line(alloc, &mut text, 0, time, rest)?;
-    }
-    put_line(alloc, &mut text, 1, 5000, rest)?;
-    reports(&rt, &vec![in alloc; first, second]?, &text)
+    let text = many_events_report(alloc)?;
+    reports(&rt, &many_events(alloc)?, text.as_bytes())
 }
 
 #[test]
 fn a_region_is_full_before_its_sub_buffer_ends(rt: HostRuntime) -> Result<(), Fail> {
     let alloc = rt.alloc();
-    let first = one_page(
-        alloc,
+    let processors = [
         Events {
             time: 10,
             count: 6,
             step: 10,
             id: WIDE,
         },
-    )?;
-    let second = one_page(
-        alloc,
         Events {
             time: 15,
             count: 4,
             step: 15,
             id: UNKNOWN,
         },
-    )?;
+    ];
     let mut text = b"cpus=2\n".to_vec(alloc)?;
     for (cpu, time) in [
         (0, 10),
@@ -180,7 +141,7 @@ fn a_region_is_full_before_its_sub_buffer_ends(rt: HostRuntime) -> Result<(), Fa
             put_line(alloc, &mut text, cpu, time, "[UNKNOWN EVENT 58]")?;
         }
     }
-    reports(&rt, &vec![in alloc; first, second]?, &text)
+    reports(&rt, &file_of(alloc, &processors)?, &text)
 }
 
 // The longest line: 65,533 bytes of its text, an ellipsis, and the newline.
@@ -193,26 +154,24 @@ fn put_longest(alloc: Global, text: &mut Vec<u8>, cpu: u32, time: u64) -> Result
     Ok(())
 }
 
+fn widest_events(time: u64) -> Events {
+    Events {
+        time,
+        count: 3,
+        step: 10,
+        id: WIDEST,
+    }
+}
+
 #[test]
 fn lines_that_fill_their_regions(rt: HostRuntime) -> Result<(), Fail> {
     let alloc = rt.alloc();
-    let mut processors = Vec::new(alloc);
-    for time in [10, 15] {
-        processors.push(one_page(
-            alloc,
-            Events {
-                time,
-                count: 3,
-                step: 10,
-                id: WIDEST,
-            },
-        )?)?;
-    }
+    let processors = [widest_events(10), widest_events(15)];
     let mut text = b"cpus=2\n".to_vec(alloc)?;
     for (cpu, time) in [(0, 10), (1, 15), (0, 20), (1, 25), (0, 30), (1, 35)] {
         put_longest(alloc, &mut text, cpu, time)?;
     }
-    reports(&rt, &processors, &text)
+    reports(&rt, &file_of(alloc, &processors)?, &text)
 }
 
 // Whether the report of an event on each of 1,024 processors, the last one's first, is in the order of their times.
@@ -224,13 +183,12 @@ fn all_processors<R: Alloc<A = Global> + Abort + Threads + Sync>(
     let mut processors = Vec::new(alloc);
     let mut text = b"cpus=1024\n".to_vec(alloc)?;
     for i in 0..1024_u32 {
-        let events = Events {
+        processors.push(Events {
             time: u64::from(5000 - i),
             count: 1,
             step: 0,
             id: UNKNOWN,
-        };
-        processors.push(one_page(alloc, events)?)?;
+        })?;
         let cpu = 1023 - i;
         put_line(
             alloc,
@@ -240,7 +198,7 @@ fn all_processors<R: Alloc<A = Global> + Abort + Threads + Sync>(
             "[UNKNOWN EVENT 58]",
         )?;
     }
-    reports_on(rt, workers, &processors, &text)
+    reports_on(rt, workers, &file_of(alloc, &processors)?, &text)
 }
 
 #[test]

@@ -1,6 +1,6 @@
 // Runs of self-tests. Each line is that of `scripts/selftest_line.py`, which makes no file.
 
-use super::{Input, Row, runs_as};
+use super::{Input, Row, run_all};
 use std::test::Fail;
 use trace_run::Status;
 
@@ -65,8 +65,5 @@ const ROWS: &[Row] = &[
 
 #[test]
 fn self_tests(rt: HostRuntime) -> Result<(), Fail> {
-    for row in ROWS {
-        runs_as(&rt, row)?;
-    }
-    Ok(())
+    run_all(&rt, ROWS, &[])
 }

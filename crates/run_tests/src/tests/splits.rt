@@ -1,15 +1,14 @@
-// Splits, whose new files are reported, and splits over folders that fail.
+// Splits, whose new files are reported.
 
 use super::{
-    Carried, Input, MALFORMED_FIRST, MALFORMED_LATER, ONE, Page, Record, ends_as, folder_of,
-    outcome_of, words_of,
+    BEFORE_A_SECOND, Carried, Input, LATENCY, MALFORMED_FIRST, MALFORMED_LATER, ONE, Page, Record,
+    ends_as, folder_of, is_absent, is_made, words_of,
 };
 use dat_header::OpenFault;
 use std::alloc::Global;
 use std::process::Abort;
 use std::test::Fail;
 use std::thread::Threads;
-use trace_outside::{MemFault, MemFolder, NoGate};
 use trace_run::Status;
 
 struct Row {
@@ -47,12 +46,6 @@ const LOSS_AND_LARGE: Input = Input::Processors(
     ]],
 );
 
-/// An event half a microsecond before one second.
-const BEFORE_A_SECOND: Input = Input::Processors(
-    Carried::Nothing,
-    &[&[Page::Of(999_999_500, &[Record::Event(0, 58, 1234, 0, 0)])]],
-);
-
 /// Three events on each of two processors.
 const SIX: Input = Input::Processors(
     Carried::Nothing,
@@ -74,10 +67,6 @@ const SIX: Input = Input::Processors(
             ],
         )],
     ],
-);
-
-const LATENCY: Input = Input::Bytes(
-    b"\x17\x08\x44tracing6\0\0\x08\0\x10\0\0header_page\0\0\0\0\0\0\0\0\0header_event\0\0\0\0\0\0\0\0\0\0\0\0\0\0\0\0\0\0\0\0\0\0\0\0\0\0\0\0\0\0\0\0\0\x01\0\0\0latency  \0hello\n",
 );
 
 const ROWS: &[Row] = &[
@@ -252,78 +241,21 @@ const ROWS: &[Row] = &[
     },
 ];
 
-// The report of a file of the folder.
-fn is_reported_as<R: Alloc<A = Global> + Abort + Threads + Sync>(
-    rt: &R,
-    folder: &mut MemFolder,
-    name: &str,
-    report: &str,
-) -> Result<bool, Fail> {
-    let alloc = rt.alloc();
-    let words = words_of(alloc, &["report", "-t", name])?;
-    let outcome = outcome_of(rt, &words, folder, &NoGate);
-    Ok(outcome.status == Status::Done && outcome.out.bytes() == report.as_bytes())
-}
-
 fn splits_as<R: Alloc<A = Global> + Abort + Threads + Sync>(rt: &R, row: &Row) -> Result<(), Fail> {
     let alloc = rt.alloc();
     let words = words_of(alloc, row.words)?;
     let mut folder = folder_of(alloc, &row.file)?;
     ends_as(rt, &words, &mut folder, (row.status, "", row.err));
-    assert!(rt; folder.get(row.absent).is_none());
     for (name, size, report) in row.files {
-        assert!(rt; folder.get(name).is_some_and(|bytes| bytes.len() == *size));
-        assert!(rt; is_reported_as(rt, &mut folder, name, report)?);
+        is_made(rt, &mut folder, name, *size, (Status::Done, report, ""))?;
     }
-    Ok(())
+    is_absent(rt, &mut folder, row.absent)
 }
 
 #[test]
 fn splits(rt: HostRuntime) -> Result<(), Fail> {
     for row in ROWS {
         splits_as(&rt, row)?;
-    }
-    Ok(())
-}
-
-/// The fault of the folder, and what comes of a split.
-const FAULTS: &[(MemFault, Status, &str)] = &[
-    (
-        MemFault::ReadAt(4096),
-        Status::ReadFault,
-        "trace-cmd: trace.dat: read failed\n",
-    ),
-    (
-        MemFault::Create(1),
-        Status::WriteFault,
-        "trace-cmd: write failed\n",
-    ),
-    (
-        MemFault::Finish(1),
-        Status::WriteFault,
-        "trace-cmd: write failed\n",
-    ),
-];
-
-fn fails_as<R: Alloc<A = Global> + Abort + Threads + Sync>(
-    rt: &R,
-    fault: MemFault,
-    status: Status,
-    err: &str,
-) -> Result<(), Fail> {
-    let alloc = rt.alloc();
-    let words = words_of(alloc, &["split"])?;
-    let mut folder = folder_of(alloc, &ONE)?;
-    folder.fail(fault);
-    ends_as(rt, &words, &mut folder, (status, "", err));
-    assert!(rt; folder.get("trace.dat.1").is_none());
-    Ok(())
-}
-
-#[test]
-fn failing_splits(rt: HostRuntime) -> Result<(), Fail> {
-    for (fault, status, err) in FAULTS {
-        fails_as(&rt, *fault, *status, err)?;
     }
     Ok(())
 }

@@ -1,6 +1,6 @@
 // Runs over files whose sub-buffers have several pages.
 
-use super::{HEADER, ends_as, put_common, put_head, words_of};
+use super::{ends_as, is_made, put_common, put_head, with_part, words_of};
 use dat_header::OpenFault;
 use std::alloc::{AllocError, Global};
 use std::process::Abort;
@@ -131,23 +131,10 @@ fn header_page(alloc: Global, data: u32) -> Result<String, AllocError> {
     )
 }
 
-fn put_header(alloc: Global, trace: &Trace) -> Result<Vec<u8>, Fail> {
-    let header: &[u8] = HEADER;
-    let text = header_page(alloc, trace.data)?;
-    let mut file = header[..30].to_vec(alloc)?;
-    file.extend_from_slice(&(text.len() as u64).to_le_bytes())?;
-    file.extend_from_slice(text.as_bytes())?;
-    file.extend_from_slice(&header[38..83])?;
-    file.extend_from_slice(b"\x01\0\0\0flyrecord\0")?;
-    file.extend_from_slice(&4_096u64.to_le_bytes())?;
-    file.extend_from_slice(&trace.size.to_le_bytes())?;
-    file.resize(4_096, 0)?;
-    Ok(file)
-}
-
 /// A folder that has the file under the name trace.dat.
 fn folder_of(alloc: Global, trace: &Trace) -> Result<MemFolder, Fail> {
-    let mut file = put_header(alloc, trace)?;
+    let text = header_page(alloc, trace.data)?;
+    let mut file = with_part(alloc, text.as_bytes(), 4_096, trace.size)?;
     for index in 0..trace.count {
         let size = (trace.data as usize).saturating_add(16);
         put_sub_buffer(&mut file, size, index.wrapping_add(1))?;
@@ -179,13 +166,13 @@ const FILES: &[(&str, usize, &str, &str)] = &[
         "part.1",
         69_632,
         "[flyrecord 1]\ncpu 0 offset 4096 size 65536\n",
-        "cpus=1\n           <...>-7     [000]     1.000000: [UNKNOWN EVENT 58]\n",
+        "cpus=1\n           <...>-7     [000]     1.000000000: [UNKNOWN EVENT 58]\n",
     ),
     (
         "part.2",
         69_632,
         "[flyrecord 1]\ncpu 0 offset 4096 size 65536\n",
-        "cpus=1\n           <...>-7     [000]     2.000000: [UNKNOWN EVENT 58]\n",
+        "cpus=1\n           <...>-7     [000]     2.000000000: [UNKNOWN EVENT 58]\n",
     ),
 ];
 
@@ -196,12 +183,9 @@ fn is_file<R: Alloc<A = Global> + Abort + Threads + Sync>(
 ) -> Result<(), Fail> {
     let alloc = rt.alloc();
     let (name, size, table, report) = *expected;
-    assert!(rt; folder.get(name).is_some_and(|bytes| bytes.len() == size));
     let words = words_of(alloc, &["dump", "--flyrecord", name])?;
     ends_as(rt, &words, folder, (Status::Done, table, ""));
-    let words = words_of(alloc, &["report", name])?;
-    ends_as(rt, &words, folder, (Status::Done, report, ""));
-    Ok(())
+    is_made(rt, folder, name, size, (Status::Done, report, ""))
 }
 
 /// New files begin their data with a page, and have the input's sub-buffers.
@@ -227,7 +211,7 @@ const RESTORED: (&str, usize, &str, &str) = (
     "whole",
     135_168,
     "[flyrecord 2]\ncpu 0 offset 4096 size 65536\ncpu 1 offset 69632 size 65536\n",
-    "cpus=2\n           <...>-7     [000]     1.000000: [UNKNOWN EVENT 58]\n           <...>-7     [001]     2.000000: [UNKNOWN EVENT 58]\n",
+    "cpus=2\n           <...>-7     [000]     1.000000000: [UNKNOWN EVENT 58]\n           <...>-7     [001]     2.000000000: [UNKNOWN EVENT 58]\n",
 );
 
 fn put_data(alloc: Global, folder: &mut MemFolder, name: &str, seconds: u64) -> Result<(), Fail> {

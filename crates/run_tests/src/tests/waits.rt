@@ -1,13 +1,12 @@
 // Reports with the latencies behind the events.
 
 use super::known::{NEXT, WOKEN};
-use super::{Carried, Input, Page, Record, Row, ends_as, folder_of, runs_as, runs_with, words_of};
+use super::{Carried, Input, LATENCY, Page, Record, Row, run_all};
 use std::test::Fail;
-use trace_outside::MemFault;
 use trace_run::Status;
 
 /// Two wake-ups of task 42, and two switches to it.
-const WAITS: Input = Input::Processors(
+pub(super) const WAITS: Input = Input::Processors(
     Carried::Woken,
     &[&[Page::Of(
         1000,
@@ -103,9 +102,7 @@ const ROWS: &[Row] = &[
     // a latency file has none
     Row {
         words: &["report", "-w"],
-        file: Input::Bytes(
-            b"\x17\x08\x44tracing6\0\0\x08\0\x10\0\0header_page\0\0\0\0\0\0\0\0\0header_event\0\0\0\0\0\0\0\0\0\0\0\0\0\0\0\0\0\0\0\0\0\0\0\0\0\0\0\0\0\0\0\0\0\x01\0\0\0latency  \0hello\n",
-        ),
+        file: LATENCY,
         status: Status::Done,
         out: "cpus=1\nhello\n",
         err: "",
@@ -121,24 +118,10 @@ const ROWS: &[Row] = &[
 
 #[test]
 fn latencies_stand_behind_the_events(rt: HostRuntime) -> Result<(), Fail> {
-    for row in ROWS {
-        runs_as(&rt, row)?;
-    }
-    Ok(())
+    run_all(&rt, ROWS, &[])
 }
 
 #[test]
 fn latencies_on_three_threads(rt: HostRuntime) -> Result<(), Fail> {
-    runs_with(&rt, &ROWS[0], &["--workers", "3"])
-}
-
-#[test]
-fn a_file_that_cannot_be_read_leaves_nothing_written(rt: HostRuntime) -> Result<(), Fail> {
-    let alloc = rt.alloc();
-    let words = words_of(alloc, &["report", "-w"])?;
-    let mut folder = folder_of(alloc, &WAITS)?;
-    folder.fail(MemFault::ReadAt(4096));
-    let err = "trace-cmd: trace.dat: read failed\n";
-    ends_as(&rt, &words, &mut folder, (Status::ReadFault, "", err));
-    Ok(())
+    run_all(&rt, ROWS, &["--workers", "3"])
 }
