@@ -1,4 +1,9 @@
 //! The header of a trace file, read and written.
+//!
+//! [`read_header`] reads the header that a file begins with, and [`read_partial`] that of a partial file, which has no data. Each
+//! gives a [`Header`], or an [`OpenFault`], which says what is wrong and where. [`write_header`] writes a header with a table of
+//! parts, and [`header_len`] tells beforehand how long that is. The other functions do nothing: their contracts are laws, as that
+//! a file has at most one header and that what is written reads back.
 #![tactic(auto)]
 
 mod carried;

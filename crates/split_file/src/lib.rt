@@ -1,5 +1,8 @@
-//! A new file of a split: its name, the header with its table and the zero bytes in front of the sub-buffers, the
-//! places of these, and what is read back from the whole file.
+//! A new file of a split, up to its sub-buffers.
+//!
+//! [`file_name`] gives its name, [`data_place`] the place of its first sub-buffer, and [`write_front`] writes all that stands in
+//! front of that place: the header with its table, and zero bytes. The sub-buffers follow, and are written by the caller.
+//! The functions of [`laws`] do nothing; their contracts say what is read back from the whole file.
 #![tactic(auto)]
 
 mod front;
