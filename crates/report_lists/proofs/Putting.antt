@@ -5,20 +5,10 @@ use Rattle.std.proofs.lemmas.List.Concat.{flat_map-cons}
 use Rattle.std.proofs.lemmas.Grind.{flat_map-append}
 use Rattle.std.proofs.lemmas.Option.{slice_get-get_or}
 use Rattle.std.specs.List.{flat_map, cons_option}
-use Rattle.trace_outside.specs.Writing.{GainedPrefix}
 use Rattle.trace_outside.specs.Pending.{Holds, Puts}
 use Rattle.trace_outside.proofs.PendingLemmas.{parts_stopped}
+use Rattle.trace_outside.proofs.Putting.{Put, Stopped}
 use Rattle.report_lists.specs.Lists.{entry}
-
--- a piece was put behind any text
-abbrev pub Put : List ℕ → Option (List ℕ) → List ℕ → Option (List ℕ) → List ℕ → Type 0
-Put piece old waiting now waiting_now =
-    (before : Option (List ℕ)) (text : List ℕ) → Holds before old waiting text → Holds before now waiting_now (text ++ piece)
-
--- a sink was stopped within a piece behind any text
-abbrev pub Stopped : List ℕ → Option (List ℕ) → List ℕ → Option (List ℕ) → Type 0
-Stopped piece old waiting now =
-    (before : Option (List ℕ)) (text : List ℕ) → Holds before old waiting text → GainedPrefix before now (text ++ piece)
 
 take_next : {X : Type 0} (xs : List X) (i : ℕ) → take (i + 1) xs ≡ take i xs ++ cons_option (slice_get xs i) []
 take_next [] i = take_all (i + 1) [] (omega arith) ∙ sym (ap (λ (l : List _). l ++ []) (take_all i [] (omega arith)))
@@ -50,9 +40,3 @@ entry_stopped f [] i piece old mid now waiting waiting_mid waiting_now result in
 entry_stopped f (x ∷ xs) i piece old mid now waiting waiting_mid waiting_now result inside failed one two is =
     parts_stopped f (x ∷ xs) i x old mid now waiting waiting_mid waiting_now result inside failed one
     (subst (λ (piece : List ℕ). Stopped piece mid waiting_mid now) (is ∙ ap (entry f) (slice_get-get_or (x ∷ xs) i x inside)) two)
-
--- all entries were put
-pub all_put : {X : Type 0} (f : X → List ℕ) (xs : List X) (i : ℕ) (old now : Option (List ℕ)) (waiting waiting_now : List ℕ)
-    → length xs ≤ i → Put (flat_map f (take i xs)) old waiting now waiting_now → Put (flat_map f xs) old waiting now waiting_now
-all_put f xs i old now waiting waiting_now all put =
-    subst (λ (some : List _). Put (flat_map f some) old waiting now waiting_now) (take_all i xs all) put

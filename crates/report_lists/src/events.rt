@@ -12,7 +12,7 @@ use text_lines::line_end;
 use trace_outside::{Failed, Pending, Sink};
 
 /// Puts the events of a file, one `SYSTEM/NAME` a line, in the order of their formats (trace-cmd-report(1), `-E`).
-#[tactic(auto, using(crate::proofs::Putting::all_put))]
+#[tactic(auto, using(trace_outside::proofs::Putting::put_all))]
 pub fn put_event_names<O: Sink>(
     pending: &mut Pending,
     out: &mut O,
@@ -29,7 +29,7 @@ pub fn put_event_names<O: Sink>(
 }
 
 /// Puts the format texts of a file's events as they are, in their order, each ended by a newline (`--events`).
-#[tactic(auto, using(crate::proofs::Putting::all_put))]
+#[tactic(auto, using(trace_outside::proofs::Putting::put_all))]
 pub fn put_event_formats<O: Sink>(
     pending: &mut Pending,
     out: &mut O,

@@ -11,7 +11,7 @@ use trace_base::write_digits;
 use trace_outside::{Failed, Pending, Sink};
 
 /// Puts the symbols by rising address, one `ADDRESS NAME` a line, the address in 16 hexadecimal digits (`-f`).
-#[tactic(auto, using(crate::proofs::Putting::all_put))]
+#[tactic(auto, using(trace_outside::proofs::Putting::put_all))]
 pub fn put_symbols<O: Sink>(
     pending: &mut Pending,
     out: &mut O,
@@ -28,7 +28,7 @@ pub fn put_symbols<O: Sink>(
 }
 
 /// Puts the printk formats by rising address, one `0xADDRESS : TEXT` a line, the address in 16 hexadecimal digits (`-P`).
-#[tactic(auto, using(crate::proofs::Putting::all_put))]
+#[tactic(auto, using(trace_outside::proofs::Putting::put_all))]
 pub fn put_printk_formats<O: Sink>(
     pending: &mut Pending,
     out: &mut O,

@@ -2,3 +2,4 @@ pub mod Gains
 pub mod Fills
 pub mod PendingLemmas
 pub mod Keeping
+pub mod Putting

@@ -1,7 +1,7 @@
 use Rattle.std.proofs.Common.{take, ◌≡◌, ◌≤◌}
 use Rattle.std.specs.List.{flat_map}
 use Rattle.report_lists.specs.Lists.{printk_line}
-use Rattle.report_lists.proofs.Putting.{Put}
+use Rattle.trace_outside.proofs.Putting.{Put}
 use Rattle.report_lists.proofs.names.put_printk_formats.Given as goal
 
 abbrev pub invariant-loop-i : goal.invariant-loop-i
