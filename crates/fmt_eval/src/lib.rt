@@ -2,6 +2,10 @@
 //!
 //! [`number`] is the definition in Rust, one recursion over the tree, and [`holds`] tells whether it is not 0. Of a tree that is used over
 //! many records [`read_of`] and [`test_of`] tell once what is known before any: [`number_read`] and [`test_holds`] go by that.
+//!
+//! Of a tree whose kind is a text [`put_text`] puts it, and of one that has bytes [`bytes`] gives them; [`only_flag`] gives the text of
+//! flags without putting it, where it is that of one alone. [`put_hexadecimal`], [`put_octets`] and [`put_piece`] are for others who
+//! write as these texts are written, and [`cast_bits`] for who reads a number as a cast does. The functions of `laws` do nothing.
 #![tactic(auto)]
 
 mod array;

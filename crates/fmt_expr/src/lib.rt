@@ -3,6 +3,9 @@
 //! [`parse_args`] goes once over the tokens, with one method a production of the grammar. The grammar itself is a
 //! relation between places in the tokens and trees, in `specs/Derivation.antt`; the laws say that it has at most one
 //! tree, and that this is the tree that is given.
+//!
+//! `parse_args` gives a [`PrintFmt`], whose arguments are each an [`Expr`]; [`kind`] tells whether one gives a number, a text or bytes.
+//! The functions of [`laws`] do nothing.
 #![tactic(auto)]
 
 mod args;

@@ -2,7 +2,10 @@
 //!
 //! [`tokens`] cuts a text into names, numbers, letters, texts and marks. It keeps no state beside the
 //! place that it has reached, and gives kinds and places alone: what a token means is left to those who
-//! read its bytes.
+//! read its bytes. Of a number's bytes [`number_parts`] tells the base, the digits and the suffix.
+//!
+//! A filter has marks of its own, so whoever reads one takes [`word_len`] and [`number_parts`] and cuts the
+//! text itself. The functions of [`laws`] do nothing: a text has one row of tokens, and a number one division.
 #![tactic(auto)]
 
 mod bytes;

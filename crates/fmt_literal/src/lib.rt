@@ -1,5 +1,9 @@
 //! What the tokens of a print fmt mean by themselves: numbers with C's kinds, letters and texts with their escapes
 //! resolved, and types by their names.
+//!
+//! [`number`], [`letter`] and [`push_text`] take a token as it is spelled. Of a type's names [`is_qualifier`] tells those that are
+//! left out; by the others [`cast_of`] tells what a cast to it makes of a number, and [`size_of`] its bytes. The functions of
+//! [`laws`] do nothing: each spelling has one meaning.
 #![tactic(auto)]
 
 mod cast_to;

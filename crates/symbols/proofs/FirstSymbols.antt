@@ -1,12 +1,12 @@
 -- The symbol of a text's first line, found without looking for the line's end first.
-use Rattle.std.proofs.Common.{◌≡◌, ℕ, ◌+◌, ◌<◌, inl, inr, Bool, true, false, not, eqb, codes, List, [], ◌∷◌, ◌++◌, length, take, drop, get_or, Option, None, Some, IfSome, refl, sym, ap, subst, ◌∙◌, append_assoc, arith}
-use Rattle.std.proofs.lemmas.Bool.{cases_Bool, eqb-true, eq-eqb}
+use Rattle.std.proofs.Common.{◌≡◌, ℕ, zero, suc, ◌+◌, ◌-◌, ◌<◌, inl, inr, Bool, true, false, not, eqb, codes, List, [], ◌∷◌, ◌++◌, length, take, drop, get_or, Option, None, Some, IfSome, refl, sym, ap, subst, ◌∙◌, append_assoc, arith}
+use Rattle.std.proofs.lemmas.Bool.{cases_Bool, cases_lt, eqb-true, eq-eqb}
 use Rattle.std.proofs.lemmas.List.{take-append-drop, at_drop_more, get_or-take, length-take}
 use Rattle.std.proofs.lemmas.List.Sums.{list_all-from_AllPass}
 use Rattle.std.proofs.lemmas.Grind.{get_or_default_zero}
 use Rattle.std.specs.List.{list_all, onto_first}
 use Rattle.std.specs.Char.{is_ascii_alphabetic}
-use Rattle.memchr.specs.Find.{IsFirstByte, is_byte3}
+use Rattle.memchr.specs.Find.{NoneBefore, Passes, TakesFirst, is_byte3, places, places_from}
 use Rattle.text_lines.specs.Lines.{lines_of}
 use Rattle.trace_base.specs.FieldReading.{after_word}
 use Rattle.trace_base.proofs.FieldSteps.{both}
@@ -85,16 +85,46 @@ is_in byte other = elim (cases_Bool (eqb byte 9)) as (λ _. stays byte ≡ true)
   ]
 ]
 
-pub name_len_is : (text : List ℕ) (at : Option ℕ) → IsFirstByte (is_byte3 9 32 10) text at → IfSome at (IsNameLen text)
-name_len_is text None found = tt
-name_len_is text (Some len) found = record {
-  inside = found.0.high;
-  name = list_all-from_AllPass stays (take len text) (λ k d less.
-      let below : k < len = omega (arith, less, length-take len text) in
-      let there : k < length text = omega (arith, below, found.0.high) in
-      subst (λ (byte : ℕ). stays byte ≡ true) (sym (get_or-take len text k d below ∙ default text k d there)) (is_in (get_or text k 0) (found.0.before k (omega arith) below)));
-  ends = is_end (get_or text len 0) found.1;
-}
+-- the first of the places is the first place
+first_place : (test : ℕ → Bool) (hay : List ℕ) (i n at : ℕ) (later : List ℕ) → places_from test hay i n ≡ at ∷ later → NoneBefore (Passes test hay) i (i + n) at × Passes test hay at
+unfolding places_from
+first_place test hay i zero at later is = absurd cc
+first_place test hay i (suc n) at later is = elim (cases_Bool (test (get_or hay i 0))) as (λ _. NoneBefore (Passes test hay) i (i + suc n) at × Passes test hay at) [
+  | inl here ↦
+      let found : i ∷ places_from test hay (i + 1) n ≡ at ∷ later = rw here at is in
+      let same : i ≡ at = cc in (
+        record { low = omega (arith, same); high = omega (arith, same); before = λ k from less. absurd (omega (arith, same, from, less)) },
+        subst (Passes test hay) same here,
+      )
+  | inr other ↦
+      let found : places_from test hay (i + 1) n ≡ at ∷ later = rw other at is in
+      let far = first_place test hay (i + 1) n at later found in (
+        record {
+          low = omega (arith, far.0.low);
+          high = omega (arith, far.0.high);
+          before = λ k from less passes. elim (cases_lt i k) [
+            | inl past ↦ far.0.before k (omega (arith, past)) less passes
+            | inr near ↦ let same : k ≡ i = omega (arith, from, near) in absurd (let clash : true ≡ false = sym passes ∙ ap (λ (j : ℕ). test (get_or hay j 0)) same ∙ other in cc)
+          ];
+        },
+        far.1,
+      )
+]
+
+pub name_len_is : (text : List ℕ) (old new : List ℕ) (at : Option ℕ) → old ≡ places (is_byte3 9 32 10) text → TakesFirst old at new → IfSome at (IsNameLen text)
+name_len_is text old new None is takes = tt
+name_len_is text old new (Some len) is takes =
+    let test = is_byte3 9 32 10 in
+    let whole : length text - 0 ≡ length text = omega arith in
+    let found = first_place test text 0 (length text) len new (subst (λ (n : ℕ). places_from test text 0 n ≡ len ∷ new) whole (sym is ∙ takes)) in
+    record {
+      inside = omega (arith, found.0.high);
+      name = list_all-from_AllPass stays (take len text) (λ k d less.
+          let below : k < len = omega (arith, less, length-take len text) in
+          let there : k < length text = omega (arith, below, found.0.high) in
+          subst (λ (byte : ℕ). stays byte ≡ true) (sym (get_or-take len text k d below ∙ default text k d there)) (is_in (get_or text k 0) (found.0.before k (omega arith) below)));
+      ends = is_end (get_or text len 0) found.1;
+    }
   where
     default : (xs : List ℕ) (k d : ℕ) → k < length xs → get_or xs k d ≡ get_or xs k 0
     default xs k d less = grind (arith, get_or_default_zero)

@@ -22,6 +22,12 @@ pub record IsAddress (digits : List ℕ) (address : ℕ) : Type 0 where
   pub few : length digits ≤ 16
   pub value : digits_value 16 digits ≡ address
 
+-- half of an address that is written in full: eight digits, with letters of either case
+pub record IsHalf (digits : List ℕ) (half : ℕ) : Type 0 where
+  pub digit : list_all is_hexadecimal digits ≡ true
+  pub value : digits_value 16 digits ≡ half
+  pub fits : half < 2 ^ 32
+
 -- the text is empty or its first byte does not pass
 abbrev pub BeginsOutside : (ℕ → Bool) → List ℕ → Type 0
 BeginsOutside test text = (first : ℕ) (rest : List ℕ) → text ≡ first ∷ rest → test first ≡ false

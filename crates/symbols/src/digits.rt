@@ -5,33 +5,50 @@ ghost use Rattle.std.specs.Char.{digit_value};
 ghost use Rattle.std.specs.List.{list_all, prefix_len};
 ghost use Rattle.std.specs.Option.{option_map};
 ghost use Rattle.std.specs.Str.Parse.{digits_value};
-ghost use Rattle.symbols.specs.LineForms.{is_hexadecimal};
+ghost use Rattle.symbols.specs.LineForms.{is_hexadecimal, IsHalf};
 ghost use Rattle.symbols.specs.Forms.{address_at};
 
-// What each byte stands for as a hexadecimal digit, and 16 where it is none.
-static DIGITS: [u8; 256] = [
-    16, 16, 16, 16, 16, 16, 16, 16, 16, 16, 16, 16, 16, 16, 16, 16, 16, 16, 16, 16, 16, 16, 16, 16,
-    16, 16, 16, 16, 16, 16, 16, 16, 16, 16, 16, 16, 16, 16, 16, 16, 16, 16, 16, 16, 16, 16, 16, 16,
-    0, 1, 2, 3, 4, 5, 6, 7, 8, 9, 16, 16, 16, 16, 16, 16, 16, 10, 11, 12, 13, 14, 15, 16, 16, 16,
-    16, 16, 16, 16, 16, 16, 16, 16, 16, 16, 16, 16, 16, 16, 16, 16, 16, 16, 16, 16, 16, 16, 16, 10,
-    11, 12, 13, 14, 15, 16, 16, 16, 16, 16, 16, 16, 16, 16, 16, 16, 16, 16, 16, 16, 16, 16, 16, 16,
-    16, 16, 16, 16, 16, 16, 16, 16, 16, 16, 16, 16, 16, 16, 16, 16, 16, 16, 16, 16, 16, 16, 16, 16,
-    16, 16, 16, 16, 16, 16, 16, 16, 16, 16, 16, 16, 16, 16, 16, 16, 16, 16, 16, 16, 16, 16, 16, 16,
-    16, 16, 16, 16, 16, 16, 16, 16, 16, 16, 16, 16, 16, 16, 16, 16, 16, 16, 16, 16, 16, 16, 16, 16,
-    16, 16, 16, 16, 16, 16, 16, 16, 16, 16, 16, 16, 16, 16, 16, 16, 16, 16, 16, 16, 16, 16, 16, 16,
-    16, 16, 16, 16, 16, 16, 16, 16, 16, 16, 16, 16, 16, 16, 16, 16, 16, 16, 16, 16, 16, 16, 16, 16,
-    16, 16, 16, 16, 16, 16, 16, 16, 16, 16, 16, 16, 16, 16,
+// What stands in `DIGITS` for a byte that is no digit: more than eight digits write.
+const NONE: u64 = 1 << 32;
+
+// What each byte stands for as a hexadecimal digit.
+static DIGITS: [u64; 256] = [
+    NONE, NONE, NONE, NONE, NONE, NONE, NONE, NONE, NONE, NONE, NONE, NONE, NONE, NONE, NONE, NONE,
+    NONE, NONE, NONE, NONE, NONE, NONE, NONE, NONE, NONE, NONE, NONE, NONE, NONE, NONE, NONE, NONE,
+    NONE, NONE, NONE, NONE, NONE, NONE, NONE, NONE, NONE, NONE, NONE, NONE, NONE, NONE, NONE, NONE,
+    0, 1, 2, 3, 4, 5, 6, 7, 8, 9, NONE, NONE, NONE, NONE, NONE, NONE, NONE, 10, 11, 12, 13, 14, 15,
+    NONE, NONE, NONE, NONE, NONE, NONE, NONE, NONE, NONE, NONE, NONE, NONE, NONE, NONE, NONE, NONE,
+    NONE, NONE, NONE, NONE, NONE, NONE, NONE, NONE, NONE, NONE, 10, 11, 12, 13, 14, 15, NONE, NONE,
+    NONE, NONE, NONE, NONE, NONE, NONE, NONE, NONE, NONE, NONE, NONE, NONE, NONE, NONE, NONE, NONE,
+    NONE, NONE, NONE, NONE, NONE, NONE, NONE, NONE, NONE, NONE, NONE, NONE, NONE, NONE, NONE, NONE,
+    NONE, NONE, NONE, NONE, NONE, NONE, NONE, NONE, NONE, NONE, NONE, NONE, NONE, NONE, NONE, NONE,
+    NONE, NONE, NONE, NONE, NONE, NONE, NONE, NONE, NONE, NONE, NONE, NONE, NONE, NONE, NONE, NONE,
+    NONE, NONE, NONE, NONE, NONE, NONE, NONE, NONE, NONE, NONE, NONE, NONE, NONE, NONE, NONE, NONE,
+    NONE, NONE, NONE, NONE, NONE, NONE, NONE, NONE, NONE, NONE, NONE, NONE, NONE, NONE, NONE, NONE,
+    NONE, NONE, NONE, NONE, NONE, NONE, NONE, NONE, NONE, NONE, NONE, NONE, NONE, NONE, NONE, NONE,
+    NONE, NONE, NONE, NONE, NONE, NONE, NONE, NONE, NONE, NONE, NONE, NONE, NONE, NONE, NONE, NONE,
+    NONE, NONE, NONE, NONE, NONE, NONE, NONE, NONE, NONE, NONE, NONE, NONE, NONE, NONE, NONE, NONE,
+    NONE, NONE, NONE, NONE, NONE, NONE, NONE,
 ];
+
+/// What a byte stands for as a hexadecimal digit, or `NONE`.
+#[inline(always)]
+fn digit_or_none(byte: u8) -> u64
+    ensures most { result ≤ 2 ^ 32 }
+    ensures digit { result < 2 ^ 32 → (result ≡ digit_value byte) × (result < 16) }
+    ensures none { 2 ^ 32 ≤ result → 16 ≤ digit_value byte }
+{
+    DIGITS[byte as usize]
+}
 
 /// What a hexadecimal digit stands for.
 #[inline(always)]
-#[tactic(auto, using(crate::proofs::Addresses::is_digit_of, crate::proofs::Addresses::is_none_of))]
-fn digit(byte: u8) -> Option<u8>
+fn digit(byte: u8) -> Option<u64>
     ensures digit { IfSome result (λ digit. (digit ≡ digit_value byte) × (digit < 16)) }
     ensures none { IfNone result (16 ≤ digit_value byte) }
 {
-    let digit = DIGITS[byte as usize];
-    if digit < 16 { Some(digit) } else { None }
+    let digit = digit_or_none(byte);
+    if digit < NONE { Some(digit) } else { None }
 }
 
 /// The low 64 bits of the number that the first hexadecimal digits write, and how many digits there are.
@@ -45,18 +62,29 @@ fn first_digits(text: &[u8]) -> (u64, usize)
         let Some(digit) = digit(*byte) else {
             return (number, i);
         };
-        number = number.wrapping_mul(16).wrapping_add(digit as u64);
+        number = number.wrapping_mul(16).wrapping_add(digit);
     }
     (number, text.len())
 }
 
-/// The number of the first eight digits where they are all `f`, as in most addresses of a kernel of 64 bits.
+/// The number that eight hexadecimal digits write. None where one of the bytes is no digit.
 #[inline(always)]
-#[tactic(auto, using(crate::proofs::Addresses::highest_long))]
-fn highest_half(text: &[u8]) -> Option<u64>
-    ensures within { IfSome result (λ number. 8 ≤ length text.now) }
-    ensures digits { IfSome result (λ number. list_all is_hexadecimal (take 8 text.now) ≡ true) }
-    ensures number { IfSome result (λ number. number ≡ digits_value 16 (take 8 text.now) % 2 ^ 64) }
+fn eight_digits(text: &[u8]) -> Option<u64>
+    requires { length text.now ≡ 8 }
+    ensures { IfSome result (IsHalf text.now) }
+{
+    let mut number: u64 = 0;
+    for i in 0..8 {
+        number = number * 16 + digit_or_none(text[i]);
+    }
+    if number < NONE { Some(number) } else { None }
+}
+
+/// The number of eight digits where they are all `f`, as the first of most addresses of a kernel of 64 bits.
+#[inline(always)]
+fn eight_highest(text: &[u8]) -> Option<u64>
+    requires { length text.now ≡ 8 }
+    ensures { IfSome result (IsHalf text.now) }
 {
     if text.starts_with(b"ffffffff") {
         Some(0xffff_ffff)
@@ -65,59 +93,55 @@ fn highest_half(text: &[u8]) -> Option<u64>
     }
 }
 
-/// The low 64 bits of the number that a text of hexadecimal digits alone writes, where the number of its first few is known.
-#[inline(always)]
-fn further_digits(text: &[u8], known: usize, front: u64) -> Option<u64>
-    requires within { known ≤ length text.now }
-    requires digits { list_all is_hexadecimal (take known text.now) ≡ true }
-    requires number { front ≡ digits_value 16 (take known text.now) % 2 ^ 64 }
-    ensures { IfSome result (λ number. (list_all is_hexadecimal text.now ≡ true) × (number ≡ digits_value 16 text.now % 2 ^ 64)) }
-{
-    let mut number = front;
-    for i in known..text.len() {
-        let Some(digit) = digit(text[i]) else {
-            return None;
-        };
-        number = number.wrapping_mul(16).wrapping_add(digit as u64);
-    }
-    Some(number)
+/// A text of at least 16 bytes with a space behind them: the first eight bytes, the eight behind these, and what follows.
+#[derive(Clone, Copy, Debug)]
+struct Halves<'a> {
+    high: &'a [u8],
+    low: &'a [u8],
+    rest: &'a [u8],
 }
 
 /// The 16 bytes that a text begins with, where a space stands behind them, and what follows them.
 #[inline(always)]
-fn sixteen(text: &[u8]) -> Option<(&[u8], &[u8])>
+fn sixteen(text: &[u8]) -> Option<Halves<'_>>
     ensures inside { IfSome result (λ r. 16 < length text.now) }
     ensures space { IfSome result (λ r. slice_index text.now 16 ≡ 32) }
-    ensures parts { IfSome result (λ r. (r.0.now ≡ take 16 text.now) × (r.1.now ≡ drop 16 text.now)) }
+    ensures eight { IfSome result (λ r. (length r.high.now ≡ 8) × (length r.low.now ≡ 8)) }
+    ensures high { IfSome result (λ r. r.high.now ≡ take 8 text.now) }
+    ensures low { IfSome result (λ r. r.low.now ≡ take 8 (drop 8 text.now)) }
+    ensures rest { IfSome result (λ r. r.rest.now ≡ drop 16 text.now) }
 {
     if text.len() <= 16 || text[16] != b' ' {
         return None;
     }
-    Some(text.split_at(16))
+    Some(Halves {
+        high: &text[..8],
+        low: &text[8..16],
+        rest: &text[16..],
+    })
 }
 
 /// The address that a text begins with, where it is one of the last 4 GiB, has 16 digits and a space behind them: the most
 /// frequent form of a kernel of 64 bits.
 #[inline(always)]
-#[tactic(auto, using(crate::proofs::Addresses::full_is))]
 fn high_address(text: &[u8]) -> Option<(u64, &[u8])>
     ensures { IfSome result (λ r. Some (r.0, r.1.now) ≡ address_at text.now) }
 {
-    let (digits, rest) = sixteen(text)?;
-    let front = highest_half(digits)?;
-    let address = further_digits(digits, 8, front)?;
-    Some((address, rest))
+    let Halves { high, low, rest } = sixteen(text)?;
+    let high = eight_highest(high)?;
+    let low = eight_digits(low)?;
+    Some(((high << 32) + low, rest))
 }
 
 /// The address that a text begins with, where it has 16 digits and a space behind them, as a kernel of 64 bits writes it.
 #[inline]
-#[tactic(auto, using(crate::proofs::Addresses::full_is))]
 fn full_address(text: &[u8]) -> Option<(u64, &[u8])>
     ensures { IfSome result (λ r. Some (r.0, r.1.now) ≡ address_at text.now) }
 {
-    let (digits, rest) = sixteen(text)?;
-    let address = further_digits(digits, 0, 0)?;
-    Some((address, rest))
+    let Halves { high, low, rest } = sixteen(text)?;
+    let high = eight_digits(high)?;
+    let low = eight_digits(low)?;
+    Some(((high << 32) + low, rest))
 }
 
 /// The address that a text begins with, and what follows it.

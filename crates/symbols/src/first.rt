@@ -6,7 +6,7 @@ ghost use Rattle.symbols.specs.FirstLine.{IsFirstSymbol, IsNameLen};
 
 use crate::digits::address_at;
 use crate::lines::{after_letter, after_space};
-use memchr::memchr3;
+use memchr::memchr3_iter;
 use text_lines::first_line;
 
 /// A symbol, and what follows its line.
@@ -41,12 +41,13 @@ pub(crate) fn first_symbol(text: &[u8]) -> Option<FirstSymbol<'_>>
     })
 }
 
-// How long the name at the front is, where a tab, a space or a newline ends it.
+// How long the name at the front is, where a tab, a space or a newline ends it. The iterator looks at the next 32 bytes first,
+// in which most names end.
 #[inline]
 fn name_len(text: &[u8]) -> Option<usize>
     ensures { IfSome result (IsNameLen text.now) }
 {
-    memchr3(b'\t', b' ', b'\n', text)
+    memchr3_iter(b'\t', b' ', b'\n', text).next()
 }
 
 // The rest of a line, and the lines behind it. Most names stand at the end of their line.

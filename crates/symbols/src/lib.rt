@@ -3,6 +3,10 @@
 //! [`Symbols::read`] reads three texts once; each look-up is then one binary search over numbers in one array, and takes no
 //! memory. A task is looked for first where `noted_places::Places` has its pid, and a symbol among those of its page of memory: that is
 //! where most stand.
+//!
+//! For the name of an address call `name_at`, for the text of a printk format `printk_at`, and for the name of a task `comm_of`.
+//! `symbol`, `printk` and `task_at` give the names one after another, as a list of them needs, each up to its count. [`one_map`] does
+//! nothing: it is the law that names stand for one map.
 #![tactic(auto)]
 
 mod digits;

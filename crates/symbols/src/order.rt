@@ -1,6 +1,6 @@
 // Spots in order of their numbers.
 
-ghost use Rattle.std.specs.Prelude.{◌≡◌, ◌≤◌, OnOk, None, List, ℕ, take, length};
+ghost use Rattle.std.specs.Prelude.{◌≡◌, ◌≤◌, ◌++◌, OnOk, None, List, ℕ, take, drop, length};
 ghost use Rattle.std.specs.List.Sorted.{IsNonDecreasingBy, IsPermutation};
 ghost use Rattle.symbols.specs.NameMap.{SamePairs};
 ghost use Rattle.symbols.specs.Names.{spots_view};
@@ -80,14 +80,30 @@ pub(crate) fn keep_firsts(spots: &mut Vec<Spot>)
     spots.shrink_to_fit();
 }
 
-// Moves them to the front, and says how many they are.
+// How many spots at the front have other numbers than the one before them, and the number of the last of these.
+fn apart_front(spots: &[Spot]) -> (usize, Option<u64>)
+    ensures within { result.0 ≤ length spots.now }
+    ensures firsts { take result.0 spots.now ++ first_spots result.1 (drop result.0 spots.now) ≡ first_spots None spots.now }
+{
+    let mut last = None;
+    for i in 0..spots.len() {
+        let key = spots[i].key;
+        if is_key(last, key) {
+            return (i, last);
+        }
+        last = Some(key);
+    }
+    (spots.len(), last)
+}
+
+// Moves them to the front, and says how many they are. Those that stand there already stay in place.
 fn move_firsts(spots: &mut [Spot]) -> usize
     ensures within { result ≤ length spots.new }
     ensures firsts { take result spots.new ≡ first_spots None spots.old }
 {
-    let mut kept = 0;
-    let mut last = None;
-    for i in 0..spots.len() {
+    let (apart, mut last) = apart_front(spots);
+    let mut kept = apart;
+    for i in apart..spots.len() {
         let spot = spots[i];
         if !is_key(last, spot.key) {
             spots[kept] = spot;

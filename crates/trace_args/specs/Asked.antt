@@ -20,17 +20,22 @@ use Rattle.word_values.specs.Pieces.{piece}
 use Rattle.trace_args.specs.declared.tool.Tool.{Tool}
 use Rattle.trace_args.specs.declared.tool.Tool.TheVariants as tool
 use Rattle.trace_args.specs.declared.option.FlagOption.TheVariants as flag
+use Rattle.trace_args.specs.declared.option.ValuedOption.{ValuedOption}
 use Rattle.trace_args.specs.declared.option.ValuedOption.TheVariants as valued
 use Rattle.trace_args.specs.Command.{CommandData, Report, Dump, SelfTest, Split, Restore, ReportData, DumpData, SelfData, SplitData, RestoreData, FilterData}
 use Rattle.trace_args.specs.Setting.{Text, Setting}
 use Rattle.trace_args.specs.Given.{sets, value_for, value_of, value_at, texts_of, is_set}
 
+-- the value of an option, or else another text
+abbrev pub text_or : ValuedOption → List ℕ → List Setting → List ℕ
+text_or option other settings = option_map_or (λ text. text.bytes) (value_of option settings) other
+
 abbrev pub input_of : List Setting → List ℕ
-input_of settings = option_map_or (λ text. text.bytes) (value_of valued.Input settings) (codes "trace.dat")
+input_of settings = text_or valued.Input (codes "trace.dat") settings
 
 -- the first input of a report, and the inputs behind it
 abbrev pub first_input : List Setting → List ℕ
-first_input settings = option_map_or (λ text. text.bytes) (value_of valued.Source settings) (input_of settings)
+first_input settings = text_or valued.Source (input_of settings) settings
 
 abbrev pub more_inputs : List Setting → List (List ℕ)
 more_inputs settings = drop 1 (texts_of valued.Source settings)
@@ -116,7 +121,7 @@ self_of settings =
 
 -- what the names of new files begin with
 abbrev pub base_of : List Setting → List ℕ
-base_of settings = option_map_or (λ text. text.bytes) (value_of valued.Base settings) (input_of settings)
+base_of settings = text_or valued.Base (input_of settings) settings
 
 -- the size of a piece by this option
 abbrev pub piece_by : List Setting → PieceOption → Option PieceUnit
@@ -152,7 +157,7 @@ split_of settings =
 
 -- the name of the new file
 abbrev pub output_of : List Setting → List ℕ
-output_of settings = option_map_or (λ text. text.bytes) (value_of valued.Output settings) (codes "trace.dat")
+output_of settings = text_or valued.Output (codes "trace.dat") settings
 
 abbrev pub restore_of : List Setting → RestoreData
 restore_of settings =

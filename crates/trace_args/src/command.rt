@@ -1,7 +1,7 @@
 ghost use Rattle.std.specs.Prelude.{◌≡◌, IfOk, MatchResult, map};
 ghost use Rattle.std.specs.List.{list_any};
 ghost use Rattle.word_values.specs.Sections.{sections};
-ghost use Rattle.trace_args.specs.Asked.{base_of, bound_of, command_of, cpu_of, cpus_of, dump_of, events_of, first_input, input_of, is_printed, listing_of, more_inputs, names_any, names_section, output_of, piece_by, report_of, restore_of, seed_of, self_of, split_of, unit_of, workers_of};
+ghost use Rattle.trace_args.specs.Asked.{base_of, bound_of, command_of, cpu_of, cpus_of, dump_of, events_of, first_input, input_of, is_printed, listing_of, more_inputs, names_any, names_section, output_of, piece_by, report_of, restore_of, seed_of, self_of, split_of, text_or, unit_of, workers_of};
 ghost use Rattle.trace_args.specs.Command.{command_view, dump_view, report_view, restore_view, self_view, split_view};
 ghost use Rattle.trace_args.specs.Given.{is_set};
 ghost use Rattle.trace_args.specs.GivenView.{given_view};
@@ -249,24 +249,28 @@ impl<'a> RestoreWords<'a> {
     }
 }
 
+// The value of the option, or else the other text.
+fn text_or<'a>(given: &Given<'a>, option: ValuedOption, other: &'a str) -> &'a str
+    ensures { result.now ≡ text_or option other.now (given_view given.now) }
+{
+    match given.value(option) {
+        Some(value) => value.text,
+        None => other,
+    }
+}
+
 // The name of the new file.
 fn output<'a>(given: &Given<'a>) -> &'a str
     ensures { result.now ≡ output_of (given_view given.now) }
 {
-    match given.value(ValuedOption::Output) {
-        Some(value) => value.text,
-        None => "trace.dat",
-    }
+    text_or(given, ValuedOption::Output, "trace.dat")
 }
 
 // What the names of new files begin with.
 fn base<'a>(given: &Given<'a>) -> &'a str
     ensures { result.now ≡ base_of (given_view given.now) }
 {
-    match given.value(ValuedOption::Base) {
-        Some(value) => value.text,
-        None => input(given),
-    }
+    text_or(given, ValuedOption::Base, input(given))
 }
 
 // The size of a piece.
@@ -329,20 +333,14 @@ fn events(given: &Given<'_>) -> u32
 fn input<'a>(given: &Given<'a>) -> &'a str
     ensures { result.now ≡ input_of (given_view given.now) }
 {
-    match given.value(ValuedOption::Input) {
-        Some(value) => value.text,
-        None => "trace.dat",
-    }
+    text_or(given, ValuedOption::Input, "trace.dat")
 }
 
 // The name of the first file of a report.
 fn first_input<'a>(given: &Given<'a>) -> &'a str
     ensures { result.now ≡ first_input (given_view given.now) }
 {
-    match given.value(ValuedOption::Source) {
-        Some(value) => value.text,
-        None => input(given),
-    }
+    text_or(given, ValuedOption::Source, input(given))
 }
 
 // The names of the files of a report behind the first.

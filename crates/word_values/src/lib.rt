@@ -1,5 +1,9 @@
 //! What one word of a command line spells: numbers and lists of processors, moments, the size of a piece, and the names
 //! of a dump's sections and a report's lists.
+//!
+//! A call for each kind of word gives its value, or none where the word spells none: [`cpu_number`], [`cpu_set`], [`Moment::parse`],
+//! [`piece_count`] and its sisters, and [`Section::named`], by which an option is known. [`Section::ALL`], [`PieceOption::ALL`] and
+//! [`Listing::ALL`] are what there is to choose from. [`members_of_ranges`] and [`whole_lists`] do nothing: they are laws.
 #![tactic(auto)]
 
 mod cpu_list;
