@@ -19,6 +19,16 @@ is_upper Unsigned = false
 is_upper Hex = false
 is_upper Octal = false
 
+abbrev pub is_decimal : Base → Bool
+is_decimal base = radix base == 10
+
+abbrev pub is_signed : Base → Bool
+is_signed Signed = true
+is_signed Unsigned = false
+is_signed Hex = false
+is_signed UpperHex = false
+is_signed Octal = false
+
 -- the least number of digits
 abbrev pub least : Option ℕ → ℕ
 least None = 1

@@ -1,5 +1,12 @@
--- The sign of an integer that is shown as it is.
-use Rattle.std.specs.Prelude.{ℕ, Bool, true, false, List, [], codes}
+-- An integer that is shown as it is.
+use Rattle.std.specs.Prelude.{ℕ, Bool, true, false, not, ◌&&◌, ◌==◌, List, [], codes, is_none}
+use Rattle.fmt_directives.specs.declared.directive.Base.{Base}
+use Rattle.fmt_forms.specs.declared.form.Form.{Form}
+use Rattle.fmt_forms.specs.Integers.{is_decimal}
+
+-- no width, no precision and no mark but a minus
+abbrev pub is_plain : Base → Form → Bool
+is_plain base form = (((is_decimal base && (form.width == 0)) && is_none form.precision) && not form.plus) && not form.space
 
 abbrev pub minus : Bool → List ℕ
 minus true = codes "-"

@@ -95,6 +95,7 @@ fn sign(form: &Form, negative: bool) -> &'static [u8]
 }
 
 /// Puts an integer of this sign and magnitude in its width, with the marks and zeros that it asks for.
+#[inline(never)]
 pub fn put_integer(base: Base, form: &Form, negative: bool, magnitude: u64, into: &mut Tail<'_>)
     ensures same_slice { lent into.new ≡ lent into.old }
     ensures value { kept into.new ≡ put (kept into.old) (integer_text base form.now negative magnitude) }

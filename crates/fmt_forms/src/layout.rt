@@ -102,14 +102,28 @@ fn put_spaced(
     put_repeated(Fill::Space, after, into);
 }
 
-/// Puts a text of three pieces in its width, with spaces.
-#[tactic(auto, using(crate::proofs::LaidLemmas::padded_left, crate::proofs::LaidLemmas::padded_right))]
-pub fn put_padded(left: bool, width: u32, one: &[u8], two: &[u8], three: &[u8], into: &mut Tail<'_>)
+/// Puts three pieces.
+#[tactic(auto, using(trace_base::proofs::TailJoins::put_put))]
+fn put_pieces(one: &[u8], two: &[u8], three: &[u8], into: &mut Tail<'_>)
     ensures same_slice { lent into.new ≡ lent into.old }
-    ensures value { kept into.new ≡ put (kept into.old) (padded left width (one.now ++ (two.now ++ three.now))) }
+    ensures value { kept into.new ≡ put (kept into.old) (one.now ++ (two.now ++ three.now)) }
 {
-    let pad = pad(width, one, two.len(), three);
-    if left {
+    put_some(one, into);
+    put_some(two, into);
+    put_some(three, into);
+}
+
+/// Puts a text of three pieces in its width, with spaces.
+#[inline(never)]
+#[tactic(auto, using(crate::proofs::PlainLemmas::padded_bare, crate::proofs::LaidLemmas::padded_left, crate::proofs::LaidLemmas::padded_right))]
+pub fn put_padded(form: &Form, one: &[u8], two: &[u8], three: &[u8], into: &mut Tail<'_>)
+    ensures same_slice { lent into.new ≡ lent into.old }
+    ensures value { kept into.new ≡ put (kept into.old) (padded form.now.left form.now.width (one.now ++ (two.now ++ three.now))) }
+{
+    let pad = pad(form.width, one, two.len(), three);
+    if form.width == 0 {
+        put_pieces(one, two, three, into);
+    } else if form.left {
         put_spaced(0, one, two, three, pad, into);
     } else {
         put_spaced(pad, one, two, three, 0, into);

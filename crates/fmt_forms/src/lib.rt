@@ -1,16 +1,23 @@
 //! How the numbers and texts of a print fmt are laid out: by the flags, the width and the precision of a conversion.
 //!
-//! [`form_of`] gives the [`Form`] of a conversion. [`put_integer`] puts an integer in its form, [`put_padded`] a text in its
-//! width, and [`put_repeated`] so many spaces or zeros, each into a `Tail`; [`written`] gives the digits of a number in base 8 or
-//! 16 alone. No call takes memory.
+//! [`form_of`] gives the [`Form`] of a conversion. [`show_integer`] shows an integer in its form, [`show_text`] a text in its
+//! width, [`show_cut`] as much of it as the precision shows, [`show_until_nul`] and, where most have one letter or none,
+//! [`show_short`] as much of it up to its first NUL, and [`show_address`] an address; of the `Tail` that they show it in what
+//! stays through cuts is told. [`put_padded`] puts a text of three pieces in its width, and [`put_repeated`] so many spaces or
+//! zeros. [`is_signed`] says whether a conversion shows a sign, and [`written`] gives the digits of a number in base 8 or 16
+//! alone. No call takes memory.
 #![tactic(auto)]
 
+mod decimal;
 mod form;
 mod integer;
 mod layout;
 mod repeat;
+mod text;
 
+pub use decimal::{is_signed, show_integer};
 pub use form::{Form, form_of};
-pub use integer::{put_integer, written};
+pub use integer::written;
 pub use layout::put_padded;
 pub use repeat::{Fill, put_repeated};
+pub use text::{show_address, show_cut, show_short, show_text, show_until_nul};

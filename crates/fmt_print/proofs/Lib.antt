@@ -4,8 +4,6 @@ pub mod TextLemmas
 pub mod ArgumentLemmas
 pub mod SameLemmas
 pub mod StepLemmas
-pub mod Gathering
-pub mod Showing
 pub mod Contents
 pub mod Folding
 pub mod KnownLemmas

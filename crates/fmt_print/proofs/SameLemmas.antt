@@ -24,13 +24,13 @@ use Rattle.trace_base.specs.Kept.{until_nul}
 use Rattle.fmt_eval.specs.Values.{RecData}
 use Rattle.fmt_fold.specs.Same.{Meaning, meaning_of}
 use Rattle.fmt_forms.specs.declared.form.Form.{Form}
-use Rattle.fmt_forms.specs.Integers.{integer_text}
+use Rattle.fmt_forms.specs.Integers.{is_signed, integer_text}
 use Rattle.fmt_forms.specs.Texts.{padded, cut_to}
 use Rattle.fmt_print.specs.Strings.{letter_text, string_by, string_text}
 use Rattle.fmt_print.specs.Addresses.{number_address, bytes_address, address_by, address_text, pointer_text}
 use Rattle.fmt_forms.specs.Forms.{form_of}
 use Rattle.fmt_print.specs.Arguments.{first_of, amount_of, Taken, taken, by}
-use Rattle.fmt_print.specs.Printed.{bits_of, is_signed, number_text, Source, printed_one, printed}
+use Rattle.fmt_print.specs.Printed.{bits_of, number_text, Source, printed_one, printed}
 
 -- arguments that are the same, one by one
 abbrev AreSame : RecData → List Tree → List Tree → Type 0

@@ -6,8 +6,8 @@ use Rattle.std.specs.Option.{option_to_list}
 use Rattle.std.proofs.lemmas.List.{append-nil, drop_more, drop_all, flat_map_more, length-take, length-drop, take_all, drop-append-le, take-append-le}
 use Rattle.std.proofs.lemmas.List.Elements.{All-nil, All-cons, All-head, All-tail, All-same}
 use Rattle.trace_base.specs.declared.tail.Tail.{Tail}
-use Rattle.fmt_print.specs.Gathered.{Gathered, gathered, joined}
-use Rattle.fmt_print.proofs.Gathering.{joined_twice, nothing_joined}
+use Rattle.fmt_forms.specs.Gathered.{Gathered, gathered, joined}
+use Rattle.fmt_forms.proofs.Gathering.{joined_twice, nothing_joined}
 use Rattle.fmt_directives.specs.Directives.{IsWithin}
 use Rattle.fmt_directives.specs.declared.directive.Directive.{Directive}
 use Rattle.fmt_expr.specs.Tree.{Tree}
@@ -22,7 +22,8 @@ use Rattle.fmt_print.specs.ArgumentView.{trees}
 use Rattle.fmt_print.specs.Arguments.{Taken, taken, by}
 use Rattle.fmt_print.specs.Contents.{content_text, directive_of}
 use Rattle.fmt_print.specs.Printed.{Source, printed, printed_one}
-use Rattle.fmt_print.specs.Shows.{Shows, Takes}
+use Rattle.fmt_forms.specs.Shows.{Shows}
+use Rattle.fmt_print.specs.Takes.{Takes}
 use Rattle.fmt_print.specs.Steps.{literal_directive, literal_text, shown_directive, directives_of, IsPlaced, printed_some, printed_step}
 
 -- steps that were made of the first of some directives

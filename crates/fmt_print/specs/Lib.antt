@@ -10,6 +10,5 @@ pub mod Views
 pub mod Steps
 pub mod Flows
 pub mod Contents
-pub mod Gathered
-pub mod Shows
+pub mod Takes
 pub mod Sources

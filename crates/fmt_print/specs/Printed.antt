@@ -1,7 +1,6 @@
 -- The text that a plan prints of a record.
-use Rattle.std.specs.Prelude.{ℕ, pos, Bool, true, false, ◌==◌, if◌then◌else◌, List, [], ◌∷◌, ◌++◌, slice_range, unsigned_abs, int_lt}
+use Rattle.std.specs.Prelude.{ℕ, pos, ◌==◌, if◌then◌else◌, List, [], ◌∷◌, ◌++◌, slice_range, unsigned_abs, int_lt}
 use Rattle.fmt_directives.specs.declared.directive.Base.{Base}
-use Rattle.fmt_directives.specs.declared.directive.Base.TheVariants.{Signed, Unsigned, Hex, UpperHex, Octal}
 use Rattle.fmt_directives.specs.declared.directive.Length.{Length}
 use Rattle.fmt_directives.specs.declared.directive.Length.TheVariants as len
 use Rattle.fmt_directives.specs.declared.directive.Directive.{Directive}
@@ -11,7 +10,7 @@ use Rattle.fmt_expr.specs.Tree.{Tree}
 use Rattle.fmt_eval.specs.Operators.{cast_bits}
 use Rattle.fmt_eval.specs.Values.{RecData, number_of}
 use Rattle.fmt_forms.specs.declared.form.Form.{Form}
-use Rattle.fmt_forms.specs.Integers.{integer_text}
+use Rattle.fmt_forms.specs.Integers.{integer_text, is_signed}
 use Rattle.fmt_print.specs.Strings.{letter_text, string_text}
 use Rattle.fmt_print.specs.Addresses.{pointer_text}
 use Rattle.fmt_print.specs.Arguments.{taken, by}
@@ -32,13 +31,6 @@ bits_of len.SizeSize long = long_bits long
 bits_of len.DiffSize long = long_bits long
 bits_of len.MaxSize long = 64
 bits_of len.BigSize long = 64
-
-abbrev pub is_signed : Base → Bool
-is_signed Signed = true
-is_signed Unsigned = false
-is_signed Hex = false
-is_signed UpperHex = false
-is_signed Octal = false
 
 -- a number modulo the width of its length
 abbrev pub number_text : RecData → ℕ → Length → Base → Form → Tree → List ℕ

@@ -157,7 +157,7 @@ impl Argument {
         ensures value { IfSome result (λ text. until_nul text.now ≡ until_nul (text_of (given rec.now) (argument_tree self.now))) }
         ensures kind { IfSome result (λ _. kind_of (argument_tree self.now) ≡ kinds.Text) }
     {
-        let place = self.place?;
+        let place = self.place.as_ref()?;
         let start = place.at as usize;
         let end = start + place.len as usize;
         if rec.payload.len() < end {

@@ -1,27 +1,32 @@
 //! What each conversion shows of its argument.
 
 ghost use Rattle.std.specs.Prelude.{◌≡◌, IfSome};
+ghost use Rattle.std.specs.Option.{unwrap_or};
+ghost use Rattle.symbols.specs.NameMap.{first_at};
 ghost use Rattle.trace_base.specs.Kept.{until_nul};
 ghost use Rattle.fmt_expr.specs.TreeView.{tree_of};
 ghost use Rattle.fmt_eval.specs.Texts.{text_of};
 ghost use Rattle.fmt_eval.specs.Values.{given};
-ghost use Rattle.fmt_forms.specs.Texts.{padded};
+ghost use Rattle.fmt_eval.specs.Pieces.{hexadecimal};
+ghost use Rattle.fmt_forms.specs.Texts.{cut_to, padded};
 ghost use Rattle.fmt_print.specs.Addresses.{number_address, bytes_address, pointer_text};
 ghost use Rattle.fmt_print.specs.ArgumentView.{argument_tree};
-ghost use Rattle.fmt_print.specs.Printed.{bits_of, is_signed, number_text};
+ghost use Rattle.fmt_print.specs.Printed.{bits_of, number_text};
 ghost use Rattle.fmt_print.specs.Strings.{string_text};
 
 use crate::argument::Argument;
 use crate::flow::{Flow, flowing};
 use crate::plan::PrintPlan;
-use crate::printer::{address, alone, cut, front, integer, laid};
 use crate::step::Content;
 use fmt_directives::{Base, Length, PointerForm};
 use fmt_eval::{bytes, cast_bits, only_flag, put_text};
 use fmt_expr::{Expr, Kind};
-use fmt_forms::{Form, written};
+use fmt_forms::{
+    Form, is_signed, put_padded, show_address, show_cut, show_integer, show_short, show_text,
+    show_until_nul, written,
+};
 use symbols::Symbols;
-use trace_base::{Rec, Tail, bytes_of, long_text_len, until_nul};
+use trace_base::{Rec, Tail, bytes_of, long_text_len};
 
 /// The form of a conversion without a flag, a width and a precision.
 pub static PLAIN: Form = Form {
@@ -45,13 +50,6 @@ fn bits_of(length: Length, long: u32) -> u32
         Length::LongSize | Length::SizeSize | Length::DiffSize => if long == 4 { 32 } else { 64 },
         Length::LongLongSize | Length::MaxSize | Length::BigSize => 64,
     }
-}
-
-#[inline(always)]
-fn is_signed(base: Base) -> bool
-    ensures { result ≡ is_signed base }
-{
-    matches!(base, Base::Signed)
 }
 
 /// The text of a tree without operands, where it lies in memory, perhaps with a NUL and more behind it.
@@ -78,7 +76,7 @@ pub struct Printer<'a> {
 
 impl<'a> Printer<'a> {
     ghost use Rattle.fmt_print.specs.Contents.{content_text};
-    ghost use Rattle.fmt_print.specs.Shows.{Shows};
+    ghost use Rattle.fmt_forms.specs.Shows.{Shows};
     ghost use Rattle.fmt_print.specs.Sources.{source};
 
     /// Shows a number of any length.
@@ -95,7 +93,7 @@ impl<'a> Printer<'a> {
     {
         let bits = bits_of(length, self.plan.long());
         let shown = cast_bits(bits, is_signed(base), argument.number(self.rec));
-        integer(base, form, shown, into);
+        show_integer(base, form, shown.is_negative(), shown.magnitude(), into);
     }
 
     /// Shows a number. Most are ints that are read from four bytes, whose kind is known when this is compiled.
@@ -113,9 +111,20 @@ impl<'a> Printer<'a> {
         match argument.half(self.rec) {
             Some(half) if length == Length::Usual => {
                 let shown = cast_bits(32, is_signed(base), half);
-                integer(base, form, shown, into);
+                show_integer(base, form, shown.is_negative(), shown.magnitude(), into);
             }
             _ => self.any_number(base, length, form, argument, into),
+        }
+    }
+
+    /// Shows what `s` shows of a number: the printk format that stands there, or else the address.
+    #[inline(never)]
+    fn number_string(&self, form: &Form, n: u64, into: &mut Tail<'_>)
+        ensures { Shows into.old into.new (padded form.now.left form.now.width (cut_to form.now.precision (unwrap_or (first_at n self.now.symbols.now.printk) (hexadecimal n)))) }
+    {
+        match self.symbols.printk_at(n) {
+            Some(text) => show_cut(form, text, into),
+            None => show_address(form, form.precision, n, into),
         }
     }
 
@@ -127,59 +136,52 @@ impl<'a> Printer<'a> {
     {
         let rec = self.rec;
         match argument.kind {
-            Kind::Number => {
-                let n = argument.address(rec);
-                match self.symbols.printk_at(n) {
-                    Some(text) => cut(form, text, into),
-                    None => address(form, form.precision, n, into),
-                }
-            }
+            Kind::Number => self.number_string(form, argument.address(rec), into),
             Kind::Text => {
                 let tree = argument.source(rec);
                 match text_at_once(tree, rec) {
-                    Some(text) => cut(form, until_nul(text), into),
+                    Some(text) => show_short(form, text, into),
                     None => flowing(form, Flow::Text(tree, form.precision), rec, into),
                 }
             }
-            Kind::Bytes => cut(form, until_nul(bytes(&argument.tree, rec)), into),
+            Kind::Bytes => show_until_nul(form, bytes(&argument.tree, rec), into),
         }
     }
 
     /// Shows what `s` shows of an argument. Most stand at a known place, and are shown as they are.
     #[inline(always)]
-    #[tactic(auto, using(crate::proofs::Contents::placed_text))]
+    #[tactic(auto, using(fmt_forms::proofs::Gathering::put_shown, crate::proofs::Contents::placed_text))]
     fn text(&self, form: &Form, argument: &Argument, into: &mut Tail<'_>)
         ensures { Shows into.old into.new (string_text (given self.now.rec.now) self.now.symbols.now form.now (argument_tree argument.now)) }
     {
         let bare = form.width == 0 && form.precision.is_none();
         match argument.placed_text(self.rec) {
-            Some(text) if bare && text.len() >= 16 => front(text, long_text_len(text), into),
+            Some(text) if bare && text.len() >= 16 => into.put_front(text, long_text_len(text)),
             _ => self.any_text(form, argument, into),
         }
     }
 
-    /// Shows what `p` shows of a number: the address, or the symbol that stands there. The search is long, and would keep its
-    /// callers from being inlined.
-    #[inline(never)]
-    #[tactic(auto, using(fmt_forms::proofs::LaidLemmas::padded_alone))]
+    /// Shows what `p` shows of a number: the address, or the symbol that stands there.
+    #[inline(always)]
+    #[tactic(auto, using(fmt_forms::proofs::Gathering::kept_shown, fmt_forms::proofs::LaidLemmas::padded_alone))]
     fn number_address(&self, show: PointerForm, form: &Form, n: u64, into: &mut Tail<'_>)
         ensures { Shows into.old into.new (padded form.now.left form.now.width (number_address show n self.now.symbols.now)) }
     {
         match show {
             PointerForm::Name => match self.symbols.name_at(n) {
-                Some((name, _)) => alone(form, name, into),
-                None => address(form, None, n, into),
+                Some((name, _)) => show_text(form, name, into),
+                None => show_address(form, None, n, into),
             },
             PointerForm::NameOffset => match self.symbols.name_at(n) {
                 Some((name, behind)) => {
                     let mut buffer = [0; 64];
                     let digits = written(behind, false, false, &mut buffer);
-                    laid(form, name, b"+0x", digits, into);
+                    put_padded(form, name, b"+0x", digits, into);
                 }
-                None => address(form, None, n, into),
+                None => show_address(form, None, n, into),
             },
             PointerForm::Plain | PointerForm::Ip4 | PointerForm::Mac => {
-                address(form, None, n, into);
+                show_address(form, None, n, into);
             }
         }
     }
@@ -192,7 +194,7 @@ impl<'a> Printer<'a> {
             PointerForm::Ip4 => flowing(form, Flow::Ip4(bytes), self.rec, into),
             PointerForm::Mac => flowing(form, Flow::Mac(bytes), self.rec, into),
             PointerForm::Plain | PointerForm::Name | PointerForm::NameOffset => {
-                address(form, None, 0, into);
+                show_address(form, None, 0, into);
             }
         }
     }
@@ -238,7 +240,7 @@ impl<'a> Printer<'a> {
     {
         match what {
             Content::Number(base) => self.number(base, length, form, argument, into),
-            Content::Letter => alone(form, &[(argument.address(self.rec) % 256) as u8], into),
+            Content::Letter => show_text(form, &[(argument.address(self.rec) % 256) as u8], into),
             Content::Text => self.text(form, argument, into),
             Content::Pointer(show) => self.pointer(show, form, argument, into),
         }

@@ -11,7 +11,7 @@ ghost use Rattle.fmt_eval.specs.Values.{given};
 ghost use Rattle.fmt_forms.specs.Texts.{cut_to, padded};
 ghost use Rattle.fmt_print.specs.Addresses.{four_bytes, six_bytes};
 ghost use Rattle.fmt_print.specs.Flows.{flow_text};
-ghost use Rattle.fmt_print.specs.Shows.{Shows};
+ghost use Rattle.fmt_forms.specs.Shows.{Shows};
 ghost use Rattle.fmt_print.specs.Strings.{limit_of};
 
 use fmt_eval::{put_octets, put_piece, put_text};
@@ -129,7 +129,7 @@ fn put_measured(form: &Form, flow: Flow<'_>, rec: &Rec<'_>, into: &mut Tail<'_>)
 
 /// Shows a text of unknown length in its width. Most have none.
 #[inline(always)]
-#[tactic(auto, using(crate::proofs::Gathering::put_shown, fmt_forms::proofs::PlainLemmas::padded_bare))]
+#[tactic(auto, using(fmt_forms::proofs::Gathering::put_shown, fmt_forms::proofs::PlainLemmas::padded_bare))]
 pub fn flowing(form: &Form, flow: Flow<'_>, rec: &Rec<'_>, into: &mut Tail<'_>)
     ensures { Shows into.old into.new (padded form.now.left form.now.width (flow_text (given rec.now) flow.entry)) }
 {

@@ -10,7 +10,6 @@ mod arguments;
 mod conversions;
 mod flow;
 mod plan;
-mod printer;
 mod printing;
 mod reading;
 mod step;

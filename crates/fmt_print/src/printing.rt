@@ -14,7 +14,6 @@ use crate::argument::Argument;
 use crate::arguments::{first_of, taken};
 use crate::conversions::{PLAIN, Printer};
 use crate::plan::PrintPlan;
-use crate::printer::front;
 use crate::step::{Content, Literal, Shown, Step};
 use fmt_directives::{Base, Length, Spec};
 use symbols::Symbols;
@@ -22,7 +21,8 @@ use trace_base::{Rec, Tail};
 
 impl<'a> Printer<'a> {
     ghost use Rattle.fmt_print.specs.Contents.{directive_of};
-    ghost use Rattle.fmt_print.specs.Shows.{Shows, Takes};
+    ghost use Rattle.fmt_forms.specs.Shows.{Shows};
+    ghost use Rattle.fmt_print.specs.Takes.{Takes};
     ghost use Rattle.fmt_print.specs.Sources.{source};
 
     /// Shows a conversion of any form. Gives the arguments behind those that it takes.
@@ -67,7 +67,7 @@ impl<'a> Printer<'a> {
 
     /// Shows a literal, if there is one.
     #[inline(always)]
-    #[tactic(auto, using(crate::proofs::StepLemmas::literal_room, crate::proofs::StepLemmas::literal_front, crate::proofs::Gathering::nothing_joined))]
+    #[tactic(auto, using(fmt_forms::proofs::Gathering::put_shown, crate::proofs::StepLemmas::literal_room, crate::proofs::StepLemmas::literal_front, fmt_forms::proofs::Gathering::nothing_joined))]
     fn literal(&self, literal: Option<Literal>, into: &mut Tail<'_>)
         requires { IfSome (literal_directive literal) (IsWithin (length (source self.now).text)) }
         ensures { Shows into.old into.new (literal_text (source self.now).text literal) }
@@ -75,7 +75,7 @@ impl<'a> Printer<'a> {
         match literal {
             Some(Literal { start, end }) => {
                 let text = &self.plan.padded()[start as usize..];
-                front(text, (end - start) as usize, into);
+                into.put_front(text, (end - start) as usize);
             }
             None => {}
         }
@@ -83,7 +83,7 @@ impl<'a> Printer<'a> {
 
     /// Shows what stands behind a literal. Gives the arguments behind those that it takes.
     #[inline(always)]
-    #[tactic(auto, using(crate::proofs::Gathering::nothing_joined))]
+    #[tactic(auto, using(fmt_forms::proofs::Gathering::nothing_joined))]
     fn shown<'b>(&self, shown: &Shown, args: &'b [Argument], into: &mut Tail<'_>) -> &'b [Argument]
         requires { IfSome (shown_directive shown.now) (IsWithin (length (source self.now).text)) }
         ensures { Takes into.old into.new result.now (printed_some (source self.now) (shown_directive shown.now) (trees args.now)) }

@@ -5,7 +5,7 @@ use Rattle.fmt_eval.specs.Values.{given}
 use Rattle.fmt_print.specs.ArgumentView.{trees}
 use Rattle.fmt_print.specs.PlanView.{plan_view}
 use Rattle.fmt_print.specs.Printed.{source_of, print_text}
-use Rattle.fmt_print.proofs.Gathering.{held_all, lent_all}
+use Rattle.fmt_forms.proofs.Gathering.{held_all, lent_all}
 use Rattle.fmt_print.proofs.SameLemmas.{printed_same}
 use Rattle.fmt_print.proofs.printing.print.Goals as goal
 

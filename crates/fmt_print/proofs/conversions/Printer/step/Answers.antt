@@ -1,6 +1,6 @@
 use Rattle.std.proofs.Common.{ap, ◌∙◌}
-use Rattle.fmt_print.specs.Gathered.{Gathered, gathered, joined}
-use Rattle.fmt_print.proofs.Gathering.{joined_twice}
+use Rattle.fmt_forms.specs.Gathered.{Gathered, gathered, joined}
+use Rattle.fmt_forms.proofs.Gathering.{joined_twice}
 use Rattle.fmt_print.specs.ArgumentView.{trees}
 use Rattle.fmt_print.specs.Sources.{source}
 use Rattle.fmt_print.specs.Steps.{literal_text, printed_some, shown_directive}

@@ -1,5 +1,4 @@
 use Rattle.std.proofs.Common.{arith, length}
-use Rattle.std.specs.List.{All}
 use Rattle.std.proofs.lemmas.List.Elements.{All-get_or}
 use Rattle.fmt_print.specs.ArgumentView.{trees}
 use Rattle.fmt_print.specs.Sources.{source}

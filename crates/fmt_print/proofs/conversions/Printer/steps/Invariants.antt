@@ -1,6 +1,6 @@
 use Rattle.std.proofs.Common.{◌≡◌, drop}
 use Rattle.std.specs.List.{flat_map}
-use Rattle.fmt_print.specs.Gathered.{gathered, joined}
+use Rattle.fmt_forms.specs.Gathered.{gathered, joined}
 use Rattle.fmt_print.specs.ArgumentView.{trees}
 use Rattle.fmt_print.specs.PlanView.{plan_view}
 use Rattle.fmt_print.specs.Printed.{printed}

@@ -1,10 +1,10 @@
 -- Texts that are gathered one behind another.
 use Rattle.std.proofs.Common.{◌≡◌, ℕ, List, [], ◌∷◌, ◌++◌, length, sym, ap, ◌∙◌, arith}
 use Rattle.trace_base.specs.declared.tail.Tail.{Tail}
-use Rattle.trace_base.specs.Kept.{Kept, Held, put, put_held, held_of}
+use Rattle.trace_base.specs.Kept.{Held, put, put_held, held_of}
 use Rattle.trace_base.specs.TailView.{kept, held, lent}
 use Rattle.trace_base.proofs.TailJoins.{put_nothing, put_held_twice, held_put}
-use Rattle.fmt_print.specs.Gathered.{Gathered, gathered, joined}
+use Rattle.fmt_forms.specs.Gathered.{Gathered, gathered, joined}
 
 abbrev made : ℕ → Held → Gathered
 made slice holds = record { slice = slice; holds = holds }

@@ -1,8 +1,8 @@
 use Rattle.std.proofs.Common.{List, ℕ, ap, ◌∙◌, arith}
 use Rattle.std.proofs.lemmas.List.{take_all}
-use Rattle.fmt_print.specs.Gathered.{gathered, joined}
-use Rattle.fmt_print.proofs.Gathering.{put_shown}
-use Rattle.fmt_print.proofs.printer.piece.Goals as goal
+use Rattle.fmt_forms.specs.Gathered.{gathered, joined}
+use Rattle.fmt_forms.proofs.Gathering.{put_shown}
+use Rattle.fmt_forms.proofs.text.show_piece.Goals as goal
 
 pub returns-in-1 : goal.returns-in-1
 returns-in-1 c =

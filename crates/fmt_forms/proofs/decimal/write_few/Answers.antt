@@ -1,6 +1,6 @@
 use Rattle.std.proofs.Common.{arith}
-use Rattle.fmt_print.proofs.TextLemmas.{three_digits}
-use Rattle.fmt_print.proofs.printer.write_few.Goals as goal
+use Rattle.fmt_forms.proofs.DigitLemmas.{three_digits}
+use Rattle.fmt_forms.proofs.decimal.write_few.Goals as goal
 
 pub returns-else-n-lt100-clause-digits : goal.returns-else-n-lt100-clause-digits
 returns-else-n-lt100-clause-digits c =
