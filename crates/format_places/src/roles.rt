@@ -47,7 +47,7 @@ fn put_role<R: FormatRole>(
 
 impl<R: FormatRole> FormatRoles<R> {
     /// The roles of these formats. They take a role for each, and 8 KiB for the places of the formats.
-    #[tactic(auto, using(crate::proofs::RolePlaces::roles_more))]
+    #[tactic(auto, using(crate::proofs::Formats::map_next))]
     pub fn of(alloc: Global, formats: &FormatTable) -> Result<FormatRoles<R>, AllocError>
         ensures { IfOk result (λ roles. roles ≡ map R.role_of formats.now) }
     {

@@ -1,6 +1,6 @@
 // The columns of a line, written from the right.
 
-ghost use Rattle.std.specs.Prelude.{◌≡◌, ◌∷◌, ◌++◌, [], ◌+◌, ◌-◌, ◌/◌, ◌%◌, ◌^◌, ◌<◌, ◌≤◌, length, max, replicate, codes, FitsSigned};
+ghost use Rattle.std.specs.Prelude.{◌≡◌, ◌∷◌, ◌++◌, [], false, ◌+◌, ◌-◌, ◌/◌, ◌%◌, ◌^◌, ◌<◌, ◌≤◌, length, max, replicate, codes, FitsSigned};
 ghost use Rattle.std.specs.Int.{w32};
 ghost use Rattle.std.specs.Fmt.{decimal, signed_decimal};
 ghost use Rattle.line_columns.specs.Columns.{left, right, zeros, time_text, bare_time_text, duration_text};
@@ -9,8 +9,8 @@ ghost use Rattle.line_columns.specs.Marks as spec;
 use crate::marks::latency_marks;
 use crate::pairs::two_digits;
 use crate::widths::{
-    BEFORE_PID, BEFORE_PLACE, BEFORE_TASK, BEFORE_TIME, DIGITS, LONGEST_DURATION, LONGEST_PID,
-    LONGEST_PLACE, LONGEST_TASK, LONGEST_TIME, PID, ROOM, USUAL_LABEL,
+    BEFORE_PID, BEFORE_PLACE, BEFORE_TASK, BEFORE_TIME, CPU, DIGITS, LONGEST_DURATION, LONGEST_PID,
+    LONGEST_PLACE, LONGEST_TASK, LONGEST_TIME, PID, ROOM, USUAL_LABEL, USUAL_TIMES,
 };
 use itoa::{Buffer, write_digits};
 use std::marker::Model;
@@ -46,6 +46,7 @@ impl Front {
     }
 
     /// Puts the first text.
+    #[inline(always)]
     pub fn start(&mut self, text: &[u8])
         requires empty { self.old ≡ [] }
         requires short { length text.now ≤ ROOM }
@@ -95,6 +96,7 @@ impl Front {
     }
 
     /// Puts a text in front.
+    #[inline(always)]
     pub fn text(&mut self, text: &[u8])
         requires { length self.old + length text.now ≤ ROOM }
         ensures longer { length self.new ≡ length self.old + length text.now }
@@ -129,7 +131,7 @@ impl Front {
     fn number(&mut self, width: usize, n: u64)
         requires room { length self.old + DIGITS ≤ ROOM }
         requires narrow { width ≤ DIGITS }
-        ensures longer { length self.new ≤ length self.old + DIGITS }
+        ensures longer { length self.new ≡ max width (length (decimal n)) + length self.old }
         ensures value { self.new ≡ right width (decimal n) ++ self.old }
     {
         let len = self.len() + width;
@@ -206,6 +208,34 @@ impl Front {
         }
     }
 
+    /// Puts seconds of up to five digits and their part in front: what most times are.
+    #[inline(always)]
+    #[tactic(auto, unfolding(crate::specs::Columns::time_text))]
+    pub fn usual_time(&mut self, time: u64)
+        requires room { length self.old ≤ BEFORE_TIME }
+        requires narrow { time < USUAL_TIMES }
+        ensures longer { length self.new ≡ length self.old + 12 }
+        ensures value { self.new ≡ time_text false time ++ self.old }
+    {
+        let micros = micros(time);
+        self.six((micros % 1_000_000) as u32);
+        self.byte(b'.');
+        self.five(micros / 1_000_000);
+    }
+
+    /// Puts a number of up to five digits in front, at the right of its column.
+    #[inline(always)]
+    fn five(&mut self, n: u64)
+        requires room { length self.old + 5 ≤ ROOM }
+        requires small { n < 100000 }
+        ensures longer { length self.new ≡ length self.old + 5 }
+        ensures value { self.new ≡ right 5 (decimal n) ++ self.old }
+    {
+        let mut column = [b' '; 5];
+        write_digits(n, &mut column, 5);
+        self.text(&column);
+    }
+
     /// Puts seconds and their part in front, without leading spaces.
     #[tactic(auto, unfolding(crate::specs::Columns::bare_time_text))]
     pub fn bare_time(&mut self, full: bool, time: u64)
@@ -245,11 +275,9 @@ impl Front {
         ensures longer { length self.new ≤ length self.old + LONGEST_PLACE }
         ensures value { self.new ≡ (codes " [" ++ (zeros 3 (decimal cpu) ++ codes "] ")) ++ self.old }
     {
-        self.byte(b' ');
-        self.byte(b']');
+        self.text(b"] ");
         self.cpu(cpu);
-        self.byte(b'[');
-        self.byte(b' ');
+        self.text(b" [");
     }
 
     /// Puts the number of a processor in front.
@@ -257,7 +285,7 @@ impl Front {
     #[tactic(auto, using(crate::proofs::ZeroFills::two_of_three, crate::proofs::Lengths::no_zeros))]
     fn cpu(&mut self, cpu: u32)
         requires { length self.old + DIGITS ≤ ROOM }
-        ensures longer { length self.new ≤ length self.old + DIGITS }
+        ensures longer { length self.new ≤ length self.old + CPU }
         ensures value { self.new ≡ zeros 3 (decimal cpu) ++ self.old }
     {
         if cpu < 100 {
@@ -269,6 +297,20 @@ impl Front {
         } else {
             self.digits(cpu as u64);
         }
+    }
+
+    /// Puts a processor of up to two digits in front.
+    #[inline(always)]
+    #[tactic(auto, using(crate::proofs::ZeroFills::usual_between))]
+    pub fn usual_processor(&mut self, cpu: u32)
+        requires room { length self.old ≤ BEFORE_PLACE }
+        requires small { cpu < 100 }
+        ensures longer { length self.new ≡ length self.old + 7 }
+        ensures value { self.new ≡ (codes " [" ++ (zeros 3 (decimal cpu) ++ codes "] ")) ++ self.old }
+    {
+        self.text(b"] ");
+        self.two(cpu);
+        self.text(b" [0");
     }
 
     /// Puts the processor in front, and what an event says of its context.

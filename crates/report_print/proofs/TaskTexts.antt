@@ -1,7 +1,7 @@
 -- The texts that are kept for tasks.
-use Rattle.std.proofs.Common.{◌≡◌, ℕ, zero, suc, List, ◌∷◌, map, set, replicate, slice_get, Option, Some, None, refl, sym, ap, ◌∙◌}
+use Rattle.std.proofs.Common.{◌≡◌, ℕ, zero, suc, List, ◌∷◌, ◌++◌, map, set, replicate, slice_get, Option, Some, None, refl, sym, ap, ◌∙◌}
 use Rattle.std.specs.Option.{option_map}
-use Rattle.std.proofs.lemmas.List.{map-set}
+use Rattle.std.proofs.lemmas.List.{map-append, map-set}
 use Rattle.std.proofs.lemmas.Option.{slice_get-map}
 use Rattle.trace_base.proofs.FieldSteps.{some_is}
 use Rattle.symbols.specs.NameMap.{Pair}
@@ -10,9 +10,16 @@ use Rattle.report_print.specs.declared.tasks.TaskFront.{TaskFront}
 use Rattle.report_print.specs.Tasks.{task_front, text_of, front_of, AreFronts}
 
 module _ (show : Show) (names : List Pair) where
-  pub none_yet : (count : ℕ) → AreFronts show names (replicate count None)
-  none_yet zero = refl
-  none_yet (suc count) = ap (λ (l : List (Option (List ℕ))). None ∷ l) (none_yet count)
+  none : (count : ℕ) → AreFronts show names (replicate count None)
+  none zero = refl
+  none (suc count) = ap (λ (l : List (Option (List ℕ))). None ∷ l) (none count)
+
+  pub none_more : (fronts : List (Option TaskFront)) (count : ℕ) → AreFronts show names fronts → AreFronts show names (fronts ++ replicate count None)
+  none_more fronts count are =
+      map-append (option_map text_of) fronts (replicate count None)
+      ∙ ap (λ (l : List (Option (List ℕ))). l ++ map (option_map text_of) (replicate count None)) are
+      ∙ ap (λ (l : List (Option (List ℕ))). map (option_map (front_of show names)) fronts ++ l) (none count)
+      ∙ sym (map-append (option_map (front_of show names)) fronts (replicate count None))
 
   pub one_put : (fronts : List (Option TaskFront)) (place : ℕ) (front : Option TaskFront) → AreFronts show names fronts → option_map text_of front ≡ option_map (front_of show names) front → AreFronts show names (set fronts place front)
   one_put fronts place front are is =

@@ -1,19 +1,21 @@
 // The front of a line: the columns before what is said.
 
-ghost use Rattle.std.specs.Prelude.{◌≡◌, ◌≤◌, ◌+◌, ◌++◌, ℕ, List, length};
+ghost use Rattle.std.specs.Prelude.{◌≡◌, ◌<◌, ◌≤◌, ◌+◌, ◌++◌, ℕ, List, length, true};
 ghost use Rattle.trace_base.specs.Kept.{put_held};
 ghost use Rattle.trace_base.specs.TailView.{held, lent};
-ghost use Rattle.report_print.specs.Given.{Given};
+ghost use Rattle.report_print.specs.ContextData.{ContextData};
 ghost use Rattle.report_print.specs.Line as line;
 ghost use Rattle.report_print.specs.Prefix as spec;
+ghost use Rattle.report_print.specs.Prefix.{columns, IsUsual};
 ghost use Rattle.report_print.specs.Tasks.{task_front};
 
 use crate::context::Context;
 use crate::fields::put_pair;
 use crate::show::Show;
+use crate::tasks::USUAL_TASK;
 use line_columns::{
     BEFORE_PID, BEFORE_PLACE, Common, Front, LONGEST_BEHIND, LONGEST_PLACE, LONGEST_TASK,
-    USUAL_COLUMNS, USUAL_LABEL,
+    USUAL_COLUMNS, USUAL_LABEL, USUAL_TIMES,
 };
 use trace_base::{Order, Tail};
 
@@ -49,30 +51,46 @@ impl Context {
         }
     }
 
-    /// The same as far as an event's line shows them. Most lines show the task alone.
-    #[tactic(auto, using(crate::proofs::FrontLemmas::same_prefix, crate::proofs::FrontLemmas::own_prefix))]
+    /// The same as far as an event's line shows them.
+    #[tactic(auto, using(crate::proofs::FrontLemmas::shown_prefix))]
     pub(crate) fn shown_common(&self, payload: &[u8]) -> Common
         ensures { (cpu : ℕ) (time : ℕ) → spec.prefix_text self.now cpu time result ≡ line.front_text self.now cpu time payload.now }
     {
-        if self.show().latency {
-            return self.common(payload);
-        }
+        let (flags, preempt) = self.shown_marks(payload);
         Common {
             id: 0,
-            flags: 0,
-            preempt: 0,
+            flags,
+            preempt,
             pid: self.pid(payload),
         }
+    }
+
+    /// What the latency columns show of an event. Most lines have none, and nothing is read for them.
+    #[inline(always)]
+    fn shown_marks(&self, payload: &[u8]) -> (u32, u32)
+        ensures { self.now.show.latency ≡ true → (result.0 ≡ line.flags_of self.now payload.now) × (result.1 ≡ line.preempt_count_of self.now payload.now) }
+    {
+        if self.show().latency {
+            return self.marks(payload);
+        }
+        (0, 0)
+    }
+
+    #[inline(never)]
+    fn marks(&self, payload: &[u8]) -> (u32, u32)
+        ensures flags { result.0 ≡ line.flags_of self.now payload.now }
+        ensures preempt { result.1 ≡ line.preempt_count_of self.now payload.now }
+    {
+        (self.flags(payload), self.preempt_count(payload))
     }
 }
 
 /// Puts the columns of a line up to the colon behind the time: the task with its pid, where and when it was.
-#[tactic(auto, using(crate::proofs::HeldPuts::put_end))]
 pub fn prefix(context: &Context, cpu: u32, time: u64, common: &Common, into: &mut Tail<'_>)
     ensures same_slice { lent into.new ≡ lent into.old }
     ensures value { held into.new ≡ put_held (held into.old) (spec.prefix_text context.now cpu time common.now) }
 {
-    put_front(context, cpu, time, common, b"", into);
+    put_any(context, cpu, time, common, b"", into);
 }
 
 /// Puts the columns of a line, and a short text behind them. Gives where the time ends: behind it stand a colon and a space.
@@ -89,11 +107,86 @@ pub(crate) fn put_front(
     ensures value { held into.new ≡ put_held (put_held (held into.old) (spec.prefix_text context.now cpu time common.now)) behind.now }
     ensures until { result + 2 ≡ length (spec.prefix_text context.now cpu time common.now) }
 {
+    let len = put_columns(context, cpu, time, common, behind, into);
+    len - (behind.len() + 2)
+}
+
+/// The same, and gives the length of all that was put. Most lines have columns of the usual widths: they are put together at
+/// places that are known beforehand.
+#[inline(always)]
+fn put_columns(
+    context: &Context,
+    cpu: u32,
+    time: u64,
+    common: &Common,
+    behind: &[u8],
+    into: &mut Tail<'_>,
+) -> usize
+    requires short { length behind.now ≤ LONGEST_BEHIND }
+    ensures same_slice { lent into.new ≡ lent into.old }
+    ensures value { held into.new ≡ put_held (held into.old) (columns context.now cpu time common.now behind.now) }
+    ensures len { result ≡ length (columns context.now cpu time common.now behind.now) }
+{
+    if behind.len() == USUAL_LABEL && are_usual(context.show(), cpu, time) {
+        if let Some(task) = context.task_front(common.pid) {
+            return put_usual(task, cpu, time, behind, into);
+        }
+    }
+    put_any(context, cpu, time, common, behind, into)
+}
+
+/// Whether the columns of the time and the processor have their usual widths.
+#[inline(always)]
+fn are_usual(show: &Show, cpu: u32, time: u64) -> bool
+    ensures { result ≡ true → IsUsual show.now cpu time }
+{
+    !show.latency && !show.full && cpu < 100 && time < USUAL_TIMES
+}
+
+/// Puts the columns where all have their usual widths.
+fn put_usual(
+    task: &[u8; USUAL_TASK],
+    cpu: u32,
+    time: u64,
+    label: &[u8],
+    into: &mut Tail<'_>,
+) -> usize
+    requires cpu { cpu < 100 }
+    requires time { time < USUAL_TIMES }
+    requires label { length label.now ≡ USUAL_LABEL }
+    ensures same_slice { lent into.new ≡ lent into.old }
+    ensures value { held into.new ≡ put_held (held into.old) (task.now ++ (spec.usual_when cpu time ++ label.now)) }
+    ensures len { result ≡ length (task.now ++ (spec.usual_when cpu time ++ label.now)) }
+{
+    let mut front = Front::new();
+    front.start(label);
+    front.text(b": ");
+    front.usual_time(time);
+    front.usual_processor(cpu);
+    front.text(task);
+    put_known_length(front.as_bytes(), into);
+    front.len()
+}
+
+/// Puts the columns of any widths.
+#[inline(never)]
+fn put_any(
+    context: &Context,
+    cpu: u32,
+    time: u64,
+    common: &Common,
+    behind: &[u8],
+    into: &mut Tail<'_>,
+) -> usize
+    requires short { length behind.now ≤ LONGEST_BEHIND }
+    ensures same_slice { lent into.new ≡ lent into.old }
+    ensures value { held into.new ≡ put_held (held into.old) (columns context.now cpu time common.now behind.now) }
+    ensures len { result ≡ length (columns context.now cpu time common.now behind.now) }
+{
     let mut front = Front::new();
     front.start(behind);
     put_when(context.show(), cpu, time, common, &mut front);
-    let len = put_with_task(context, common.pid, &mut front, into);
-    len - (behind.len() + 2)
+    put_with_task(context, common.pid, &mut front, into)
 }
 
 /// Puts a text with the task in front of it, and gives the length of both.
@@ -137,6 +230,7 @@ fn put_with_any_task(context: &Context, pid: i32, front: &mut Front, into: &mut 
 }
 
 /// Puts the front of a line. Most have the same length: a text of a length that is known beforehand needs no call.
+#[inline(always)]
 fn put_known_length(front: &[u8], into: &mut Tail<'_>)
     ensures same_slice { lent into.new ≡ lent into.old }
     ensures value { held into.new ≡ put_held (held into.old) front.now }
@@ -169,8 +263,7 @@ fn put_when(show: &Show, cpu: u32, time: u64, common: &Common, front: &mut Front
     ensures value { front.new ≡ spec.when_of show.now cpu time common.now ++ front.old }
     ensures longer { length front.new ≤ BEFORE_PID }
 {
-    front.byte(b' ');
-    front.byte(b':');
+    front.text(b": ");
     front.time(show.full, time);
     put_place(show, cpu, common.flags, common.preempt, front);
 }
@@ -192,6 +285,6 @@ fn put_place(show: &Show, cpu: u32, flags: u32, preempt: u32, front: &mut Front)
 /// The columns of an event's line are those of the numbers that it begins with.
 #[tactic(auto, unfolding(crate::specs::Prefix::prefix_text, crate::specs::Prefix::columns_of, crate::specs::Line::front_text, crate::specs::Line::columns_text))]
 pub fn own_front()
-    ensures { (given : Given) (cpu : ℕ) (time : ℕ) (payload : List ℕ)
+    ensures { (given : ContextData) (cpu : ℕ) (time : ℕ) (payload : List ℕ)
         → line.front_text given cpu time payload ≡ spec.prefix_text given cpu time (spec.common_in given payload) }
 {}

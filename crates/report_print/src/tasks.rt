@@ -18,6 +18,9 @@ pub(crate) const USUAL_TASK: usize = 22;
 /// How many places there are.
 const PLACES: usize = 1024;
 
+/// How many of them are made at once. A block is one copy, where each by itself would cost some fifty instructions.
+const BLOCK: usize = 64;
+
 /// A task, and how a line begins that tells of it.
 #[derive(Clone, Copy, Drop)]
 pub(crate) struct TaskFront {
@@ -85,7 +88,11 @@ impl TaskFronts {
     fn new(alloc: Global) -> Result<TaskFronts, AllocError>
         ensures { IfOk result (λ tasks. (show : Show) (names : List Pair) → AreFronts show names tasks.fronts.items) }
     {
-        let fronts = vec![in alloc; None; PLACES]?;
+        let block = [None; BLOCK];
+        let mut fronts = Vec::with_capacity(alloc, PLACES)?;
+        for _ in 0..PLACES / BLOCK {
+            fronts.extend_from_slice(&block)?;
+        }
         Ok(TaskFronts { fronts })
     }
 

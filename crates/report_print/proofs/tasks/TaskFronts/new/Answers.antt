@@ -1,10 +1,7 @@
-use Rattle.std.proofs.Common.{◌≡◌, None, replicate, subst, sym, rules, arith}
-use Rattle.std.proofs.lemmas.Grind.{common_steps}
+use Rattle.std.proofs.Common.{sym, subst}
 use Rattle.report_print.specs.Tasks.{AreFronts}
-use Rattle.report_print.proofs.TaskTexts.{none_yet}
+use Rattle.report_print.proofs.TaskTexts.{none_more}
 use Rattle.report_print.proofs.tasks.TaskFronts.new.Goals as goal
 
-pub returns : goal.returns
-returns c =
-    let none : c.in_ok-fronts.fronts.items ≡ replicate 1024 None = c.in_ok-fronts.ensures.items_if_clones_equal (λ y same. first_of (search rules, cc, grind (arith, common_steps))) in
-    λ show names. subst (AreFronts show names) (sym none) (none_yet show names 1024)
+pub loop-preserved : goal.loop-preserved
+loop-preserved c = λ show names. subst (AreFronts show names) (sym c.in_ok-extend_from_slice.ensures.items) (none_more show names c.loop.fronts.items 64 (c.loop.invariant show names))

@@ -1,0 +1,16 @@
+use Rattle.std.proofs.Common.{arith}
+use Rattle.line_columns.proofs.Lengths.{seconds_short, rounded_short}
+use Rattle.line_columns.proofs.front.Front.time.Goals as goal
+
+pub returns-then-full-clause-longer : goal.returns-then-full-clause-longer
+returns-then-full-clause-longer c = omega (arith, c.number.ensures.longer, c.byte.ensures.longer, c.nine.ensures.longer, seconds_short c.args.time c.ranges.time.fits)
+
+pub returns-else-full-clause-longer : goal.returns-else-full-clause-longer
+returns-else-full-clause-longer c =
+    omega (
+      arith,
+      c.number-else-full.ensures.longer,
+      c.byte-else-full.ensures.longer,
+      c.six.ensures.longer,
+      rounded_short c.args.time c.micros-micros.result c.ranges.time.fits c.micros-micros.ensures,
+    )
