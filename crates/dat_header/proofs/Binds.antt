@@ -1,7 +1,7 @@
 -- Steps one behind another, joined in one way or in another.
-use Rattle.std.proofs.Common.{◌≡◌, ℕ, List, Result, Ok, Err, refl}
+use Rattle.std.proofs.Common.{◌≡◌, ℕ, Result, Ok, Err, refl}
 use Rattle.dat_options.specs.declared.fault.OpenFault.{OpenFault}
-use Rattle.dat_header.specs.Found.{Found, ◌>>=◌}
+use Rattle.dat_header.specs.Found.{◌>>=◌}
 use Rattle.dat_header.proofs.Grammar.{found_value}
 
 pub bind_more : {V W X : Type 0} (found : Result V OpenFault) (next : V → Result W OpenFault) (last : W → Result X OpenFault) (other : V → Result X OpenFault)

@@ -16,7 +16,8 @@ use Rattle.dat_header.specs.Items.{options_word, latency_word, fly_word, body_wo
 use Rattle.dat_header.specs.Refusal.{begins_with, word_fault}
 use Rattle.dat_header.specs.Found.{Found, ◌>>=◌, or_wrong}
 use Rattle.dat_header.specs.Header.{IsRefusal, last_in, last_word_in, first_word_in}
-use Rattle.dat_header.specs.Steps.{FileSeen, Steps, GivesThere}
+use Rattle.dat_header.specs.Steps.{Steps, GivesThere}
+use Rattle.dat_header.specs.Seen.{FileSeen}
 use Rattle.dat_header.proofs.Steps.{erring, erring_is, answers_itself, steps_found, steps_fault}
 use Rattle.dat_header.proofs.Words.{cut_same, there_is}
 

@@ -28,7 +28,6 @@ use Rattle.dat_options.specs.Place.{AreBytes}
 use Rattle.dat_header.specs.Laws.{SpellingsDiffer, OneHeader, ReadsBack, ComputesHeader, ComputesRefusal, RefusesByBytes}
 use Rattle.dat_options.proofs.Steps.{some_is}
 use Rattle.dat_header.proofs.Binds.{bind_more}
-use Rattle.dat_header.proofs.Openings.{header_opened}
 use Rattle.dat_header.proofs.Grammar.{err_or_ok}
 use Rattle.dat_header.proofs.Wrongs.{Wrong}
 use Rattle.dat_header.proofs.WholeRight.{whole_at, IsOpen, right_whole}
@@ -38,12 +37,12 @@ abbrev closed : Header × ℕ → Result Header OpenFault
 closed found = Ok (record found.0 { end = found.1 })
 
 pub header_is : (file : List ℕ) → (whole_at file 0 >>= closed) ≡ header_of file
+unfolding header_of
 header_is file =
     bind_more (opening_at file 0) _ closed _
     (λ o. bind_more (carried_at o.0.machine.order file o.1) _ closed _
     (λ t. bind_more (value_at 4 o.0.machine.order cpus_of (TooManyCpus t.1) file t.1) _ closed _
     (λ n. bind_more (sections_at o.0.machine.order n.0 file n.1) _ closed _ (λ s. refl))))
-    ∙ header_opened file
 
 open_items : (header : Header) (end : ℕ) → items (record header { end = end }) ≡ items header
 unfolding items

@@ -16,19 +16,18 @@ use Rattle.dat_header.specs.declared.pieces.PageText.{PageText}
 use Rattle.dat_header.specs.declared.pieces.Carried.{Carried}
 use Rattle.dat_header.specs.declared.pieces.Described.{Described}
 use Rattle.dat_header.specs.Allowed.{AreFormats, AreSystems}
-use Rattle.dat_header.specs.Pieces.{IsMachine, IsPageText, IsCarried}
+use Rattle.dat_header.specs.Pieces.{IsMachine, IsPageText, IsCarried, IsDescribed}
 use Rattle.dat_header.specs.PageText.{layout_of}
 use Rattle.dat_header.specs.Items.{Item, value, page_text, carried, order_byte, sized, formats_text, systems_text}
 use Rattle.dat_header.specs.Refusal.{fault_at}
 use Rattle.dat_header.specs.ItemsAt.{bytes_at, number_at, value_at, text_at, formats_at, systems_at, order_of, long_of, page_of}
-use Rattle.dat_header.specs.Header.{machine_at, page_text_at, carried_at}
-use Rattle.dat_header.specs.Opening.{IsDescribed, described_at}
+use Rattle.dat_header.specs.Header.{carried_at}
+use Rattle.dat_header.specs.Opening.{described_at, machine_at, page_text_at}
 use Rattle.dat_header.specs.Found.{Found, ◌>>=◌, or_wrong}
 use Rattle.dat_options.specs.Place.{AreBytes}
 use Rattle.dat_header.proofs.Values.{checked_is, checked_not}
 use Rattle.dat_header.proofs.Grammar.{Stands, found_value, err_or_ok, at_ok, at_err, not_both, same_value, same_fault, behind, room}
 use Rattle.dat_header.proofs.Wrongs.{Right, one_item, right_item, right_made, rights_then, rights_none, rights_as}
-use Rattle.dat_header.proofs.Openings.{carried_is, carried_with}
 use Rattle.dat_header.proofs.Texts.{reads_bytes, reads_number, reads_text, text_end}
 use Rattle.dat_header.proofs.Systems.{reads_formats, formats_end, reads_systems, systems_end}
 use Rattle.dat_header.proofs.ItemRights.{number_long, number_short, options_of, right_order, right_long, right_page, right_carried}
@@ -165,14 +164,7 @@ described_items order texts =
 
 -- and with them
 abbrev pub carried_items : Order → Carried → List Item
-carried_items order texts =
-    record { kind = carried; bytes = sized 8 order texts.event_text }
-    ∷ record { kind = carried; bytes = formats_text order texts.ftrace }
-    ∷ record { kind = carried; bytes = systems_text order texts.systems }
-    ∷ record { kind = carried; bytes = sized 4 order texts.kallsyms }
-    ∷ record { kind = carried; bytes = sized 4 order texts.printk }
-    ∷ record { kind = carried; bytes = sized 8 order texts.cmdlines }
-    ∷ []
+carried_items order texts = described_items order texts.described ++ one_item carried (sized 8 order) texts.cmdlines
 
 pub right_text : (width : ℕ) (order : Order) → 0 < limit width → Right (one_item carried (sized width order)) (λ content. length content < limit width) (text_at width order)
 right_text width order some = right_carried (sized width order) (λ content. length content < limit width) (text_at width order) [] some (reads_text width order) (text_end width order)
@@ -186,8 +178,8 @@ right_systems order = right_carried (systems_text order) AreSystems (systems_at 
 abbrev described_of : List ℕ → List (List ℕ) → List System → List ℕ → List ℕ → Described
 described_of event_text ftrace systems kallsyms printk = record { event_text = event_text; ftrace = ftrace; systems = systems; kallsyms = kallsyms; printk = printk }
 
-abbrev pub described_in : Carried → Described
-described_in texts = described_of texts.event_text texts.ftrace texts.systems texts.kallsyms texts.printk
+abbrev carried_of : Described → List ℕ → Carried
+carried_of described cmdlines = record { described = described; cmdlines = cmdlines }
 
 module _ (order : Order) where
   abbrev described_1 : List ℕ → List ℕ → ℕ → Found Described
@@ -216,12 +208,12 @@ module _ (order : Order) where
       (λ f t q. ap (λ (x : Described). x.ftrace) q.1.1.1)) (λ e t q. ap (λ (x : Described). x.event_text) q.1.1.1.1))
 
   abbrev cmdlines_1 : Described → List ℕ → ℕ → Found Carried
-  cmdlines_1 d file at = text_at 8 order file at >>= λ c. Ok (carried_with d c.0, c.1)
+  cmdlines_1 d file at = text_at 8 order file at >>= λ c. Ok (carried_of d c.0, c.1)
 
   pub right_carried_texts : Right (carried_items order) IsCarried (carried_at order)
+  unfolding carried_at
   right_carried_texts = rights_as _ (carried_items order) _ IsCarried _ (carried_at order)
-      (λ texts is. record { event_text = is.0.event_text; ftrace = is.0.ftrace; systems = is.0.systems; kallsyms = is.0.kallsyms; printk = is.0.printk; cmdlines = is.1.0 })
-      (λ texts is. (record { event_text = is.event_text; ftrace = is.ftrace; systems = is.systems; kallsyms = is.kallsyms; printk = is.printk }, (is.cmdlines, refl))) (λ texts is. refl) (λ file at. carried_is order at file)
-      (rights_then (described_items order) IsDescribed (described_at order) _ _ cmdlines_1 described_in 5 right_described (λ d. refl)
-      (λ d is. right_made _ (λ (content : List ℕ). length content < limit 8) (text_at 8 order) (carried_with d) (λ (t : Carried). t.cmdlines) (λ c. refl) (right_text 8 order (omega arith)))
-      (λ d t e. sym (ap described_in e.1)))
+      (λ texts is. record { described = is.0; cmdlines = is.1.0 }) (λ texts is. (is.described, (is.cmdlines, refl))) (λ texts is. refl) (λ file at. refl)
+      (rights_then (described_items order) IsDescribed (described_at order) _ _ cmdlines_1 (λ (t : Carried). t.described) 5 right_described (λ d. refl)
+      (λ d is. right_made _ (λ (content : List ℕ). length content < limit 8) (text_at 8 order) (carried_of d) (λ (t : Carried). t.cmdlines) (λ c. refl) (right_text 8 order (omega arith)))
+      (λ d t e. sym (ap (λ (x : Carried). x.described) e.1)))

@@ -1,8 +1,10 @@
 -- The header of pieces whose values are allowed.
 use Rattle.std.proofs.Common.{◌≡◌, ℕ, ◌+◌, ◌-◌, ◌%◌, ◌≤◌, ◌⊎◌, inl, inr, Bool, true, false, ◌&&◌, ◌||◌, eqb, leb, List, [], ◌∷◌, Option, Some, None, Result, Ok, Err, IfOk, refl, ap, subst, arith}
 use Rattle.std.proofs.lemmas.Bool.{leb-true, eqb-true, false≢true}
+use Rattle.std.proofs.lemmas.List.Elements.{All-nil}
 use Rattle.std.proofs.Math.Pow.{pow_mono}
 use Rattle.std.specs.Prelude.{option_and_then, codes, if◌then◌else◌}
+use Rattle.dat_options.specs.Table.{IsPart}
 use Rattle.dat_options.proofs.Steps.{some_is}
 use Rattle.trace_base.specs.FieldLine.{FieldData}
 use Rattle.trace_outside.specs.Causes.{raised}
@@ -11,34 +13,43 @@ use Rattle.trace_base.specs.declared.order.Order.{Order}
 use Rattle.trace_base.specs.declared.layout.Layout.{Layout}
 use Rattle.dat_options.specs.declared.fault.OpenFault.{OpenFault}
 use Rattle.dat_header.specs.declared.header.Header.{Header}
-use Rattle.dat_header.specs.declared.pieces.Machine.{Machine}
-use Rattle.dat_header.specs.declared.pieces.PageText.{PageText}
+use Rattle.dat_header.specs.declared.header.Body.TheVariants.{Fly}
+use Rattle.dat_header.specs.declared.pieces.Opening.{Opening}
 use Rattle.dat_header.specs.declared.pieces.Carried.{Carried}
 use Rattle.dat_header.specs.declared.pieces.Sections.{Sections}
 use Rattle.dat_header.specs.Allowed.{IsHeader, IsLong, IsPageSize}
-use Rattle.dat_header.specs.Pieces.{IsMachine, IsPageText, IsCarried, AreSections}
+use Rattle.dat_header.specs.Pieces.{IsOpening, IsCarried, AreSections}
 use Rattle.dat_header.specs.PageText.{may_be, layout_by, line_named, field_lines, layout_of}
 use Rattle.dat_header.specs.Header.{joined}
+use Rattle.dat_header.specs.Partial.{IsPartial, partial_header}
 
 abbrev pub found_header : Header → Result Header OpenFault
 found_header header = Ok header
 
-pub header_allowed : (machine : Machine) (page : PageText) (carried : Carried) (cpus : ℕ) (sections : Sections) (end : ℕ)
-    → IsMachine machine → IsPageText machine page → IsCarried carried → cpus ≤ 1024 → AreSections cpus sections → IsHeader (joined machine page carried cpus sections end)
-header_allowed machine page carried cpus sections end m p t few s = record {
-  long = m.long;
-  page = m.page;
-  page_text = p.text;
-  layout = p.layout;
-  event_text = t.event_text;
-  ftrace = t.ftrace;
-  systems = t.systems;
-  kallsyms = t.kallsyms;
-  printk = t.printk;
-  cmdlines = t.cmdlines;
+pub header_allowed : (opening : Opening) (carried : Carried) (cpus : ℕ) (sections : Sections) (end : ℕ)
+    → IsOpening opening → IsCarried carried → cpus ≤ 1024 → AreSections cpus sections → IsHeader (joined opening carried cpus sections end)
+header_allowed opening carried cpus sections end o c few s = record {
+  long = o.machine.long;
+  page = o.machine.page;
+  page_text = o.page.text;
+  layout = o.page.layout;
+  event_text = c.described.event_text;
+  ftrace = c.described.ftrace;
+  systems = c.described.systems;
+  kallsyms = c.described.kallsyms;
+  printk = c.described.printk;
+  cmdlines = c.cmdlines;
   cpus = few;
   options = s.options;
   body = s.body;
+}
+
+pub partial_allowed : (opening : Opening) (carried : Carried) (end : ℕ) → IsOpening opening → IsCarried carried → IsPartial (partial_header opening carried end)
+partial_allowed opening carried end o c = record {
+  allowed = header_allowed opening carried 0 (record { options = None; body = Fly [] }) end o c (omega arith) (record { options = tt; body = (refl, All-nil IsPart) });
+  cpus = refl;
+  options = refl;
+  body = refl;
 }
 
 both : (one two : Bool) → (one && two) ≡ true → (one ≡ true) × (two ≡ true)

@@ -8,7 +8,6 @@ pub mod Choices
 pub mod Headers
 pub mod Grammar
 pub mod Binds
-pub mod Openings
 pub mod Wrongs
 pub mod Texts
 pub mod Systems

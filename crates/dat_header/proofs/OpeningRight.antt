@@ -5,12 +5,11 @@ use Rattle.dat_options.specs.declared.fault.OpenFault.TheVariants.{NotTrace, Bad
 use Rattle.dat_header.specs.declared.pieces.Machine.{Machine}
 use Rattle.dat_header.specs.declared.pieces.PageText.{PageText}
 use Rattle.dat_header.specs.declared.pieces.Opening.{Opening}
-use Rattle.dat_header.specs.Pieces.{IsPageText, IsMachine}
+use Rattle.dat_header.specs.Pieces.{IsPageText, IsMachine, IsOpening}
 use Rattle.dat_header.specs.Items.{Item, word, version, value, page_text, magic_word, version_word, page_word, event_word, order_byte, sized}
 use Rattle.dat_header.specs.Refusal.{version_fault}
 use Rattle.dat_header.specs.ItemsAt.{word_at}
-use Rattle.dat_header.specs.Header.{version_at, machine_at, page_text_at}
-use Rattle.dat_header.specs.Opening.{IsOpening, opening_at}
+use Rattle.dat_header.specs.Opening.{opening_at, version_at, machine_at, page_text_at}
 use Rattle.dat_header.specs.Found.{Found, ◌>>=◌}
 use Rattle.dat_header.proofs.Binds.{bind_same, bind_word}
 use Rattle.dat_header.proofs.Wrongs.{Right, rights_none, rights_then, rights_as}

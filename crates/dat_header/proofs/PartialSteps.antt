@@ -1,13 +1,13 @@
 -- Command lines that may be missing at the file's end.
-use Rattle.std.proofs.Common.{◌≡◌, ℕ, Bool, true, false, eqb, eq-eqb, List, [], length, Option, None, Some, IfSome, Result, Ok, Err, refl, sym, ap, subst, ◌∙◌, arith}
+use Rattle.std.proofs.Common.{◌≡◌, ℕ, eq-eqb, List, [], length, Option, None, Some, IfSome, Ok, refl, sym, subst, ◌∙◌, arith}
 use Rattle.std.proofs.lemmas.Bool.{ne_eqb}
 use Rattle.trace_base.specs.declared.order.Order.{Order}
-use Rattle.dat_options.specs.declared.fault.OpenFault.{OpenFault}
 use Rattle.dat_options.specs.Answer.{AnswersTold, AnswersUnlessFaulty}
 use Rattle.dat_header.specs.Found.{Found}
 use Rattle.dat_header.specs.ItemsAt.{text_at}
 use Rattle.dat_header.specs.Partial.{cmdlines_at}
-use Rattle.dat_header.specs.Steps.{FileSeen, Steps}
+use Rattle.dat_header.specs.Steps.{Steps}
+use Rattle.dat_header.specs.Seen.{FileSeen}
 use Rattle.dat_header.proofs.Steps.{steps_found}
 
 abbrev found_text : List ℕ → ℕ → Found (List ℕ)

@@ -1,36 +1,37 @@
 -- What is computed of a partial file is its header, or its refusal.
-use Rattle.std.proofs.Common.{◌≡◌, ℕ, ◌+◌, ◌-◌, ◌<◌, ◌≤◌, List, [], ◌∷◌, ◌++◌, length, take, drop, Option, None, Some, Result, Ok, Err, refl, sym, ap, subst, ◌∙◌, ◌⊎◌, inl, inr, append_assoc, arith}
+use Rattle.std.proofs.Common.{◌≡◌, ℕ, ◌+◌, ◌<◌, ◌≤◌, List, [], ◌∷◌, ◌++◌, length, take, drop, Option, None, Some, Result, Ok, Err, refl, sym, ap, subst, ◌∙◌, inl, inr, append_assoc, arith}
 use Rattle.std.proofs.lemmas.Bool.{cases_eq, cases_lt}
 use Rattle.std.proofs.lemmas.List.{append-nil, length-append, length-drop, take-append-le}
-use Rattle.std.proofs.lemmas.List.Elements.{All-nil}
 use Rattle.std.proofs.lemmas.Option.{slice_get_within}
 use Rattle.std.specs.List.{slice_get}
 use Rattle.trace_base.specs.declared.order.Order.{Order}
 use Rattle.dat_options.specs.declared.fault.OpenFault.{OpenFault}
 use Rattle.dat_options.specs.declared.option.Opt.{Opt}
 use Rattle.dat_options.specs.Place.{AreBytes}
-use Rattle.dat_options.specs.Table.{IsPart}
 use Rattle.dat_header.specs.declared.header.Header.{Header}
 use Rattle.dat_header.specs.declared.header.Body.{Body}
 use Rattle.dat_header.specs.declared.header.Body.TheVariants.{Fly}
 use Rattle.dat_header.specs.declared.pieces.Opening.{Opening}
 use Rattle.dat_header.specs.declared.pieces.Described.{Described}
+use Rattle.dat_header.specs.declared.pieces.Carried.{Carried}
 use Rattle.dat_header.specs.Allowed.{IsHeader}
 use Rattle.dat_header.specs.Items.{Item, carried, sized, text, items}
 use Rattle.dat_header.specs.Refusal.{fault_at, front, Refuses}
-use Rattle.dat_header.specs.Spelling.{BeginsWith, HasHeader}
+use Rattle.dat_header.specs.Spelling.{BeginsWith}
 use Rattle.dat_header.specs.Found.{Found, ◌>>=◌}
 use Rattle.dat_header.specs.ItemsAt.{text_at}
-use Rattle.dat_header.specs.Opening.{IsDescribed, IsOpening, described_at, opening_at}
+use Rattle.dat_header.specs.Opening.{described_at, opening_at}
 use Rattle.dat_header.specs.Partial.{ComputesPartial, ComputesPartialRefusal, GoesOn, HasPartial, IsPartial, OnePartial, RefusesPartial, StopsBefore, WholeServes, cmdlines_at, partial_header, partial_of, without_tail}
+use Rattle.dat_header.specs.Pieces.{IsDescribed, IsOpening}
 use Rattle.dat_options.proofs.Numbers.{limit}
+use Rattle.dat_header.proofs.Headers.{partial_allowed}
 use Rattle.dat_header.proofs.Grammar.{err_or_ok, at_ok, at_err, behind, found_value, not_both, room, same_fault, same_value}
 use Rattle.dat_header.proofs.Binds.{bind_more}
 use Rattle.dat_header.proofs.Wrongs.{Right, Wrong, get_front, one_item, right_made, rights_as, rights_then, text_both}
-use Rattle.dat_header.proofs.HeaderRight.{described_in, described_items, right_described, right_text}
+use Rattle.dat_header.proofs.HeaderRight.{described_items, right_described, right_text}
 use Rattle.dat_header.proofs.OpeningRight.{opening_items, right_opening}
 use Rattle.dat_header.proofs.WholeRight.{carried_in, is_carried, is_opening, opening_in}
-use Rattle.dat_header.proofs.HeaderLaws.{any_end, begins_fewer, begins_whole, ok_is}
+use Rattle.dat_header.proofs.HeaderLaws.{begins_fewer, begins_whole, ok_is}
 use Rattle.dat_header.proofs.PartialSteps.{cmdlines_none, cmdlines_some}
 use Rattle.dat_header.proofs.Wrapped.{length-sized}
 
@@ -97,40 +98,25 @@ right_all = rights_as _ all_items _ AreDescriptions _ all_at (λ a all. (all.0, 
 -- HEADERS OF THESE
 
 abbrev begun_in : Header → Begun
-begun_in header = begun_of (opening_in header) (described_in (carried_in header))
+begun_in header = begun_of (opening_in header) (carried_in header).described
 
 abbrev descriptions_in : Header → Descriptions
 descriptions_in header = with_cmdlines (begun_in header) header.cmdlines
 
+abbrev carried_of : Descriptions → Carried
+carried_of all = record { described = all.begun.described; cmdlines = all.cmdlines }
+
 abbrev header_with : Descriptions → ℕ → Header
-header_with all end = partial_header all.begun.opening all.begun.described all.cmdlines end
+header_with all end = partial_header all.begun.opening (carried_of all) end
 
 are_in : (header : Header) → IsHeader header → AreDescriptions (descriptions_in header)
-are_in header is =
-    let texts = is_carried header is in (
-      (is_opening header is, record { event_text = texts.event_text; ftrace = texts.ftrace; systems = texts.systems; kallsyms = texts.kallsyms; printk = texts.printk }),
-      texts.cmdlines,
-    )
-
-allowed_with : (all : Descriptions) (end : ℕ) → AreDescriptions all → IsHeader (header_with all end)
-allowed_with all end are = record {
-  long = are.0.0.machine.long;
-  page = are.0.0.machine.page;
-  page_text = are.0.0.page.text;
-  layout = are.0.0.page.layout;
-  event_text = are.0.1.event_text;
-  ftrace = are.0.1.ftrace;
-  systems = are.0.1.systems;
-  kallsyms = are.0.1.kallsyms;
-  printk = are.0.1.printk;
-  cmdlines = are.1;
-  cpus = omega arith;
-  options = tt;
-  body = (refl, All-nil IsPart);
-}
+are_in header is = let texts = is_carried header is in ((is_opening header is, texts.described), texts.cmdlines)
 
 partial_with : (all : Descriptions) (end : ℕ) → AreDescriptions all → IsPartial (header_with all end)
-partial_with all end are = record { allowed = allowed_with all end are; cpus = refl; options = refl; body = refl }
+partial_with all end are = partial_allowed all.begun.opening (carried_of all) end are.0.0 (record { described = are.0.1; cmdlines = are.1 })
+
+allowed_with : (all : Descriptions) (end : ℕ) → AreDescriptions all → IsHeader (header_with all end)
+allowed_with all end are = (partial_with all end are).allowed
 
 -- a header without processors is the one of its descriptions
 is_with : (header : Header) (cmdlines : List ℕ) (end : ℕ) → IsPartial header → header.cmdlines ≡ cmdlines → header.end ≡ end → header_with (with_cmdlines (begun_in header) cmdlines) end ≡ header

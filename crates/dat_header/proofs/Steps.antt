@@ -6,7 +6,8 @@ use Rattle.dat_options.specs.declared.fault.OpenFault.TheVariants.{Read, Memory}
 use Rattle.dat_options.specs.Answer.{AnswersUnlessFaulty, AnswersTold}
 use Rattle.dat_header.specs.Found.{Found, ◌>>=◌}
 use Rattle.dat_header.specs.Header.{IsRefusal}
-use Rattle.dat_header.specs.Steps.{FileSeen, Steps}
+use Rattle.dat_header.specs.Steps.{Steps}
+use Rattle.dat_header.specs.Seen.{FileSeen}
 
 abbrev pub erring : (V : Type 0) → OpenFault → Result V OpenFault
 erring V fault = Err fault

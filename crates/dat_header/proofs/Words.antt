@@ -10,11 +10,13 @@ use Rattle.trace_outside.specs.Reading.{GivesBytesAt}
 use Rattle.dat_options.specs.declared.fault.OpenFault.{OpenFault}
 use Rattle.dat_options.specs.declared.fault.OpenFault.TheVariants.{Truncated, Compressed, OtherVersion, Read}
 use Rattle.dat_options.specs.Answer.{AnswersUnlessFaulty, AnswersTold}
-use Rattle.dat_header.specs.Header.{IsRefusal, version_at}
+use Rattle.dat_header.specs.Header.{IsRefusal}
 use Rattle.dat_header.specs.Refusal.{begins_with, word_fault, version_fault, seventh}
 use Rattle.dat_header.specs.Items.{version_word}
 use Rattle.dat_header.specs.ItemsAt.{word_in, word_at}
-use Rattle.dat_header.specs.Steps.{FileSeen, Steps, GivesThere}
+use Rattle.dat_header.specs.Steps.{Steps, GivesThere}
+use Rattle.dat_header.specs.Opening.{version_at}
+use Rattle.dat_header.specs.Seen.{FileSeen}
 use Rattle.dat_header.proofs.Steps.{erring_is, answers_itself}
 
 bytes_apart : (xs ys : List ℕ) → (xs ≡ ys → ⊥) → bytes_eq xs ys ≡ false

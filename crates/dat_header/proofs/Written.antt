@@ -5,6 +5,7 @@ use Rattle.std.proofs.lemmas.List.Concat.{flat_map-cons}
 use Rattle.std.proofs.lemmas.Grind.{flat_map-append}
 use Rattle.std.proofs.lemmas.List.Elements.{All-filter, All-push}
 use Rattle.std.specs.List.{All, filter, flat_map}
+use Rattle.trace_outside.specs.declared.outside.Sink as sink
 use Rattle.trace_outside.specs.Causes.{HasCause}
 use Rattle.trace_outside.specs.Writing.{Gained, GainedPrefix}
 use Rattle.trace_outside.proofs.Gains.{gained_both, prefix_behind, prefix_of_parts, gained_nothing}
@@ -19,70 +20,70 @@ use Rattle.dat_header.specs.declared.header.Header.{Header}
 use Rattle.dat_header.specs.declared.header.System.{System}
 use Rattle.dat_header.specs.declared.header.Body.TheVariants.{Fly}
 use Rattle.dat_header.specs.Items.{Item, system_text, magic_word, version_word, page_word, event_word, options_word, fly_word, order_byte, sized, formats_text, systems_text, section_items, items, text}
-use Rattle.dat_header.specs.Written.{SinkSeen, Writes, options_section, is_instance, with_parts, header_text}
+use Rattle.dat_header.specs.Written.{Writes, options_section, is_instance, with_parts, header_text}
 
 -- by the clauses of a call that writes
-pub writes_by : {E : Type 0} (text : List ℕ) (before now : SinkSeen) (result : Result (Unit {0}) E) → OnOk result (Gained before.told now.told text) → OnErr result (GainedPrefix before.told now.told text)
-    → now.name ≡ before.name → HasCause before.faults now.faults result → Writes text before now result
+pub writes_by : {O E : Type 0} {o : sink.Ghosts O} (text : List ℕ) (before now : O) (result : Result (Unit {0}) E) → OnOk result (Gained (o.written before) (o.written now) text) → OnErr result (GainedPrefix (o.written before) (o.written now) text)
+    → o.name now ≡ o.name before → HasCause (o.faults before) (o.faults now) result → Writes text o before now result
 writes_by text before now result gained prefix name cause = record { gained = gained; prefix = prefix; name = name; later = cause.later; failed = cause.failed }
 
 -- the same text
-pub writes_as : {E : Type 0} (text other : List ℕ) (before now : SinkSeen) (result : Result (Unit {0}) E) → text ≡ other → Writes text before now result → Writes other before now result
-writes_as text other before now result same writes = subst (λ (t : List ℕ). Writes t before now result) same writes
+pub writes_as : {O E : Type 0} {o : sink.Ghosts O} (text other : List ℕ) (before now : O) (result : Result (Unit {0}) E) → text ≡ other → Writes text o before now result → Writes other o before now result
+writes_as {O} {E} {o} text other before now result same writes = subst (λ (t : List ℕ). Writes t o before now result) same writes
 
 -- nothing
-pub writes_nothing : {E : Type 0} (done : Unit {0}) (now : SinkSeen) → Writes {E = E} [] now now (Ok done)
-writes_nothing done now = record { gained = gained_nothing now.told; prefix = tt; name = refl; later = omega arith; failed = tt }
+pub writes_nothing : {O E : Type 0} {o : sink.Ghosts O} (done : Unit {0}) (now : O) → Writes {E = E} [] o now now (Ok done)
+writes_nothing {O} {E} {o} done now = record { gained = gained_nothing (o.written now); prefix = tt; name = refl; later = omega arith; failed = tt }
 
 -- a piece, and then another
-pub writes_then : {E : Type 0} (one two : List ℕ) (before mid now : SinkSeen) (done : Unit {0}) (result : Result (Unit {0}) E) → Writes {E = E} one before mid (Ok done) → Writes two mid now result → Writes (one ++ two) before now result
-writes_then one two before mid now done (Ok last) first second = record {
-  gained = gained_both before.told mid.told now.told one two first.gained second.gained;
+pub writes_then : {O E : Type 0} {o : sink.Ghosts O} (one two : List ℕ) (before mid now : O) (done : Unit {0}) (result : Result (Unit {0}) E) → Writes {E = E} one o before mid (Ok done) → Writes two o mid now result → Writes (one ++ two) o before now result
+writes_then {O} {E} {o} one two before mid now done (Ok last) first second = record {
+  gained = gained_both (o.written before) (o.written mid) (o.written now) one two first.gained second.gained;
   prefix = tt;
   name = second.name ∙ first.name;
   later = omega (arith, first.later, second.later);
   failed = tt;
 }
-writes_then one two before mid now done (Err fault) first second = record {
+writes_then {O} {E} {o} one two before mid now done (Err fault) first second = record {
   gained = tt;
-  prefix = prefix_behind before.told mid.told now.told one two [] (one ++ two) (ap (λ back. one ++ back) (sym (append-nil two))) first.gained second.prefix;
+  prefix = prefix_behind (o.written before) (o.written mid) (o.written now) one two [] (one ++ two) (ap (λ back. one ++ back) (sym (append-nil two))) first.gained second.prefix;
   name = second.name ∙ first.name;
   later = omega (arith, first.later, second.later);
   failed = omega (arith, first.later, second.failed);
 }
 
 -- a piece that failed, and no other behind it
-pub writes_failed : {E : Type 0} (one two : List ℕ) (before now : SinkSeen) (fault : E) → Writes one before now (Err fault) → Writes (one ++ two) before now (Err fault)
-writes_failed one two before now fault first = record {
+pub writes_failed : {O E : Type 0} {o : sink.Ghosts O} (one two : List ℕ) (before now : O) (fault : E) → Writes one o before now (Err fault) → Writes (one ++ two) o before now (Err fault)
+writes_failed {O} {E} {o} one two before now fault first = record {
   gained = tt;
-  prefix = prefix_in_front before.told now.told one two first.prefix;
+  prefix = prefix_in_front (o.written before) (o.written now) one two first.prefix;
   name = first.name;
   later = first.later;
   failed = first.failed;
 }
 
 -- one item more of a row
-pub writes_more : {E X : Type 0} (f : X → List ℕ) (xs : List X) (i : ℕ) (x : X) (before mid now : SinkSeen) (done last : Unit {0}) → i < length xs → x ≡ get_or xs i x
-    → Writes {E = E} (flat_map f (take i xs)) before mid (Ok done) → Writes {E = E} (f x) mid now (Ok last) → Writes {E = E} (flat_map f (take (i + 1) xs)) before now (Ok last)
+pub writes_more : {O E X : Type 0} {o : sink.Ghosts O} (f : X → List ℕ) (xs : List X) (i : ℕ) (x : X) (before mid now : O) (done last : Unit {0}) → i < length xs → x ≡ get_or xs i x
+    → Writes {E = E} (flat_map f (take i xs)) o before mid (Ok done) → Writes {E = E} (f x) o mid now (Ok last) → Writes {E = E} (flat_map f (take (i + 1) xs)) o before now (Ok last)
 writes_more f xs i x before mid now done last inside is first second =
     let longer : flat_map f (take (i + 1) xs) ≡ flat_map f (take i xs) ++ f x =
     ap (flat_map f) (take_more xs i x inside) ∙ flat_map-append f (take i xs) (get_or xs i x ∷ [])
     ∙ ap (λ t. flat_map f (take i xs) ++ t) (flat_map-cons f (get_or xs i x) [] ∙ append-nil (f (get_or xs i x)) ∙ ap f (sym is)) in
     writes_as _ _ before now (Ok last) (sym longer) (writes_then (flat_map f (take i xs)) (f x) before mid now done (Ok last) first second)
 
-pub writes_row_failed : {E X : Type 0} (f : X → List ℕ) (xs : List X) (i : ℕ) (x : X) (before mid now : SinkSeen) (done : Unit {0}) (fault : E) → i < length xs → x ≡ get_or xs i x
-    → Writes {E = E} (flat_map f (take i xs)) before mid (Ok done) → Writes (f x) mid now (Err fault) → Writes (flat_map f xs) before now (Err fault)
-writes_row_failed f xs i x before mid now done fault inside is first second =
+pub writes_row_failed : {O E X : Type 0} {o : sink.Ghosts O} (f : X → List ℕ) (xs : List X) (i : ℕ) (x : X) (before mid now : O) (done : Unit {0}) (fault : E) → i < length xs → x ≡ get_or xs i x
+    → Writes {E = E} (flat_map f (take i xs)) o before mid (Ok done) → Writes (f x) o mid now (Err fault) → Writes (flat_map f xs) o before now (Err fault)
+writes_row_failed {O} {E} {X} {o} f xs i x before mid now done fault inside is first second =
     let both = writes_then (flat_map f (take i xs)) (f x) before mid now done (Err fault) first second in
     record {
       gained = tt;
-      prefix = prefix_of_parts f xs i x before.told mid.told now.told inside first.gained (subst (λ y. GainedPrefix mid.told now.told (f y)) is second.prefix);
+      prefix = prefix_of_parts f xs i x (o.written before) (o.written mid) (o.written now) inside first.gained (subst (λ y. GainedPrefix (o.written mid) (o.written now) (f y)) is second.prefix);
       name = both.name;
       later = both.later;
       failed = both.failed;
     }
 
-pub writes_row : {E X : Type 0} (f : X → List ℕ) (xs : List X) (i : ℕ) (before now : SinkSeen) (done : Unit {0}) → length xs ≤ i → Writes {E = E} (flat_map f (take i xs)) before now (Ok done) → Writes {E = E} (flat_map f xs) before now (Ok done)
+pub writes_row : {O E X : Type 0} {o : sink.Ghosts O} (f : X → List ℕ) (xs : List X) (i : ℕ) (before now : O) (done : Unit {0}) → length xs ≤ i → Writes {E = E} (flat_map f (take i xs)) o before now (Ok done) → Writes {E = E} (flat_map f xs) o before now (Ok done)
 writes_row f xs i before now done all writes = writes_as _ _ before now (Ok done) (ap (flat_map f) (take_all i xs all)) writes
 
 -- the text of the pieces from the magic bytes to the header_page text

@@ -1,57 +1,31 @@
 -- The header that a file has, or what is wrong with the file, computed step by step.
 use Rattle.std.specs.Prelude.{ℕ, ◌+◌, List, length, drop, Option, Some, None, Result, Ok, if◌then◌else◌}
 use Rattle.trace_base.specs.declared.order.Order.{Order}
-use Rattle.trace_base.specs.declared.order.Order.TheVariants.{Little}
 use Rattle.dat_options.specs.declared.fault.OpenFault.{OpenFault}
-use Rattle.dat_options.specs.declared.fault.OpenFault.TheVariants.{NotTrace, BadEndian, BadLong, BadPageSize, BadHeaderPage, BadSection, TooManyCpus, Read, Memory}
+use Rattle.dat_options.specs.declared.fault.OpenFault.TheVariants.{BadSection, TooManyCpus, Read, Memory}
 use Rattle.dat_options.specs.Options.{options_from}
 use Rattle.dat_options.specs.Table.{table_from}
 use Rattle.dat_options.specs.Answer.{AnswersTold}
 use Rattle.dat_header.specs.declared.header.Header.{Header}
 use Rattle.dat_header.specs.declared.header.Body.{Body}
 use Rattle.dat_header.specs.declared.header.Body.TheVariants.{Latency, Fly}
-use Rattle.dat_header.specs.declared.pieces.Machine.{Machine}
-use Rattle.dat_header.specs.declared.pieces.PageText.{PageText}
+use Rattle.dat_header.specs.declared.pieces.Opening.{Opening}
 use Rattle.dat_header.specs.declared.pieces.Carried.{Carried}
 use Rattle.dat_header.specs.declared.pieces.Sections.{Sections}
 use Rattle.dat_header.specs.declared.pieces.LastSection.{LastSection}
 use Rattle.dat_header.specs.declared.pieces.LastSection.TheVariants as kind
-use Rattle.dat_header.specs.PageText.{layout_of}
-use Rattle.dat_header.specs.Items.{magic_word, version_word, page_word, event_word, options_word, latency_word, fly_word, section_words, body_words}
-use Rattle.dat_header.specs.Refusal.{begins_with, word_fault, version_fault}
+use Rattle.dat_header.specs.Items.{options_word, latency_word, fly_word, section_words, body_words}
+use Rattle.dat_header.specs.Refusal.{begins_with, word_fault}
 use Rattle.dat_header.specs.Found.{Found, ◌>>=◌, or_wrong}
-use Rattle.dat_header.specs.ItemsAt.{word_at, bytes_at, number_at, value_at, text_at, formats_at, systems_at, order_of, long_of, page_of, cpus_of}
-
--- the word of version 6
-unfoldable pub version_at : List ℕ → ℕ → Result ℕ OpenFault
-version_at file at = word_at version_word (version_fault at (drop at file)) file at
-
--- the byte order, the user's long and the page size
-unfoldable pub machine_at : List ℕ → ℕ → Found Machine
-machine_at file at = do
-  (order, at_long) ← value_at 1 Little order_of (BadEndian at) file at
-  (long, at_page) ← value_at 1 Little long_of (BadLong at_long) file at_long
-  (page, after) ← value_at 4 order page_of (BadPageSize at_page) file at_page
-  Ok (record { order = order; long = long; page = page }, after)
-
--- the header_page text and the layout that it gives
-unfoldable pub page_text_at : Machine → List ℕ → ℕ → Found PageText
-page_text_at machine file at = do
-  (size, at_text) ← number_at 8 machine.order file at
-  (text, after) ← bytes_at size file at_text
-  layout ← or_wrong (BadHeaderPage at_text) (layout_of machine.order machine.long machine.page text)
-  Ok (record { text = text; layout = layout }, after)
+use Rattle.dat_header.specs.ItemsAt.{value_at, text_at, cpus_of}
+use Rattle.dat_header.specs.Opening.{opening_at, described_at}
 
 -- the texts that are carried unread
 unfoldable pub carried_at : Order → List ℕ → ℕ → Found Carried
 carried_at order file at = do
-  (event_text, after) ← text_at 8 order file at
-  (ftrace, after) ← formats_at order file after
-  (systems, after) ← systems_at order file after
-  (kallsyms, after) ← text_at 4 order file after
-  (printk, after) ← text_at 4 order file after
+  (described, after) ← described_at order file at
   (cmdlines, after) ← text_at 8 order file after
-  Ok (record { event_text = event_text; ftrace = ftrace; systems = systems; kallsyms = kallsyms; printk = printk; cmdlines = cmdlines }, after)
+  Ok (record { described = described; cmdlines = cmdlines }, after)
 
 -- the last section that bytes begin with
 abbrev pub last_in : List ℕ → Option LastSection
@@ -107,23 +81,21 @@ sections_at order cpus file at = do
   behind_first_at order cpus first file after
 
 -- the header of these pieces
-abbrev pub joined : Machine → PageText → Carried → ℕ → Sections → ℕ → Header
-joined machine page carried cpus sections end =
-    record { order = machine.order; long = machine.long; page = machine.page; layout = page.layout; page_text = page.text; event_text = carried.event_text; ftrace = carried.ftrace; systems = carried.systems; kallsyms = carried.kallsyms; printk = carried.printk; cmdlines = carried.cmdlines; cpus = cpus; options = sections.options; body = sections.body; end = end }
+abbrev pub joined : Opening → Carried → ℕ → Sections → ℕ → Header
+joined opening carried cpus sections end =
+    let machine = opening.machine in
+    let page = opening.page in
+    let described = carried.described in
+    record { order = machine.order; long = machine.long; page = machine.page; layout = page.layout; page_text = page.text; event_text = described.event_text; ftrace = described.ftrace; systems = described.systems; kallsyms = described.kallsyms; printk = described.printk; cmdlines = carried.cmdlines; cpus = cpus; options = sections.options; body = sections.body; end = end }
 
 -- the header that a file begins with, or what is wrong with it
 unfoldable pub header_of : List ℕ → Result Header OpenFault
 header_of file = do
-  at_version ← word_at magic_word (NotTrace 0) file 0
-  at_order ← version_at file at_version
-  (machine, after) ← machine_at file at_order
-  at_page ← word_at page_word (BadSection after) file after
-  (page, after) ← page_text_at machine file at_page
-  at_event ← word_at event_word (BadSection after) file after
-  (carried, at_cpus) ← carried_at machine.order file at_event
-  (cpus, after) ← value_at 4 machine.order cpus_of (TooManyCpus at_cpus) file at_cpus
-  (sections, end) ← sections_at machine.order cpus file after
-  Ok (joined machine page carried cpus sections end)
+  (opening, at_event) ← opening_at file 0
+  (carried, at_cpus) ← carried_at opening.machine.order file at_event
+  (cpus, after) ← value_at 4 opening.machine.order cpus_of (TooManyCpus at_cpus) file at_cpus
+  (sections, end) ← sections_at opening.machine.order cpus file after
+  Ok (joined opening carried cpus sections end)
 
 -- it says what is wrong with the file's bytes
 abbrev pub IsRefusal : OpenFault → Type 0

@@ -9,13 +9,14 @@ use Rattle.dat_options.specs.Place.{AreBytes}
 use Rattle.dat_header.specs.declared.header.Header.{Header}
 use Rattle.dat_header.specs.declared.header.Body.TheVariants.{Fly}
 use Rattle.dat_header.specs.declared.pieces.Opening.{Opening}
-use Rattle.dat_header.specs.declared.pieces.Described.{Described}
+use Rattle.dat_header.specs.declared.pieces.Carried.{Carried}
 use Rattle.dat_header.specs.Allowed.{IsHeader}
 use Rattle.dat_header.specs.Spelling.{BeginsWith, HasHeader}
 use Rattle.dat_header.specs.Refusal.{Refuses, front}
 use Rattle.dat_header.specs.Found.{Found, ◌>>=◌}
 use Rattle.dat_header.specs.ItemsAt.{text_at}
 use Rattle.dat_header.specs.Opening.{opening_at, described_at}
+use Rattle.dat_header.specs.Header.{joined}
 
 -- it tells of no processor, and has no options and an empty table
 pub record IsPartial (header : Header) : Type 0 where
@@ -51,10 +52,9 @@ pub record RefusesPartial (file : List ℕ) (fault : OpenFault) : Type 0 where
 unfoldable pub cmdlines_at : Order → List ℕ → ℕ → Found (List ℕ)
 cmdlines_at order file at = if at == length file then Ok ([], at) else text_at 8 order file at
 
--- the header of these pieces
-abbrev pub partial_header : Opening → Described → List ℕ → ℕ → Header
-partial_header opening described cmdlines end =
-    record { order = opening.machine.order; long = opening.machine.long; page = opening.machine.page; layout = opening.page.layout; page_text = opening.page.text; event_text = described.event_text; ftrace = described.ftrace; systems = described.systems; kallsyms = described.kallsyms; printk = described.printk; cmdlines = cmdlines; cpus = 0; options = None; body = Fly []; end = end }
+-- the header of these pieces, with no processor, no options and an empty table
+abbrev pub partial_header : Opening → Carried → ℕ → Header
+partial_header opening carried end = joined opening carried 0 (record { options = None; body = Fly [] }) end
 
 -- the header of a partial file, or what is wrong with it
 unfoldable pub partial_of : List ℕ → Result Header OpenFault
@@ -62,7 +62,7 @@ partial_of file = do
   (opening, at_event) ← opening_at file 0
   (described, at_cmdlines) ← described_at opening.machine.order file at_event
   (cmdlines, end) ← cmdlines_at opening.machine.order file at_cmdlines
-  Ok (partial_header opening described cmdlines end)
+  Ok (partial_header opening (record { described = described; cmdlines = cmdlines }) end)
 
 -- what a call answered that read the header of a partial file, where the file tells its bytes
 abbrev pub ReadsPartial : Option (List ℕ) → Result Header OpenFault → Type 0

@@ -1,20 +1,13 @@
 -- What a step of reading does to the file, and what it answers.
-use Rattle.std.specs.Prelude.{◌≡◌, ◌≤◌, ◌-◌, ℕ, min, List, length, Option, Result, Err, IfOk, IfErr}
+use Rattle.std.specs.Prelude.{◌≡◌, ◌≤◌, ◌-◌, ℕ, min, List, length, Result, Err, IfOk, IfErr}
 use Rattle.trace_outside.specs.Causes.{Rose, raised}
 use Rattle.trace_outside.specs.Reading.{GivesBytesAt}
 use Rattle.dat_options.specs.Answer.{AnswersTold}
 use Rattle.dat_options.specs.declared.fault.OpenFault.{OpenFault}
 use Rattle.dat_options.specs.declared.fault.OpenFault.TheVariants.{Read}
-
--- what contracts see of a file
-pub record FileSeen : Type 0 where
-  pub bytes : Option (List ℕ)
-  pub size : ℕ
-  pub faults : ℕ
-  pub reads : ℕ
-
-abbrev pub seen : {F : Type 0} → (F → Option (List ℕ)) → (F → ℕ) → (F → ℕ) → (F → ℕ) → F → FileSeen
-seen bytes size faults reads file = record { bytes = bytes file; size = size file; faults = faults file; reads = reads file }
+use Rattle.trace_outside.specs.declared.outside.File as file
+use Rattle.dat_header.specs.Found.{Found}
+use Rattle.dat_header.specs.Seen.{FileSeen, file_seen}
 
 -- a step from a place on answered what is expected of the file's bytes, and read at most up to the place that it answers, or
 -- whatever it answered at most up to the file's end
@@ -28,6 +21,14 @@ pub record Steps {V : Type 0} (next : V → ℕ) (expected : List ℕ → Result
   pub most : now.reads ≤ raised before.reads (before.size - at)
   pub forward : IfOk result (λ value. at ≤ next value)
   pub inside : IfOk result (λ value. next value ≤ before.size)
+
+-- a step from a place on that finds a value there, and the place behind it
+abbrev pub Finds : {V F : Type 0} → (List ℕ → ℕ → Found V) → ℕ → file.Ghosts F → F → F → Found V → Type 0
+Finds value_at at f before now result = Steps (λ found. found.1) (λ bytes. value_at bytes at) at (file_seen f before) (file_seen f now) result
+
+-- a step from a place on of which only the place behind counts
+abbrev pub Passes : {F : Type 0} → (List ℕ → ℕ → Result ℕ OpenFault) → ℕ → file.Ghosts F → F → F → Result ℕ OpenFault → Type 0
+Passes word_at at f before now result = Steps (λ next. next) (λ bytes. word_at bytes at) at (file_seen f before) (file_seen f now) result
 
 -- as many of the buffer's bytes were read as the file has from there on
 pub record GivesThere (at : ℕ) (buffer : List ℕ) (before now : FileSeen) (result : Result ℕ OpenFault) : Type 0 where

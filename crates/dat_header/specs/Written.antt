@@ -4,6 +4,7 @@ use Rattle.std.specs.List.{filter, flat_map}
 use Rattle.std.specs.Option.{option_map}
 use Rattle.trace_base.specs.declared.order.Order.{Order}
 use Rattle.trace_base.specs.declared.part.Part.{Part}
+use Rattle.trace_outside.specs.declared.outside.Sink as sink
 use Rattle.trace_outside.specs.Causes.{Rose}
 use Rattle.trace_outside.specs.Writing.{Gained, GainedPrefix}
 use Rattle.dat_options.specs.declared.option.Opt.{Opt}
@@ -41,19 +42,10 @@ is_instance option = option.id == 3 || option.id == 4
 abbrev pub without_instances : Header → Header
 without_instances header = record header { options = option_map (filter (λ option. not (is_instance option))) header.options }
 
--- what contracts see of a sink
-pub record SinkSeen : Type 0 where
-  pub told : Option (List ℕ)
-  pub name : List ℕ
-  pub faults : ℕ
-
-abbrev pub sink : {O : Type 0} → (O → Option (List ℕ)) → (O → List ℕ) → (O → ℕ) → O → SinkSeen
-sink told name faults out = record { told = told out; name = name out; faults = faults out }
-
 -- the text was written, or after a fault a prefix of it
-pub record Writes {E : Type 0} (text : List ℕ) (before now : SinkSeen) (result : Result (Unit {0}) E) : Type 0 where
-  pub gained : OnOk result (Gained before.told now.told text)
-  pub prefix : OnErr result (GainedPrefix before.told now.told text)
-  pub name : now.name ≡ before.name
-  pub later : before.faults ≤ now.faults
-  pub failed : OnErr result (Rose before.faults now.faults)
+pub record Writes {O E : Type 0} (text : List ℕ) (o : sink.Ghosts O) (before now : O) (result : Result (Unit {0}) E) : Type 0 where
+  pub gained : OnOk result (Gained (o.written before) (o.written now) text)
+  pub prefix : OnErr result (GainedPrefix (o.written before) (o.written now) text)
+  pub name : o.name now ≡ o.name before
+  pub later : o.faults before ≤ o.faults now
+  pub failed : OnErr result (Rose (o.faults before) (o.faults now))

@@ -3,10 +3,10 @@
 ghost use Rattle.std.specs.Prelude.{◌≡◌, ◌^◌, ◌<◌, ◌≤◌, length, IfOk};
 ghost use Rattle.std.specs.List.{All};
 ghost use Rattle.dat_header.specs.Allowed.{AreFormats, IsSystem, AreSystems};
-ghost use Rattle.dat_header.specs.Pieces.{IsCarried};
+ghost use Rattle.dat_header.specs.Pieces.{IsCarried, IsDescribed};
 ghost use Rattle.dat_header.specs.Header.{carried_at};
-ghost use Rattle.dat_header.specs.Opening.{IsDescribed, described_at};
-ghost use Rattle.dat_header.specs.Steps.{Steps, seen};
+ghost use Rattle.dat_header.specs.Opening.{described_at};
+ghost use Rattle.dat_header.specs.Steps.{Finds};
 ghost use Rattle.dat_header.specs.ItemsAt.{texts_at, formats_at, system_at, each_system_at, systems_at};
 
 use crate::header::System;
@@ -25,16 +25,12 @@ pub(crate) fn read_carried<F: File>(
 ) -> Result<(Carried, u64), OpenFault>
     requires inside { at ≤ F.size file.old }
     ensures allowed { IfOk result (λ found. IsCarried found.0) }
-    ensures steps { Steps (λ found. found.1) (λ bytes. carried_at order bytes at) at (seen F.bytes F.size F.faults F.reads file.old) (seen F.bytes F.size F.faults F.reads file.new) result }
+    ensures steps { Finds (carried_at order) at F.File file.old file.new result }
 {
     let (described, after) = read_described(alloc, order, file, at)?;
     let (cmdlines, after) = read_long_text(alloc, order, file, after)?;
     let carried = Carried {
-        event_text: described.event_text,
-        ftrace: described.ftrace,
-        systems: described.systems,
-        kallsyms: described.kallsyms,
-        printk: described.printk,
+        described,
         cmdlines,
     };
     Ok((carried, after))
@@ -49,7 +45,7 @@ pub(crate) fn read_described<F: File>(
 ) -> Result<(Described, u64), OpenFault>
     requires inside { at ≤ F.size file.old }
     ensures allowed { IfOk result (λ found. IsDescribed found.0) }
-    ensures steps { Steps (λ found. found.1) (λ bytes. described_at order bytes at) at (seen F.bytes F.size F.faults F.reads file.old) (seen F.bytes F.size F.faults F.reads file.new) result }
+    ensures steps { Finds (described_at order) at F.File file.old file.new result }
 {
     let (event_text, after) = read_long_text(alloc, order, file, at)?;
     let (ftrace, after) = read_formats(alloc, order, file, after)?;
@@ -75,7 +71,7 @@ fn read_formats<F: File>(
 ) -> Result<(ListOf<ByteText>, u64), OpenFault>
     requires inside { at ≤ F.size file.old }
     ensures allowed { IfOk result (λ found. AreFormats found.0) }
-    ensures steps { Steps (λ found. found.1) (λ bytes. formats_at order bytes at) at (seen F.bytes F.size F.faults F.reads file.old) (seen F.bytes F.size F.faults F.reads file.new) result }
+    ensures steps { Finds (formats_at order) at F.File file.old file.new result }
 {
     let (count, after) = read_number(order, file, at)?;
     read_texts(alloc, order, count, file, after)
@@ -91,7 +87,7 @@ fn read_texts<F: File>(
 ) -> Result<(ListOf<ByteText>, u64), OpenFault>
     requires inside { at ≤ F.size file.old }
     ensures allowed { IfOk result (λ found. (length found.0 ≡ count) × All (λ text. length text < 2 ^ 64) found.0) }
-    ensures steps { Steps (λ found. found.1) (λ bytes. texts_at count order bytes at) at (seen F.bytes F.size F.faults F.reads file.old) (seen F.bytes F.size F.faults F.reads file.new) result }
+    ensures steps { Finds (texts_at count order) at F.File file.old file.new result }
 {
     let mut texts = Vec::new(alloc);
     let mut place = at;
@@ -113,7 +109,7 @@ fn read_system<F: File>(
 ) -> Result<(System, u64), OpenFault>
     requires inside { at ≤ F.size file.old }
     ensures allowed { IfOk result (λ found. IsSystem found.0) }
-    ensures steps { Steps (λ found. found.1) (λ bytes. system_at order bytes at) at (seen F.bytes F.size F.faults F.reads file.old) (seen F.bytes F.size F.faults F.reads file.new) result }
+    ensures steps { Finds (system_at order) at F.File file.old file.new result }
 {
     let (name, after) = read_name(alloc, file, at)?;
     let (formats, after) = read_formats(alloc, order, file, after)?;
@@ -129,7 +125,7 @@ fn read_systems<F: File>(
 ) -> Result<(ListOf<System>, u64), OpenFault>
     requires inside { at ≤ F.size file.old }
     ensures allowed { IfOk result (λ found. AreSystems found.0) }
-    ensures steps { Steps (λ found. found.1) (λ bytes. systems_at order bytes at) at (seen F.bytes F.size F.faults F.reads file.old) (seen F.bytes F.size F.faults F.reads file.new) result }
+    ensures steps { Finds (systems_at order) at F.File file.old file.new result }
 {
     let (count, after) = read_number(order, file, at)?;
     read_each_system(alloc, order, count, file, after)
@@ -144,7 +140,7 @@ fn read_each_system<F: File>(
 ) -> Result<(ListOf<System>, u64), OpenFault>
     requires inside { at ≤ F.size file.old }
     ensures allowed { IfOk result (λ found. (length found.0 ≡ count) × All IsSystem found.0) }
-    ensures steps { Steps (λ found. found.1) (λ bytes. each_system_at count order bytes at) at (seen F.bytes F.size F.faults F.reads file.old) (seen F.bytes F.size F.faults F.reads file.new) result }
+    ensures steps { Finds (each_system_at count order) at F.File file.old file.new result }
 {
     let mut systems = Vec::new(alloc);
     let mut place = at;

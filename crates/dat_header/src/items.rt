@@ -4,7 +4,8 @@ ghost use Rattle.std.specs.Prelude.{◌≡◌, ◌+◌, ◌^◌, ◌<◌, ◌≤
 ghost use Rattle.trace_base.specs.declared.order.Order.TheVariants.{Little};
 ghost use Rattle.dat_header.specs.Allowed.{IsSystemName};
 ghost use Rattle.dat_header.specs.Header.{IsRefusal};
-ghost use Rattle.dat_header.specs.Steps.{Steps, GivesThere, seen};
+ghost use Rattle.dat_header.specs.Seen.{file_seen};
+ghost use Rattle.dat_header.specs.Steps.{Finds, GivesThere, Passes};
 ghost use Rattle.dat_header.specs.ItemsAt.{word_in, word_at, bytes_at, number_at, text_at, name_at};
 
 use dat_options::OpenFault;
@@ -19,7 +20,7 @@ pub(crate) fn read_there<F: File>(
     into: &mut [u8],
 ) -> Result<usize, OpenFault>
     requires inside { at ≤ F.size file.old }
-    ensures { GivesThere at into.new (seen F.bytes F.size F.faults F.reads file.old) (seen F.bytes F.size F.faults F.reads file.new) result }
+    ensures { GivesThere at into.new (file_seen F.File file.old) (file_seen F.File file.new) result }
 {
     let there = (file.len() - at).min(into.len() as u64) as usize;
     read_all(file, at, &mut into[..there])?;
@@ -35,7 +36,7 @@ pub(crate) fn read_word<F: File, const N: usize>(
 ) -> Result<u64, OpenFault>
     requires inside { at ≤ F.size file.old }
     requires refusal { IsRefusal wrong }
-    ensures { Steps (λ next. next) (λ bytes. word_at word.now wrong bytes at) at (seen F.bytes F.size F.faults F.reads file.old) (seen F.bytes F.size F.faults F.reads file.new) result }
+    ensures { Passes (word_at word.now wrong) at F.File file.old file.new result }
 {
     let mut buffer = [0; N];
     let count = read_there(file, at, &mut buffer)?;
@@ -66,7 +67,7 @@ pub(crate) fn word_in(
 pub(crate) fn read_byte<F: File>(file: &mut F, at: u64) -> Result<(u8, u64), OpenFault>
     requires inside { at ≤ F.size file.old }
     ensures behind { IfOk result (λ found. found.1 ≡ at + 1) }
-    ensures steps { Steps (λ found. found.1) (λ bytes. number_at 1 Little bytes at) at (seen F.bytes F.size F.faults F.reads file.old) (seen F.bytes F.size F.faults F.reads file.new) result }
+    ensures steps { Finds (number_at 1 Little) at F.File file.old file.new result }
 {
     let mut bytes = [0; 1];
     read_piece(file, at, &mut bytes)?;
@@ -79,7 +80,7 @@ pub(crate) fn read_number<F: File>(
     at: u64,
 ) -> Result<(u32, u64), OpenFault>
     requires inside { at ≤ F.size file.old }
-    ensures { Steps (λ found. found.1) (λ bytes. number_at 4 order bytes at) at (seen F.bytes F.size F.faults F.reads file.old) (seen F.bytes F.size F.faults F.reads file.new) result }
+    ensures { Finds (number_at 4 order) at F.File file.old file.new result }
 {
     let mut bytes = [0; 4];
     read_piece(file, at, &mut bytes)?;
@@ -92,7 +93,7 @@ pub(crate) fn read_long_number<F: File>(
     at: u64,
 ) -> Result<(u64, u64), OpenFault>
     requires inside { at ≤ F.size file.old }
-    ensures { Steps (λ found. found.1) (λ bytes. number_at 8 order bytes at) at (seen F.bytes F.size F.faults F.reads file.old) (seen F.bytes F.size F.faults F.reads file.new) result }
+    ensures { Finds (number_at 8 order) at F.File file.old file.new result }
 {
     let mut bytes = [0; 8];
     read_piece(file, at, &mut bytes)?;
@@ -108,7 +109,7 @@ pub(crate) fn read_content<F: File>(
 ) -> Result<(ByteText, u64), OpenFault>
     requires inside { at ≤ F.size file.old }
     ensures long { IfOk result (λ found. length found.0 ≡ size) }
-    ensures steps { Steps (λ found. found.1) (λ bytes. bytes_at size bytes at) at (seen F.bytes F.size F.faults F.reads file.old) (seen F.bytes F.size F.faults F.reads file.new) result }
+    ensures steps { Finds (bytes_at size) at F.File file.old file.new result }
 {
     let text = read_bytes(alloc, file, at, size)?;
     Ok((text, at + size))
@@ -123,7 +124,7 @@ pub(crate) fn read_text<F: File>(
 ) -> Result<(ByteText, u64), OpenFault>
     requires inside { at ≤ F.size file.old }
     ensures short { IfOk result (λ found. length found.0 < 2 ^ 32) }
-    ensures steps { Steps (λ found. found.1) (λ bytes. text_at 4 order bytes at) at (seen F.bytes F.size F.faults F.reads file.old) (seen F.bytes F.size F.faults F.reads file.new) result }
+    ensures steps { Finds (text_at 4 order) at F.File file.old file.new result }
 {
     let (size, after) = read_number(order, file, at)?;
     read_content(alloc, size as u64, file, after)
@@ -138,7 +139,7 @@ pub(crate) fn read_long_text<F: File>(
 ) -> Result<(ByteText, u64), OpenFault>
     requires inside { at ≤ F.size file.old }
     ensures short { IfOk result (λ found. length found.0 < 2 ^ 64) }
-    ensures steps { Steps (λ found. found.1) (λ bytes. text_at 8 order bytes at) at (seen F.bytes F.size F.faults F.reads file.old) (seen F.bytes F.size F.faults F.reads file.new) result }
+    ensures steps { Finds (text_at 8 order) at F.File file.old file.new result }
 {
     let (size, after) = read_long_number(order, file, at)?;
     read_content(alloc, size, file, after)
@@ -152,7 +153,7 @@ pub(crate) fn read_name<F: File>(
 ) -> Result<(ByteText, u64), OpenFault>
     requires inside { at ≤ F.size file.old }
     ensures allowed { IfOk result (λ found. IsSystemName found.0) }
-    ensures steps { Steps (λ found. found.1) (λ bytes. name_at bytes at) at (seen F.bytes F.size F.faults F.reads file.old) (seen F.bytes F.size F.faults F.reads file.new) result }
+    ensures steps { Finds name_at at F.File file.old file.new result }
 {
     let mut name = Vec::new(alloc);
     let mut place = at;

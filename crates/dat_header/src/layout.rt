@@ -6,8 +6,8 @@ ghost use Rattle.trace_base.specs.FieldReading.{field_view};
 ghost use Rattle.trace_base.specs.Layout.{IsLayout};
 ghost use Rattle.dat_header.specs.PageText.{field_lines, is_sub_buffer_size, layout_of, layout_by, line_named, may_be};
 ghost use Rattle.dat_header.specs.Pieces.{IsMachine, IsPageText};
-ghost use Rattle.dat_header.specs.Header.{page_text_at};
-ghost use Rattle.dat_header.specs.Steps.{Steps, seen};
+ghost use Rattle.dat_header.specs.Opening.{page_text_at};
+ghost use Rattle.dat_header.specs.Steps.{Finds};
 
 use crate::items::{read_content, read_long_number};
 use crate::pieces::{Machine, PageText};
@@ -27,7 +27,7 @@ pub(crate) fn read_page_text<F: File>(
     requires machine { IsMachine machine.now }
     requires inside { at ≤ F.size file.old }
     ensures allowed { IfOk result (λ found. IsPageText machine.now found.0) }
-    ensures steps { Steps (λ found. found.1) (λ bytes. page_text_at machine.now bytes at) at (seen F.bytes F.size F.faults F.reads file.old) (seen F.bytes F.size F.faults F.reads file.new) result }
+    ensures steps { Finds (page_text_at machine.now) at F.File file.old file.new result }
 {
     let (size, at_text) = read_long_number(machine.order, file, at)?;
     let (text, after) = read_content(alloc, size, file, at_text)?;

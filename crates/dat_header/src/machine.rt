@@ -4,8 +4,8 @@ ghost use Rattle.std.specs.Prelude.{◌≤◌, IfOk};
 ghost use Rattle.trace_base.specs.declared.order.Order.TheVariants.{Little};
 ghost use Rattle.dat_header.specs.Allowed.{IsLong, IsPageSize};
 ghost use Rattle.dat_header.specs.Pieces.{IsMachine};
-ghost use Rattle.dat_header.specs.Header.{machine_at};
-ghost use Rattle.dat_header.specs.Steps.{Steps, seen};
+ghost use Rattle.dat_header.specs.Opening.{machine_at};
+ghost use Rattle.dat_header.specs.Steps.{Finds};
 ghost use Rattle.dat_header.specs.ItemsAt.{value_at, order_of, long_of, page_of, cpus_of};
 
 use crate::items::{read_byte, read_number};
@@ -17,7 +17,7 @@ use trace_outside::File;
 pub(crate) fn read_machine<F: File>(file: &mut F, at: u64) -> Result<(Machine, u64), OpenFault>
     requires inside { at ≤ F.size file.old }
     ensures machine { IfOk result (λ found. IsMachine found.0) }
-    ensures steps { Steps (λ found. found.1) (λ bytes. machine_at bytes at) at (seen F.bytes F.size F.faults F.reads file.old) (seen F.bytes F.size F.faults F.reads file.new) result }
+    ensures steps { Finds machine_at at F.File file.old file.new result }
 {
     let (order, at_long) = read_order(file, at)?;
     let (long, at_page) = read_long(file, at_long)?;
@@ -27,7 +27,7 @@ pub(crate) fn read_machine<F: File>(file: &mut F, at: u64) -> Result<(Machine, u
 
 fn read_order<F: File>(file: &mut F, at: u64) -> Result<(Order, u64), OpenFault>
     requires inside { at ≤ F.size file.old }
-    ensures { Steps (λ found. found.1) (λ bytes. value_at 1 Little order_of (OpenFault.BadEndian at) bytes at) at (seen F.bytes F.size F.faults F.reads file.old) (seen F.bytes F.size F.faults F.reads file.new) result }
+    ensures { Finds (value_at 1 Little order_of (OpenFault.BadEndian at)) at F.File file.old file.new result }
 {
     let (byte, after) = read_byte(file, at)?;
     match byte {
@@ -40,7 +40,7 @@ fn read_order<F: File>(file: &mut F, at: u64) -> Result<(Order, u64), OpenFault>
 fn read_long<F: File>(file: &mut F, at: u64) -> Result<(u32, u64), OpenFault>
     requires inside { at ≤ F.size file.old }
     ensures allowed { IfOk result (λ found. IsLong found.0) }
-    ensures steps { Steps (λ found. found.1) (λ bytes. value_at 1 Little long_of (OpenFault.BadLong at) bytes at) at (seen F.bytes F.size F.faults F.reads file.old) (seen F.bytes F.size F.faults F.reads file.new) result }
+    ensures steps { Finds (value_at 1 Little long_of (OpenFault.BadLong at)) at F.File file.old file.new result }
 {
     let (byte, after) = read_byte(file, at)?;
     match byte {
@@ -52,7 +52,7 @@ fn read_long<F: File>(file: &mut F, at: u64) -> Result<(u32, u64), OpenFault>
 fn read_page<F: File>(order: Order, file: &mut F, at: u64) -> Result<(u32, u64), OpenFault>
     requires inside { at ≤ F.size file.old }
     ensures allowed { IfOk result (λ found. IsPageSize found.0) }
-    ensures steps { Steps (λ found. found.1) (λ bytes. value_at 4 order page_of (OpenFault.BadPageSize at) bytes at) at (seen F.bytes F.size F.faults F.reads file.old) (seen F.bytes F.size F.faults F.reads file.new) result }
+    ensures steps { Finds (value_at 4 order page_of (OpenFault.BadPageSize at)) at F.File file.old file.new result }
 {
     let (page, after) = read_number(order, file, at)?;
     match page {
@@ -69,7 +69,7 @@ pub(crate) fn read_cpus<F: File>(
 ) -> Result<(u32, u64), OpenFault>
     requires inside { at ≤ F.size file.old }
     ensures allowed { IfOk result (λ found. found.0 ≤ 1024) }
-    ensures steps { Steps (λ found. found.1) (λ bytes. value_at 4 order cpus_of (OpenFault.TooManyCpus at) bytes at) at (seen F.bytes F.size F.faults F.reads file.old) (seen F.bytes F.size F.faults F.reads file.new) result }
+    ensures steps { Finds (value_at 4 order cpus_of (OpenFault.TooManyCpus at)) at F.File file.old file.new result }
 {
     let (cpus, after) = read_number(order, file, at)?;
     if cpus > 1_024 {

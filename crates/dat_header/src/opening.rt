@@ -1,10 +1,10 @@
 // The items that every header begins with: up to the word in front of the texts that are carried unread.
 
 ghost use Rattle.std.specs.Prelude.{◌≡◌, ◌≤◌, IfOk};
-ghost use Rattle.dat_header.specs.Header.{version_at};
-ghost use Rattle.dat_header.specs.Opening.{IsOpening, opening_at};
+ghost use Rattle.dat_header.specs.Opening.{opening_at, version_at};
+ghost use Rattle.dat_header.specs.Pieces.{IsOpening};
 ghost use Rattle.dat_header.specs.Refusal.{version_fault};
-ghost use Rattle.dat_header.specs.Steps.{Steps, seen};
+ghost use Rattle.dat_header.specs.Steps.{Finds, Passes};
 
 use crate::items::{read_there, read_word, word_in};
 use crate::layout::read_page_text;
@@ -19,7 +19,7 @@ pub(crate) fn read_opening<F: File>(
     file: &mut F,
 ) -> Result<(Opening, u64), OpenFault>
     ensures allowed { IfOk result (λ found. IsOpening found.0) }
-    ensures steps { Steps (λ found. found.1) (λ bytes. opening_at bytes 0) 0 (seen F.bytes F.size F.faults F.reads file.old) (seen F.bytes F.size F.faults F.reads file.new) result }
+    ensures steps { Finds opening_at 0 F.File file.old file.new result }
 {
     let at_version = read_word(file, 0, b"\x17\x08\x44tracing", OpenFault::NotTrace(0))?;
     let at_order = read_version(file, at_version)?;
@@ -33,7 +33,7 @@ pub(crate) fn read_opening<F: File>(
 // The word of the file's version.
 fn read_version<F: File>(file: &mut F, at: u64) -> Result<u64, OpenFault>
     requires inside { at ≤ F.size file.old }
-    ensures { Steps (λ next. next) (λ bytes. version_at bytes at) at (seen F.bytes F.size F.faults F.reads file.old) (seen F.bytes F.size F.faults F.reads file.new) result }
+    ensures { Passes version_at at F.File file.old file.new result }
 {
     let mut buffer = [0; 2];
     let count = read_there(file, at, &mut buffer)?;

@@ -2,15 +2,17 @@
 
 ghost use Rattle.std.specs.Prelude.{◌≡◌, ◌^◌, ◌<◌, ◌≤◌, [], length, IfOk, IsErrOf};
 ghost use Rattle.trace_outside.specs.Causes.{Rose, raised};
+ghost use Rattle.trace_outside.specs.Keeping.{KeepsFile};
 ghost use Rattle.trace_base.specs.Layout.{IsLayout};
 ghost use Rattle.dat_header.specs.Partial.{IsPartial, ReadsPartial, cmdlines_at, partial_header, partial_of};
-ghost use Rattle.dat_header.specs.Steps.{Steps, seen};
+ghost use Rattle.dat_header.specs.Seen.{file_seen};
+ghost use Rattle.dat_header.specs.Steps.{Finds, Steps};
 
 use crate::carried::read_described;
 use crate::header::{Body, Header};
 use crate::items::read_long_text;
 use crate::opening::read_opening;
-use crate::pieces::{Described, Opening};
+use crate::pieces::{Carried, Opening, Sections, joined};
 use dat_options::OpenFault;
 use std::alloc::Global;
 use trace_base::{ByteText, ListOf, Order, Part};
@@ -27,14 +29,12 @@ use trace_outside::File;
 pub fn read_partial<F: File>(alloc: Global, file: &mut F) -> Result<Header, OpenFault>
     ensures answer { ReadsPartial (F.bytes file.old) result }
     ensures read { IsErrOf result OpenFault.Read → Rose (F.faults file.old) (F.faults file.new) }
-    ensures later { F.faults file.old ≤ F.faults file.new }
     ensures reads { IfOk result (λ header. F.reads file.new ≤ raised (F.reads file.old) header.end) }
     ensures most { F.reads file.new ≤ raised (F.reads file.old) (F.size file.old) }
     ensures end_inside { IfOk result (λ header. header.end ≤ F.size file.old) }
     ensures partial { IfOk result IsPartial }
     ensures layout { IfOk result (λ header. IsLayout header.layout) }
-    ensures bytes { F.bytes file.new ≡ F.bytes file.old }
-    ensures size { F.size file.new ≡ F.size file.old }
+    ensures keeps { KeepsFile F.File file.old file.new }
 {
     read_partial_pieces(alloc, file)
 }
@@ -42,13 +42,17 @@ pub fn read_partial<F: File>(alloc: Global, file: &mut F) -> Result<Header, Open
 // The header, as one step of reading.
 fn read_partial_pieces<F: File>(alloc: Global, file: &mut F) -> Result<Header, OpenFault>
     ensures partial { IfOk result IsPartial }
-    ensures steps { Steps (λ header. header.end) partial_of 0 (seen F.bytes F.size F.faults F.reads file.old) (seen F.bytes F.size F.faults F.reads file.new) result }
+    ensures steps { Steps (λ header. header.end) partial_of 0 (file_seen F.File file.old) (file_seen F.File file.new) result }
 {
     let (opening, at_event) = read_opening(alloc, file)?;
     let order = opening.machine.order;
     let (described, at_cmdlines) = read_described(alloc, order, file, at_event)?;
     let (cmdlines, end) = read_cmdlines(alloc, order, file, at_cmdlines)?;
-    Ok(partial_header(alloc, opening, described, cmdlines, end))
+    let carried = Carried {
+        described,
+        cmdlines,
+    };
+    Ok(partial_header(alloc, opening, carried, end))
 }
 
 // The command lines, which are empty where the file ends in front of them.
@@ -60,7 +64,7 @@ fn read_cmdlines<F: File>(
 ) -> Result<(ByteText, u64), OpenFault>
     requires inside { at ≤ F.size file.old }
     ensures short { IfOk result (λ found. length found.0 < 2 ^ 64) }
-    ensures steps { Steps (λ found. found.1) (λ bytes. cmdlines_at order bytes at) at (seen F.bytes F.size F.faults F.reads file.old) (seen F.bytes F.size F.faults F.reads file.new) result }
+    ensures steps { Finds (cmdlines_at order) at F.File file.old file.new result }
 {
     let size = file.len();
     if at == size {
@@ -82,33 +86,13 @@ fn no_parts(alloc: Global) -> ListOf<Part>
     ListOf::from_vec(Vec::new(alloc))
 }
 
-// The header of these pieces.
-fn partial_header(
-    alloc: Global,
-    opening: Opening,
-    described: Described,
-    cmdlines: ByteText,
-    end: u64,
-) -> Header
-    ensures { result ≡ partial_header opening described cmdlines end }
+// The header of these pieces, with no processor, no options and an empty table.
+fn partial_header(alloc: Global, opening: Opening, carried: Carried, end: u64) -> Header
+    ensures { result ≡ partial_header opening carried end }
 {
-    let Opening { machine, page } = opening;
-    let body = Body::Fly(no_parts(alloc));
-    Header {
-        order: machine.order,
-        long: machine.long,
-        page: machine.page,
-        layout: page.layout,
-        page_text: page.text,
-        event_text: described.event_text,
-        ftrace: described.ftrace,
-        systems: described.systems,
-        kallsyms: described.kallsyms,
-        printk: described.printk,
-        cmdlines,
-        cpus: 0,
+    let sections = Sections {
         options: None,
-        body,
-        end,
-    }
+        body: Body::Fly(no_parts(alloc)),
+    };
+    joined(opening, carried, 0, sections, end)
 }

@@ -1,6 +1,9 @@
 // What the pieces of a header say, as they are read one behind another.
 
-use crate::header::{Body, System};
+ghost use Rattle.std.specs.Prelude.{◌≡◌};
+ghost use Rattle.dat_header.specs.Header.{joined};
+
+use crate::header::{Body, Header, System};
 use dat_options::Opt;
 use trace_base::{ByteText, Layout, ListOf, Order};
 
@@ -39,11 +42,7 @@ pub(crate) struct Described {
 // All texts that are carried unread.
 #[derive(Drop)]
 pub(crate) struct Carried {
-    pub(crate) event_text: ByteText,
-    pub(crate) ftrace: ListOf<ByteText>,
-    pub(crate) systems: ListOf<System>,
-    pub(crate) kallsyms: ByteText,
-    pub(crate) printk: ByteText,
+    pub(crate) described: Described,
     pub(crate) cmdlines: ByteText,
 }
 
@@ -59,4 +58,38 @@ pub(crate) struct Sections {
 pub(crate) enum LastSection {
     Latency,
     Fly,
+}
+
+// The header of these pieces.
+pub(crate) fn joined(
+    opening: Opening,
+    carried: Carried,
+    cpus: u32,
+    sections: Sections,
+    end: u64,
+) -> Header
+    ensures { result ≡ joined opening carried cpus sections end }
+{
+    let Opening { machine, page } = opening;
+    let Carried {
+        described,
+        cmdlines,
+    } = carried;
+    Header {
+        order: machine.order,
+        long: machine.long,
+        page: machine.page,
+        layout: page.layout,
+        page_text: page.text,
+        event_text: described.event_text,
+        ftrace: described.ftrace,
+        systems: described.systems,
+        kallsyms: described.kallsyms,
+        printk: described.printk,
+        cmdlines,
+        cpus,
+        options: sections.options,
+        body: sections.body,
+        end,
+    }
 }

@@ -5,7 +5,7 @@ ghost use Rattle.std.specs.List.{All, flat_map};
 ghost use Rattle.trace_base.specs.Number.{bytes_of};
 ghost use Rattle.dat_header.specs.Allowed.{AreFormats, AreSystems, IsHeader, IsSystem};
 ghost use Rattle.dat_header.specs.Items.{items, text, sized, sized_texts, formats_text, system_text, systems_text, order_byte};
-ghost use Rattle.dat_header.specs.Written.{Writes, options_section, sink, with_parts};
+ghost use Rattle.dat_header.specs.Written.{Writes, options_section, with_parts};
 
 use crate::header::{Header, System};
 use dat_options::{write_options, write_table};
@@ -15,7 +15,7 @@ use trace_outside::{Failed, Sink, write_all, write_parts};
 // From the magic bytes to the header_page text.
 pub(crate) fn write_front<O: Sink>(header: &Header, out: &mut O) -> Result<(), Failed>
     requires { IsHeader header.now }
-    ensures { Writes (text (take 7 (items header.now))) (sink O.written O.name O.faults out.old) (sink O.written O.name O.faults out.new) result }
+    ensures { Writes (text (take 7 (items header.now))) O.Sink out.old out.new result }
 {
     let order = header.order;
     write_parts(
@@ -50,7 +50,7 @@ fn number_bytes(order: Order, number: u32) -> [u8; 4]
 // From the header_event word to the command lines.
 pub(crate) fn write_texts<O: Sink>(header: &Header, out: &mut O) -> Result<(), Failed>
     requires { IsHeader header.now }
-    ensures { Writes (text (take 7 (drop 7 (items header.now)))) (sink O.written O.name O.faults out.old) (sink O.written O.name O.faults out.new) result }
+    ensures { Writes (text (take 7 (drop 7 (items header.now)))) O.Sink out.old out.new result }
 {
     let order = header.order;
     write_all(out, b"header_event\0")?;
@@ -65,7 +65,7 @@ pub(crate) fn write_texts<O: Sink>(header: &Header, out: &mut O) -> Result<(), F
 // From the number of processors to the table of these parts.
 pub(crate) fn write_end<O: Sink>(header: &Header, parts: &[Part], out: &mut O) -> Result<(), Failed>
     requires { IsHeader header.now }
-    ensures { Writes (text (drop 14 (items (with_parts header.now parts.now)))) (sink O.written O.name O.faults out.old) (sink O.written O.name O.faults out.new) result }
+    ensures { Writes (text (drop 14 (items (with_parts header.now parts.now)))) O.Sink out.old out.new result }
 {
     write_number(header.order, header.cpus, out)?;
     write_options_section(header, out)?;
@@ -76,7 +76,7 @@ pub(crate) fn write_end<O: Sink>(header: &Header, parts: &[Part], out: &mut O) -
 // The section of options, where the header has one.
 fn write_options_section<O: Sink>(header: &Header, out: &mut O) -> Result<(), Failed>
     requires { IsHeader header.now }
-    ensures { Writes (options_section header.now.order header.now.options) (sink O.written O.name O.faults out.old) (sink O.written O.name O.faults out.new) result }
+    ensures { Writes (options_section header.now.order header.now.options) O.Sink out.old out.new result }
 {
     match &header.options {
         Some(options) => {
@@ -88,7 +88,7 @@ fn write_options_section<O: Sink>(header: &Header, out: &mut O) -> Result<(), Fa
 }
 
 fn write_number<O: Sink>(order: Order, number: u32, out: &mut O) -> Result<(), Failed>
-    ensures { Writes (bytes_of order 4 number) (sink O.written O.name O.faults out.old) (sink O.written O.name O.faults out.new) result }
+    ensures { Writes (bytes_of order 4 number) O.Sink out.old out.new result }
 {
     write_all(out, &number_bytes(order, number))
 }
@@ -96,7 +96,7 @@ fn write_number<O: Sink>(order: Order, number: u32, out: &mut O) -> Result<(), F
 // A text behind its 32-bit size.
 fn write_text<O: Sink>(order: Order, content: &ByteText, out: &mut O) -> Result<(), Failed>
     requires { length content.now < 2 ^ 32 }
-    ensures { Writes (sized 4 order content.now) (sink O.written O.name O.faults out.old) (sink O.written O.name O.faults out.new) result }
+    ensures { Writes (sized 4 order content.now) O.Sink out.old out.new result }
 {
     let bytes = content.as_bytes();
     write_parts(out, &[&number_bytes(order, bytes.len() as u32), bytes])
@@ -104,7 +104,7 @@ fn write_text<O: Sink>(order: Order, content: &ByteText, out: &mut O) -> Result<
 
 // A text behind its 64-bit size.
 fn write_long_text<O: Sink>(order: Order, content: &ByteText, out: &mut O) -> Result<(), Failed>
-    ensures { Writes (sized 8 order content.now) (sink O.written O.name O.faults out.old) (sink O.written O.name O.faults out.new) result }
+    ensures { Writes (sized 8 order content.now) O.Sink out.old out.new result }
 {
     let bytes = content.as_bytes();
     let mut size = [0; 8];
@@ -119,7 +119,7 @@ fn write_formats<O: Sink>(
     out: &mut O,
 ) -> Result<(), Failed>
     requires { AreFormats formats.now }
-    ensures { Writes (formats_text order formats.now) (sink O.written O.name O.faults out.old) (sink O.written O.name O.faults out.new) result }
+    ensures { Writes (formats_text order formats.now) O.Sink out.old out.new result }
 {
     let formats = formats.as_slice();
     write_number(order, formats.len() as u32, out)?;
@@ -127,7 +127,7 @@ fn write_formats<O: Sink>(
 }
 
 fn write_each_text<O: Sink>(order: Order, texts: &[ByteText], out: &mut O) -> Result<(), Failed>
-    ensures { Writes (sized_texts order texts.now) (sink O.written O.name O.faults out.old) (sink O.written O.name O.faults out.new) result }
+    ensures { Writes (sized_texts order texts.now) O.Sink out.old out.new result }
 {
     for content in texts {
         write_long_text(order, content, out)?;
@@ -137,7 +137,7 @@ fn write_each_text<O: Sink>(order: Order, texts: &[ByteText], out: &mut O) -> Re
 
 fn write_systems<O: Sink>(order: Order, systems: &ListOf<System>, out: &mut O) -> Result<(), Failed>
     requires { AreSystems systems.now }
-    ensures { Writes (systems_text order systems.now) (sink O.written O.name O.faults out.old) (sink O.written O.name O.faults out.new) result }
+    ensures { Writes (systems_text order systems.now) O.Sink out.old out.new result }
 {
     let systems = systems.as_slice();
     write_number(order, systems.len() as u32, out)?;
@@ -146,7 +146,7 @@ fn write_systems<O: Sink>(order: Order, systems: &ListOf<System>, out: &mut O) -
 
 fn write_each_system<O: Sink>(order: Order, systems: &[System], out: &mut O) -> Result<(), Failed>
     requires { All IsSystem systems.now }
-    ensures { Writes (flat_map (system_text order) systems.now) (sink O.written O.name O.faults out.old) (sink O.written O.name O.faults out.new) result }
+    ensures { Writes (flat_map (system_text order) systems.now) O.Sink out.old out.new result }
 {
     for system in systems {
         write_system(order, system, out)?;
@@ -156,7 +156,7 @@ fn write_each_system<O: Sink>(order: Order, systems: &[System], out: &mut O) -> 
 
 fn write_system<O: Sink>(order: Order, system: &System, out: &mut O) -> Result<(), Failed>
     requires { IsSystem system.now }
-    ensures { Writes (system_text order system.now) (sink O.written O.name O.faults out.old) (sink O.written O.name O.faults out.new) result }
+    ensures { Writes (system_text order system.now) O.Sink out.old out.new result }
 {
     write_parts(out, &[system.name.as_bytes(), b"\0"])?;
     write_formats(order, &system.formats, out)

@@ -4,15 +4,16 @@ ghost use Rattle.std.specs.Prelude.{◌≡◌, ◌≤◌, IfOk, IsErrOf};
 ghost use Rattle.trace_outside.specs.Causes.{Rose, raised};
 ghost use Rattle.trace_outside.specs.Keeping.{KeepsFile};
 ghost use Rattle.trace_base.specs.Layout.{IsLayout};
-ghost use Rattle.dat_header.specs.Header.{ReadsHeader, header_of, joined};
+ghost use Rattle.dat_header.specs.Header.{ReadsHeader, header_of};
 ghost use Rattle.dat_header.specs.Allowed.{IsHeader, IsBody};
-ghost use Rattle.dat_header.specs.Steps.{Steps, seen};
+ghost use Rattle.dat_header.specs.Seen.{file_seen};
+ghost use Rattle.dat_header.specs.Steps.{Steps};
 
 use crate::carried::read_carried;
 use crate::header::Header;
 use crate::machine::read_cpus;
 use crate::opening::read_opening;
-use crate::pieces::{Carried, Machine, PageText, Sections};
+use crate::pieces::joined;
 use crate::sections::read_sections;
 use dat_options::OpenFault;
 use std::alloc::Global;
@@ -43,42 +44,12 @@ pub fn read_header<F: File>(alloc: Global, file: &mut F) -> Result<Header, OpenF
 // The header, as one step of reading.
 fn read_pieces<F: File>(alloc: Global, file: &mut F) -> Result<Header, OpenFault>
     ensures allowed { IfOk result IsHeader }
-    ensures steps { Steps (λ header. header.end) header_of 0 (seen F.bytes F.size F.faults F.reads file.old) (seen F.bytes F.size F.faults F.reads file.new) result }
+    ensures steps { Steps (λ header. header.end) header_of 0 (file_seen F.File file.old) (file_seen F.File file.new) result }
 {
     let (opening, at_event) = read_opening(alloc, file)?;
     let order = opening.machine.order;
     let (carried, at_cpus) = read_carried(alloc, order, file, at_event)?;
     let (cpus, after) = read_cpus(order, file, at_cpus)?;
     let (sections, end) = read_sections(alloc, order, cpus, file, after)?;
-    Ok(joined(opening.machine, opening.page, carried, cpus, sections, end))
-}
-
-// The header of these pieces.
-fn joined(
-    machine: Machine,
-    page: PageText,
-    carried: Carried,
-    cpus: u32,
-    sections: Sections,
-    end: u64,
-) -> Header
-    ensures { result ≡ joined machine page carried cpus sections end }
-{
-    Header {
-        order: machine.order,
-        long: machine.long,
-        page: machine.page,
-        layout: page.layout,
-        page_text: page.text,
-        event_text: carried.event_text,
-        ftrace: carried.ftrace,
-        systems: carried.systems,
-        kallsyms: carried.kallsyms,
-        printk: carried.printk,
-        cmdlines: carried.cmdlines,
-        cpus,
-        options: sections.options,
-        body: sections.body,
-        end,
-    }
+    Ok(joined(opening, carried, cpus, sections, end))
 }

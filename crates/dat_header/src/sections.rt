@@ -7,7 +7,7 @@ ghost use Rattle.dat_header.specs.Header.{sections_at, behind_options_at, body_a
 ghost use Rattle.dat_header.specs.Allowed.{IsBody};
 ghost use Rattle.dat_header.specs.Pieces.{AreSections};
 ghost use Rattle.dat_header.specs.Items.{body_words};
-ghost use Rattle.dat_header.specs.Steps.{Steps, seen};
+ghost use Rattle.dat_header.specs.Steps.{Finds};
 
 use crate::header::Body;
 use crate::items::read_there;
@@ -32,7 +32,7 @@ pub(crate) fn read_sections<F: File>(
 ) -> Result<(Sections, u64), OpenFault>
     requires inside { at ≤ F.size file.old }
     ensures allowed { IfOk result (λ found. AreSections cpus found.0) }
-    ensures steps { Steps (λ found. found.1) (λ bytes. sections_at order cpus bytes at) at (seen F.bytes F.size F.faults F.reads file.old) (seen F.bytes F.size F.faults F.reads file.new) result }
+    ensures steps { Finds (sections_at order cpus) at F.File file.old file.new result }
 {
     let (first, after) = read_first_word(file, at)?;
     match first {
@@ -54,7 +54,7 @@ fn read_behind_options<F: File>(
 ) -> Result<(Sections, u64), OpenFault>
     requires inside { at ≤ F.size file.old }
     ensures allowed { IfOk result (λ found. AreSections cpus found.0) }
-    ensures steps { Steps (λ found. found.1) (λ bytes. behind_options_at order cpus bytes at) at (seen F.bytes F.size F.faults F.reads file.old) (seen F.bytes F.size F.faults F.reads file.new) result }
+    ensures steps { Finds (behind_options_at order cpus) at F.File file.old file.new result }
 {
     let (options, at_last) = read_options(alloc, order, file, at)?;
     let (last, after) = read_last_word(file, at_last)?;
@@ -73,7 +73,7 @@ fn read_body<F: File>(
 ) -> Result<(Body, u64), OpenFault>
     requires inside { at ≤ F.size file.old }
     ensures allowed { IfOk result (λ found. IsBody cpus found.0) }
-    ensures steps { Steps (λ found. found.1) (λ bytes. body_at order cpus last bytes at) at (seen F.bytes F.size F.faults F.reads file.old) (seen F.bytes F.size F.faults F.reads file.new) result }
+    ensures steps { Finds (body_at order cpus last) at F.File file.old file.new result }
 {
     match last {
         LastSection::Latency => Ok((Body::Latency, at)),
@@ -87,7 +87,7 @@ fn read_body<F: File>(
 // The word of the first section, which is none where options come first.
 fn read_first_word<F: File>(file: &mut F, at: u64) -> Result<(Option<LastSection>, u64), OpenFault>
     requires inside { at ≤ F.size file.old }
-    ensures { Steps (λ found. found.1) (λ bytes. first_word_at bytes at) at (seen F.bytes F.size F.faults F.reads file.old) (seen F.bytes F.size F.faults F.reads file.new) result }
+    ensures { Finds first_word_at at F.File file.old file.new result }
 {
     let mut buffer = [0; 10];
     let count = read_there(file, at, &mut buffer)?;
@@ -98,7 +98,7 @@ fn read_first_word<F: File>(file: &mut F, at: u64) -> Result<(Option<LastSection
 // The word behind options.
 fn read_last_word<F: File>(file: &mut F, at: u64) -> Result<(LastSection, u64), OpenFault>
     requires inside { at ≤ F.size file.old }
-    ensures { Steps (λ found. found.1) (λ bytes. last_word_at body_words bytes at) at (seen F.bytes F.size F.faults F.reads file.old) (seen F.bytes F.size F.faults F.reads file.new) result }
+    ensures { Finds (last_word_at body_words) at F.File file.old file.new result }
 {
     let mut buffer = [0; 10];
     let count = read_there(file, at, &mut buffer)?;

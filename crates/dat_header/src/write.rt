@@ -7,7 +7,7 @@ ghost use Rattle.trace_outside.specs.Writing.{Gained, GainedPrefix};
 ghost use Rattle.dat_options.specs.Table.{IsPart};
 ghost use Rattle.dat_header.specs.Allowed.{IsHeader};
 ghost use Rattle.dat_header.specs.Spelling.{SpellsHeader};
-ghost use Rattle.dat_header.specs.Written.{Writes, header_text, sink, written};
+ghost use Rattle.dat_header.specs.Written.{Writes, header_text, written};
 
 use crate::header::Header;
 use crate::lengths::header_len;
@@ -40,7 +40,7 @@ pub fn write_header<O: Sink>(header: &Header, parts: &[Part], out: &mut O) -> Re
 
 fn write_pieces<O: Sink>(header: &Header, parts: &[Part], out: &mut O) -> Result<(), Failed>
     requires allowed { IsHeader header.now }
-    ensures { Writes (header_text header.now parts.now) (sink O.written O.name O.faults out.old) (sink O.written O.name O.faults out.new) result }
+    ensures { Writes (header_text header.now parts.now) O.Sink out.old out.new result }
 {
     write_front(header, out)?;
     write_texts(header, out)?;

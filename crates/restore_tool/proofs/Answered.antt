@@ -1,6 +1,5 @@
 -- From what was opened, made and closed to what a restoring by names promises.
-use Rattle.std.proofs.Common.{◌≡◌, ◌≢◌, ◌⊎◌, ℕ, suc, ◌+◌, ◌-◌, ◌<◌, ◌≤◌, List, [], ◌∷◌, length, get_or, map, Option, Some, None, Result, Ok, Err, inl, inr, refl, sym, ap, subst, ◌∙◌, arith}
-use Rattle.std.specs.List.{All}
+use Rattle.std.proofs.Common.{◌≡◌, ◌≢◌, ◌⊎◌, ℕ, suc, ◌+◌, ◌≤◌, List, [], ◌∷◌, length, map, Option, Some, None, Result, Ok, inl, inr, refl, sym, ap, subst, ◌∙◌, arith}
 use Rattle.std.specs.Option.{IfSome, IsSome, unwrap_or}
 use Rattle.std.specs.Prelude.{is_none, if◌then◌else◌, option_and_then}
 use Rattle.std.specs.FinMap.{get, insert}
@@ -8,24 +7,22 @@ use Rattle.std.proofs.lemmas.List.{length-map}
 use Rattle.std.proofs.lemmas.List.Elements.{All-nil, All-cons}
 use Rattle.trace_outside.specs.declared.counts.Counts.{Counts}
 use Rattle.trace_outside.specs.Causes.{Rose, raised}
-use Rattle.trace_outside.specs.Folders.{Closes, IsFileOf, Opens, misses_after}
+use Rattle.trace_outside.specs.Folders.{Closes, IsFileOf, misses_after}
 use Rattle.trace_outside.specs.Names.{NamedFiles}
 use Rattle.dat_options.specs.declared.fault.OpenFault.{OpenFault}
-use Rattle.dat_options.specs.declared.fault.OpenFault.TheVariants.{Read, Memory}
-use Rattle.dat_options.specs.Answer.{AnswersTold, AnswersUnlessFaulty}
 use Rattle.dat_header.specs.declared.header.Header.{Header}
-use Rattle.dat_header.specs.Header.{IsRefusal}
 use Rattle.dat_header.specs.Partial.{ReadsPartial, partial_of}
-use Rattle.new_files.specs.Stored.{IsUnmade, KeepsCounts}
+use Rattle.new_files.specs.Stored.{IsUnmade}
 use Rattle.restore_tool.specs.declared.copying.RestoreEnd.{RestoreEnd}
 use Rattle.restore_tool.specs.declared.copying.RestoreEnd.TheVariants as end_code
 use Rattle.restore_tool.specs.declared.named.Answer.{Answer}
 use Rattle.restore_tool.specs.declared.named.Answer.TheVariants as code
 use Rattle.restore_tool.specs.declared.named.Source.{Source}
 use Rattle.restore_tool.specs.Answers.{Causes, ClosesAll, Created, KeepsFiles, LeavesOpen, SomeFaulty, answer_of}
-use Rattle.restore_tool.specs.Copying.{AllTold, FileSeen, text_of}
-use Rattle.restore_tool.specs.Meaning.{IsDone, IsMade, NamesData, Task, missing, refused, made, task_of, texts_of, with_header, with_partial, with_texts}
-use Rattle.restore_tool.specs.Open.{AreFilesOf, AreThere, ClosesMany, OpensMany}
+use Rattle.dat_header.specs.Seen.{FileSeen}
+use Rattle.restore_tool.specs.Copying.{AllTold, text_of}
+use Rattle.restore_tool.specs.Meaning.{IsDone, NamesData, Task, missing, refused, made, task_of, texts_of, with_header, with_partial, with_texts}
+use Rattle.restore_tool.specs.Open.{AreFilesOf, AreThere, ClosesMany}
 use Rattle.restore_tool.specs.Restored.{for_processors, restored}
 use Rattle.restore_tool.specs.Restoring.{CreatesOne, Leaves, LeavesUnfinished}
 
@@ -40,15 +37,15 @@ some_text None told there same = absurd cc
 some_text (Some text) told there same = (subst (λ (o : Option (List ℕ)). IsSome o) (sym same) there, ap (λ (o : Option (List ℕ)). Some (unwrap_or o [])) (sym same))
 
 pub opened_texts : (named : NamedFiles) (names : List (List ℕ)) (files : List FileSeen) → length files ≡ length names → AreFilesOf (Some named) names files → Texts named names files
-opened_texts named [] [] same are = record { told = All-nil (λ (file : FileSeen). IsSome file.told); texts = refl }
+opened_texts named [] [] same are = record { told = All-nil (λ (file : FileSeen). IsSome file.bytes); texts = refl }
 opened_texts named [] (file ∷ files) same are = absurd (omega (arith, same))
 opened_texts named (name ∷ names) [] same are = absurd (omega (arith, same))
 opened_texts named (name ∷ names) (file ∷ files) same are =
     let one = are 0 name file (omega arith) in
-    let text = some_text (get named name) file.told one.0 one.1 in
+    let text = some_text (get named name) file.bytes one.0 one.1 in
     let more = opened_texts named names files (omega (arith, same)) (λ i d e lt. are (suc i) d e (omega (arith, lt))) in
     record {
-      told = All-cons (λ (f : FileSeen). IsSome f.told) file files text.0 more.told;
+      told = All-cons (λ (f : FileSeen). IsSome f.bytes) file files text.0 more.told;
       texts = ap (λ (o : Option (List ℕ)). option_and_then (λ t. option_and_then (λ ts. Some (t ∷ ts)) (texts_of named names)) o) text.1
           ∙ ap (λ (o : Option (List (List ℕ))). option_and_then (λ ts. Some (text_of file ∷ ts)) o) more.texts;
     }
@@ -164,7 +161,7 @@ causes_more code.NoMemory P Q R S f h causes = tt
 pub closed_rose : (files : List FileSeen) (start mid now : Counts) → start.reading ≤ mid.reading → ClosesMany files mid now → Rose start.reading mid.reading ⊎ SomeFaulty files → Rose start.reading now.reading
 closed_rose files start mid now later closes (inl rose) = omega (arith, rose, closes.reading)
 closed_rose files start mid now later closes (inr faulty) =
-    let d : FileSeen = record { told = None; size = 0; faults = 0; reads = 0 } in
+    let d : FileSeen = record { bytes = None; size = 0; faults = 0; reads = 0 } in
     let rose = closes.faulty faulty.0 d faulty.1 (faulty.2 d) in
     omega (arith, rose, later)
 

@@ -17,7 +17,8 @@ use Rattle.restore_tool.specs.declared.named.Answer.TheVariants as code
 use Rattle.restore_tool.specs.declared.named.Source.{Source}
 use Rattle.restore_tool.specs.declared.named.Source.TheVariants as source_code
 use Rattle.restore_tool.specs.Answers.{Causes, SomeFaulty, answer_of, unread_of}
-use Rattle.restore_tool.specs.Copying.{FileSeen, IsCaused}
+use Rattle.dat_header.specs.Seen.{FileSeen}
+use Rattle.restore_tool.specs.Copying.{IsCaused}
 use Rattle.restore_tool.specs.Failing.{AreThereBefore, IfRead, IsFaulty, IsUnread, IsUnreadBehind, inputs_of, place_of}
 use Rattle.restore_tool.specs.Meaning.{NamesData}
 use Rattle.restore_tool.specs.Open.{AreFilesOf, AreThere}
@@ -66,7 +67,7 @@ misses_since (Some named) before mid now last same = last ∙ same
 -- THE DATA FILES
 
 nothing_seen : FileSeen
-nothing_seen = record { told = None; size = 0; faults = 0; reads = 0 }
+nothing_seen = record { bytes = None; size = 0; faults = 0; reads = 0 }
 
 files_before : (told : Option NamedFiles) (names : List (List ℕ)) (files : List FileSeen) (place : ℕ) → place ≤ length files → AreFilesOf told names files → IfSome told (λ named. AreThereBefore named names place)
 files_before None names files place le are = tt

@@ -1,7 +1,6 @@
 -- Data files behind one another, each from a multiple of the page on.
 use Rattle.std.proofs.Common.{◌≡◌, ℕ, zero, suc, ◌+◌, ◌-◌, ◌%◌, ◌^◌, ◌<◌, ◌≤◌, List, [], ◌∷◌, ◌++◌, length, take, drop, get_or, map, Option, Some, None, Ok, Err, Result, refl, sym, ap, subst, ◌∙◌, arith, append_assoc}
 use Rattle.std.specs.Option.{IfSome, IsSome, unwrap_or}
-use Rattle.std.specs.List.{All}
 use Rattle.std.specs.Prelude.{OnOk}
 use Rattle.std.proofs.lemmas.List.{take_all, take_more, map-append, append-nil}
 use Rattle.std.proofs.lemmas.List.Elements.{All-get_or}
@@ -13,7 +12,8 @@ use Rattle.dat_header.specs.Tables.{in_table}
 use Rattle.new_files.specs.Copies.{Copies}
 use Rattle.new_files.specs.Padding.{up_to_page, zeros}
 use Rattle.restore_tool.specs.Restored.{data_behind, end_behind, parts_behind}
-use Rattle.restore_tool.specs.Copying.{AllTold, FileSeen, IsOneCopied, text_of}
+use Rattle.dat_header.specs.Seen.{FileSeen}
+use Rattle.restore_tool.specs.Copying.{AllTold, IsOneCopied, text_of}
 
 -- ONE FILE MORE
 
@@ -56,8 +56,8 @@ next_offset place end missing is = ap (λ (n : ℕ). (n + missing) % 2 ^ 64) is 
 -- A FILE COPIED WHOLE
 
 pub one_copied : {T E : Type 0} (gap : List ℕ) (file : FileSeen) (old mid new : Option (List ℕ)) (result : Result T E)
-    → IfSome file.told (λ bytes. length bytes ≡ file.size) → Gained old mid gap → Copies file.told 0 (file.size - 0) mid new result → IsOneCopied gap file old new result
-one_copied gap file old mid new result sized first then = by_told file.told file.size result sized first then
+    → IfSome file.bytes (λ bytes. length bytes ≡ file.size) → Gained old mid gap → Copies file.bytes 0 (file.size - 0) mid new result → IsOneCopied gap file old new result
+one_copied gap file old mid new result sized first then = by_told file.bytes file.size result sized first then
   where
     by_told : {T E : Type 0} (told : Option (List ℕ)) (size : ℕ) (result : Result T E) → IfSome told (λ bytes. length bytes ≡ size) → Gained old mid gap → Copies told 0 (size - 0) mid new result
         → OnOk result (IfSome told (λ bytes. Gained old new (gap ++ bytes)))
@@ -76,7 +76,7 @@ some_bytes (Some bytes) h = (bytes, refl)
 -- the next of them
 pub record Next (files : List FileSeen) (i : ℕ) : Type 0 where
   pub bytes : List ℕ
-  pub told : (d : FileSeen) → (get_or files i d).told ≡ Some bytes
+  pub told : (d : FileSeen) → (get_or files i d).bytes ≡ Some bytes
   pub texts : map text_of (take (i + 1) files) ≡ map text_of (take i files) ++ bytes ∷ []
 
 same_default : (files : List FileSeen) (i : ℕ) (d e : FileSeen) → i < length files → get_or files i d ≡ get_or files i e
@@ -87,11 +87,11 @@ same_default (f ∷ files) (suc i) d e lt = same_default files i d e (omega (ari
 pub next_told : (files : List FileSeen) (i : ℕ) (d : FileSeen) → i < length files → AllTold files → Next files i
 next_told files i d lt told =
     let file = get_or files i d in
-    let given = some_bytes file.told (All-get_or (λ (f : FileSeen). IsSome f.told) files i d lt told) in
+    let given = some_bytes file.bytes (All-get_or (λ (f : FileSeen). IsSome f.bytes) files i d lt told) in
     let x : text_of file ≡ given.0 = ap (λ (o : Option (List ℕ)). unwrap_or o []) given.1 in
     record {
       bytes = given.0;
-      told = λ e. ap (λ (f : FileSeen). f.told) (same_default files i e d lt) ∙ given.1;
+      told = λ e. ap (λ (f : FileSeen). f.bytes) (same_default files i e d lt) ∙ given.1;
       texts = ap (map text_of) (take_more files i d lt) ∙ map-append text_of (take i files) (file ∷ []) ∙ ap (λ (b : List ℕ). map text_of (take i files) ++ b ∷ []) x;
     }
 
@@ -117,14 +117,14 @@ IsGap page place missing = (whole : ℕ) → place ≡ whole % 2 ^ 64 → up_to_
 
 -- one file more was copied
 pub copied_more : (page first : ℕ) (files : List FileSeen) (i place missing size next : ℕ) (file : FileSeen) (old mid new : Option (List ℕ))
-    → i < length files → IsGap page place missing → file ≡ get_or files i file → IfSome file.told (λ bytes. length bytes ≡ size)
-    → next ≡ ((place + missing) % 2 ^ 64 + size) % 2 ^ 64 → IfSome file.told (λ bs. Gained mid new (zeros missing ++ bs))
+    → i < length files → IsGap page place missing → file ≡ get_or files i file → IfSome file.bytes (λ bytes. length bytes ≡ size)
+    → next ≡ ((place + missing) % 2 ^ 64 + size) % 2 ^ 64 → IfSome file.bytes (λ bs. Gained mid new (zeros missing ++ bs))
     → CopiedTo page first files i place old mid → CopiedTo page first files (i + 1) next old new
 copied_more page first files i place missing size next file old mid new lt gap is_file sized next_is one copied whole is told =
     let before = copied whole is told in
     let next_one = next_told files i file lt told in
     let bytes = next_one.bytes in
-    let file_told : file.told ≡ Some bytes = ap (λ (f : FileSeen). f.told) is_file ∙ next_one.told file in
+    let file_told : file.bytes ≡ Some bytes = ap (λ (f : FileSeen). f.bytes) is_file ∙ next_one.told file in
     let front = map text_of (take i files) in
     let end = end_behind page whole (map length front) in
     let up : up_to_page page end ≡ end + missing = gap end before.place_is in
@@ -133,7 +133,7 @@ copied_more page first files i place missing size next file old mid new lt gap i
     let behind : zeros (up_to_page page end - end) ≡ zeros missing = ap zeros (omega (arith, up)) in
     subst (λ (ts : List (List ℕ)). Whole page whole ts next old new) (sym next_one.texts) (record {
       gained = subst (Gained old new) (sym (data_more page whole front bytes ∙ ap (λ t. data_behind page whole front ++ (t ++ bytes)) behind))
-          (gained_both old mid new (data_behind page whole front) (zeros missing ++ bytes) before.gained (one_gained (zeros missing) file.told bytes mid new file_told one));
+          (gained_both old mid new (data_behind page whole front) (zeros missing ++ bytes) before.gained (one_gained (zeros missing) file.bytes bytes mid new file_told one));
       place_is = next_is ∙ next_place place end missing size before.place_is ∙ ap (λ (n : ℕ). n % 2 ^ 64) (omega (arith, last, up, long));
     })
 
@@ -156,14 +156,14 @@ placed_none page first files parts whole is told = record { parts_are = refl; pl
 
 -- one part more was filled in
 pub placed_more : (page first : ℕ) (files : List FileSeen) (i place missing size next : ℕ) (file : FileSeen) (part : Part) (parts now : List Part)
-    → i < length files → IsGap page place missing → file ≡ get_or files i file → IfSome file.told (λ bytes. length bytes ≡ size) → size < 2 ^ 64
+    → i < length files → IsGap page place missing → file ≡ get_or files i file → IfSome file.bytes (λ bytes. length bytes ≡ size) → size < 2 ^ 64
     → part ≡ record { offset = (place + missing) % 2 ^ 64; size = size } → next ≡ ((place + missing) % 2 ^ 64 + size) % 2 ^ 64 → take (i + 1) now ≡ take i parts ++ part ∷ []
     → PlacedTo page first files i place parts → PlacedTo page first files (i + 1) next now
 placed_more page first files i place missing size next file part parts now lt gap is_file sized fits part_is next_is pushed placed whole is told =
     let before = placed whole is told in
     let next_one = next_told files i file lt told in
     let bytes = next_one.bytes in
-    let file_told : file.told ≡ Some bytes = ap (λ (f : FileSeen). f.told) is_file ∙ next_one.told file in
+    let file_told : file.bytes ≡ Some bytes = ap (λ (f : FileSeen). f.bytes) is_file ∙ next_one.told file in
     let front = map text_of (take i files) in
     let end = end_behind page whole (map length front) in
     let up : up_to_page page end ≡ end + missing = gap end before.place_is in

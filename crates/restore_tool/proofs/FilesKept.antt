@@ -3,10 +3,11 @@ use Rattle.std.proofs.Common.{◌≡◌, ℕ, ◌+◌, ◌<◌, ◌≤◌, List,
 use Rattle.std.proofs.lemmas.Bool.{cases_eq}
 use Rattle.std.proofs.lemmas.List.{get_or-map, map-set, length-map}
 use Rattle.trace_outside.specs.Causes.{Rose}
-use Rattle.restore_tool.specs.Copying.{AllKeep, FileSeen, Keeps}
+use Rattle.dat_header.specs.Seen.{FileSeen}
+use Rattle.restore_tool.specs.Copying.{AllKeep, Keeps}
 
 keeps_self : (x : FileSeen) → Keeps x x
-keeps_self x = record { told = refl; size = refl; faults = omega arith; reads = omega arith }
+keeps_self x = record { bytes = refl; size = refl; faults = omega arith; reads = omega arith }
 
 pub keep_none : (files : List FileSeen) → AllKeep files files
 keep_none files i d lt = keeps_self (get_or files i d)

@@ -1,11 +1,10 @@
 -- Files opened and closed, one after another.
 use Rattle.std.specs.Prelude.{is_none, if◌then◌else◌}
-use Rattle.std.proofs.Common.{◌≡◌, ℕ, zero, suc, ◌+◌, ◌-◌, ◌<◌, ◌≤◌, List, [], ◌∷◌, ◌++◌, length, get_or, map, Option, None, Some, refl, sym, ap, subst, ◌∙◌, arith, append_assoc, sum_by, inl, inr}
+use Rattle.std.proofs.Common.{◌≡◌, ℕ, zero, suc, ◌+◌, ◌<◌, List, [], ◌∷◌, ◌++◌, length, get_or, map, Option, None, Some, refl, sym, ap, subst, ◌∙◌, arith, append_assoc, inl, inr}
 use Rattle.std.specs.List.{All}
 use Rattle.std.proofs.lemmas.Bool.{cases_lt}
 use Rattle.std.proofs.lemmas.List.{length-map, length-append, map-append, get_or-map, get_or_append_left}
 use Rattle.std.proofs.Math.Seq.{get_or-append_seam}
-use Rattle.std.proofs.lemmas.Bool.{cases_eq}
 use Rattle.std.proofs.lemmas.List.Elements.{All-push}
 use Rattle.std.proofs.lemmas.List.Sums.{sum_by-cons}
 use Rattle.trace_outside.specs.declared.counts.Counts.{Counts}
@@ -13,7 +12,7 @@ use Rattle.trace_outside.specs.Causes.{Rose, raised}
 use Rattle.std.specs.Option.{IsSome}
 use Rattle.trace_outside.specs.Folders.{Closes, IsFileOf}
 use Rattle.trace_outside.specs.Names.{NamedFiles}
-use Rattle.restore_tool.specs.Copying.{FileSeen}
+use Rattle.dat_header.specs.Seen.{FileSeen}
 use Rattle.restore_tool.specs.Open.{AreFilesOf, ClosesMany, IsUnused, OpensMany}
 
 pub closes_none : (counts : Counts) → ClosesMany [] counts counts
@@ -53,22 +52,22 @@ last_of f all front rest tail x e g = e ∙ ap (λ ys. ys ++ tail) g ∙ append_
 
 -- one more is open
 pub files_more : (told : Option NamedFiles) (names : List (List ℕ)) (files : List FileSeen) (x : FileSeen) → AreFilesOf told names files
-    → ((d : List ℕ) → IsFileOf told (get_or names (length files) d) x.told) → AreFilesOf told names (files ++ x ∷ [])
+    → ((d : List ℕ) → IsFileOf told (get_or names (length files) d) x.bytes) → AreFilesOf told names (files ++ x ∷ [])
 files_more told names files x are one i d e lt = elim (cases_lt i (length files)) [
-  | inl inside ↦ subst (λ (h : FileSeen). IsFileOf told (get_or names i d) h.told) (sym (get_or_append_left files (x ∷ []) e i inside)) (are i d e inside)
+  | inl inside ↦ subst (λ (h : FileSeen). IsFileOf told (get_or names i d) h.bytes) (sym (get_or_append_left files (x ∷ []) e i inside)) (are i d e inside)
   | inr past ↦
       let here : i ≡ length files = omega (arith, past, lt, length-append files (x ∷ [])) in
-      subst (λ (k : ℕ). IsFileOf told (get_or names k d) (get_or (files ++ x ∷ []) k e).told) (sym here)
-      (subst (λ (h : FileSeen). IsFileOf told (get_or names (length files) d) h.told) (sym (get_or-append_seam files x [] e)) (one d))
+      subst (λ (k : ℕ). IsFileOf told (get_or names k d) (get_or (files ++ x ∷ []) k e).bytes) (sym here)
+      (subst (λ (h : FileSeen). IsFileOf told (get_or names (length files) d) h.bytes) (sym (get_or-append_seam files x [] e)) (one d))
 ]
 
 -- the same of files that are seen
 module _ {F : Type 0} (f : F → FileSeen) where
   pub seen_more : (told : Option NamedFiles) (names : List (List ℕ)) (files now : List F) (x : F) → now ≡ files ++ x ∷ [] → AreFilesOf told names (map f files)
-      → ((d : List ℕ) → IsFileOf told (get_or names (length files) d) (f x).told) → AreFilesOf told names (map f now)
+      → ((d : List ℕ) → IsFileOf told (get_or names (length files) d) (f x).bytes) → AreFilesOf told names (map f now)
   seen_more told names files now x is are one =
       subst (AreFilesOf told names) (sym (ap (map f) is ∙ map-append f files (x ∷ [])))
-      (files_more told names (map f files) (f x) are (λ d. subst (λ (k : ℕ). IsFileOf told (get_or names k d) (f x).told) (sym (length-map files f)) (one d)))
+      (files_more told names (map f files) (f x) are (λ d. subst (λ (k : ℕ). IsFileOf told (get_or names k d) (f x).bytes) (sym (length-map files f)) (one d)))
 
   pub unused_more : (files now : List F) (x : F) → now ≡ files ++ x ∷ [] → IsUnused (f x) → All IsUnused (map f files) → All IsUnused (map f now)
   unused_more files now x is one all = subst (All IsUnused) (sym (ap (map f) is ∙ map-append f files (x ∷ []))) (All-push IsUnused (map f files) (f x) all one)

@@ -2,7 +2,7 @@
 use Rattle.std.proofs.Common.{◌≡◌, ◌≢◌, ◌⊎◌, ℕ, ◌≤◌, List, [], length, Option, Some, None, Result, Err, inl, inr, refl, sym, ap, subst, ◌∙◌, arith}
 use Rattle.std.specs.Option.{IfSome}
 use Rattle.trace_outside.specs.declared.counts.Counts.{Counts}
-use Rattle.trace_outside.specs.Causes.{Rose, raised}
+use Rattle.trace_outside.specs.Causes.{Rose}
 use Rattle.trace_outside.specs.Folders.{Closes}
 use Rattle.trace_outside.specs.Names.{NamedFiles}
 use Rattle.dat_options.specs.declared.fault.OpenFault.{OpenFault}
@@ -12,7 +12,7 @@ use Rattle.dat_header.specs.declared.header.Header.{Header}
 use Rattle.dat_header.specs.Partial.{ReadsPartial, partial_of}
 use Rattle.restore_tool.specs.declared.named.Answer.{Answer}
 use Rattle.restore_tool.specs.Answers.{Causes, ClosesAll, Created, KeepsFiles, LeavesOpen, unread_of}
-use Rattle.restore_tool.specs.Meaning.{IsDone, NamesData, Task, missing, refused, with_header, with_texts, texts_of}
+use Rattle.restore_tool.specs.Meaning.{IsDone, NamesData, missing, with_header, with_texts, texts_of}
 use Rattle.restore_tool.specs.Open.{AreThere, OpensMany}
 use Rattle.restore_tool.proofs.Answered.{not_missing}
 

@@ -1,5 +1,5 @@
 -- What the answer of a restoring says of the outside.
-use Rattle.std.specs.Prelude.{Option, ◌≡◌, ◌≤◌, ◌<◌, ◌⊎◌, ℕ, List, length, slice_index_or}
+use Rattle.std.specs.Prelude.{Option, ◌≡◌, ◌≤◌, ◌<◌, ℕ, List, length, slice_index_or}
 use Rattle.trace_outside.specs.declared.counts.Counts.{Counts}
 use Rattle.trace_outside.specs.Causes.{raised}
 use Rattle.trace_outside.specs.Names.{NamedFiles}
@@ -11,7 +11,7 @@ use Rattle.restore_tool.specs.declared.copying.RestoreEnd.TheVariants as end_cod
 use Rattle.restore_tool.specs.declared.named.Answer.{Answer}
 use Rattle.restore_tool.specs.declared.named.Answer.TheVariants as code
 use Rattle.restore_tool.specs.declared.named.Source.TheVariants as source_code
-use Rattle.restore_tool.specs.Copying.{FileSeen}
+use Rattle.dat_header.specs.Seen.{FileSeen}
 
 abbrev pub answer_of : RestoreEnd → Answer
 answer_of end_code.Done = code.Done

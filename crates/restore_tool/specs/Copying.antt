@@ -1,32 +1,27 @@
 -- Data files that are copied to a sink, one behind another.
-use Rattle.std.specs.Prelude.{Option, Result, ◌≡◌, ◌<◌, ◌≤◌, OnOk, ℕ, List, [], ◌++◌, length, unwrap_or, IfSome, IsSome, slice_index_or}
+use Rattle.std.specs.Prelude.{Option, Result, ◌≡◌, ◌<◌, ◌≤◌, OnOk, ℕ, List, [], ◌++◌, length, map, unwrap_or, IfSome, IsSome, slice_index_or}
 use Rattle.std.specs.List.{All}
 use Rattle.trace_outside.specs.Causes.{Rose, raised}
 use Rattle.trace_outside.specs.Writing.{Gained}
+use Rattle.trace_outside.specs.declared.outside.File as file
+use Rattle.dat_header.specs.Seen.{FileSeen, file_seen}
 use Rattle.restore_tool.specs.declared.copying.RestoreEnd.{RestoreEnd}
 use Rattle.restore_tool.specs.declared.copying.RestoreEnd.TheVariants as code
 
--- a file at one moment
-pub record FileSeen : Type 0 where
-  pub told : Option (List ℕ)
-  pub size : ℕ
-  pub faults : ℕ
-  pub reads : ℕ
-
-abbrev pub seen : {F : Type 0} → (F → Option (List ℕ)) → (F → ℕ) → (F → ℕ) → (F → ℕ) → F → FileSeen
-seen bytes size faults reads file = record { told = bytes file; size = size file; faults = faults file; reads = reads file }
+abbrev pub files_seen : {F : Type 0} → file.Ghosts F → List F → List FileSeen
+files_seen f files = map (file_seen f) files
 
 -- the bytes of a file that tells them
 abbrev pub text_of : FileSeen → List ℕ
-text_of file = unwrap_or file.told []
+text_of file = unwrap_or file.bytes []
 
 -- all of them tell their bytes
 abbrev pub AllTold : List FileSeen → Type 0
-AllTold files = All (λ file. IsSome file.told) files
+AllTold files = All (λ file. IsSome file.bytes) files
 
 -- the same file, whose count of faults did not fall, and of which at most each byte was read once
 pub record Keeps (before now : FileSeen) : Type 0 where
-  pub told : now.told ≡ before.told
+  pub bytes : now.bytes ≡ before.bytes
   pub size : now.size ≡ before.size
   pub faults : before.faults ≤ now.faults
   pub reads : now.reads ≤ raised before.reads before.size
@@ -36,7 +31,7 @@ AllKeep before now = (i : ℕ) (d : FileSeen) → i < length before → Keeps (s
 
 -- a piece and the whole file behind it were written
 abbrev pub IsOneCopied : {T E : Type 0} → List ℕ → FileSeen → Option (List ℕ) → Option (List ℕ) → Result T E → Type 0
-IsOneCopied front file old new result = OnOk result (IfSome file.told (λ bytes. Gained old new (front ++ bytes)))
+IsOneCopied front file old new result = OnOk result (IfSome file.bytes (λ bytes. Gained old new (front ++ bytes)))
 
 -- Done: all of the text was written. After a fault nothing is said of what was.
 abbrev pub CopiesAll : List ℕ → Option (List ℕ) → Option (List ℕ) → RestoreEnd → Type 0

@@ -7,7 +7,7 @@ use Rattle.restore_tool.specs.declared.named.Answer.{Answer}
 use Rattle.restore_tool.specs.declared.named.Answer.TheVariants as code
 use Rattle.restore_tool.specs.declared.named.Source.{Source}
 use Rattle.restore_tool.specs.declared.named.Source.TheVariants as source_code
-use Rattle.restore_tool.specs.Copying.{FileSeen}
+use Rattle.dat_header.specs.Seen.{FileSeen}
 use Rattle.restore_tool.specs.Meaning.{NamesData}
 
 -- the files that are read, in their order, and the place of one of them

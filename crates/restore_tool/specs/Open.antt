@@ -6,7 +6,7 @@ use Rattle.trace_outside.specs.declared.counts.Counts.{Counts}
 use Rattle.trace_outside.specs.Names.{NamedFiles}
 use Rattle.trace_outside.specs.Causes.{Rose, raised}
 use Rattle.trace_outside.specs.Folders.{IsFileOf}
-use Rattle.restore_tool.specs.Copying.{FileSeen}
+use Rattle.dat_header.specs.Seen.{FileSeen}
 
 -- just opened
 pub record IsUnused (file : FileSeen) : Type 0 where
@@ -15,7 +15,7 @@ pub record IsUnused (file : FileSeen) : Type 0 where
 
 -- the files of names, in their order
 abbrev pub AreFilesOf : Option NamedFiles → List (List ℕ) → List FileSeen → Type 0
-AreFilesOf told names files = (i : ℕ) (d : List ℕ) (e : FileSeen) → i < length files → IsFileOf told (slice_index_or names i d) (slice_index_or files i e).told
+AreFilesOf told names files = (i : ℕ) (d : List ℕ) (e : FileSeen) → i < length files → IsFileOf told (slice_index_or names i d) (slice_index_or files i e).bytes
 
 -- a file stands under each name
 abbrev pub AreThere : NamedFiles → List (List ℕ) → Type 0

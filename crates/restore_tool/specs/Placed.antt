@@ -2,7 +2,8 @@
 use Rattle.std.specs.Prelude.{◌≡◌, ◌%◌, ◌^◌, ℕ, List, length, map}
 use Rattle.trace_base.specs.declared.part.Part.{Part}
 use Rattle.dat_header.specs.Tables.{in_table}
-use Rattle.restore_tool.specs.Copying.{AllTold, FileSeen, text_of}
+use Rattle.dat_header.specs.Seen.{FileSeen}
+use Rattle.restore_tool.specs.Copying.{AllTold, text_of}
 use Rattle.restore_tool.specs.Restored.{parts_behind}
 
 -- the parts of these files behind a place that is told modulo 2^64, where the files tell their bytes

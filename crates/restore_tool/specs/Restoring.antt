@@ -8,7 +8,8 @@ use Rattle.dat_header.specs.declared.header.Header.{Header}
 use Rattle.new_files.specs.Stored.{IsUnmade}
 use Rattle.restore_tool.specs.declared.copying.RestoreEnd.{RestoreEnd}
 use Rattle.restore_tool.specs.declared.copying.RestoreEnd.TheVariants as code
-use Rattle.restore_tool.specs.Copying.{AllTold, FileSeen, text_of}
+use Rattle.dat_header.specs.Seen.{FileSeen}
+use Rattle.restore_tool.specs.Copying.{AllTold, text_of}
 use Rattle.restore_tool.specs.Restored.{restored}
 
 -- Done: the name has the restored bytes, where the data files tell theirs, and every other name is as before. Read: all is as

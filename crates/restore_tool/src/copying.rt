@@ -2,8 +2,10 @@
 
 ghost use Rattle.std.specs.Prelude.{◌≡◌, ◌≤◌, ◌<◌, ◌%◌, ◌^◌, ℕ, length, map, IsErrOf};
 ghost use Rattle.trace_outside.specs.Causes.{Rose};
+ghost use Rattle.trace_outside.specs.Keeping.{KeepsSink};
 ghost use Rattle.new_files.specs.Padding.{IsPage, zeros};
-ghost use Rattle.restore_tool.specs.Copying.{AllKeep, AllTold, CopiesAll, IsCaused, IsOneCopied, Keeps, seen, text_of};
+ghost use Rattle.dat_header.specs.Seen.{file_seen};
+ghost use Rattle.restore_tool.specs.Copying.{AllKeep, AllTold, CopiesAll, IsCaused, IsOneCopied, Keeps, files_seen, text_of};
 ghost use Rattle.restore_tool.specs.Restored.{data_behind};
 
 use new_files::{CopyFault, copy_rest, gap, write_zeros};
@@ -28,12 +30,11 @@ fn copy_file<F: File, O: Sink>(
     out: &mut O,
 ) -> Result<(), CopyFault>
     requires room { 0 < length buffer.old }
-    ensures gained { IsOneCopied (zeros missing) (seen F.bytes F.size F.faults F.reads file.old) (O.written out.old) (O.written out.new) result }
-    ensures keeps { Keeps (seen F.bytes F.size F.faults F.reads file.old) (seen F.bytes F.size F.faults F.reads file.new) }
+    ensures gained { IsOneCopied (zeros missing) (file_seen F.File file.old) (O.written out.old) (O.written out.new) result }
+    ensures keeps { Keeps (file_seen F.File file.old) (file_seen F.File file.new) }
     ensures read { IsErrOf result CopyFault.Read → Rose (F.faults file.old) (F.faults file.new) }
     ensures write { IsErrOf result CopyFault.Write → Rose (O.faults out.old) (O.faults out.new) }
-    ensures later_out { O.faults out.old ≤ O.faults out.new }
-    ensures name { O.name out.new ≡ O.name out.old }
+    ensures keeps_out { KeepsSink O.Sink out.old out.new }
 {
     match write_zeros(missing, out) {
         Ok(()) => copy_rest(file, 0, buffer, out),
@@ -53,13 +54,12 @@ pub(crate) fn copy_files<F: File, O: Sink>(
     requires page { IsPage page }
     requires few { length files.old ≤ 256 }
     requires room { 0 < length buffer.old }
-    ensures copies { (whole : ℕ) → place ≡ whole % 2 ^ 64 → AllTold (map (seen F.bytes F.size F.faults F.reads) files.old)
-        → CopiesAll (data_behind page whole (map text_of (map (seen F.bytes F.size F.faults F.reads) files.old))) (O.written out.old) (O.written out.new) result }
-    ensures keep { AllKeep (map (seen F.bytes F.size F.faults F.reads) files.old) (map (seen F.bytes F.size F.faults F.reads) files.new) }
-    ensures cause { IsCaused result (map (seen F.bytes F.size F.faults F.reads) files.old) (map (seen F.bytes F.size F.faults F.reads) files.new)
+    ensures copies { (whole : ℕ) → place ≡ whole % 2 ^ 64 → AllTold (files_seen F.File files.old)
+        → CopiesAll (data_behind page whole (map text_of (files_seen F.File files.old))) (O.written out.old) (O.written out.new) result }
+    ensures keep { AllKeep (files_seen F.File files.old) (files_seen F.File files.new) }
+    ensures cause { IsCaused result (files_seen F.File files.old) (files_seen F.File files.new)
         (O.faults out.old) (O.faults out.new) }
-    ensures later_out { O.faults out.old ≤ O.faults out.new }
-    ensures name { O.name out.new ≡ O.name out.old }
+    ensures keeps_out { KeepsSink O.Sink out.old out.new }
 {
     let mut place = place;
     for i in 0..files.len() {

@@ -3,7 +3,7 @@
 ghost use Rattle.std.specs.Prelude.{◌≡◌, ◌≤◌, ◌<◌, ◌++◌, ◌∷◌, ◌-◌, [], ℕ, All, IfSome, List, OnErr, OnOk, length, map, slice_index_or, vec_capacity, vec_len};
 ghost use Rattle.trace_outside.specs.Causes.{Rose};
 ghost use Rattle.trace_outside.specs.Folders.{IsFileOf, misses_after};
-ghost use Rattle.restore_tool.specs.Copying.{seen};
+ghost use Rattle.restore_tool.specs.Copying.{files_seen};
 ghost use Rattle.restore_tool.specs.Open.{AreFilesOf, ClosesMany, IsUnused, OpensMany};
 
 use trace_outside::{Failed, Folder};
@@ -36,8 +36,8 @@ pub fn open_files<F: Folder>(
     ensures all { OnOk result (length files.new.items ≡ length names.now) }
     ensures fewer { OnErr result (length files.new.items < length names.now) }
     ensures inside { length files.new.items ≤ length names.now }
-    ensures told { AreFilesOf (F.files folder.old) (map (λ name. name.now) names.now) (map (seen F.In.bytes F.In.size F.In.faults F.In.reads) files.new.items) }
-    ensures unused { All IsUnused (map (seen F.In.bytes F.In.size F.In.faults F.In.reads) files.new.items) }
+    ensures told { AreFilesOf (F.files folder.old) (map (λ name. name.now) names.now) (files_seen F.In.File files.new.items) }
+    ensures unused { All IsUnused (files_seen F.In.File files.new.items) }
     ensures failed { OnErr result (Rose (F.counts folder.old).reading (F.counts folder.new).reading) }
     ensures counts { OpensMany (F.counts folder.old) (F.counts folder.new) (length files.new.items) }
     ensures unmissed { OnOk result (IfSome (F.files folder.old) (λ named. (F.counts folder.new).misses ≡ (F.counts folder.old).misses)) }
@@ -53,7 +53,7 @@ pub fn open_files<F: Folder>(
 
 /// Closes all files that are open.
 pub fn close_files<F: Folder>(mut files: Vec<F::In>, folder: &mut F)
-    ensures counts { ClosesMany (map (seen F.In.bytes F.In.size F.In.faults F.In.reads) files.items) (F.counts folder.old) (F.counts folder.new) }
+    ensures counts { ClosesMany (files_seen F.In.File files.items) (F.counts folder.old) (F.counts folder.new) }
     ensures files { F.files folder.new ≡ F.files folder.old }
 {
     while let Some(file) = files.pop() {

@@ -1,11 +1,11 @@
 // A restoring by names: files are opened in order before anything is created, stay open, and are closed on every way out.
 
-ghost use Rattle.std.specs.Prelude.{◌≡◌, ◌≢◌, ◌+◌, ◌≤◌, ◌⊎◌, [], IfSome, length, map, vec_capacity};
+ghost use Rattle.std.specs.Prelude.{◌≡◌, ◌≢◌, ◌+◌, ◌≤◌, ◌⊎◌, [], IfSome, length, vec_capacity};
 ghost use Rattle.trace_outside.specs.Causes.{Rose, raised};
 ghost use Rattle.dat_header.specs.Allowed.{IsHeader};
 ghost use Rattle.dat_header.specs.Partial.{partial_of};
+ghost use Rattle.restore_tool.specs.Copying.{files_seen};
 ghost use Rattle.restore_tool.specs.Answers.{Causes, ClosesAll, Created, KeepsFiles, LeavesOpen, answer_of, unread_of};
-ghost use Rattle.restore_tool.specs.Copying.{seen};
 ghost use Rattle.restore_tool.specs.Failing.{IfRead, IsFaulty, IsUnread, IsUnreadBehind, inputs_of, place_of};
 ghost use Rattle.restore_tool.specs.Meaning.{IsDone, missing, names_view, task_of, texts_of, with_header, with_texts};
 ghost use Rattle.restore_tool.specs.Open.{AreThere};
@@ -81,7 +81,7 @@ fn restore_data<D: Folder>(
     requires room { length names.now.files.now ≤ vec_capacity files.old }
     ensures done { IfSome (D.files folder.old) (λ named. IsDone (with_texts header names.now.output.now (texts_of named (names_view names.now).files)) names.now.output.now
         (D.counts folder.old) (D.counts folder.new) named (D.files folder.new) result) }
-    ensures causes { Causes result (IfRead result (IsFaulty (Rose (D.counts folder.old).reading (D.counts folder.new).reading) (map (seen D.In.bytes D.In.size D.In.faults D.In.reads) files.new.items)))
+    ensures causes { Causes result (IfRead result (IsFaulty (Rose (D.counts folder.old).reading (D.counts folder.new).reading) (files_seen D.In.File files.new.items)))
         (Rose (D.counts folder.old).writing (D.counts folder.new).writing) }
     ensures unread { IfRead result (IsUnreadBehind (D.files folder.old) (names_view names.now).files (D.counts folder.old).misses (D.counts folder.new).misses) }
     ensures kept { KeepsFiles result (D.files folder.old) (D.files folder.new) }

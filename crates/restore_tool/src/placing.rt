@@ -1,8 +1,8 @@
 // The table of a new file, known before its first byte.
 
-ghost use Rattle.std.specs.Prelude.{◌≡◌, length, map};
+ghost use Rattle.std.specs.Prelude.{◌≡◌, length};
 ghost use Rattle.new_files.specs.Padding.{IsPage};
-ghost use Rattle.restore_tool.specs.Copying.{seen};
+ghost use Rattle.restore_tool.specs.Copying.{files_seen};
 ghost use Rattle.restore_tool.specs.Placed.{ArePlaced};
 
 use new_files::gap;
@@ -14,7 +14,7 @@ use trace_outside::File;
 pub(crate) fn place_files<F: File>(page: u32, place: u64, files: &[F], parts: &mut [Part])
     requires page { IsPage page }
     requires each { length parts.old ≡ length files.now }
-    ensures { ArePlaced page place (map (seen F.bytes F.size F.faults F.reads) files.now) parts.new }
+    ensures { ArePlaced page place (files_seen F.File files.now) parts.new }
 {
     let mut place = place;
     for i in 0..files.len() {

@@ -1,10 +1,11 @@
 // The new file: created, written, and finished only where all of it was written.
 
 ghost use Rattle.std.specs.Prelude.{◌≡◌, ◌≤◌, ◌<◌, ◌++◌, length, map};
+ghost use Rattle.trace_outside.specs.Keeping.{KeepsSink};
 ghost use Rattle.dat_header.specs.Allowed.{IsHeader};
 ghost use Rattle.dat_header.specs.Written.{header_text};
 ghost use Rattle.new_files.specs.Stored.{KeepsCounts};
-ghost use Rattle.restore_tool.specs.Copying.{AllKeep, AllTold, CopiesAll, IsCaused, seen, text_of};
+ghost use Rattle.restore_tool.specs.Copying.{AllKeep, AllTold, CopiesAll, IsCaused, files_seen, text_of};
 ghost use Rattle.restore_tool.specs.Restored.{data_behind};
 ghost use Rattle.restore_tool.specs.Restoring.{CreatesOne, Leaves, LeavesUnfinished};
 
@@ -26,14 +27,13 @@ fn write_whole<D: Folder>(
     requires each { length parts.now ≡ header.now.cpus }
     requires few { length files.old ≤ 256 }
     requires room { 0 < length buffer.old }
-    ensures copies { AllTold (map (seen D.In.bytes D.In.size D.In.faults D.In.reads) files.old)
-        → CopiesAll (header_text header.now parts.now ++ data_behind header.now.page (length (header_text header.now parts.now)) (map text_of (map (seen D.In.bytes D.In.size D.In.faults D.In.reads) files.old)))
+    ensures copies { AllTold (files_seen D.In.File files.old)
+        → CopiesAll (header_text header.now parts.now ++ data_behind header.now.page (length (header_text header.now parts.now)) (map text_of (files_seen D.In.File files.old)))
         (D.Out.written out.old) (D.Out.written out.new) result }
-    ensures keep { AllKeep (map (seen D.In.bytes D.In.size D.In.faults D.In.reads) files.old) (map (seen D.In.bytes D.In.size D.In.faults D.In.reads) files.new) }
-    ensures cause { IsCaused result (map (seen D.In.bytes D.In.size D.In.faults D.In.reads) files.old) (map (seen D.In.bytes D.In.size D.In.faults D.In.reads) files.new)
+    ensures keep { AllKeep (files_seen D.In.File files.old) (files_seen D.In.File files.new) }
+    ensures cause { IsCaused result (files_seen D.In.File files.old) (files_seen D.In.File files.new)
         (D.Out.faults out.old) (D.Out.faults out.new) }
-    ensures later { D.Out.faults out.old ≤ D.Out.faults out.new }
-    ensures name { D.Out.name out.new ≡ D.Out.name out.old }
+    ensures keeps_out { KeepsSink D.Out.Sink out.old out.new }
 {
     match write_header(header, parts, out) {
         Ok(len) => copy_files(header.page, len, files, buffer, out),
@@ -59,11 +59,11 @@ pub fn restore<D: Folder>(
     requires each { length parts.old ≡ length files.old }
     requires few { length files.old ≤ 256 }
     requires room { 0 < length buffer.old }
-    ensures leaves { Leaves header.now (map (seen D.In.bytes D.In.size D.In.faults D.In.reads) files.old) name.now
+    ensures leaves { Leaves header.now (files_seen D.In.File files.old) name.now
         (D.counts folder.old) (D.counts folder.new) (D.files folder.old) (D.files folder.new) result }
-    ensures cause { IsCaused result (map (seen D.In.bytes D.In.size D.In.faults D.In.reads) files.old) (map (seen D.In.bytes D.In.size D.In.faults D.In.reads) files.new)
+    ensures cause { IsCaused result (files_seen D.In.File files.old) (files_seen D.In.File files.new)
         (D.counts folder.old).writing (D.counts folder.new).writing }
-    ensures keep { AllKeep (map (seen D.In.bytes D.In.size D.In.faults D.In.reads) files.old) (map (seen D.In.bytes D.In.size D.In.faults D.In.reads) files.new) }
+    ensures keep { AllKeep (files_seen D.In.File files.old) (files_seen D.In.File files.new) }
     ensures counts { KeepsCounts (D.counts folder.old) (D.counts folder.new) }
     ensures created { CreatesOne (D.counts folder.old).created (D.counts folder.new).created result }
     ensures unfinished { LeavesUnfinished (D.counts folder.old).unfinished (D.counts folder.new).unfinished result }

@@ -13,21 +13,21 @@ use Rattle.dat_header.specs.Allowed.{IsHeader, IsSystem}
 use Rattle.dat_header.specs.PageText.{layout_of}
 use Rattle.dat_header.specs.Written.{header_text}
 use Rattle.dat_header.proofs.Wrapped.{length-header_text}
-use Rattle.trace_gen.specs.GeneratedHeader.{format_text, task_line, task_lines, text_of, header_but_parts}
+use Rattle.trace_gen.specs.GeneratedHeader.{format_text, task_line, task_lines, text_of_lines, header_but_parts}
 use Rattle.trace_gen.proofs.Drawn.{range_push}
 
 -- the lines of the tasks before this pid
 abbrev pub tasks_before : ℕ → List ℕ
-tasks_before pid = text_of (map task_line (range_with_len 1 (pid - 1)))
+tasks_before pid = text_of_lines (map task_line (range_with_len 1 (pid - 1)))
 
 pub more_tasks : (pid : ℕ) → 1 ≤ pid → tasks_before (pid + 1) ≡ tasks_before pid ++ (task_line pid ++ codes "\n")
 more_tasks pid some =
     let n = pid - 1 in
     let next : pid + 1 - 1 ≡ suc n = omega arith in
     let this : 1 + n ≡ pid = omega arith in
-    ap (λ k. text_of (map task_line (range_with_len 1 k))) next
-    ∙ ap (λ (ks : List ℕ). text_of (map task_line ks)) (range_push 1 n ∙ ap (λ k. range_with_len 1 n ++ k ∷ []) this)
-    ∙ ap text_of (map-append task_line (range_with_len 1 n) (pid ∷ []))
+    ap (λ k. text_of_lines (map task_line (range_with_len 1 k))) next
+    ∙ ap (λ (ks : List ℕ). text_of_lines (map task_line ks)) (range_push 1 n ∙ ap (λ k. range_with_len 1 n ++ k ∷ []) this)
+    ∙ ap text_of_lines (map-append task_line (range_with_len 1 n) (pid ∷ []))
     ∙ flat_map-append (λ line. line ++ codes "\n") (map task_line (range_with_len 1 n)) (task_line pid ∷ [])
     ∙ ap (λ (t : List ℕ). tasks_before pid ++ t) (append-nil (task_line pid ++ codes "\n"))
 
@@ -43,7 +43,7 @@ tasks_len (suc n) few =
     let more : length (tasks_before (n + 1 + 1)) ≡ length (tasks_before (n + 1) ++ (task_line (n + 1) ++ codes "\n")) = ap length (more_tasks (n + 1) (omega arith)) in
     rw same (omega (arith, more, length-append (tasks_before (n + 1)) (task_line (n + 1) ++ codes "\n"), task_len (n + 1) (omega arith), tasks_len n (omega arith)))
 
-pub all_tasks_len : length (text_of task_lines) ≤ 1089
+pub all_tasks_len : length (text_of_lines task_lines) ≤ 1089
 all_tasks_len = tasks_len 99 (omega arith)
 
 format_len : length format_text ≡ 478

@@ -10,12 +10,12 @@ use Rattle.dat_header.specs.declared.header.Header.{Header}
 use Rattle.dat_header.specs.declared.header.Body.TheVariants.{Latency}
 
 -- lines, each with its newline
-abbrev pub text_of : List (List ℕ) → List ℕ
-text_of lines = flat_map (λ line. line ++ codes "\n") lines
+abbrev pub text_of_lines : List (List ℕ) → List ℕ
+text_of_lines lines = flat_map (λ line. line ++ codes "\n") lines
 
 -- the text of the one event format
 abbrev pub format_text : List ℕ
-format_text = text_of (
+format_text = text_of_lines (
     codes "name: step"
     ∷ codes "ID: 900"
     ∷ codes "format:"
@@ -53,7 +53,7 @@ header_but_parts = record {
   systems = record { name = codes "selftest"; formats = format_text ∷ [] } ∷ [];
   kallsyms = [];
   printk = [];
-  cmdlines = text_of task_lines;
+  cmdlines = text_of_lines task_lines;
   cpus = 4;
   options = None;
   body = Latency;

@@ -1,7 +1,7 @@
 -- The one line that a self-test prints of a report.
 -- Source: this project.
 use Rattle.std.specs.Prelude.{ℕ, ◌+◌, ◌*◌, ◌%◌, ◌==◌, List, [], ◌∷◌, length, codes}
-use Rattle.std.specs.List.{flat_map, count_by, sum_by, enumerate_from}
+use Rattle.std.specs.List.{concat, count_by, sum_by, enumerate_from}
 use Rattle.std.specs.Fmt.{decimal}
 
 -- the number of newlines
@@ -15,11 +15,8 @@ weight x = x.1 * (1 + x.0 % 1000)
 abbrev pub weighted_sum : List ℕ → ℕ
 weighted_sum report = sum_by weight (enumerate_from 0 report)
 
-abbrev pub text : List (List ℕ) → List ℕ
-text parts = flat_map (λ part. part) parts
-
 abbrev pub summary_line : ℕ → ℕ → List ℕ → List ℕ
-summary_line seed events report = text (
+summary_line seed events report = concat (
     codes "selftest seed=" ∷ decimal seed
     ∷ codes " events=" ∷ decimal events
     ∷ codes " lines=" ∷ decimal (line_count report)

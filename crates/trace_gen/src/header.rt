@@ -2,7 +2,7 @@
 
 ghost use Rattle.std.specs.Prelude.{◌≡◌, ◌++◌, [], ◌∷◌, IfOk, OnOk, codes};
 ghost use Rattle.trace_base.specs.Layout.{IsLayout};
-ghost use Rattle.trace_gen.specs.GeneratedHeader.{format_text, task_line, task_lines, text_of, generated_layout, header_but_parts};
+ghost use Rattle.trace_gen.specs.GeneratedHeader.{format_text, task_line, task_lines, text_of_lines, generated_layout, header_but_parts};
 
 use dat_header::{Body, Header, System};
 use itoa::Buffer;
@@ -78,7 +78,7 @@ fn put_task(text: &mut Vec<u8>, pid: u32) -> Result<(), AllocError>
 
 // The saved command lines.
 fn tasks(alloc: Global) -> Result<ByteText, AllocError>
-    ensures { IfOk result (λ text. text ≡ text_of task_lines) }
+    ensures { IfOk result (λ text. text ≡ text_of_lines task_lines) }
 {
     let mut text = Vec::new(alloc);
     for pid in 1..100 {

@@ -1,14 +1,14 @@
 use Rattle.std.proofs.Common.{◌≡◌, ◌≤◌, ◌-◌}
 use Rattle.dat_header.specs.Allowed.{IsSystemName}
 use Rattle.dat_header.specs.ItemsAt.{name_at}
-use Rattle.dat_header.specs.Steps.{seen}
+use Rattle.dat_header.specs.Seen.{file_seen}
 use Rattle.dat_header.proofs.Rows.{GoesOn, name_from}
 use Rattle.dat_header.proofs.items.read_name.Given as goal
 
 abbrev pub invariant-loop-name : goal.invariant-loop-name
 invariant-loop-name g l = record {
-  goes_on : GoesOn (λ bytes. name_at bytes l.at) l.at (seen g.F.File.bytes g.F.File.size g.F.File.faults g.F.File.reads l.initial.file)
-      (λ bytes. name_from l.name.items l.place bytes) l.place (seen g.F.File.bytes g.F.File.size g.F.File.faults g.F.File.reads l.file);
+  goes_on : GoesOn (λ bytes. name_at bytes l.at) l.at (file_seen g.F.File l.initial.file)
+      (λ bytes. name_from l.name.items l.place bytes) l.place (file_seen g.F.File l.file);
   size : g.F.File.size l.file ≡ g.F.File.size l.initial.file;
   inside : l.place ≤ g.F.File.size l.file;
   allowed : IsSystemName l.name.items;

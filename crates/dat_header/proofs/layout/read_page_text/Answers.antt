@@ -1,7 +1,7 @@
 use Rattle.std.proofs.Common.{ap, sym, refl, ◌∙◌, List, ℕ, arith}
 use Rattle.std.proofs.lemmas.Result.{err_from_is_err_and}
-use Rattle.dat_header.specs.Header.{page_text_at}
 use Rattle.dat_header.specs.PageText.{layout_of}
+use Rattle.dat_header.specs.Opening.{page_text_at}
 use Rattle.dat_header.proofs.Values.{checked_is, checked_not}
 use Rattle.dat_header.proofs.Steps.{steps_then, steps_failed, steps_here, steps_wrong}
 use Rattle.dat_header.proofs.layout.read_page_text.Goals as goal

@@ -1,6 +1,6 @@
 use Rattle.std.proofs.Common.{refl, arith}
+use Rattle.dat_header.specs.Opening.{machine_at}
 use Rattle.std.proofs.lemmas.Result.{err_from_is_err_and}
-use Rattle.dat_header.specs.Header.{machine_at}
 use Rattle.dat_header.proofs.Steps.{steps_then, steps_failed, steps_here}
 use Rattle.dat_header.proofs.machine.read_machine.Goals as goal
 

@@ -1,4 +1,4 @@
-use Rattle.std.proofs.Common.{◌≡◌, ◌∙◌, ℕ, List, length, ap, sym, arith}
+use Rattle.std.proofs.Common.{◌∙◌, length, ap, sym, arith}
 use Rattle.dat_header.proofs.PartialSteps.{steps_none, steps_some}
 use Rattle.dat_header.proofs.partial.read_cmdlines.Goals as goal
 

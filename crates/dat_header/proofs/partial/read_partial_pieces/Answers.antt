@@ -1,10 +1,8 @@
-use Rattle.std.proofs.Common.{sym, refl, ap, subst, arith}
+use Rattle.std.proofs.Common.{sym, ap, subst, arith}
 use Rattle.std.proofs.lemmas.Result.{err_from_is_err_and}
-use Rattle.std.proofs.lemmas.List.Elements.{All-nil}
-use Rattle.dat_options.specs.Table.{IsPart}
 use Rattle.dat_header.specs.declared.header.Header.{Header}
 use Rattle.dat_header.specs.Partial.{IsPartial, partial_of}
-use Rattle.dat_header.proofs.Headers.{found_header}
+use Rattle.dat_header.proofs.Headers.{found_header, partial_allowed}
 use Rattle.dat_header.proofs.Steps.{steps_then, steps_failed, steps_here}
 use Rattle.dat_header.proofs.partial.read_partial_pieces.Goals as goal
 
@@ -37,25 +35,5 @@ returns-clause-steps g c =
 
 pub returns-clause-partial : goal.returns-clause-partial
 returns-clause-partial g c =
-    let opening = c.in_ok-opening.ensures.allowed in
-    let described = c.in_ok-described.ensures.allowed in
-    subst IsPartial (sym c.partial_header.ensures) (record {
-      allowed = record {
-        long = opening.machine.long;
-        page = opening.machine.page;
-        page_text = opening.page.text;
-        layout = opening.page.layout;
-        event_text = described.event_text;
-        ftrace = described.ftrace;
-        systems = described.systems;
-        kallsyms = described.kallsyms;
-        printk = described.printk;
-        cmdlines = c.in_ok-cmdlines.ensures.short;
-        cpus = omega arith;
-        options = tt;
-        body = (refl, All-nil IsPart);
-      };
-      cpus = refl;
-      options = refl;
-      body = refl;
-    })
+    subst IsPartial (sym c.partial_header.ensures)
+    (partial_allowed c.in_ok-opening.opening _ c.in_ok-cmdlines.end c.in_ok-opening.ensures.allowed (record { described = c.in_ok-described.ensures.allowed; cmdlines = c.in_ok-cmdlines.ensures.short }))

@@ -1,6 +1,6 @@
 use Rattle.std.proofs.Common.{rules, ◌≡◌, ◌∙◌, [], ◌∷◌, length, map, refl, sym}
 use Rattle.std.proofs.lemmas.List.{append-nil}
-use Rattle.restore_tool.specs.Copying.{seen}
+use Rattle.dat_header.specs.Seen.{file_seen}
 use Rattle.restore_tool.proofs.OpenFiles.{closes_all, closes_more, closes_none, last_of}
 use Rattle.restore_tool.proofs.frame.close_files.Goals as goal
 
@@ -9,7 +9,7 @@ loop-file-init g c = record { closed = ([], (sym (append-nil c.args.files.items)
 
 pub loop-file-preserved : goal.loop-file-preserved
 loop-file-preserved g c =
-    let f = seen g.F.In.File.bytes g.F.In.File.size g.F.In.File.faults g.F.In.File.reads in
+    let f = file_seen g.F.In.File in
     let before = c.loop-file.invariant in
     let tail = before.closed.0 in
     let file = c.in-Some.file in
@@ -26,7 +26,7 @@ loop-file-preserved g c =
 
 pub returns-clause-counts : goal.returns-clause-counts
 returns-clause-counts g c =
-    let f = seen g.F.In.File.bytes g.F.In.File.size g.F.In.File.faults g.F.In.File.reads in
+    let f = file_seen g.F.In.File in
     let before = c.loop-file.invariant in
     let none : length c.loop-file.files.items ≡ 0 = search rules in
     closes_all f c.args.files.items c.loop-file.files.items before.closed.0 _ _ before.closed.1.0 none before.closed.1.1

@@ -1,12 +1,12 @@
 use Rattle.std.proofs.Common.{◌≡◌, ◌++◌, List, map, length}
-use Rattle.restore_tool.specs.Copying.{seen}
+use Rattle.dat_header.specs.Seen.{file_seen}
 use Rattle.restore_tool.specs.Open.{ClosesMany}
 use Rattle.restore_tool.proofs.frame.close_files.Given as goal
 
 abbrev pub invariant-loop-file : goal.invariant-loop-file
 invariant-loop-file g l = record {
   closed : (tail : List g.row.F-In.Denot) × ((l.fn.files.items ≡ l.files.items ++ tail)
-      × ClosesMany (map (seen g.F.In.File.bytes g.F.In.File.size g.F.In.File.faults g.F.In.File.reads) tail) (g.F.Folder.counts l.fn.folder) (g.F.Folder.counts l.folder));
+      × ClosesMany (map (file_seen g.F.In.File) tail) (g.F.Folder.counts l.fn.folder) (g.F.Folder.counts l.folder));
   files : g.F.Folder.files l.folder ≡ g.F.Folder.files l.fn.folder;
 }
 

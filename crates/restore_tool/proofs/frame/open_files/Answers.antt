@@ -1,15 +1,13 @@
-use Rattle.std.proofs.Common.{rules, ◌≡◌, ◌+◌, ◌<◌, ℕ, List, [], ◌∷◌, length, get_or, map, subst, sym, refl, ap, ◌∙◌, arith, Option}
-use Rattle.std.proofs.lemmas.List.{get_or-map, length-append}
-use Rattle.trace_outside.specs.Folders.{IsFileOf}
-use Rattle.trace_outside.specs.Names.{NamedFiles}
-use Rattle.restore_tool.specs.Copying.{seen}
+use Rattle.std.proofs.Common.{rules, ◌≡◌, ◌+◌, ◌<◌, [], ◌∷◌, length, ap, ◌∙◌, arith}
+use Rattle.std.proofs.lemmas.List.{length-append}
+use Rattle.dat_header.specs.Seen.{file_seen}
 use Rattle.restore_tool.proofs.Failures.{missed_at, on_err, unmissed_more}
 use Rattle.restore_tool.proofs.OpenFiles.{name_told, opens_more, seen_more, unused_more}
 use Rattle.restore_tool.proofs.frame.open_files.Goals as goal
 
 pub loop-name-preserved : goal.loop-name-preserved
 loop-name-preserved g c =
-    let f = seen g.F.In.File.bytes g.F.In.File.size g.F.In.File.faults g.F.In.File.reads in
+    let f = file_seen g.F.In.File in
     let one = c.in_ok-open_next.ensures.held in
     let old = c.loop-name.files.items in
     let now = c.open_next.new.files.items in

@@ -4,7 +4,7 @@ use Rattle.trace_outside.specs.Causes.{Rose}
 use Rattle.trace_outside.specs.Names.{NamedFiles}
 use Rattle.restore_tool.specs.declared.named.Source.TheVariants.{Partial}
 use Rattle.restore_tool.specs.Answers.{Causes}
-use Rattle.restore_tool.specs.Copying.{seen}
+use Rattle.dat_header.specs.Seen.{file_seen}
 use Rattle.restore_tool.specs.Failing.{IfRead, IsFaulty}
 use Rattle.restore_tool.specs.Meaning.{names_view, texts_of, with_texts}
 use Rattle.restore_tool.specs.Open.{AreFilesOf, AreThere}
@@ -31,7 +31,7 @@ returns-in-Err-clause-done g c =
 
 pub returns-clause-done : goal.returns-clause-done
 returns-clause-done g c =
-    let f = seen g.D.In.File.bytes g.D.In.File.size g.D.In.File.faults g.D.In.File.reads in
+    let f = file_seen g.D.In.File in
     let names = (names_view c.args.names.now).files in
     let slice = c.as_mut_slice.result.now in
     let old = g.D.Folder.files c.args.folder.now in
@@ -44,7 +44,7 @@ returns-clause-done g c =
 
 pub returns-clause-causes : goal.returns-clause-causes
 returns-clause-causes g c =
-    let f = seen g.D.In.File.bytes g.D.In.File.size g.D.In.File.faults g.D.In.File.reads in
+    let f = file_seen g.D.In.File in
     let slice = c.as_mut_slice.result.now in
     let now = c.restore-end.new.files in
     let start = g.D.Folder.counts c.args.folder.now in
@@ -57,7 +57,7 @@ returns-clause-causes g c =
 
 pub returns-clause-kept : goal.returns-clause-kept
 returns-clause-kept g c =
-    let f = seen g.D.In.File.bytes g.D.In.File.size g.D.In.File.faults g.D.In.File.reads in
+    let f = file_seen g.D.In.File in
     kept_by c.in-Ok-Ok-Ok.header (map f c.as_mut_slice.result.now) c.args.names.now.output.now (g.D.Folder.counts c.open_files.new.folder) (g.D.Folder.counts c.restore-end.new.folder)
     (g.D.Folder.files c.args.folder.now) (g.D.Folder.files c.open_files.new.folder) (g.D.Folder.files c.restore-end.new.folder) c.restore-end.result c.answer_of.result
     c.answer_of.ensures c.open_files.ensures.files c.restore-end.ensures.leaves
@@ -73,7 +73,7 @@ returns-clause-misses g c =
 
 pub returns-clause-unread : goal.returns-clause-unread
 returns-clause-unread g c =
-    let f = seen g.D.In.File.bytes g.D.In.File.size g.D.In.File.faults g.D.In.File.reads in
+    let f = file_seen g.D.In.File in
     let names = (names_view c.args.names.now).files in
     let slice = c.as_mut_slice.result.now in
     let told = g.D.Folder.files c.args.folder.now in
@@ -84,7 +84,7 @@ returns-clause-unread g c =
 
 pub returns-in-Err-clause-causes : goal.returns-in-Err-clause-causes
 returns-in-Err-clause-causes g c =
-    let f = seen g.D.In.File.bytes g.D.In.File.size g.D.In.File.faults g.D.In.File.reads in
+    let f = file_seen g.D.In.File in
     inl (omega (arith, length-map c.open_files.new.files.items f), c.in-Err.ensures.failed)
 
 pub returns-in-Err-clause-misses : goal.returns-in-Err-clause-misses
@@ -94,7 +94,7 @@ returns-in-Err-clause-misses g c =
 
 pub returns-in-Err-clause-unread : goal.returns-in-Err-clause-unread
 returns-in-Err-clause-unread g c =
-    let f = seen g.D.In.File.bytes g.D.In.File.size g.D.In.File.faults g.D.In.File.reads in
+    let f = file_seen g.D.In.File in
     let items = c.open_files.new.files.items in
     unopened_unread (g.D.Folder.files c.args.folder.now) (names_view c.args.names.now).files (map f items) (length items) _ _ _ (sym (length-map items f)) (omega arith)
     (omega (arith, c.in-Err.ensures.fewer, length-map c.args.names.now.files.now (λ name. name.now))) c.open_files.ensures.told c.in-Err.ensures.missed

@@ -2,7 +2,7 @@ use Rattle.std.proofs.Common.{refl, sym, map, length, subst, ℕ, arith}
 use Rattle.std.proofs.lemmas.List.{length-map}
 use Rattle.trace_outside.specs.Causes.{Rose}
 use Rattle.trace_outside.specs.Names.{NamedFiles}
-use Rattle.restore_tool.specs.Copying.{seen}
+use Rattle.dat_header.specs.Seen.{file_seen}
 use Rattle.restore_tool.specs.Failing.{IfRead, IsUnreadBehind}
 use Rattle.restore_tool.specs.Meaning.{names_view, texts_of, with_texts}
 use Rattle.restore_tool.specs.Open.{AreThere}
@@ -32,7 +32,7 @@ returns-clause-done g c =
 
 pub returns-clause-causes : goal.returns-clause-causes
 returns-clause-causes g c =
-    let files = map (seen g.D.In.File.bytes g.D.In.File.size g.D.In.File.faults g.D.In.File.reads) c.restore_data-answer.new.files.items in
+    let files = map (file_seen g.D.In.File) c.restore_data-answer.new.files.items in
     let start = g.D.Folder.counts c.args.folder.now in
     let mid = g.D.Folder.counts c.restore_data-answer.new.folder in
     let now = g.D.Folder.counts c.close_files.new.folder in
@@ -46,7 +46,7 @@ returns-clause-created g c = created_then c.restore_data-answer.result _ _ _ c.c
 pub returns-clause-counts : goal.returns-clause-counts
 returns-clause-counts g c =
     let items = c.restore_data-answer.new.files.items in
-    let f = seen g.D.In.File.bytes g.D.In.File.size g.D.In.File.faults g.D.In.File.reads in
+    let f = file_seen g.D.In.File in
     all_closed_counts (length items) _ (map f items) _ _ _ (sym (length-map items f)) c.restore_data-answer.ensures.inside c.restore_data-answer.ensures.counts c.close_files.ensures.counts
 
 pub returns-clause-kept : goal.returns-clause-kept

@@ -1,16 +1,16 @@
-use Rattle.std.proofs.Common.{rules, arith, ◌≡◌, ◌<◌, ◌≤◌, ◌∙◌, ◌+◌, ◌%◌, ◌^◌, ℕ, ap, sym, subst, IfSome, length, get_or, map, set}
+use Rattle.std.proofs.Common.{rules, arith, ◌≡◌, ◌<◌, ◌≤◌, ◌∙◌, ◌+◌, ◌%◌, ◌^◌, ℕ, ap, sym, subst, IfSome, length, get_or, map}
 use Rattle.std.proofs.lemmas.List.{get_or-map, length-map, take_more_set}
 use Rattle.trace_base.specs.declared.part.Part.{Part}
-use Rattle.restore_tool.specs.Copying.{seen}
+use Rattle.dat_header.specs.Seen.{file_seen}
 use Rattle.restore_tool.proofs.FilesBehind.{placed_all, placed_more, placed_none}
 use Rattle.restore_tool.proofs.placing.place_files.Goals as goal
 
 pub loop-i-init : goal.loop-i-init
-loop-i-init g c = placed_none c.args.page c.args.place (map (seen g.F.File.bytes g.F.File.size g.F.File.faults g.F.File.reads) c.args.files.now) c.args.parts.now
+loop-i-init g c = placed_none c.args.page c.args.place (map (file_seen g.F.File) c.args.files.now) c.args.parts.now
 
 pub loop-i-preserved : goal.loop-i-preserved
 loop-i-preserved g c =
-    let f = seen g.F.File.bytes g.F.File.size g.F.File.faults g.F.File.reads in
+    let f = file_seen g.F.File in
     let lt : c.loop-i.i < length c.args.files.now = search rules in
     let room : c.loop-i.i < length c.loop-i.parts = search rules in
     let file = c.index-files-i.result in
@@ -26,7 +26,7 @@ loop-i-preserved g c =
 
 pub returns : goal.returns
 returns g c =
-    let f = seen g.F.File.bytes g.F.File.size g.F.File.faults g.F.File.reads in
+    let f = file_seen g.F.File in
     let over : length c.args.files.now ≤ c.loop-i.i = search rules in
     let each : length c.loop-i.parts ≡ length c.args.files.now = search rules in
     placed_all c.args.page c.args.place (map f c.args.files.now) c.loop-i.i c.loop-i.place c.loop-i.parts (omega (arith, over, length-map c.args.files.now f)) (omega (arith, each, length-map c.args.files.now f)) c.loop-i.invariant
