@@ -1,17 +1,38 @@
 -- What loading does to a lane.
-use Rattle.std.specs.Prelude.{◌≡◌, ℕ, ◌+◌, ◌<◌, List, [], length, Option, Some, None}
+use Rattle.std.specs.Prelude.{◌≡◌, ℕ, ◌+◌, ◌-◌, ◌<◌, ◌≤◌, IfSome, List, [], length, Option, Some, None}
 use Rattle.trace_base.specs.declared.layout.Layout.{Layout}
+use Rattle.trace_outside.specs.declared.outside.File as file
+use Rattle.trace_outside.specs.Causes.{raised}
+use Rattle.trace_outside.specs.Keeping.{KeepsFile}
 use Rattle.page_pool.specs.declared.lane.Lane.{Lane}
 use Rattle.page_pool.specs.declared.cursor.LaneState.TheVariants.{Fresh, Held, Ended, Malformed}
+use Rattle.page_pool.specs.Keeping.{KeepsLane, loading}
 use Rattle.event_cursor.specs.declared.loading.Loaded.{Loaded}
 use Rattle.event_cursor.specs.declared.loading.Loaded.TheVariants as loaded
-use Rattle.event_cursor.specs.Standing.{held_left, left_of, bad_left}
-use Rattle.event_cursor.specs.Unread.{IsAsked, size_there, unread}
+use Rattle.event_cursor.specs.Standing.{IsInOrder, Stands, held_left, left_of, bad_left, most_left}
+use Rattle.event_cursor.specs.Unread.{IsAsked, reading, size_there, unread}
 
 -- What was left is left.
 pub record KeepsLeft (layout : Layout) (file : List ℕ) (before now : Lane) : Type 0 where
   pub left : left_of layout file now ≡ left_of layout file before
   pub bad : bad_left layout file now ≡ bad_left layout file before
+
+-- Nothing of the lane was used up while it was made ready: what was left of it is left, and it stands as it stood.
+pub record IsReadied (layout : Layout) (told : Option (List ℕ)) (before now : Lane) : Type 0 where
+  pub place : KeepsLane loading before now
+  pub left : IfSome told (λ file. KeepsLeft layout file before now)
+  pub stands : IfSome told (λ file. Stands layout file before → Stands layout file now)
+  pub most : most_left layout now ≤ most_left layout before
+
+-- A lane loaded sub-buffers, maybe none: nothing of it was used up, and each sub-buffer from the next one on was read once,
+-- up to that at which loading stopped.
+pub record LoadsLane {F : Type 0} (f : file.Ghosts F) (layout : Layout) (file_before file_now : F) (before now : Lane) : Type 0 where
+  pub in_order : IsInOrder layout now
+  pub readied : IsReadied layout (f.bytes file_before) before now
+  pub reads : f.reads file_now ≤ raised (f.reads file_before)
+      (unread layout (f.size file_before) before - unread layout (f.size file_before) now + reading layout (f.size file_before) now)
+  pub unread : unread layout (f.size file_before) now ≤ unread layout (f.size file_before) before
+  pub keeps : KeepsFile f file_before file_now
 
 -- the lane's state by the answer
 abbrev pub IsState : Layout → Lane → Loaded → Type 0

@@ -7,15 +7,20 @@ use Rattle.subpage.specs.ItemData.{ItemData}
 use Rattle.subpage.specs.Processor.{items_at, page_count, pages_from, joined, list_of, bad_of}
 use Rattle.subpage.specs.Cut.{last_key}
 use Rattle.page_pool.specs.declared.lane.Lane.{Lane}
+use Rattle.page_pool.specs.declared.cursor.Cursor.{Cursor}
 use Rattle.page_pool.specs.declared.cursor.LaneState.TheVariants.{Fresh, Held}
 use Rattle.event_cursor.specs.declared.places.Place.{Place}
 use Rattle.event_cursor.specs.declared.seeking.Sought.{Sought}
 use Rattle.event_cursor.specs.declared.seeking.Sought.TheVariants as sought
 use Rattle.event_cursor.specs.Standing.{left_of, bad_left, Stands}
 
--- the place of a lane that holds a sub-buffer
+-- the place of a cursor in the sub-buffer that is held
+abbrev pub place_at : Cursor → Place
+place_at cursor = record { page = cursor.held; at = cursor.at; high = cursor.high }
+
+-- that of a lane
 abbrev pub place_in : Lane → Place
-place_in lane = record { page = lane.cursor.held; at = lane.cursor.at; high = lane.cursor.high }
+place_in lane = place_at lane.cursor
 
 -- the sub-buffers behind that of a place
 abbrev pub pages_behind : Layout → List ℕ → Part → Place → List (Option (List ItemData))

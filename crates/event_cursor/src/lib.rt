@@ -17,5 +17,5 @@ pub use fetching::is_there;
 pub use laws::used_items;
 pub use loading::{Loaded, load};
 pub use places::Place;
-pub use seeking::{Sought, place, seek};
+pub use seeking::{Sought, seek};
 pub use stepping::{head, head_at, head_key, key_behind, step};

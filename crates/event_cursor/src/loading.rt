@@ -1,12 +1,12 @@
-ghost use Rattle.std.specs.Prelude.{◌≡◌, ◌≢◌, ◌+◌, ◌-◌, ◌≤◌, ◌<◌, [], length, IfOk, IfSome, OnErr};
+ghost use Rattle.std.specs.Prelude.{◌≡◌, ◌≢◌, ◌≤◌, ◌<◌, [], length, IfOk, IfSome, OnErr};
 ghost use Rattle.trace_base.specs.Layout.{IsLayout};
 ghost use Rattle.trace_outside.specs.Causes.{HasCause, raised};
 ghost use Rattle.trace_outside.specs.Keeping.{KeepsFile};
 ghost use Rattle.subpage.specs.Processor.{page_count};
 ghost use Rattle.page_pool.specs.Keeping.{KeepsLane, loading};
-ghost use Rattle.event_cursor.specs.Standing.{IsInOrder, OwnIfHeld, Stands, held_left, most_left};
-ghost use Rattle.event_cursor.specs.Loading.{ComesTo, KeepsLeft, IsState, IsAnswer};
-ghost use Rattle.event_cursor.specs.Unread.{IsAsked, reading, size_there, unread};
+ghost use Rattle.event_cursor.specs.Standing.{IsInOrder, OwnIfHeld, held_left, most_left};
+ghost use Rattle.event_cursor.specs.Loading.{ComesTo, KeepsLeft, LoadsLane, IsState, IsAnswer};
+ghost use Rattle.event_cursor.specs.Unread.{IsAsked, size_there};
 
 use crate::fetching::fetch;
 use crate::stepping::ahead_at;
@@ -37,23 +37,12 @@ pub fn load<F: File>(layout: &Layout, file: &mut F, lane: &mut Lane) -> Result<L
     // It holds no sub-buffer, or the held one is used up.
     requires used_up { held_left layout.now lane.old ≡ [] }
     requires sound { lane.old.cursor.state ≢ LaneState.Malformed }
-    ensures in_order { IsInOrder layout.now lane.new }
-    ensures place { KeepsLane loading lane.old lane.new }
+    ensures loads { LoadsLane F.File layout.now file.old file.new lane.old lane.new }
     ensures state { IfOk result (IsState layout.now lane.new) }
     ensures failed { OnErr result (lane.new.cursor.state ≡ LaneState.Fresh) }
-    ensures left { IfSome (F.bytes file.old) (λ bytes. KeepsLeft layout.now bytes lane.old lane.new) }
     ensures answer { IfOk result (λ answer.
         IfSome (F.bytes file.old) (λ bytes. IsAnswer layout.now bytes lane.new answer)) }
-    ensures stands { IfSome (F.bytes file.old) (λ bytes.
-        Stands layout.now bytes lane.old → Stands layout.now bytes lane.new) }
-    ensures most { most_left layout.now lane.new ≤ most_left layout.now lane.old }
     ensures cause { HasCause (F.faults file.old) (F.faults file.new) result }
-    // Each sub-buffer from the next one on is read once, up to that at which loading stops.
-    ensures reads { F.reads file.new ≤ raised (F.reads file.old)
-        (unread layout.now (F.size file.old) lane.old - unread layout.now (F.size file.old) lane.new
-        + reading layout.now (F.size file.old) lane.new) }
-    ensures unread { unread layout.now (F.size file.old) lane.new ≤ unread layout.now (F.size file.old) lane.old }
-    ensures keeps { KeepsFile F.File file.old file.new }
 {
     lane.cursor.state = LaneState::Fresh;
     let count = lane.part.size.div_ceil(u64::from(layout.page));

@@ -5,7 +5,7 @@ ghost use Rattle.trace_outside.specs.Keeping.{KeepsFile};
 ghost use Rattle.subpage.specs.Marks.{IsMark, items_from};
 ghost use Rattle.page_pool.specs.Keeping.{KeepsLane, seeking};
 ghost use Rattle.event_cursor.specs.Fetched.{HoldsItems, IsFetched, IsOwnPage};
-ghost use Rattle.event_cursor.specs.Places.{IsSought, SoughtIn, place_in};
+ghost use Rattle.event_cursor.specs.Places.{IsSought, SoughtIn};
 ghost use Rattle.event_cursor.specs.Standing.{IsInOrder, Stands};
 ghost use Rattle.event_cursor.specs.Unread.{is_there_in};
 
@@ -24,18 +24,6 @@ pub enum Sought {
     Held,
     /// The sub-buffer is malformed, or has fewer items than the place says.
     Malformed,
-}
-
-/// Where a lane stands that holds a sub-buffer.
-pub fn place(lane: &Lane) -> Place
-    requires { lane.now.cursor.state ≡ LaneState.Held }
-    ensures { result ≡ place_in lane.now }
-{
-    Place {
-        page: lane.cursor.held,
-        at: lane.cursor.at,
-        high: lane.cursor.high,
-    }
 }
 
 /// The mark behind the first `count` items of a sub-buffer. `None`: it has fewer.

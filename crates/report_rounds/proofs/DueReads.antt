@@ -22,7 +22,7 @@ use Rattle.page_pool.specs.Lines.{Line, Lines, most_lines}
 use Rattle.page_pool.specs.declared.lane.Lane.{Lane}
 use Rattle.event_cursor.specs.Standing.{Stands, left_of}
 use Rattle.event_cursor.specs.Unread.{is_there_in, size_from}
-use Rattle.time_merge.specs.Advancing.{IsReadied}
+use Rattle.event_cursor.specs.Loading.{IsReadied}
 use Rattle.time_merge.specs.LaneRows.{parts_of}
 use Rattle.time_merge.specs.Reads.{all_unread}
 use Rattle.time_merge.specs.Rows.{Row}

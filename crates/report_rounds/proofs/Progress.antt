@@ -7,7 +7,7 @@ use Rattle.line_holes.specs.Holes.{LineText}
 use Rattle.page_pool.specs.Lines.{Line, Lines}
 use Rattle.page_pool.specs.declared.lane.Lane.{Lane}
 use Rattle.event_cursor.specs.Standing.{held_left, keyed_held, most_left}
-use Rattle.time_merge.specs.Advancing.{IsReadied}
+use Rattle.event_cursor.specs.Loading.{IsReadied}
 use Rattle.time_merge.specs.declared.horizons.Horizon.{Horizon}
 use Rattle.cpu_workers.specs.Spaces.{Space, space_of, fill}
 use Rattle.cpu_workers.specs.Formats.{IsFormatted}

@@ -20,7 +20,7 @@ use Rattle.page_pool.specs.declared.lane.Lane.{Lane}
 use Rattle.page_pool.specs.Keeping.{KeepsLane, loading}
 use Rattle.event_cursor.specs.Loading.{KeepsLeft}
 use Rattle.event_cursor.specs.Standing.{IsInOrder, Stands, held_left}
-use Rattle.time_merge.specs.Advancing.{IsReadied}
+use Rattle.event_cursor.specs.Loading.{IsReadied}
 use Rattle.time_merge.specs.declared.ending.End.{End}
 use Rattle.time_merge.specs.declared.horizons.Horizon.{Horizon}
 use Rattle.time_merge.specs.declared.horizons.Horizon.TheVariants as code
@@ -34,7 +34,7 @@ use Rattle.cpu_workers.specs.Formats.{IsFormatted, IsSorted}
 use Rattle.cpu_workers.proofs.Placing.{stands_region}
 use Rattle.round_print.specs.Prints.{CpuLine, KeysRise, key_in, cpu_in, printed, filled_text, last_of}
 use Rattle.round_print.proofs.FilledTexts.{text_in_turn}
-use Rattle.round_print.specs.Rounds.{IsPrinted}
+use Rattle.round_print.specs.Rounds.{AreRising, IsPrinted}
 use Rattle.report_rounds.specs.Between.{IsBetween, all_work, work_of}
 use Rattle.report_rounds.specs.Due.{is_of}
 use Rattle.report_rounds.specs.Ends.{EndsThere, IsOutcome, IsStop, StandsBefore}
@@ -69,7 +69,7 @@ module _ (text : ℕ → ItemData → LineText) (l : Layout) (told : Option (Lis
   pub formed_all : All (IsBetween text l) first → All (IsBetween text l) formed
   formed_all all = all_on (IsFormatted text l) (IsBetween text l) (IsBetween text l) loaded formed f.long_formed f.format (formatted_between text l) (loaded_all all)
 
-  pub formed_rises : All (IsBetween text l) first → All KeysRise formed
+  formed_rises : All (IsBetween text l) first → All KeysRise formed
   formed_rises all = All-weaker (IsBetween text l) KeysRise (λ a b. b.sorted.rises) formed (formed_all all)
 
   pub formed_parts : parts_of formed ≡ parts_of first
@@ -79,6 +79,9 @@ module _ (text : ℕ → ItemData → LineText) (l : Layout) (told : Option (Lis
 
   pub formed_rise : CpusRise (parts_of first) → CpusRise (parts_of formed)
   formed_rise rise = subst (λ (ps : List (ℕ × Part)). CpusRise ps) (sym formed_parts) rise
+
+  pub formed_rising : CpusRise (parts_of first) → All (IsBetween text l) first → AreRising formed
+  formed_rising rise all = record { cpus = formed_rise rise; keys = formed_rises all }
 
   module _ (h : Horizon) (now : List Lane) (long : length now ≡ length formed) (print : Related (IsPrinted h) formed now) where
     pub now_all : All (IsBetween text l) first → All (IsBetween text l) now

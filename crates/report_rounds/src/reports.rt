@@ -10,44 +10,40 @@ ghost use Rattle.report_rounds.specs.Reports.{IsReport};
 
 use crate::ends::Outcome;
 use crate::turns::turn;
-use cpu_workers::Form;
-use least_tree::LeastTree;
+use crate::work::RoundWork;
+use cpu_workers::{Form, Workers};
 use page_pool::Lane;
 use std::thread::Threads;
 use time_merge::End;
 use trace_base::Layout;
-use trace_outside::{File, Gate, Pending, Sink};
+use trace_outside::{File, Gate, Sink};
 
 /// Writes the lines of the reached items of the lanes' processors, by key, then processor, then position: all items up to
 /// the first malformed sub-buffer in that order. `Malformed` tells that sub-buffer, `Done` that there is none.
 ///
-/// The lanes stand before their first items and keep no line, each region has room for any line, and nothing waits in
-/// `pending`. Lines are formed on at most `workers` threads, with the same bytes for any number of them. After `Read` the
-/// lines of the first few reached items are written, after `Write` a prefix of the text. `heads` is a tree with a slot for
-/// each lane, whatever is in it. It takes no memory.
+/// The lanes stand before their first items and keep no line, and each region has room for any line. Lines are formed on as
+/// many threads as `workers` tells, with the same bytes for any number of them. After `Read` the lines of the first few
+/// reached items are written, after `Write` a prefix of the text. It takes no memory.
 ///
 /// No more bytes are read than the parts of the processors have, and none ahead of what is written: of the lines before
 /// a sub-buffer that is read no more than a region keeps were not written yet.
 pub fn report_rounds<R: Threads + Sync, F: File, L: Form, G: Gate, O: Sink>(
-    rt: &R,
+    workers: &Workers<'_, R, G>,
     form: &L,
     layout: &Layout,
     file: &mut F,
     lanes: &mut [Lane],
-    workers: u32,
-    gate: &G,
-    heads: &mut LeastTree,
-    pending: &mut Pending,
+    work: &mut RoundWork,
     out: &mut O,
 ) -> End
     requires allowed { IsLayout layout.now }
-    requires workers { (1 ≤ workers) × (workers ≤ 64) }
+    requires workers { (1 ≤ workers.now.count) × (workers.now.count ≤ 64) }
     requires start { All (IsAtStart layout.now) lanes.old }
     requires room { All (HasRoom (L.text form.now)) lanes.old }
     requires shown { HidesNoHole (L.text form.now) }
     requires rise { CpusRise (parts_of lanes.old) }
-    requires heads { length heads.old ≡ length lanes.old }
-    requires empty { pending.old ≡ [] }
+    requires heads { length work.old.heads ≡ length lanes.old }
+    requires empty { work.old.pending ≡ [] }
     ensures report { IfSome (F.bytes file.old) (λ bytes. IsReport (L.text form.now) layout.now bytes (parts_of lanes.old)
         (O.written out.old) (O.written out.new) result) }
     ensures read { result ≡ End.Read → Rose (F.faults file.old) (F.faults file.new) }
@@ -61,9 +57,7 @@ pub fn report_rounds<R: Threads + Sync, F: File, L: Form, G: Gate, O: Sink>(
 {
     let mut last = None;
     loop {
-        if let Outcome::Ends(end) = turn(
-            rt, form, layout, file, lanes, workers, gate, heads, &mut last, pending, out,
-        ) {
+        if let Outcome::Ends(end) = turn(workers, form, layout, file, lanes, work, &mut last, out) {
             return end;
         }
     }

@@ -7,34 +7,31 @@ ghost use Rattle.report_rounds.specs.Between.{AreBetween};
 ghost use Rattle.report_rounds.specs.Turns.{CanGoOn, HasLoaded, IsTurned};
 
 use crate::ends::{Outcome, outcome_at};
-use cpu_workers::{Form, format_lanes};
-use least_tree::LeastTree;
+use crate::work::RoundWork;
+use cpu_workers::{Form, Workers, format_lanes};
 use page_pool::Lane;
 use round_print::print_round;
 use std::thread::Threads;
 use time_merge::{End, horizon, make_all_ready};
 use trace_base::Layout;
-use trace_outside::{File, Gate, Pending, Sink};
+use trace_outside::{File, Gate, Sink};
 
-/// One round: makes every lane ready, forms lines on at most `workers` threads, and prints those up to the horizon.
+/// One round: makes every lane ready, forms lines, and prints those up to the horizon.
 pub(crate) fn turn<R: Threads + Sync, F: File, L: Form, G: Gate, O: Sink>(
-    rt: &R,
+    workers: &Workers<'_, R, G>,
     form: &L,
     layout: &Layout,
     file: &mut F,
     lanes: &mut [Lane],
-    workers: u32,
-    gate: &G,
-    heads: &mut LeastTree,
+    work: &mut RoundWork,
     last: &mut Option<u64>,
-    pending: &mut Pending,
     out: &mut O,
 ) -> Outcome
     requires allowed { IsLayout layout.now }
-    requires workers { (1 ≤ workers) × (workers ≤ 64) }
-    requires between { AreBetween (L.text form.now) layout.now lanes.old (length heads.old) pending.old }
+    requires workers { (1 ≤ workers.now.count) × (workers.now.count ≤ 64) }
+    requires between { AreBetween (L.text form.now) layout.now lanes.old (length work.old.heads) work.old.pending }
     ensures between { result ≡ Outcome.GoesOn
-        → AreBetween (L.text form.now) layout.now lanes.new (length heads.new) pending.new }
+        → AreBetween (L.text form.now) layout.now lanes.new (length work.new.heads) work.new.pending }
     ensures goes_on { result ≡ Outcome.GoesOn
         → CanGoOn F.File layout.now file.old file.new lanes.old lanes.new }
     ensures turned { IfSome (F.bytes file.old) (λ bytes. All (Stands layout.now bytes) lanes.old
@@ -45,16 +42,16 @@ pub(crate) fn turn<R: Threads + Sync, F: File, L: Form, G: Gate, O: Sink>(
     ensures write { result ≡ Outcome.Ends End.Write → Rose (O.faults out.old) (O.faults out.new) }
     ensures loaded { HasLoaded layout.now (F.bytes file.old) (F.size file.old) lanes.old (F.reads file.old)
         (F.reads file.new) }
-    ensures heads { length heads.new ≡ length heads.old }
+    ensures heads { length work.new.heads ≡ length work.old.heads }
     ensures keeps_out { KeepsSink O.Sink out.old out.new }
     ensures keeps { KeepsFile F.File file.old file.new }
 {
     let Ok(()) = make_all_ready(layout, file, lanes) else {
         return Outcome::Ends(End::Read);
     };
-    format_lanes(rt, form, layout, lanes, workers, gate);
+    format_lanes(workers, form, layout, lanes);
     let known = horizon(lanes);
-    match print_round(&known, lanes, heads, last, pending, out) {
+    match print_round(&known, lanes, &mut work.heads, last, &mut work.pending, out) {
         Ok(()) => outcome_at(known, lanes),
         Err(_) => Outcome::Ends(End::Write),
     }

@@ -1,11 +1,10 @@
-ghost use Rattle.std.specs.Prelude.{◌≡◌, ◌<◌, [], ℕ, All, length, slice_index_or, IfOk};
+ghost use Rattle.std.specs.Prelude.{◌≡◌, ◌<◌, [], length, IfOk};
 ghost use Rattle.trace_outside.specs.Causes.{HasCause};
 ghost use Rattle.trace_outside.specs.Pending.{Puts};
 ghost use Rattle.line_holes.specs.Holes.{filled_bytes, hole_time, later};
-ghost use Rattle.subpage.specs.Arrangement.{CpusRise};
 ghost use Rattle.time_merge.specs.LaneRows.{parts_of};
-ghost use Rattle.round_print.specs.Prints.{KeysRise, filled_text, first_line, last_of, printed};
-ghost use Rattle.round_print.specs.Rounds.{Gains, IsLineDropped, IsPrinted};
+ghost use Rattle.round_print.specs.Prints.{filled_text, first_line, printed};
+ghost use Rattle.round_print.specs.Rounds.{ArePrinted, AreRising, Gains, IsLineDropped};
 
 use crate::filling::put_filled;
 use crate::heads::{drop_line, head_kept, least_due, take_heads};
@@ -46,20 +45,15 @@ fn put_round<O: Sink>(
     pending: &mut Pending,
     out: &mut O,
 ) -> Result<(), Failed>
-    requires rise { CpusRise (parts_of lanes.old) }
-    requires rises { All KeysRise lanes.old }
+    requires rising { AreRising lanes.old }
     requires heads { length heads.old ≡ length lanes.old }
     ensures puts { Puts (filled_text last.old (printed horizon.now lanes.old)) (O.written out.old) pending.old
         (O.written out.new) pending.new result }
-    ensures last { IfOk result (λ _. last.new ≡ last_of last.old (printed horizon.now lanes.old)) }
+    ensures printed { IfOk result (λ _. ArePrinted horizon.now last.old last.new lanes.old lanes.new) }
     ensures heads { length heads.new ≡ length heads.old }
     ensures name { O.name out.new ≡ O.name out.old }
     ensures cause { HasCause (O.faults out.old) (O.faults out.new) result }
-    ensures lanes { IfOk result (λ _. (i : ℕ) (d : Lane) → i < length lanes.old
-        → IsPrinted horizon.now (slice_index_or lanes.old i d) (slice_index_or lanes.new i d)) }
     ensures parts { parts_of lanes.new ≡ parts_of lanes.old }
-    ensures rise { IfOk result (λ _. CpusRise (parts_of lanes.new)) }
-    ensures rises { IfOk result (λ _. All KeysRise lanes.new) }
 {
     take_heads(lanes, heads);
     while let Some(i) = least_due(horizon, lanes, heads) {
@@ -88,22 +82,17 @@ pub fn print_round<O: Sink>(
     pending: &mut Pending,
     out: &mut O,
 ) -> Result<(), Failed>
-    requires rise { CpusRise (parts_of lanes.old) }
-    requires rises { All KeysRise lanes.old }
+    requires rising { AreRising lanes.old }
     requires heads { length heads.old ≡ length lanes.old }
     requires empty { pending.old ≡ [] }
     ensures written { Gains (O.written out.old) (O.written out.new)
         (filled_text last.old (printed horizon.now lanes.old)) result }
-    ensures last { IfOk result (λ _. last.new ≡ last_of last.old (printed horizon.now lanes.old)) }
+    ensures printed { IfOk result (λ _. ArePrinted horizon.now last.old last.new lanes.old lanes.new) }
     ensures name { O.name out.new ≡ O.name out.old }
     ensures cause { HasCause (O.faults out.old) (O.faults out.new) result }
     ensures heads { length heads.new ≡ length heads.old }
     ensures empty { IfOk result (λ _. pending.new ≡ []) }
-    ensures lanes { IfOk result (λ _. (i : ℕ) (d : Lane) → i < length lanes.old
-        → IsPrinted horizon.now (slice_index_or lanes.old i d) (slice_index_or lanes.new i d)) }
     ensures parts { parts_of lanes.new ≡ parts_of lanes.old }
-    ensures rise { IfOk result (λ _. CpusRise (parts_of lanes.new)) }
-    ensures rises { IfOk result (λ _. All KeysRise lanes.new) }
 {
     match put_round(horizon, lanes, heads, last, pending, out) {
         Ok(()) => pending.flush(out),

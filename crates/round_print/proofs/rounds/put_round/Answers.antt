@@ -28,8 +28,7 @@ loop-i-init g c = record {
   name = refl;
   later = omega arith;
   parts = refl;
-  rise = c.requires.rise;
-  rises = c.requires.rises;
+  rising = c.requires.rising;
   heads = c.take_heads.ensures;
   slots = ap length c.take_heads.ensures ∙ length-map c.args.lanes.now head_kept ∙ sym c.requires.heads;
   lanes = λ i d lt. record {
@@ -45,14 +44,14 @@ pub loop-i-smaller : goal.loop-i-smaller
 loop-i-smaller g c =
     let dropped : IsLineDropped c.index-lanes-i.result c.print_first.new.lane = dropped_at c.loop-i.lanes c.in-Some.i c.index-lanes-i.result c.print_first.new.lane c.index-lanes-i.is c.in-Ok.ensures.dropped in
     let step : IsStep c.args.horizon.now c.loop-i.lanes c.in-Some.i c.index-lanes-i.result c.print_first.new.lane =
-    is_step c.args.horizon.now c.loop-i.lanes c.in-Some.i c.index-lanes-i.result c.print_first.new.lane c.in-Some.ensures.inside c.index-lanes-i.is c.in-Some.ensures.least c.loop-i.invariant.rise c.loop-i.invariant.rises dropped in
+    is_step c.args.horizon.now c.loop-i.lanes c.in-Some.i c.index-lanes-i.result c.print_first.new.lane c.in-Some.ensures.inside c.index-lanes-i.is c.in-Some.ensures.least c.loop-i.invariant.rising.cpus c.loop-i.invariant.rising.keys dropped in
     omega (arith, step.fewer)
 
 pub loop-i-preserved : goal.loop-i-preserved
 loop-i-preserved g c =
     let dropped : IsLineDropped c.index-lanes-i.result c.print_first.new.lane = dropped_at c.loop-i.lanes c.in-Some.i c.index-lanes-i.result c.print_first.new.lane c.index-lanes-i.is c.in-Ok.ensures.dropped in
     let step : IsStep c.args.horizon.now c.loop-i.lanes c.in-Some.i c.index-lanes-i.result c.print_first.new.lane =
-    is_step c.args.horizon.now c.loop-i.lanes c.in-Some.i c.index-lanes-i.result c.print_first.new.lane c.in-Some.ensures.inside c.index-lanes-i.is c.in-Some.ensures.least c.loop-i.invariant.rise c.loop-i.invariant.rises dropped in
+    is_step c.args.horizon.now c.loop-i.lanes c.in-Some.i c.index-lanes-i.result c.print_first.new.lane c.in-Some.ensures.inside c.index-lanes-i.is c.in-Some.ensures.least c.loop-i.invariant.rising.cpus c.loop-i.invariant.rising.keys dropped in
     let done : List ℕ = c.loop-i.invariant.text.0 in
     let line : List ℕ = filled_bytes c.loop-i.last (first_line (get_or c.loop-i.lanes c.in-Some.i c.index-lanes-i.result).region.kept) in
     let key : c.head_kept.result ≡ head_kept c.print_first.new.lane =
@@ -71,8 +70,7 @@ loop-i-preserved g c =
       name = c.in-Ok.ensures.name ∙ c.loop-i.invariant.name;
       later = omega (arith, c.in-Ok.ensures.cause.later, c.loop-i.invariant.later);
       parts = set_parts c.loop-i.lanes c.in-Some.i c.index-lanes-i.result c.print_first.new.lane c.in-Some.ensures.inside c.in-Ok.ensures.cpu c.in-Ok.ensures.part ∙ c.loop-i.invariant.parts;
-      rise = step.rise;
-      rises = step.rises;
+      rising = record { cpus = step.rise; keys = step.rises };
       heads = c.set.ensures ∙ ap (set c.loop-i.heads c.in-Some.i) key ∙ ap (λ (keys : List (Option (Option ℕ))). set keys c.in-Some.i (head_kept c.print_first.new.lane)) c.loop-i.invariant.heads
           ∙ sym (map-set head_kept c.loop-i.lanes c.in-Some.i c.print_first.new.lane);
       slots = ap length c.set.ensures ∙ length-set c.loop-i.heads c.in-Some.i c.head_kept.result ∙ c.loop-i.invariant.slots;
@@ -84,7 +82,7 @@ returns-in-Err-clause-puts g c = λ before text held.
     let done : List ℕ = c.loop-i.invariant.text.0 in
     let line : List ℕ = filled_bytes c.loop-i.last (first_line (get_or c.loop-i.lanes c.in-Some.i c.index-lanes-i.result).region.kept) in
     let starts : (rest : List ℕ) × (text_of (filled c.loop-i.last (printed c.args.horizon.now c.loop-i.lanes)) ≡ line ++ rest) =
-    starts_with c.args.horizon.now c.loop-i.lanes c.in-Some.i c.index-lanes-i.result c.loop-i.last c.in-Some.ensures.inside c.index-lanes-i.is c.in-Some.ensures.least c.loop-i.invariant.rise c.loop-i.invariant.rises in
+    starts_with c.args.horizon.now c.loop-i.lanes c.in-Some.i c.index-lanes-i.result c.loop-i.last c.in-Some.ensures.inside c.index-lanes-i.is c.in-Some.ensures.least c.loop-i.invariant.rising.cpus c.loop-i.invariant.rising.keys in
     let P : List ℕ → Type 0 = λ t. GainedPrefix before (g.O.Sink.written c.print_first.new.out) t in
     subst P (cut_text text done line starts.0 (text_of (filled c.args.last.now (printed c.args.horizon.now c.args.lanes.now))) (text_of (filled c.loop-i.last (printed c.args.horizon.now c.loop-i.lanes))) c.loop-i.invariant.text.1.0 starts.1)
     (prefix_longer before (g.O.Sink.written c.print_first.new.out) ((text ++ done) ++ line) starts.0
@@ -98,11 +96,12 @@ returns-clause-puts g c = λ before text held.
     let P : List ℕ → Type 0 = λ t. Holds before (g.O.Sink.written c.loop-i.out) c.loop-i.pending (text ++ t) in
     subst P all (c.loop-i.invariant.text.1.1 before text held)
 
-pub returns-clause-lanes : goal.returns-clause-lanes
-returns-clause-lanes g c = printed_all c.args.horizon.now c.args.lanes.now c.loop-i.lanes c.in_default.ensures.least c.loop-i.auto.lanes c.loop-i.invariant.lanes
+pub returns-clause-printed : goal.returns-clause-printed
+returns-clause-printed g c = record {
+  last = sym (ap (last_of c.loop-i.last) (print_none c.args.horizon.now c.loop-i.lanes c.in_default.ensures.least)) ∙ c.loop-i.invariant.last;
+  lanes = printed_all c.args.horizon.now c.args.lanes.now c.loop-i.lanes c.in_default.ensures.least c.loop-i.auto.lanes c.loop-i.invariant.lanes;
+  rising = c.loop-i.invariant.rising;
+}
 
 pub returns-in-Err-clause-parts : goal.returns-in-Err-clause-parts
 returns-in-Err-clause-parts g c = set_parts c.loop-i.lanes c.in-Some.i c.index-lanes-i.result c.print_first.new.lane c.in-Some.ensures.inside c.in-Err.ensures.cpu c.in-Err.ensures.part ∙ c.loop-i.invariant.parts
-
-pub returns-clause-last : goal.returns-clause-last
-returns-clause-last g c = sym (ap (last_of c.loop-i.last) (print_none c.args.horizon.now c.loop-i.lanes c.in_default.ensures.least)) ∙ c.loop-i.invariant.last

@@ -1,12 +1,10 @@
 use Rattle.std.proofs.Common.{◌≡◌, ℕ, ◌<◌, ◌≤◌, List, ◌++◌, length, map, Option}
 use Rattle.std.specs.Prelude.{slice_index_or}
-use Rattle.std.specs.List.{All}
 use Rattle.trace_outside.specs.Pending.{Holds}
-use Rattle.subpage.specs.Arrangement.{CpusRise}
 use Rattle.page_pool.specs.declared.lane.Lane.{Lane}
 use Rattle.time_merge.specs.LaneRows.{parts_of}
-use Rattle.round_print.specs.Prints.{KeysRise, filled, head_kept, last_of, printed, text_of}
-use Rattle.round_print.specs.Rounds.{IsPrinting}
+use Rattle.round_print.specs.Prints.{filled, head_kept, last_of, printed, text_of}
+use Rattle.round_print.specs.Rounds.{AreRising, IsPrinting}
 use Rattle.round_print.proofs.rounds.put_round.Given as goal
 
 abbrev pub invariant-loop-i : goal.invariant-loop-i
@@ -16,8 +14,7 @@ invariant-loop-i g l = record {
   name : g.O.Sink.name l.out ≡ g.O.Sink.name l.fn.out;
   later : g.O.Sink.faults l.fn.out ≤ g.O.Sink.faults l.out;
   parts : parts_of l.lanes ≡ parts_of l.fn.lanes;
-  rise : CpusRise (parts_of l.lanes);
-  rises : All KeysRise l.lanes;
+  rising : AreRising l.lanes;
   heads : l.heads ≡ map head_kept l.lanes;
   slots : length l.heads ≡ length l.fn.heads;
   lanes : (i : ℕ) → (d : Lane) → i < length l.fn.lanes → IsPrinting l.horizon (slice_index_or l.fn.lanes i d) (slice_index_or l.lanes i d);

@@ -24,16 +24,17 @@ returns-clause-loads g c =
     let d = c.index-lanes-i.result in
     let now = c.make_ready.new.lane in
     let inside = c.requires.inside in
-    let here = c.make_ready.ensures in
+    let here = c.make_ready.ensures.loads in
+    let readied = here.readied in
     let all : ℕ = all_unread l size lanes in
     let none : g.F.File.reads c.args.file.now ≤ raised (g.F.File.reads c.args.file.now) (all - all) = omega arith in
     record {
       in_order = All-set (IsInOrder l) lanes i now here.in_order c.requires.in_order;
-      parts = same_parts lanes i d now inside here.place;
-      advance = advances_more lanes lanes i d now refl inside (advances_one l (get_or lanes i d) now here.place here.kept) (λ j d lt. advances_not (get_or lanes j d));
-      rows = same_rows l told told lanes lanes i d now refl inside here.place (told_all _ told (λ bytes. refl)) here.left;
-      stands = stand_still l told told lanes lanes i d now refl inside (told_all _ told (λ bytes h. h)) here.stands;
-      most = omega (arith, sum_by-set (most_left l) lanes i now d inside, here.most);
+      parts = same_parts lanes i d now inside readied.place;
+      advance = advances_more lanes lanes i d now refl inside (advances_one l (get_or lanes i d) now readied.place c.make_ready.ensures.kept) (λ j d lt. advances_not (get_or lanes j d));
+      rows = same_rows l told told lanes lanes i d now refl inside readied.place (told_all _ told (λ bytes. refl)) readied.left;
+      stands = stand_still l told told lanes lanes i d now refl inside (told_all _ told (λ bytes h. h)) readied.stands;
+      most = omega (arith, sum_by-set (most_left l) lanes i now d inside, readied.most);
       reads = one_read l size size lanes i d now refl inside _ _ _ _ none (omega arith) here.reads here.unread;
       unread = less_unread l size size lanes i d now refl inside _ (omega arith) here.unread;
       keeps = here.keeps;
@@ -48,4 +49,4 @@ returns-clause-stops g c =
     let all : ℕ = all_unread c.args.layout.now (g.F.File.size c.args.file.now) c.args.lanes.now in
     let none : g.F.File.reads c.args.file.now ≤ raised (g.F.File.reads c.args.file.now) (all - all) = omega arith in
     on_err c.make_ready.result (stopped c.args.layout.now (g.F.File.size c.args.file.now) (g.F.File.size c.args.file.now) c.args.lanes.now c.args.i c.index-lanes-i.result c.make_ready.new.lane refl c.requires.inside
-    c.args.lanes.now _ _ _ refl (λ j d le. refl) none (omega arith) c.make_ready.ensures.reads c.make_ready.ensures.unread)
+    c.args.lanes.now _ _ _ refl (λ j d le. refl) none (omega arith) c.make_ready.ensures.loads.reads c.make_ready.ensures.loads.unread)
