@@ -47,11 +47,17 @@ unfolding extend_text
 put_extend_text order delta at bytes fits =
     put_next at (at + 4) (first_word order 30 (delta % 2 ^ 27)) (bytes_of order 4 (delta / 2 ^ 27)) bytes (omega (arith, length-first_word order 30 (delta % 2 ^ 27))) fits
 
-pub put_near : (order : Order) (step : ℕ) (payload : List ℕ) (at : ℕ) (bytes : List ℕ) → step < 2 ^ 27 → put_at at (event_text order step payload) bytes ≡ put_at at (record_text order step payload) bytes
+pub near_text : (order : Order) (step : ℕ) (payload : List ℕ) → step < 2 ^ 27 → event_text order step payload ≡ record_text order step payload
 unfolding record_text
-put_near order step payload at bytes near =
+near_text order step payload near =
     let is_near : ltb step (2 ^ 27) ≡ true = lt-ltb _ _ near in
     rw is_near refl
+
+pub length-far_text : (order : Order) (step : ℕ) (payload : List ℕ) → 2 ^ 27 ≤ step → length (record_text order step payload) ≡ 8 + length (event_text order 0 payload)
+unfolding record_text
+length-far_text order step payload far =
+    let not_near : ltb step (2 ^ 27) ≡ false = le-ltb _ _ far in
+    rw not_near (omega (arith, length-append (extend_text order step) (event_text order 0 payload), length-extend_text order step))
 
 pub put_far : (order : Order) (step : ℕ) (payload : List ℕ) (at : ℕ) (bytes : List ℕ) → 2 ^ 27 ≤ step → at + 8 ≤ length bytes
     → put_at (at + 8) (event_text order 0 payload) (put_at at (extend_text order step) bytes) ≡ put_at at (record_text order step payload) bytes

@@ -10,6 +10,11 @@ use Rattle.page_write.specs.Record.{zeros, records_text}
 unfoldable pub put_at : ℕ → List ℕ → List ℕ → List ℕ
 put_at at piece bytes = take at bytes ++ (piece ++ drop (at + length piece) bytes)
 
+-- it was put, and this is the place behind it
+pub record IsPut (at : ℕ) (piece old new : List ℕ) (behind : ℕ) : Type 0 where
+  pub put : new ≡ put_at at piece old
+  pub end : behind ≡ at + length piece
+
 -- the time of the first item
 abbrev pub start_of : List ItemData → ℕ
 start_of [] = 0

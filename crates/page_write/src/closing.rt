@@ -6,7 +6,7 @@ ghost use Rattle.trace_base.specs.Number.{bytes_of};
 ghost use Rattle.subpage.specs.ItemData.{ItemData};
 ghost use Rattle.page_write.specs.Record.{zeros};
 ghost use Rattle.page_write.specs.Held.{lost_bits, lost_text, LostFits, HoldsAll};
-ghost use Rattle.page_write.specs.PageBytes.{put_at, area_len, page_of};
+ghost use Rattle.page_write.specs.PageBytes.{IsPut, put_at, area_len, page_of};
 
 use crate::open_page::{Lost, OpenPage};
 use crate::put::{put_long, put_zeros};
@@ -54,8 +54,7 @@ fn put_lost(layout: &Layout, lost: Lost, at: usize, area: &mut [u8]) -> usize
     requires allowed { IsLayout layout.now }
     requires fits { LostFits layout.now lost }
     requires room { at + length (lost_text layout.now lost) ≤ length area.old }
-    ensures put { area.new ≡ put_at at (lost_text layout.now lost) area.old }
-    ensures behind { result ≡ at + length (lost_text layout.now lost) }
+    ensures { IsPut at (lost_text layout.now lost) area.old area.new result }
 {
     let Lost::Counted(count) = lost else {
         return at;

@@ -4,7 +4,7 @@ ghost use Rattle.std.specs.Prelude.{◌≡◌, ◌+◌, ◌≤◌, ◌<◌, ◌^
 ghost use Rattle.trace_base.specs.Number.{bytes_of};
 ghost use Rattle.page_write.specs.Record.{is_short, pair_word, first_word, event_text, extend_text, record_text, zeros};
 ghost use Rattle.page_write.specs.Fill.{event_len, record_len};
-ghost use Rattle.page_write.specs.PageBytes.{put_at};
+ghost use Rattle.page_write.specs.PageBytes.{IsPut, put_at};
 
 use crate::bits::DELTA_BITS;
 use subpage::filled_up;
@@ -119,8 +119,7 @@ fn put_long_event(order: Order, delta: u32, payload: &[u8], at: usize, into: &mu
     requires delta { delta < 2 ^ 27 }
     requires few { length payload.now < 2 ^ 31 }
     requires room { at + event_len (length payload.now) ≤ length into.old }
-    ensures put { into.new ≡ put_at at (event_text order delta payload.now) into.old }
-    ensures behind { result ≡ at + event_len (length payload.now) }
+    ensures { IsPut at (event_text order delta payload.now) into.old into.new result }
 {
     let len = payload.len();
     let filled = filled_up(len);
@@ -138,8 +137,7 @@ fn put_event(order: Order, delta: u32, payload: &[u8], at: usize, into: &mut [u8
     requires delta { delta < 2 ^ 27 }
     requires few { length payload.now < 2 ^ 31 }
     requires room { at + event_len (length payload.now) ≤ length into.old }
-    ensures put { into.new ≡ put_at at (event_text order delta payload.now) into.old }
-    ensures behind { result ≡ at + event_len (length payload.now) }
+    ensures { IsPut at (event_text order delta payload.now) into.old into.new result }
 {
     let len = payload.len();
     if is_in_first_word(len) {
@@ -163,14 +161,13 @@ fn put_extend(order: Order, step: u64, at: usize, into: &mut [u8])
 
 // Puts an event behind a step of time that needs a time extend, and gives the place behind it.
 #[inline(never)]
-#[tactic(auto, using(crate::proofs::Putting::put_far), unfolding(crate::specs::Fill::record_len))]
+#[tactic(auto, unfolding(crate::specs::Fill::record_len))]
 fn put_far_record(order: Order, step: u64, payload: &[u8], at: usize, into: &mut [u8]) -> usize
     requires far { 2 ^ 27 ≤ step }
     requires step { step < 2 ^ 59 }
     requires few { length payload.now < 2 ^ 31 }
     requires room { at + record_len step (length payload.now) ≤ length into.old }
-    ensures put { into.new ≡ put_at at (record_text order step payload.now) into.old }
-    ensures behind { result ≡ at + record_len step (length payload.now) }
+    ensures { IsPut at (record_text order step payload.now) into.old into.new result }
 {
     put_extend(order, step, at, into);
     put_event(order, 0, payload, at + 8, into)
@@ -178,13 +175,12 @@ fn put_far_record(order: Order, step: u64, payload: &[u8], at: usize, into: &mut
 
 /// Puts an event behind a step of time, with a time extend where the step needs it, and gives the place behind it.
 #[inline(always)]
-#[tactic(auto, using(crate::proofs::Putting::put_near), unfolding(crate::specs::Fill::record_len))]
+#[tactic(auto, unfolding(crate::specs::Fill::record_len))]
 pub fn put_record(order: Order, step: u64, payload: &[u8], at: usize, into: &mut [u8]) -> usize
     requires step { step < 2 ^ 59 }
     requires few { length payload.now < 2 ^ 31 }
     requires room { at + record_len step (length payload.now) ≤ length into.old }
-    ensures put { into.new ≡ put_at at (record_text order step payload.now) into.old }
-    ensures behind { result ≡ at + record_len step (length payload.now) }
+    ensures { IsPut at (record_text order step payload.now) into.old into.new result }
 {
     if step < 1 << DELTA_BITS {
         put_event(order, step as u32, payload, at, into)

@@ -17,7 +17,8 @@ use Rattle.dat_options.proofs.Steps.{some_is, ok_is}
 use Rattle.dat_header.specs.declared.header.Header.{Header}
 use Rattle.dat_header.specs.declared.header.System.{System}
 use Rattle.dat_header.specs.Found.{Found, ◌>>=◌, or_wrong}
-use Rattle.dat_header.specs.Header.{version_at, machine_at, page_text_at, carried_at, last_word_at, first_word_in, first_word_at, body_at, behind_options_at, behind_first_at, sections_at, joined, header_of}
+use Rattle.dat_header.specs.Opening.{version_at, machine_at, page_text_at, opening_at, described_at}
+use Rattle.dat_header.specs.Header.{carried_at, last_word_at, first_word_in, first_word_at, body_at, behind_options_at, behind_first_at, sections_at, joined, header_of}
 use Rattle.dat_header.specs.Items.{magic_word, page_word, event_word, body_words, sized, sized_texts, system_text}
 use Rattle.dat_header.specs.ItemsAt.{word_at, bytes_at, number_at, value_at, text_at, row_at, formats_at, before_nul, name_at, system_at, systems_at, cpus_of}
 use Rattle.dat_header.specs.PageText.{layout_of}
@@ -301,30 +302,64 @@ page_text_takes order long page file at text end e =
       piece.place,
     )
 
-carried_takes : (order : Order) → Takes (carried_at order) (λ texts. length texts.event_text + length (sized_texts order texts.ftrace) + length (flat_map (system_text order) texts.systems) + length texts.kallsyms + length texts.printk + length texts.cmdlines)
-unfolding carried_at
-carried_takes order file at texts end e =
+-- a reader from the file's front goes on by as many bytes as a value of it has
+abbrev TakesFirst : {V : Type 0} → (List ℕ → ℕ → Found V) → (V → ℕ) → Type 0
+TakesFirst {V} read len = (file : List ℕ) (v : V) (end : ℕ) → read file 0 ≡ Ok (v, end) → len v ≤ end
+
+opening_takes : TakesFirst opening_at (λ opening. length opening.page.text)
+unfolding opening_at
+opening_takes file opening end e =
+    after (word_at magic_word (NotTrace 0) file 0) _ (opening, end) _ e (λ version magic_is e_magic.
+    after (version_at file version) _ (opening, end) _ e_magic (λ at_order version_is e_version.
+    after (machine_at file at_order) _ (opening, end) _ e_version (λ machine machine_is e_machine.
+    after (word_at page_word (BadSection machine.1) file machine.1) _ (opening, end) _ e_machine (λ at_page page_word_is e_page_word.
+    after (page_text_at machine.0 file at_page) _ (opening, end) _ e_page_word (λ page page_is e_page.
+    after (word_at event_word (BadSection page.1) file page.1) _ (opening, end) _ e_page (λ at_event event_word_is e_event_word.
+    let same = same_value _ _ opening at_event end refl e_event_word in
+    omega (
+      arith,
+      same_of (same.0) (λ o. length o.page.text),
+      same.1,
+      page_text_takes machine.0.order machine.0.long machine.0.page file at_page page.0 page.1 page_is,
+      word_goes_on event_word (BadSection page.1) file page.1 at_event event_word_is,
+    )))))))
+
+described_takes : (order : Order) → Takes (described_at order) (λ texts. length texts.event_text + length (sized_texts order texts.ftrace) + length (flat_map (system_text order) texts.systems) + length texts.kallsyms + length texts.printk)
+unfolding described_at
+described_takes order file at texts end e =
     let event_text = then_is (text_at 8 order file at) _ (texts, end) e in
     let ftrace = then_is (formats_at order file event_text.0.1) _ (texts, end) event_text.2 in
     let systems = then_is (systems_at order file ftrace.0.1) _ (texts, end) ftrace.2 in
     let kallsyms = then_is (text_at 4 order file systems.0.1) _ (texts, end) systems.2 in
     let printk = then_is (text_at 4 order file kallsyms.0.1) _ (texts, end) kallsyms.2 in
-    let cmdlines = then_is (text_at 8 order file printk.0.1) _ (texts, end) printk.2 in
-    let same = same_value _ _ texts cmdlines.0.1 end refl cmdlines.2 in
+    let same = same_value _ _ texts printk.0.1 end refl printk.2 in
     omega (
       arith,
-      same_of (same.0) (λ t. length t.event_text + length (sized_texts order t.ftrace) + length (flat_map (system_text order) t.systems) + length t.kallsyms + length t.printk + length t.cmdlines),
+      same_of (same.0) (λ t. length t.event_text + length (sized_texts order t.ftrace) + length (flat_map (system_text order) t.systems) + length t.kallsyms + length t.printk),
       same.1,
       length-sized 8 order event_text.0.0,
       length-sized 4 order kallsyms.0.0,
       length-sized 4 order printk.0.0,
-      length-sized 8 order cmdlines.0.0,
       text_takes 8 order file at event_text.0.0 event_text.0.1 event_text.1,
       formats_takes order file event_text.0.1 ftrace.0.0 ftrace.0.1 ftrace.1,
       systems_takes order file ftrace.0.1 systems.0.0 systems.0.1 systems.1,
       text_takes 4 order file systems.0.1 kallsyms.0.0 kallsyms.0.1 kallsyms.1,
       text_takes 4 order file kallsyms.0.1 printk.0.0 printk.0.1 printk.1,
-      text_takes 8 order file printk.0.1 cmdlines.0.0 cmdlines.0.1 cmdlines.1,
+    )
+
+carried_takes : (order : Order) → Takes (carried_at order) (λ texts. length texts.described.event_text + length (sized_texts order texts.described.ftrace) + length (flat_map (system_text order) texts.described.systems) + length texts.described.kallsyms + length texts.described.printk + length texts.cmdlines)
+unfolding carried_at
+carried_takes order file at texts end e =
+    let described = then_is (described_at order file at) _ (texts, end) e in
+    let cmdlines = then_is (text_at 8 order file described.0.1) _ (texts, end) described.2 in
+    let same = same_value _ _ texts cmdlines.0.1 end refl cmdlines.2 in
+    omega (
+      arith,
+      same_of (same.0) (λ t. length t.described.event_text + length (sized_texts order t.described.ftrace) + length (flat_map (system_text order) t.described.systems) + length t.described.kallsyms + length t.described.printk + length t.cmdlines),
+      same.1,
+      length-sized 8 order cmdlines.0.0,
+      described_takes order file at described.0.0 described.0.1 described.1,
+      text_takes 8 order file described.0.1 cmdlines.0.0 cmdlines.0.1 cmdlines.1,
     )
 
 -- a reader that ends inside the file has read this many bytes, but for twelve
@@ -359,10 +394,10 @@ content_len header =
     (length header.page_text + length header.event_text + length header.kallsyms + length header.printk + length header.cmdlines)
     + (length (sized_texts header.order header.ftrace) + length (flat_map (system_text header.order) header.systems) + section_len header.order header.options)
 
-summed : (page_text event_text ftrace systems kallsyms printk cmdlines options at_page at_text at_event at_carried at_cpus after whole : ℕ) → at_page ≤ at_text → at_text + page_text ≤ at_event
-    → at_event ≤ at_carried → at_carried + (event_text + ftrace + systems + kallsyms + printk + cmdlines) ≤ at_cpus → after ≡ at_cpus + 4 → after + options ≤ whole + 12
+summed : (page_text event_text ftrace systems kallsyms printk cmdlines options at_event at_cpus after whole : ℕ) → page_text ≤ at_event
+    → at_event + (event_text + ftrace + systems + kallsyms + printk + cmdlines) ≤ at_cpus → after ≡ at_cpus + 4 → after + options ≤ whole + 12
     → (page_text + event_text + kallsyms + printk + cmdlines) + (ftrace + systems + options) ≤ whole + 12
-summed page_text event_text ftrace systems kallsyms printk cmdlines options at_page at_text at_event at_carried at_cpus after whole a b c d e f = omega arith
+summed page_text event_text ftrace systems kallsyms printk cmdlines options at_event at_cpus after whole a b c d = omega arith
 
 within_file : {file : List ℕ} {at end : ℕ} → Number 4 file at end → end ≤ length file
 within_file number = number.inside (omega arith)
@@ -370,22 +405,16 @@ within_file number = number.inside (omega arith)
 pub header_inside : (file : List ℕ) (header : Header) → header_of file ≡ Ok header → content_len header ≤ length file + 12
 unfolding header_of
 header_inside file header e =
-    after (word_at magic_word (NotTrace 0) file 0) _ header _ e (λ magic _ e_magic.
-    after (version_at file magic) _ header _ e_magic (λ version _ e_version.
-    after (machine_at file version) _ header _ e_version (λ machine _ e_machine.
-    after (word_at page_word (BadSection machine.1) file machine.1) _ header _ e_machine (λ at_page page_word_is e_page_word.
-    after (page_text_at machine.0 file at_page) _ header _ e_page_word (λ page page_is e_page.
-    after (word_at event_word (BadSection page.1) file page.1) _ header _ e_page (λ at_event event_word_is e_event_word.
-    after (carried_at machine.0.order file at_event) _ header _ e_event_word (λ carried carried_is e_carried.
-    after (value_at 4 machine.0.order cpus_of (TooManyCpus carried.1) file carried.1) _ header _ e_carried (λ cpus cpus_is e_cpus.
-    after (sections_at machine.0.order cpus.0 file cpus.1) _ header _ e_cpus (λ sections sections_is e_sections.
-    let number = value_read 4 machine.0.order cpus_of (TooManyCpus carried.1) file carried.1 cpus.0 cpus.1 cpus_is in
-    let whole = joined machine.0 page.0 carried.0 cpus.0 sections.0 sections.1 in
+    after (opening_at file 0) _ header _ e (λ opening opening_is e_opening.
+    let order = opening.0.machine.order in
+    after (carried_at order file opening.1) _ header _ e_opening (λ carried carried_is e_carried.
+    after (value_at 4 order cpus_of (TooManyCpus carried.1) file carried.1) _ header _ e_carried (λ cpus cpus_is e_cpus.
+    after (sections_at order cpus.0 file cpus.1) _ header _ e_cpus (λ sections sections_is e_sections.
+    let number = value_read 4 order cpus_of (TooManyCpus carried.1) file carried.1 cpus.0 cpus.1 cpus_is in
+    let whole = joined opening.0 carried.0 cpus.0 sections.0 sections.1 in
     subst (λ (h : Header). content_len h ≤ length file + 12) (ok_is (Ok whole) whole header refl e_sections)
-    (summed _ _ _ _ _ _ _ _ _ _ _ _ _ _ _
-    (word_goes_on page_word (BadSection machine.1) file machine.1 at_page page_word_is)
-    (page_text_takes machine.0.order machine.0.long machine.0.page file at_page page.0 page.1 page_is)
-    (word_goes_on event_word (BadSection page.1) file page.1 at_event event_word_is)
-    (carried_takes machine.0.order file at_event carried.0 carried.1 carried_is)
+    (summed _ _ _ _ _ _ _ _ _ _ _ _
+    (opening_takes file opening.0 opening.1 opening_is)
+    (carried_takes order file opening.1 carried.0 carried.1 carried_is)
     number.place
-    (sections_hold machine.0.order cpus.0 file cpus.1 (within_file number) sections.0 sections.1 sections_is)))))))))))
+    (sections_hold order cpus.0 file cpus.1 (within_file number) sections.0 sections.1 sections_is))))))

@@ -54,7 +54,8 @@ pub fn measure<F: File>(
     ensures long { length tallies.new ≡ length lanes.new }
     ensures measured { IfOk result (λ end. IfSome (F.bytes file.old) (λ bytes. All (Stands layout.now bytes) lanes.old
         → Tallied layout.now lanes.old [] tallies.old
-        → IsMeasured layout.now bytes stop gauge.old gauge.new lanes.old lanes.new tallies.new end)) }
+        → IsMeasured layout.now bytes stop (record { gauge = gauge.old; lanes = lanes.old }) (record { gauge = gauge.new; lanes = lanes.new })
+        tallies.new end)) }
     ensures ready { OnOk result (All (IsReady layout.now) lanes.new) }
     ensures over { SkipsOver lanes.old tallies.old tallies.new }
     ensures cause { HasCause (F.faults file.old) (F.faults file.new) result }

@@ -1,21 +1,39 @@
 -- Pieces of lists.
 use Rattle.std.proofs.Common.{◌≡◌, ◌↔◌, ℕ, suc, zero, ◌+◌, ◌<◌, ◌≤◌, Bool, true, false, not, ltb, List, [], ◌∷◌, ◌++◌, length, drop, refl, sym, ap, subst, ◌∙◌, append-nil, arith, inl, inr, if◌then◌else◌}
-use Rattle.std.specs.List.{filter, flat_map}
-use Rattle.std.proofs.lemmas.Bool.{cases_Bool, ltb-false, lt-ltb, le-ltb}
+use Rattle.std.specs.List.{filter, flat_map, prefix_len, take_while}
+use Rattle.std.proofs.lemmas.Bool.{cases_Bool, cond-true, cond-false, ltb-false, lt-ltb, le-ltb}
 use Rattle.std.proofs.lemmas.List.{drop_all, length-append}
+use Rattle.std.proofs.lemmas.List.Sums.{take_while-cons}
 use Rattle.subpage.specs.Arrangement.{Keyed, IsRising, key_of}
 use Rattle.subpage.proofs.Arranging.{rising_tail}
 use Rattle.word_values.specs.declared.moment.Moment.{Moment}
 use Rattle.word_values.specs.declared.piece.PieceUnit.{PieceUnit}
 use Rattle.word_values.specs.declared.piece.PieceUnit.TheVariants.{All, Nanos, Events}
+use Rattle.split_pieces.specs.declared.gauge.Gauge.TheVariants as gauges
+use Rattle.split_pieces.specs.Gauging.{TakesItem}
 use Rattle.split_pieces.specs.Moments.{time_as, is_before}
-use Rattle.split_pieces.specs.Pieces.{front_where, behind_where, is_event, up_to_event, piece, rest, IsUnit, Pieces, nothing, takes, pieces_within, all_pieces, joined_lists, files_within, files_left}
+use Rattle.split_pieces.specs.Pieces.{is_event, up_to_event, piece, rest, IsUnit, Pieces, nothing, takes, pieces_within, all_pieces, joined_lists, files_within, files_left}
 
-pub front_whole : (p : Keyed → Bool) (xs : List Keyed) → front_where p xs ++ drop (length (front_where p xs)) xs ≡ xs
+-- the first item passes, or it ends the front
+pub front_yes : (p : Keyed → Bool) (x : Keyed) (xs : List Keyed) → p x ≡ true → take_while p (x ∷ xs) ≡ x ∷ take_while p xs
+front_yes p x xs passes = take_while-cons p x xs ∙ cond-true _ _ _ passes
+
+pub front_no : (p : Keyed → Bool) (x : Keyed) (xs : List Keyed) → p x ≡ false → take_while p (x ∷ xs) ≡ []
+front_no p x xs fails = take_while-cons p x xs ∙ cond-false _ _ _ fails
+
+behind_yes : (p : Keyed → Bool) (x : Keyed) (xs : List Keyed) → p x ≡ true → drop (prefix_len p (x ∷ xs)) (x ∷ xs) ≡ drop (prefix_len p xs) xs
+behind_yes p x xs passes =
+    let more : 1 + prefix_len p xs ≡ suc (prefix_len p xs) = omega arith in
+    ap (λ (n : ℕ). drop n (x ∷ xs)) (cond-true _ _ _ passes ∙ more)
+
+behind_no : (p : Keyed → Bool) (x : Keyed) (xs : List Keyed) → p x ≡ false → drop (prefix_len p (x ∷ xs)) (x ∷ xs) ≡ x ∷ xs
+behind_no p x xs fails = ap (λ (n : ℕ). drop n (x ∷ xs)) (cond-false _ _ _ fails)
+
+pub front_whole : (p : Keyed → Bool) (xs : List Keyed) → take_while p xs ++ drop (length (take_while p xs)) xs ≡ xs
 front_whole p [] = refl
 front_whole p (x ∷ xs) = elim (cases_Bool (p x)) [
-  | inl b ↦ rw b (ap (λ (ys : List Keyed). x ∷ ys) (front_whole p xs))
-  | inr b ↦ rw b refl
+  | inl b ↦ rw (front_yes p x xs b) (ap (λ (ys : List Keyed). x ∷ ys) (front_whole p xs))
+  | inr b ↦ rw (front_no p x xs b) refl
 ]
 
 events_whole : (n : ℕ) (xs : List Keyed) → up_to_event n xs ++ drop (length (up_to_event n xs)) xs ≡ xs
@@ -31,7 +49,7 @@ whole (Events n) xs = events_whole n xs
 
 pub first_some : (unit : PieceUnit) (x : Keyed) (xs : List Keyed) → IsUnit unit → 0 < length (piece unit (x ∷ xs))
 first_some All x xs u = omega arith
-first_some (Nanos n) x xs u = let b : ltb x.key (x.key + n) ≡ true = lt-ltb _ _ (omega (arith, u)) in rw b (omega arith)
+first_some (Nanos n) x xs u = rw (front_yes (λ (y : Keyed). ltb y.key (x.key + n)) x xs (lt-ltb _ _ (omega (arith, u)))) (omega arith)
 first_some (Events zero) x xs u = absurd (omega (arith, u))
 first_some (Events (suc n)) x xs u = omega arith
 
@@ -39,6 +57,16 @@ pub shorter : (unit : PieceUnit) (x : Keyed) (xs : List Keyed) → IsUnit unit �
 shorter unit x xs u =
     let parts : length (piece unit (x ∷ xs) ++ rest unit (x ∷ xs)) ≡ suc (length xs) = ap length (whole unit (x ∷ xs)) in
     omega (arith, parts, length-append (piece unit (x ∷ xs)) (rest unit (x ∷ xs)), first_some unit x xs u)
+
+-- the first item of a time unit is taken, and those below its limit
+pub first_below : (n key limit : ℕ) (x : Keyed) → 0 < n → x.key ≡ key → limit ≡ key + n → TakesItem (gauges.Nanos n) (gauges.Below limit) x
+first_below n key limit x some at is =
+    let same : limit ≡ x.key + n = is ∙ ap (λ (k : ℕ). k + n) (sym at) in
+    let first = λ (xs : List Keyed). front_yes (λ (y : Keyed). ltb y.key (x.key + n)) x xs (lt-ltb _ _ (omega (arith, some))) in
+    subst (λ (l : ℕ). TakesItem (gauges.Nanos n) (gauges.Below l) x) (sym same) (record {
+      took = first;
+      goes_on = λ xs. rw (first xs) refl;
+    })
 
 -- THE PIECES OF ONE LIST
 
@@ -96,11 +124,15 @@ none_below : (k : ℕ) (x : Keyed) (xs : List Keyed) → IsRising key_of (x ∷ 
 none_below k x [] r le = let b : ltb x.key k ≡ false = le-ltb _ _ le in rw b refl
 none_below k x (y ∷ ys) r le = let b : ltb x.key k ≡ false = le-ltb _ _ le in rw b (none_below k y ys r.1 (omega (arith, r.0)))
 
-pub below : (k : ℕ) (xs : List Keyed) → IsRising key_of xs → front_where (λ y. ltb y.key k) xs ≡ filter (λ (y : Keyed). ltb y.key k) xs
+pub below : (k : ℕ) (xs : List Keyed) → IsRising key_of xs → take_while (λ y. ltb y.key k) xs ≡ filter (λ (y : Keyed). ltb y.key k) xs
 below k [] r = refl
 below k (x ∷ xs) r = elim (cases_Bool (ltb x.key k)) [
-  | inl b ↦ rw b (ap (λ (ys : List Keyed). x ∷ ys) (below k xs (rising_tail key_of x xs r)))
-  | inr b ↦ let none = none_below k x xs r (let h = ltb-false x.key k b in omega arith) in rw b (sym (rw b at none))
+  | inl b ↦
+      let rest = below k xs (rising_tail key_of x xs r) in
+      rw (front_yes (λ (y : Keyed). ltb y.key k) x xs b) (rw b (ap (λ (ys : List Keyed). x ∷ ys) rest))
+  | inr b ↦
+      let none = none_below k x xs r (let h = ltb-false x.key k b in omega arith) in
+      rw (front_no (λ (y : Keyed). ltb y.key k) x xs b) (sym none)
 ]
 
 later_too : (m : Moment) (a b : ℕ) → a ≤ b → is_before m a ≡ false → is_before m b ≡ false
@@ -115,9 +147,9 @@ keeps_all : (m : Moment) (x : Keyed) (xs : List Keyed) → IsRising key_of (x �
 keeps_all m x [] r e = rw e refl
 keeps_all m x (y ∷ ys) r e = rw e (ap (λ (t : List Keyed). x ∷ t) (keeps_all m y ys r.1 (later_too m x.key y.key r.0 e)))
 
-pub starts : (m : Moment) (xs : List Keyed) → IsRising key_of xs → filter (λ (x : Keyed). not (is_before m x.key)) xs ≡ behind_where (λ x. is_before m x.key) xs
+pub starts : (m : Moment) (xs : List Keyed) → IsRising key_of xs → filter (λ (x : Keyed). not (is_before m x.key)) xs ≡ drop (prefix_len (λ (x : Keyed). is_before m x.key) xs) xs
 starts m [] r = refl
 starts m (x ∷ xs) r = elim (cases_Bool (is_before m x.key)) [
-  | inl b ↦ rw b (starts m xs (rising_tail key_of x xs r))
-  | inr b ↦ let all = keeps_all m x xs r b in rw b (rw b at all)
+  | inl b ↦ rw (behind_yes (λ (y : Keyed). is_before m y.key) x xs b) (rw b (starts m xs (rising_tail key_of x xs r)))
+  | inr b ↦ rw (behind_no (λ (y : Keyed). is_before m y.key) x xs b) (keeps_all m x xs r b)
 ]

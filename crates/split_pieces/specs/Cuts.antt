@@ -1,6 +1,6 @@
 -- What a split makes of the processors' parts of a file, each told by its number and its place.
 -- Source: trace-cmd-split(1). Which malformed sub-buffer ends a split is a choice of this project.
-use Rattle.std.specs.Prelude.{ℕ, Bool, true, false, ◌&&◌, if◌then◌else◌, List, [], ◌∷◌, map, filter_map, Option, Some, None, option_map}
+use Rattle.std.specs.Prelude.{ℕ, Bool, true, false, ◌&&◌, if◌then◌else◌, List, [], ◌∷◌, map, filter_map, slice_get, Option, None, option_map}
 use Rattle.trace_base.specs.declared.layout.Layout.{Layout}
 use Rattle.trace_base.specs.declared.part.Part.{Part}
 use Rattle.subpage.specs.ItemData.{ItemData}
@@ -50,11 +50,7 @@ abbrev pub cut_bad : Rules → Layout → List ℕ → List (ℕ × Part) → Op
 cut_bad rules layout file parts =
     unless_closed rules (reached_of layout file parts) (option_map (λ cut. (cut.cpu, cut.page)) (cut_of layout file parts))
 
-abbrev pub first_of_all : List (ℕ × ℕ) → Option (ℕ × ℕ)
-first_of_all [] = None
-first_of_all (x ∷ xs) = Some x
-
 -- the one that the split answers: the lowest processor's, or that of the least cut
 abbrev pub bad_reached : Rules → Layout → List ℕ → List (ℕ × Part) → Option (ℕ × ℕ)
 bad_reached rules layout file parts =
-    if is_apart rules then first_of_all (filter_map (own_bad rules layout file) parts) else cut_bad rules layout file parts
+    if is_apart rules then slice_get (filter_map (own_bad rules layout file) parts) 0 else cut_bad rules layout file parts

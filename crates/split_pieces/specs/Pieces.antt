@@ -1,7 +1,7 @@
 -- What a split makes of lists of items, each with its key.
 -- Source: trace-cmd-split(1). Where a start, an end or a unit falls between items is a choice of this project.
 use Rattle.std.specs.Prelude.{ℕ, suc, zero, ◌+◌, ◌<◌, Bool, true, false, ◌&&◌, ◌||◌, not, nat_lt, nat_le, if◌then◌else◌, List, [], ◌∷◌, ◌++◌, length, drop, map, filter, Option, Some, None}
-use Rattle.std.specs.List.{flat_map, list_any}
+use Rattle.std.specs.List.{flat_map, list_any, prefix_len, take_while}
 use Rattle.subpage.specs.ItemData.{ItemData, EventAt, LossAt}
 use Rattle.subpage.specs.Arrangement.{Keyed}
 use Rattle.word_values.specs.declared.moment.Moment.{Moment}
@@ -9,15 +9,6 @@ use Rattle.word_values.specs.declared.piece.PieceUnit.{PieceUnit}
 use Rattle.word_values.specs.declared.piece.PieceUnit.TheVariants.{All, Nanos, Events}
 use Rattle.split_pieces.specs.declared.rules.Rules.{Rules}
 use Rattle.split_pieces.specs.Moments.{is_before, is_past}
-
--- the items from the front on that pass, and the others
-abbrev pub front_where : (Keyed → Bool) → List Keyed → List Keyed
-front_where p [] = []
-front_where p (x ∷ xs) = if p x then x ∷ front_where p xs else []
-
-abbrev pub behind_where : (Keyed → Bool) → List Keyed → List Keyed
-behind_where p [] = []
-behind_where p (x ∷ xs) = if p x then behind_where p xs else x ∷ xs
 
 abbrev pub is_some_left : List Keyed → Bool
 is_some_left [] = false
@@ -40,12 +31,12 @@ from_start (Some moment) xs = filter (λ x. not (is_before moment x.key)) xs
 -- the same where keys do not fall
 abbrev pub behind_start : Option Moment → List Keyed → List Keyed
 behind_start None xs = xs
-behind_start (Some moment) xs = behind_where (λ x. is_before moment x.key) xs
+behind_start (Some moment) xs = drop (prefix_len (λ x. is_before moment x.key) xs) xs
 
 -- without the first item with a key past the end, and those behind it
 abbrev pub up_to_end : Option Moment → List Keyed → List Keyed
 up_to_end None xs = xs
-up_to_end (Some moment) xs = front_where (λ x. not (is_past moment x.key)) xs
+up_to_end (Some moment) xs = take_while (λ x. not (is_past moment x.key)) xs
 
 -- there is such an item
 abbrev pub has_end : Option Moment → List Keyed → Bool
@@ -68,7 +59,7 @@ up_to_event (suc n) (x ∷ xs) = x ∷ up_to_event (if is_event x then n else su
 abbrev pub piece : PieceUnit → List Keyed → List Keyed
 piece All xs = xs
 piece (Nanos n) [] = []
-piece (Nanos n) (x ∷ xs) = front_where (λ y. nat_lt y.key (x.key + n)) (x ∷ xs)
+piece (Nanos n) (x ∷ xs) = take_while (λ y. nat_lt y.key (x.key + n)) (x ∷ xs)
 piece (Events n) xs = up_to_event n xs
 
 -- what is left behind it

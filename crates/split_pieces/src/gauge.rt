@@ -1,7 +1,7 @@
-ghost use Rattle.std.specs.Prelude.{◌≡◌, ◌∷◌, [], List, IsTrue, true, false};
+ghost use Rattle.std.specs.Prelude.{◌≡◌, [], List, IsTrue, false};
 ghost use Rattle.subpage.specs.Arrangement.{Keyed};
 ghost use Rattle.split_pieces.specs.Pieces.{is_event, piece, unit_closes};
-ghost use Rattle.split_pieces.specs.Gauging.{piece_by, closes_by};
+ghost use Rattle.split_pieces.specs.Gauging.{EndsBefore, TakesItem, closes_by, piece_by};
 
 use word_values::PieceUnit;
 
@@ -33,14 +33,8 @@ impl Gauge {
 
     /// Takes an item of this key into the piece, or answers that the piece ends before it.
     pub fn takes(&mut self, key: u64, event: bool) -> bool
-        ensures took { IsTrue result → (x : Keyed) (xs : List Keyed) → x.key ≡ key → is_event x ≡ event
-            → piece_by self.old (x ∷ xs) ≡ x ∷ piece_by self.new xs }
-        ensures goes_on { IsTrue result → (x : Keyed) (xs : List Keyed) → x.key ≡ key → is_event x ≡ event
-            → closes_by self.old (x ∷ xs) ≡ closes_by self.new xs }
-        ensures ended { result ≡ false → (x : Keyed) (xs : List Keyed) → x.key ≡ key → is_event x ≡ event
-            → piece_by self.old (x ∷ xs) ≡ [] }
-        ensures closed { result ≡ false → (x : Keyed) (xs : List Keyed) → x.key ≡ key → is_event x ≡ event
-            → closes_by self.old (x ∷ xs) ≡ true }
+        ensures takes { IsTrue result → (x : Keyed) → x.key ≡ key → is_event x ≡ event → TakesItem self.old self.new x }
+        ensures ends { result ≡ false → (x : Keyed) → x.key ≡ key → is_event x ≡ event → EndsBefore self.old x }
         ensures stays { result ≡ false → self.new ≡ self.old }
     {
         match *self {

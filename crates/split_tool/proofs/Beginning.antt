@@ -1,7 +1,7 @@
 -- Lanes behind the start have left what a split cuts.
 use Rattle.std.proofs.Common.{◌≡◌, ℕ, Bool, true, false, ◌||◌, ◌&&◌, not, if◌then◌else◌, List, [], ◌∷◌, ◌++◌, map, Option, Some, None, refl, sym, ap, ◌∙◌}
 use Rattle.std.specs.Option.{option_map}
-use Rattle.std.specs.List.{All, filter_map, cons_option}
+use Rattle.std.specs.List.{All, filter_map, slice_get, cons_option}
 use Rattle.std.proofs.lemmas.List.Elements.{All-head, All-tail}
 use Rattle.trace_base.specs.declared.layout.Layout.{Layout}
 use Rattle.trace_base.specs.declared.part.Part.{Part}
@@ -18,7 +18,7 @@ use Rattle.time_merge.specs.LaneRows.{parts_of, row_of, rows_of}
 use Rattle.time_merge.proofs.Starting.{fresh_stands, fresh_come, cut_of_rows}
 use Rattle.word_values.specs.declared.moment.Moment.{Moment}
 use Rattle.split_pieces.specs.declared.rules.Rules.{Rules}
-use Rattle.split_pieces.specs.Cuts.{is_apart, own_list, lists_to_cut, own_bad, cut_bad, bad_reached, first_of_all}
+use Rattle.split_pieces.specs.Cuts.{is_apart, own_list, lists_to_cut, own_bad, cut_bad, bad_reached}
 use Rattle.split_pieces.specs.Pieces.{from_start, up_to_end, left_in, has_end, unit_closes}
 use Rattle.split_passes.proofs.OneLane.{one_cut, one_lane}
 use Rattle.split_tool.specs.Lists.{groups, come_of, left_in_rows, bad_in_rows, lists_left, bad_left}
@@ -97,7 +97,7 @@ page_by cpu key (Some page) = refl
 own_page : (l : Layout) (file : List ℕ) (p : ℕ × Part) → option_map place_of (own_cut l file p) ≡ option_map (page_of p.0) (bad_of l file p.1)
 own_page l file p = page_by p.0 (last_key (list_of l file p.1)) (bad_of l file p.1)
 
-pub one_bad : (o : Option (ℕ × ℕ)) → first_of_all (cons_option o []) ≡ o
+pub one_bad : (o : Option (ℕ × ℕ)) → slice_get (cons_option o []) 0 ≡ o
 one_bad None = refl
 one_bad (Some bad) = refl
 
@@ -135,9 +135,9 @@ pub started_bad : (l : Layout) (file : List ℕ) (rules : Rules) (first now : Li
 started_bad l file rules first now f parts s = by_apart (is_apart rules) s.come
   where
     by_apart : (b : Bool) → map come_of (if b then map single (rows_of l file now) else rows_of l file now ∷ []) ≡ map (λ rows. from_start rules.start (come_of rows)) (if b then map single (rows_of l file first) else rows_of l file first ∷ [])
-        → first_of_all (filter_map (bad_in_rows rules) (if b then map single (rows_of l file now) else rows_of l file now ∷ []))
-        ≡ (if b then first_of_all (filter_map (own_bad rules l file) (parts_of first)) else cut_bad rules l file (parts_of first))
-    by_apart true come = ap first_of_all (each_bad l file rules first now f parts come)
+        → slice_get (filter_map (bad_in_rows rules) (if b then map single (rows_of l file now) else rows_of l file now ∷ [])) 0
+        ≡ (if b then slice_get (filter_map (own_bad rules l file) (parts_of first)) 0 else cut_bad rules l file (parts_of first))
+    by_apart true come = ap (λ (bads : List (ℕ × ℕ)). slice_get bads 0) (each_bad l file rules first now f parts come)
     by_apart false come =
         let here : come_of (rows_of l file now) ≡ from_start rules.start (come_of (rows_of l file first)) = cc in
         let all : come_of (rows_of l file now) ≡ from_start rules.start (reached_of l file (parts_of first)) = here ∙ ap (from_start rules.start) (fresh_come l file first f) in

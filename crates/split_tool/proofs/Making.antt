@@ -1,7 +1,7 @@
 -- One file more in the folder, and the end of a split.
 use Rattle.std.proofs.Common.{◌≡◌, ℕ, zero, suc, ◌+◌, ◌-◌, ◌*◌, ◌^◌, ◌<◌, ◌≤◌, Bool, true, false, ◌&&◌, not, if◌then◌else◌, List, [], ◌∷◌, ◌++◌, length, drop, map, Option, Some, None, Err, refl, sym, ap, subst, ◌∙◌, arith}
 use Rattle.std.specs.Option.{IfSome}
-use Rattle.std.specs.List.{All}
+use Rattle.std.specs.List.{All, take_while}
 use Rattle.std.specs.FinMap.{insert}
 use Rattle.std.specs.Io.KnownBytes.{append_known}
 use Rattle.std.proofs.lemmas.Bool.{and_parts}
@@ -36,7 +36,7 @@ use Rattle.word_values.specs.declared.moment.Moment.{Moment}
 use Rattle.split_pieces.specs.declared.rules.Rules.{Rules}
 use Rattle.split_pieces.specs.Moments.{is_past, is_before}
 use Rattle.split_pieces.specs.Cuts.{is_apart, own_list, lists_to_cut, bad_reached, file_items}
-use Rattle.split_pieces.specs.Pieces.{IsUnit, is_some_left, joined_lists, behind_file, from_start, up_to_end, left_in, front_where}
+use Rattle.split_pieces.specs.Pieces.{IsUnit, is_some_left, joined_lists, behind_file, from_start, up_to_end, left_in}
 use Rattle.split_pieces.proofs.Cutting.{front_whole}
 use Rattle.split_passes.specs.AllAgain.{owns}
 use Rattle.split_passes.specs.declared.tally.Tally.{Tally}
@@ -73,8 +73,9 @@ stored_is old1 (Some files) new w0 w name name1 content e n empty gained stores 
     s ∙ ap (λ (o : Option NamedFiles). stored o name1 content) e ∙ ap (λ (m : List ℕ). stored (Some files) m content) n
 
 pub finished : (header : Header) (file : List ℕ) (rules : Rules) (name name1 : List ℕ) (first mid now : List Lane) (fronts : List Place) (tallies : List Tally) (table : List Part) (old old1 new : Option NamedFiles) (w0 w : Option (List ℕ)) (ends : Ends)
-    → old1 ≡ old → name1 ≡ name → IsEmptySink old w0 → Stores old1 new name1 w → Prepared header file rules first mid fronts tallies table ends
-    → Written header file table (owns first (taken_of header.layout file rules first)) mid now w0 w → Made header file rules name first now old new ends
+    → old1 ≡ old → name1 ≡ name → IsEmptySink old w0 → Stores old1 new name1 w → Prepared header file rules first mid (record { fronts = fronts; tallies = tallies; table = table }) ends
+    → Written header file table (owns first (taken_of header.layout file rules first)) (record { lanes = mid; written = w0 }) (record { lanes = now; written = w })
+    → Made (record { header = header; rules = rules; name = name }) file first now old new ends
 unfolding file_text
 finished header file rules name name1 first mid now fronts tallies table old old1 new w0 w ends e n empty stores p written =
     let lists = lists_of header.cpus (taken_of header.layout file rules first) in
@@ -92,8 +93,8 @@ up_few : (stop : Option Moment) (xs : List Keyed) → length (up_to_end stop xs)
 up_few None xs = omega arith
 up_few (Some m) xs =
     let p = λ (x : Keyed). not (is_past m x.key) in
-    let parts : length (front_where p xs ++ drop (length (front_where p xs)) xs) ≡ length xs = ap length (front_whole p xs) in
-    omega (arith, parts, length-append (front_where p xs) (drop (length (front_where p xs)) xs))
+    let parts : length (take_while p xs ++ drop (length (take_while p xs)) xs) ≡ length xs = ap length (front_whole p xs) in
+    omega (arith, parts, length-append (take_while p xs) (drop (length (take_while p xs)) xs))
 
 start_few : (start : Option Moment) (xs : List Keyed) → length (from_start start xs) ≤ length xs
 start_few None xs = omega arith
@@ -171,7 +172,7 @@ progress_none header words rules file first now old allowed is rise cpus fresh p
     }
 
 module _ (header : Header) (base : List ℕ) (file : List ℕ) (rules : Rules) (news : List NewFile) (bad : Option (ℕ × ℕ)) (number : ℕ) (now later : List Lane) (old mid new : Option NamedFiles) where
-  pub progress_more : (ends : Ends) → IsUnit rules.unit → (ends.more && rules.repeat) ≡ true → Made header file rules (file_name base number) now later mid new ends
+  pub progress_more : (ends : Ends) → IsUnit rules.unit → (ends.more && rules.repeat) ≡ true → Made (record { header = header; rules = rules; name = file_name base number }) file now later mid new ends
       → Progress header base file rules news bad number now old mid → Progress header base file rules news bad (number + 1) later old new
   progress_more ends unit more m p =
       let l = header.layout in
@@ -190,7 +191,7 @@ module _ (header : Header) (base : List ℕ) (file : List ℕ) (rules : Rules) (
         few = omega (arith, p.few, fewer, long);
       }
 
-  pub progress_last : (ends : Ends) (result : End) (counts now_counts : Counts) → (ends.more && rules.repeat) ≡ false → result ≡ end_by ends.bad → Made header file rules (file_name base number) now later mid new ends
+  pub progress_last : (ends : Ends) (result : End) (counts now_counts : Counts) → (ends.more && rules.repeat) ≡ false → result ≡ end_by ends.bad → Made (record { header = header; rules = rules; name = file_name base number }) file now later mid new ends
       → Progress header base file rules news bad number now old mid → IsSplit news (end_by bad) counts now_counts old new result
   progress_last ends result counts now_counts more is m p =
       let l = header.layout in
@@ -204,14 +205,14 @@ module _ (header : Header) (base : List ℕ) (file : List ℕ) (rules : Rules) (
       ended_by None b result is same s = subst (λ (e : End). IsSplit news (end_by b) counts now_counts old new e) (sym is) (ap end_by same, s)
       ended_by (Some place) b result is same s = subst (λ (e : End). IsSplit news (end_by b) counts now_counts old new e) (sym is) (ap end_by same, s)
 
-  none_behind : (ends : Ends) → (ends.more && rules.repeat) ≡ false → Made header file rules (file_name base number) now later mid new ends
+  none_behind : (ends : Ends) → (ends.more && rules.repeat) ≡ false → Made (record { header = header; rules = rules; name = file_name base number }) file now later mid new ends
       → files_behind rules (lists_left header.layout file rules now) ≡ []
   none_behind ends more m =
       no_files rules (lists_left header.layout file rules now)
       (ap (λ (xss : List (List Keyed)). is_some_left (joined_lists xss) && rules.repeat) (sym m.left.left) ∙ ap (λ (b : Bool). b && rules.repeat) (sym m.left.more) ∙ more)
 
   -- the last file is that of this number
-  last_counted : (ends : Ends) → (ends.more && rules.repeat) ≡ false → Made header file rules (file_name base number) now later mid new ends
+  last_counted : (ends : Ends) → (ends.more && rules.repeat) ≡ false → Made (record { header = header; rules = rules; name = file_name base number }) file now later mid new ends
       → Progress header base file rules news bad number now old mid → length news ≡ number
   last_counted ends more m p =
       let none : length (files_from header base (number + 1) (files_behind rules (lists_left header.layout file rules now))) ≡ 0 =
@@ -222,7 +223,7 @@ module _ (header : Header) (base : List ℕ) (file : List ℕ) (rules : Rules) (
   some_counted : Progress header base file rules news bad number now old mid → number ≤ length news
   some_counted p = omega (arith, p.counted)
 
-  pub created_last : (ends : Ends) (result : End) (first before after : ℕ) → (ends.more && rules.repeat) ≡ false → result ≡ end_by ends.bad → Made header file rules (file_name base number) now later mid new ends
+  pub created_last : (ends : Ends) (result : End) (first before after : ℕ) → (ends.more && rules.repeat) ≡ false → result ≡ end_by ends.bad → Made (record { header = header; rules = rules; name = file_name base number }) file now later mid new ends
       → 1 ≤ number → before ≡ raised first (number - 1) → after ≡ raised before 1
       → Progress header base file rules news bad number now old mid → Creates (length news) first after result
   created_last ends result first before after more is m least so_far one p = by_bad ends.bad result is (omega (arith, last_counted ends more m p, least, so_far, one))
@@ -231,7 +232,7 @@ module _ (header : Header) (base : List ℕ) (file : List ℕ) (rules : Rules) (
       by_bad None result is e = subst (λ (r : End). Creates (length news) first after r) (sym is) e
       by_bad (Some place) result is e = subst (λ (r : End). Creates (length news) first after r) (sym is) e
 
-  pub created_stops : (end result : End) (between now_counts : Counts) (first before after : ℕ) → result ≡ end → IsMade header file rules (file_name base number) now later (record { files = mid; counts = between }) (record { files = new; counts = now_counts }) (Err end)
+  pub created_stops : (end result : End) (between now_counts : Counts) (first before after : ℕ) → result ≡ end → IsMade (record { header = header; rules = rules; name = file_name base number }) file now later (record { files = mid; counts = between }) (record { files = new; counts = now_counts }) (Err end)
       → 1 ≤ number → before ≡ raised first (number - 1) → after ≤ raised before 1
       → Progress header base file rules news bad number now old mid → Creates (length news) first after result
   created_stops code.Done result between now_counts first before after is m least so_far one p = absurd m
@@ -240,7 +241,7 @@ module _ (header : Header) (base : List ℕ) (file : List ℕ) (rules : Rules) (
   created_stops code.Write result between now_counts first before after is m least so_far one p = subst (λ (r : End). Creates (length news) first after r) (sym is) (omega (arith, some_counted p, least, so_far, one))
 
   pub progress_stops : (end result : End) (counts between now_counts : Counts) → result ≡ end → counts.unfinished ≤ between.unfinished
-      → IsMade header file rules (file_name base number) now later (record { files = mid; counts = between }) (record { files = new; counts = now_counts }) (Err end)
+      → IsMade (record { header = header; rules = rules; name = file_name base number }) file now later (record { files = mid; counts = between }) (record { files = new; counts = now_counts }) (Err end)
       → Progress header base file rules news bad number now old mid → IsSplit news (end_by bad) counts now_counts old new result
   progress_stops code.Done result counts between now_counts is since m p = absurd m
   progress_stops (code.Malformed cpu page) result counts between now_counts is since m p = absurd m

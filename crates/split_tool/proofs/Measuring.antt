@@ -1,7 +1,7 @@
 -- The pieces of a file, list by list.
 use Rattle.std.proofs.Common.{◌≡◌, ◌≢◌, ℕ, ◌+◌, ◌-◌, ◌<◌, ◌≤◌, Bool, true, false, ◌&&◌, ◌||◌, not, if◌then◌else◌, List, [], ◌∷◌, ◌++◌, length, get_or, take, drop, map, Option, Some, None, refl, sym, ap, subst, ◌∙◌, append-nil, append_assoc, arith}
 use Rattle.std.specs.Option.{option_map, option_or}
-use Rattle.std.specs.List.{All, filter_map, cons_option}
+use Rattle.std.specs.List.{All, filter_map, slice_get, cons_option}
 use Rattle.std.proofs.lemmas.List.{take_all, drop_at}
 use Rattle.std.proofs.lemmas.List.Elements.{All-nil, All-cons, All-head}
 use borrow.Rule.Slice.PartMut.{mid_of, put_mid}
@@ -17,7 +17,7 @@ use Rattle.time_merge.proofs.Starting.{cut_of_rows}
 use Rattle.word_values.specs.declared.moment.Moment.{Moment}
 use Rattle.split_pieces.specs.declared.gauge.Gauge.{Gauge}
 use Rattle.split_pieces.specs.declared.rules.Rules.{Rules}
-use Rattle.split_pieces.specs.Cuts.{is_apart, first_of_all, items_of_cpu}
+use Rattle.split_pieces.specs.Cuts.{is_apart, items_of_cpu}
 use Rattle.split_pieces.specs.Pieces.{up_to_end, has_end, unit_closes, is_some_left, piece, rest, joined_lists, next_file, behind_file}
 use Rattle.split_pieces.specs.Gauging.{piece_by, closes_by}
 use Rattle.split_passes.specs.declared.tally.Tally.{Tally}
@@ -133,7 +133,7 @@ module _ (l : Layout) (file : List ℕ) (rules : Rules) (gauge after : Gauge) (f
   measured_by : (before ends : Ends) (end : PieceEnd) (closed : Bool) → ends.more ≡ (before.more || is_full end) → ends.bad ≡ option_or before.bad (bad_of_end end closed)
       → is_full end ≡ is_some_left (left_in_rows rules.stop (rows_of l file now))
       → ((ends.more && rules.repeat) ≡ false → bad_of_end end closed ≡ bad_in_rows rules (rows_of l file first))
-      → ListMeasured l file rules first now tallies before ends
+      → ListMeasured l file rules (record { lanes = first; ends = before }) (record { lanes = now; ends = ends }) tallies
   measured_by before ends end closed more bad full same = record {
     taken = piece_taken;
     more = more ∙ ap (λ (b : Bool). before.more || b) full;
@@ -146,7 +146,7 @@ module _ (l : Layout) (file : List ℕ) (rules : Rules) (gauge after : Gauge) (f
 pub list_measured : (l : Layout) (file : List ℕ) (rules : Rules) (gauge after : Gauge) (first now : List Lane) (tallies : List Tally) (before ends : Ends) (end : PieceEnd) (closed : Bool)
     → ((xs : List Keyed) → piece_by gauge xs ≡ piece rules.unit xs) → ((xs : List Keyed) → closes_by gauge xs ≡ unit_closes rules.unit xs) → parts_of now ≡ parts_of first
     → closed ≡ (not rules.repeat && closes_by after []) → ends.more ≡ (before.more || is_full end) → ends.bad ≡ option_or before.bad (bad_of_end end closed)
-    → IsMeasured l file rules.stop gauge after first now tallies end → ListMeasured l file rules first now tallies before ends
+    → IsMeasured l file rules.stop (record { gauge = gauge; lanes = first }) (record { gauge = after; lanes = now }) tallies end → ListMeasured l file rules (record { lanes = first; ends = before }) (record { lanes = now; ends = ends }) tallies
 list_measured l file rules gauge after first now tallies before ends code.Full closed sp sc parts close more bad m =
     let all : ends.more ≡ true = more ∙ or_true before.more in
     measured_by l file rules gauge after first now tallies sp sc parts m.0 before ends code.Full closed more bad (sym (some_there _ m.1.0))
@@ -190,18 +190,18 @@ module _ (l : Layout) (file : List ℕ) (rules : Rules) where
   lists_whole lanes e = ap (map (left_in_rows rules.stop)) (if_false (is_apart rules) (map single (rows_of l file lanes)) (rows_of l file lanes ∷ []) e)
 
   bad_whole : (lanes : List Lane) → is_apart rules ≡ false → bad_left l file rules lanes ≡ bad_in_rows rules (rows_of l file lanes)
-  bad_whole lanes e = ap (λ (gs : List (List (Row Keyed))). first_of_all (filter_map (bad_in_rows rules) gs)) (if_false (is_apart rules) (map single (rows_of l file lanes)) (rows_of l file lanes ∷ []) e) ∙ one_bad (bad_in_rows rules (rows_of l file lanes))
+  bad_whole lanes e = ap (λ (gs : List (List (Row Keyed))). slice_get (filter_map (bad_in_rows rules) gs) 0) (if_false (is_apart rules) (map single (rows_of l file lanes)) (rows_of l file lanes ∷ []) e) ∙ one_bad (bad_in_rows rules (rows_of l file lanes))
 
   lists_apart : (lanes : List Lane) → is_apart rules ≡ true → lists_left l file rules lanes ≡ map (left_in_rows rules.stop) (map single (rows_of l file lanes))
   lists_apart lanes e = ap (map (left_in_rows rules.stop)) (if_true (is_apart rules) (map single (rows_of l file lanes)) (rows_of l file lanes ∷ []) e)
 
-  bad_apart : (lanes : List Lane) → is_apart rules ≡ true → bad_left l file rules lanes ≡ first_of_all (filter_map (bad_in_rows rules) (map single (rows_of l file lanes)))
-  bad_apart lanes e = ap (λ (gs : List (List (Row Keyed))). first_of_all (filter_map (bad_in_rows rules) gs)) (if_true (is_apart rules) (map single (rows_of l file lanes)) (rows_of l file lanes ∷ []) e)
+  bad_apart : (lanes : List Lane) → is_apart rules ≡ true → bad_left l file rules lanes ≡ slice_get (filter_map (bad_in_rows rules) (map single (rows_of l file lanes))) 0
+  bad_apart lanes e = ap (λ (gs : List (List (Row Keyed))). slice_get (filter_map (bad_in_rows rules) gs) 0) (if_true (is_apart rules) (map single (rows_of l file lanes)) (rows_of l file lanes ∷ []) e)
 
 -- ALL LANES AS ONE LIST
 
 pub whole_measured : (l : Layout) (file : List ℕ) (rules : Rules) (first now : List Lane) (tallies : List Tally) (before ends : Ends) → is_apart rules ≡ false → before.more ≡ false → before.bad ≡ None
-    → ListMeasured l file rules first now tallies before ends → FileMeasured l file rules first now tallies ends
+    → ListMeasured l file rules (record { lanes = first; ends = before }) (record { lanes = now; ends = ends }) tallies → FileMeasured l file rules first now tallies ends
 whole_measured l file rules first now tallies before ends whole more bad m =
     let p = m.taken in
     let left = left_in_rows rules.stop (rows_of l file first) in
@@ -228,7 +228,7 @@ abbrev all_left : Layout → List ℕ → Rules → List Lane → List (List Key
 all_left l file rules lanes = map (left_in_rows rules.stop) (map single (rows_of l file lanes))
 
 abbrev all_bad : Layout → List ℕ → Rules → List Lane → Option (ℕ × ℕ)
-all_bad l file rules lanes = first_of_all (filter_map (bad_in_rows rules) (map single (rows_of l file lanes)))
+all_bad l file rules lanes = slice_get (filter_map (bad_in_rows rules) (map single (rows_of l file lanes))) 0
 
 -- the first n lists are measured
 pub record MeasuredTo (l : Layout) (file : List ℕ) (rules : Rules) (n : ℕ) (first now : List Lane) (tallies0 tallies : List Tally) (ends : Ends) : Type 0 where
@@ -255,8 +255,8 @@ bads_push : (l : Layout) (file : List ℕ) (rules : Rules) (lanes : List Lane) (
 bads_push l file rules [] b = one_bad (bad_in_rows rules (row_of l file b ∷ []))
 bads_push l file rules (a ∷ lanes) b = by_first (bad_in_rows rules (row_of l file a ∷ [])) (filter_map (bad_in_rows rules) (map single (rows_of l file (lanes ++ b ∷ [])))) (filter_map (bad_in_rows rules) (map single (rows_of l file lanes))) (bads_push l file rules lanes b)
   where
-    by_first : (o : Option (ℕ × ℕ)) (more few : List (ℕ × ℕ)) → first_of_all more ≡ option_or (first_of_all few) (bad_in_rows rules (row_of l file b ∷ []))
-        → first_of_all (cons_option o more) ≡ option_or (first_of_all (cons_option o few)) (bad_in_rows rules (row_of l file b ∷ []))
+    by_first : (o : Option (ℕ × ℕ)) (more few : List (ℕ × ℕ)) → slice_get more 0 ≡ option_or (slice_get few 0) (bad_in_rows rules (row_of l file b ∷ []))
+        → slice_get (cons_option o more) 0 ≡ option_or (slice_get (cons_option o few) 0) (bad_in_rows rules (row_of l file b ∷ []))
     by_first None more few e = e
     by_first (Some bad) more few e = refl
 
@@ -265,7 +265,7 @@ earlier_last true s r e = e
 earlier_last false s r e = refl
 
 pub measured_more : (l : Layout) (file : List ℕ) (rules : Rules) (i : ℕ) (first now new : List Lane) (tallies0 tallies fresh : List Tally) (before ends : Ends) → i < length now → i < length tallies
-    → parts_of new ≡ parts_of (mid_of i (i + 1 - i) now) → length fresh ≡ length new → ListMeasured l file rules (mid_of i (i + 1 - i) now) new fresh before ends → MeasuredTo l file rules i first now tallies0 tallies before
+    → parts_of new ≡ parts_of (mid_of i (i + 1 - i) now) → length fresh ≡ length new → ListMeasured l file rules (record { lanes = mid_of i (i + 1 - i) now; ends = before }) (record { lanes = new; ends = ends }) fresh → MeasuredTo l file rules i first now tallies0 tallies before
     → MeasuredTo l file rules (i + 1) first (put_mid i (i + 1 - i) now new) tallies0 (put_mid i (i + 1 - i) tallies fresh) ends
 measured_more l file rules i first now new tallies0 tallies fresh before ends lt lt2 parts same m s =
     let mid = mid_of i (i + 1 - i) now in
@@ -350,7 +350,7 @@ all_measured l file rules n first now tallies0 tallies ends apart rise enough en
       left = lists_apart l file rules now apart ∙ lefts_behind l file rules first now tallies each ∙ ap (behind_file rules.unit) (sym lists);
       more = s.more ∙ ap (λ (xs : List Lane). is_some_left (joined_lists (all_left l file rules xs))) nows ∙ ap (λ (xss : List (List Keyed)). is_some_left (joined_lists xss)) (sym (lists_apart l file rules now apart));
       bad_ends = λ last. s.bad last ∙ ap (all_bad l file rules) firsts ∙ sym (bad_apart l file rules first apart);
-      bad = λ again. bad_apart l file rules now apart ∙ ap first_of_all (bads_same l file rules first now tallies again each) ∙ sym (bad_apart l file rules first apart);
+      bad = λ again. bad_apart l file rules now apart ∙ ap (λ (bads : List (ℕ × ℕ)). slice_get bads 0) (bads_same l file rules first now tallies again each) ∙ sym (bad_apart l file rules first apart);
     }
 
 -- the tallies of the lane at hand count nothing

@@ -1,6 +1,6 @@
 -- Whose items a file takes.
 use Rattle.std.proofs.Common.{◌≡◌, ℕ, zero, suc, ◌+◌, ◌<◌, Bool, true, false, eqb, leb, max, nat_lt, not, if◌then◌else◌, List, [], ◌∷◌, ◌++◌, length, get_or, map, Option, Some, None, refl, sym, ap, ◌∙◌, append-nil, inl, inr, arith}
-use Rattle.std.specs.List.{filter}
+use Rattle.std.specs.List.{filter, take_while}
 use Rattle.std.proofs.lemmas.Bool.{cases_Bool, ne_eqb}
 use Rattle.std.proofs.lemmas.List.{map-append}
 use Rattle.std.proofs.lemmas.List.Elements.{filter-append}
@@ -17,7 +17,8 @@ use Rattle.word_values.specs.declared.piece.PieceUnit.TheVariants.{All, Nanos, E
 use Rattle.split_pieces.specs.declared.rules.Rules.{Rules}
 use Rattle.split_pieces.specs.Moments.{is_past}
 use Rattle.split_pieces.specs.Cuts.{items_of_cpu, is_apart}
-use Rattle.split_pieces.specs.Pieces.{front_where, up_to_event, is_event, up_to_end, piece, next_file}
+use Rattle.split_pieces.specs.Pieces.{up_to_event, is_event, up_to_end, piece, next_file}
+use Rattle.split_pieces.proofs.Cutting.{front_no, front_yes}
 use Rattle.split_tool.specs.Lists.{groups, come_of, left_in_rows, lists_left}
 use Rattle.split_passes.proofs.Running.{rises_tail}
 
@@ -38,11 +39,11 @@ module _ {X : Type 0} (P : X → Type 0) where
   each_as Q f (x ∷ xs) a = (f x a.0, each_as Q f xs a.1)
 
 module _ (P : Keyed → Type 0) where
-  each_front : (p : Keyed → Bool) (xs : List Keyed) → Each P xs → Each P (front_where p xs)
+  each_front : (p : Keyed → Bool) (xs : List Keyed) → Each P xs → Each P (take_while p xs)
   each_front p [] a = tt
   each_front p (x ∷ xs) a = elim (cases_Bool (p x)) [
-    | inl b ↦ rw b (a.0, each_front p xs a.1)
-    | inr b ↦ rw b tt
+    | inl b ↦ rw (front_yes p x xs b) (a.0, each_front p xs a.1)
+    | inr b ↦ rw (front_no p x xs b) tt
   ]
 
   each_events : (n : ℕ) (xs : List Keyed) → Each P xs → Each P (up_to_event n xs)

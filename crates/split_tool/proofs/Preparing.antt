@@ -1,7 +1,7 @@
 -- A file between its two passes.
 use Rattle.std.proofs.Common.{◌≡◌, ℕ, ◌+◌, ◌%◌, ◌^◌, ◌<◌, ◌≤◌, List, [], ◌∷◌, ◌++◌, length, get_or, map, Option, Some, None, refl, sym, ap, subst, ◌∙◌, arith}
 use Rattle.std.specs.Option.{IfSome}
-use Rattle.std.specs.List.{All, filter_map}
+use Rattle.std.specs.List.{All, filter_map, slice_get}
 use Rattle.std.proofs.lemmas.List.{length-append, length-map, get_or-map}
 use Rattle.std.proofs.lemmas.List.Elements.{All-get_or, All-head, All-tail}
 use Rattle.trace_base.specs.declared.layout.Layout.{Layout}
@@ -27,7 +27,7 @@ use Rattle.time_merge.specs.LaneRows.{parts_of, rows_of, IsReady}
 use Rattle.time_merge.specs.declared.ending.End.{End}
 use Rattle.time_merge.specs.declared.ending.End.TheVariants as code
 use Rattle.split_pieces.specs.declared.rules.Rules.{Rules}
-use Rattle.split_pieces.specs.Cuts.{items_of_cpu, first_of_all}
+use Rattle.split_pieces.specs.Cuts.{items_of_cpu}
 use Rattle.split_pieces.specs.Pieces.{is_some_left, joined_lists, next_file, behind_file}
 use Rattle.split_passes.specs.declared.tally.Tally.{Tally}
 use Rattle.split_passes.specs.Tallies.{IsTally}
@@ -137,7 +137,7 @@ pub same_lists : (l : Layout) (file : List ℕ) (rules : Rules) (ks bs : List La
 same_lists l file rules ks bs e = ap (λ (rows : List (Row Keyed)). map (left_in_rows rules.stop) (groups rules rows)) e
 
 pub same_bad : (l : Layout) (file : List ℕ) (rules : Rules) (ks bs : List Lane) → rows_of l file ks ≡ rows_of l file bs → bad_left l file rules ks ≡ bad_left l file rules bs
-same_bad l file rules ks bs e = ap (λ (rows : List (Row Keyed)). first_of_all (filter_map (bad_in_rows rules) (groups rules rows))) e
+same_bad l file rules ks bs e = ap (λ (rows : List (Row Keyed)). slice_get (filter_map (bad_in_rows rules) (groups rules rows)) 0) e
 
 -- lanes that have the same left
 pub left_still : (l : Layout) (file : List ℕ) (rules : Rules) (first first1 now now1 : List Lane) (ends : Ends) → rows_of l file first1 ≡ rows_of l file first → rows_of l file now1 ≡ rows_of l file now → All (Stands l file) now1
@@ -172,7 +172,7 @@ pub prepared : (header : Header) (file : List ℕ) (rules : Rules) (first ready 
     → at ≡ front_len header % 2 ^ 64 → length table0 ≡ header.cpus
     → ((xs : List Keyed) (place : ℕ) → at ≡ place % 2 ^ 64 → AreCounted header.layout now tallies xs → table ≡ map in_table (parts_from header.layout place (lists_of (length table0) xs)))
     → length file < 2 ^ 64
-    → FileMeasured header.layout file rules ready now tallies ends → Prepared header file rules first now fronts tallies table ends
+    → FileMeasured header.layout file rules ready now tallies ends → Prepared header file rules first now (record { fronts = fronts; tallies = tallies; table = table }) ends
 unfolding table_of
 prepared header file rules first ready now fronts tallies table0 table at ends allowed rise below rows parts later order are_ready stands noted place cpus filled small m =
     let l = header.layout in
@@ -200,7 +200,7 @@ pub prepared_told : (header : Header) (rules : Rules) (first ready now : List La
     → IfSome told (λ file. All (Stands header.layout file) first → All (Stands header.layout file) ready)
     → IfSome now_told (λ file. All (Stands header.layout file) ready → ((i : ℕ) (t : Tally) → i < length tallies0 → IsTally header.layout (get_or tallies0 i t) []) → FileMeasured header.layout file rules ready now tallies ends)
     → IfSome told (λ file. All (Stands header.layout file) first → length file < 2 ^ 64
-    → Prepared header file rules first now fronts tallies table ends)
+    → Prepared header file rules first now (record { fronts = fronts; tallies = tallies; table = table }) ends)
 prepared_told header rules first ready now fronts tallies0 tallies table0 table at ends None now_told e allowed rise below parts later order are_ready noted place cpus filled clear rows stands m = tt
 prepared_told header rules first ready now fronts tallies0 tallies table0 table at ends (Some file) now_told e allowed rise below parts later order are_ready noted place cpus filled clear rows stands m = λ s small.
     let Measures : List ℕ → Type 0 = λ file. All (Stands header.layout file) ready → ((i : ℕ) (t : Tally) → i < length tallies0 → IsTally header.layout (get_or tallies0 i t) []) → FileMeasured header.layout file rules ready now tallies ends in
@@ -209,17 +209,18 @@ prepared_told header rules first ready now fronts tallies0 tallies table0 table 
 
 -- the lists as they were written back
 pub prepared_back : (header : Header) (rules : Rules) (first now : List Lane) (fronts fronts1 : List Place) (tallies tallies1 : List Tally) (table table1 : List Part) (ends : Ends) (told : Option (List ℕ)) → fronts1 ≡ fronts → tallies1 ≡ tallies → table1 ≡ table
-    → IfSome told (λ file. All (Stands header.layout file) first → length file < 2 ^ 64 → Prepared header file rules first now fronts tallies table ends)
-    → IfSome told (λ file. All (Stands header.layout file) first → length file < 2 ^ 64 → Prepared header file rules first now fronts1 tallies1 table1 ends)
+    → IfSome told (λ file. All (Stands header.layout file) first → length file < 2 ^ 64 → Prepared header file rules first now (record { fronts = fronts; tallies = tallies; table = table }) ends)
+    → IfSome told (λ file. All (Stands header.layout file) first → length file < 2 ^ 64 → Prepared header file rules first now (record { fronts = fronts1; tallies = tallies1; table = table1 }) ends)
 prepared_back header rules first now fronts fronts1 tallies tallies1 table table1 ends told a b c p =
     let Goal : List Place → List Tally → List Part → Type 0 = λ fs ts ps. IfSome told (λ file. All (Stands header.layout file) first → length file < 2 ^ 64
-    → Prepared header file rules first now fs ts ps ends) in
+    → Prepared header file rules first now (record { fronts = fs; tallies = ts; table = ps }) ends) in
     subst (λ (fs : List Place). Goal fs tallies1 table1) (sym a) (subst (λ (ts : List Tally). Goal fronts ts table1) (sym b) (subst (λ (ps : List Part). Goal fronts tallies ps) (sym c) p))
 
 -- WRITING
 
 pub written_all : (header : Header) (file : List ℕ) (table : List Part) (lists : List (List ItemData)) (before now : List Lane) (old mid new : Option (List ℕ)) (end : End) → Gained old mid (front_text header table)
-    → IsPackedAll header.layout file lists before now mid new end → IsWritten header file table lists before now old new end
+    → IsPackedAll header.layout file lists (record { lanes = before; written = mid }) (record { lanes = now; written = new }) end
+    → IsWritten header file table lists (record { lanes = before; written = old }) (record { lanes = now; written = new }) end
 written_all header file table lists before now old mid new code.Done front p =
     record { stands = p.stands; rows = p.rows; gained = gained_both old mid new (front_text header table) (data_of header.layout lists) front p.gained }
 written_all header file table lists before now old mid new (code.Malformed cpu page) front p = p

@@ -1,5 +1,5 @@
 -- The lists that a split cuts, as rows of lanes have them left.
-use Rattle.std.specs.Prelude.{ℕ, Bool, ◌&&◌, ◌||◌, not, if◌then◌else◌, List, [], ◌∷◌, map, filter_map, Option, None, option_map}
+use Rattle.std.specs.Prelude.{ℕ, Bool, ◌&&◌, ◌||◌, not, if◌then◌else◌, List, [], ◌∷◌, map, filter_map, slice_get, Option, None, option_map}
 use Rattle.trace_base.specs.declared.layout.Layout.{Layout}
 use Rattle.subpage.specs.Arrangement.{Keyed, key_of, cpu_of}
 use Rattle.page_pool.specs.declared.lane.Lane.{Lane}
@@ -7,7 +7,7 @@ use Rattle.time_merge.specs.Rows.{Row, coming, least_cut}
 use Rattle.time_merge.specs.LaneRows.{rows_of}
 use Rattle.word_values.specs.declared.moment.Moment.{Moment}
 use Rattle.split_pieces.specs.declared.rules.Rules.{Rules}
-use Rattle.split_pieces.specs.Cuts.{is_apart, first_of_all}
+use Rattle.split_pieces.specs.Cuts.{is_apart}
 use Rattle.split_pieces.specs.Pieces.{up_to_end, has_end, unit_closes, next_file, behind_file, files_left}
 
 -- FILES OF LISTS THAT ARE LEFT
@@ -48,4 +48,4 @@ lists_left layout file rules lanes = map (left_in_rows rules.stop) (groups rules
 
 -- and the first malformed sub-buffer that one of them leads to
 abbrev pub bad_left : Layout → List ℕ → Rules → List Lane → Option (ℕ × ℕ)
-bad_left layout file rules lanes = first_of_all (filter_map (bad_in_rows rules) (groups rules (rows_of layout file lanes)))
+bad_left layout file rules lanes = slice_get (filter_map (bad_in_rows rules) (groups rules (rows_of layout file lanes))) 0

@@ -20,6 +20,7 @@ use Rattle.time_merge.specs.declared.ending.End.TheVariants as code
 use Rattle.split_pieces.specs.declared.rules.Rules.{Rules}
 use Rattle.split_pieces.specs.Pieces.{is_some_left, joined_lists, behind_file}
 use Rattle.split_passes.specs.AllAgain.{AreFronts, owns}
+use Rattle.split_passes.specs.Outputs.{LanesOutput}
 use Rattle.split_passes.specs.declared.tally.Tally.{Tally}
 use Rattle.dat_header.specs.Tables.{in_table}
 use Rattle.new_files.specs.Stored.{IsUnmade, KeepsCounts}
@@ -42,30 +43,42 @@ pub record FileLeft (layout : Layout) (file : List ℕ) (rules : Rules) (first n
   pub bad_ends : (ends.more && rules.repeat) ≡ false → ends.bad ≡ bad_left layout file rules first
   pub bad : rules.repeat ≡ true → bad_left layout file rules now ≡ bad_left layout file rules first
 
+-- what the second pass goes by: where each lane's items begin, how many they are, and the file's table
+pub record Noted : Type 0 where
+  pub fronts : List Place
+  pub tallies : List Tally
+  pub table : List Part
+
 -- a file was measured, and its table is known, whose numbers are told modulo 2^64
-pub record Prepared (header : Header) (file : List ℕ) (rules : Rules) (first now : List Lane) (fronts : List Place) (tallies : List Tally) (table : List Part) (ends : Ends) : Type 0 where
+pub record Prepared (header : Header) (file : List ℕ) (rules : Rules) (first now : List Lane) (noted : Noted) (ends : Ends) : Type 0 where
   pub left : FileLeft header.layout file rules first now ends
-  pub fronts_are : AreFronts header.layout file now fronts tallies (owns first (taken_of header.layout file rules first))
-  pub table_is : table ≡ map in_table (table_of header (lists_of header.cpus (taken_of header.layout file rules first)))
+  pub fronts_are : AreFronts header.layout file now noted.fronts noted.tallies (owns first (taken_of header.layout file rules first))
+  pub table_is : noted.table ≡ map in_table (table_of header (lists_of header.cpus (taken_of header.layout file rules first)))
   pub bytes : data_of header.layout (owns first (taken_of header.layout file rules first))
       ≡ data_of header.layout (lists_of header.cpus (taken_of header.layout file rules first))
 
 -- a file was written
-pub record Written (header : Header) (file : List ℕ) (table : List Part) (lists : List (List ItemData)) (before now : List Lane) (old new : Option (List ℕ)) : Type 0 where
-  pub stands : All (Stands header.layout file) now
-  pub rows : rows_of header.layout file now ≡ rows_of header.layout file before
-  pub gained : Gained old new (front_text header table ++ data_of header.layout lists)
+pub record Written (header : Header) (file : List ℕ) (table : List Part) (lists : List (List ItemData)) (before now : LanesOutput) : Type 0 where
+  pub stands : All (Stands header.layout file) now.lanes
+  pub rows : rows_of header.layout file now.lanes ≡ rows_of header.layout file before.lanes
+  pub gained : Gained before.written now.written (front_text header table ++ data_of header.layout lists)
 
-abbrev pub IsWritten : Header → List ℕ → List Part → List (List ItemData) → List Lane → List Lane → Option (List ℕ) → Option (List ℕ) → End → Type 0
-IsWritten header file table lists before now old new code.Done = Written header file table lists before now old new
-IsWritten header file table lists before now old new (code.Malformed cpu page) = ⊥
-IsWritten header file table lists before now old new code.Read = Unit {0}
-IsWritten header file table lists before now old new code.Write = Unit {0}
+abbrev pub IsWritten : Header → List ℕ → List Part → List (List ItemData) → LanesOutput → LanesOutput → End → Type 0
+IsWritten header file table lists before now code.Done = Written header file table lists before now
+IsWritten header file table lists before now (code.Malformed cpu page) = ⊥
+IsWritten header file table lists before now code.Read = Unit {0}
+IsWritten header file table lists before now code.Write = Unit {0}
+
+-- what a new file is made by
+pub record FilePlan : Type 0 where
+  pub header : Header
+  pub rules : Rules
+  pub name : List ℕ
 
 -- a file was finished
-pub record Made (header : Header) (file : List ℕ) (rules : Rules) (name : List ℕ) (first now : List Lane) (old new : Option NamedFiles) (ends : Ends) : Type 0 where
-  pub left : FileLeft header.layout file rules first now ends
-  pub stored : IfSome old (λ files. new ≡ Some (insert files name (next_text header file rules first)))
+pub record Made (plan : FilePlan) (file : List ℕ) (first now : List Lane) (old new : Option NamedFiles) (ends : Ends) : Type 0 where
+  pub left : FileLeft plan.header.layout file plan.rules first now ends
+  pub stored : IfSome old (λ files. new ≡ Some (insert files plan.name (next_text plan.header file plan.rules first)))
 
 -- what a folder shows
 pub record FolderSeen : Type 0 where
@@ -74,13 +87,13 @@ pub record FolderSeen : Type 0 where
 
 -- Over a file with these bytes: a file was finished; after a fault of reading the folder is as it was, and after one of writing
 -- the name is unless finishing it failed.
-abbrev pub IsMade : Header → List ℕ → Rules → List ℕ → List Lane → List Lane → FolderSeen → FolderSeen → Result Ends End → Type 0
-IsMade header file rules name first now before after (Ok ends) = Made header file rules name first now before.files after.files ends
-IsMade header file rules name first now before after (Err code.Done) = ⊥
-IsMade header file rules name first now before after (Err (code.Malformed cpu page)) = ⊥
-IsMade header file rules name first now before after (Err code.Read) = after.files ≡ before.files
-IsMade header file rules name first now before after (Err code.Write) =
-    IsUnmade before.counts.unfinished after.counts.unfinished name before.files after.files
+abbrev pub IsMade : FilePlan → List ℕ → List Lane → List Lane → FolderSeen → FolderSeen → Result Ends End → Type 0
+IsMade plan file first now before after (Ok ends) = Made plan file first now before.files after.files ends
+IsMade plan file first now before after (Err code.Done) = ⊥
+IsMade plan file first now before after (Err (code.Malformed cpu page)) = ⊥
+IsMade plan file first now before after (Err code.Read) = after.files ≡ before.files
+IsMade plan file first now before after (Err code.Write) =
+    IsUnmade before.counts.unfinished after.counts.unfinished plan.name before.files after.files
 
 -- What making one file does to the counts of a folder: a file is created, or after a fault maybe none, and only a fault of
 -- writing leaves one unfinished.

@@ -39,11 +39,17 @@ pub record PieceTaken (layout : Layout) (file : List ℕ) (rules : Rules) (first
   pub left : left_in_rows rules.stop (rows_of layout file now) ≡ rest rules.unit (left_in_rows rules.stop (rows_of layout file first))
   pub bad : rules.repeat ≡ true → bad_in_rows rules (rows_of layout file now) ≡ bad_in_rows rules (rows_of layout file first)
 
+-- the lanes of a list, and what is left behind the pieces of this list and of those before it
+pub record ListsBehind : Type 0 where
+  pub lanes : List Lane
+  pub ends : Ends
+
 -- with the lists before it. Where a list goes on nothing is said of a malformed sub-buffer.
-pub record ListMeasured (layout : Layout) (file : List ℕ) (rules : Rules) (first now : List Lane) (tallies : List Tally) (before ends : Ends) : Type 0 where
-  pub taken : PieceTaken layout file rules first now tallies
-  pub more : ends.more ≡ (before.more || is_some_left (left_in_rows rules.stop (rows_of layout file now)))
-  pub bad : (ends.more && rules.repeat) ≡ false → ends.bad ≡ option_or before.bad (bad_in_rows rules (rows_of layout file first))
+pub record ListMeasured (layout : Layout) (file : List ℕ) (rules : Rules) (before now : ListsBehind) (tallies : List Tally) : Type 0 where
+  pub taken : PieceTaken layout file rules before.lanes now.lanes tallies
+  pub more : now.ends.more ≡ (before.ends.more || is_some_left (left_in_rows rules.stop (rows_of layout file now.lanes)))
+  pub bad : (now.ends.more && rules.repeat) ≡ false
+      → now.ends.bad ≡ option_or before.ends.bad (bad_in_rows rules (rows_of layout file before.lanes))
 
 -- what a file takes of lanes
 abbrev pub taken_of : Layout → List ℕ → Rules → List Lane → List Keyed

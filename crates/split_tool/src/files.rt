@@ -38,7 +38,8 @@ fn measure_file<F: File>(
     ensures work { IsWorkFor plan.now.header.now (length lanes.new) work.new }
     ensures told { IfOk result (λ ends. IfSome (F.bytes file.old) (λ bytes. All (Stands plan.now.header.now.layout bytes) lanes.old
         → length bytes < 2 ^ 64
-        → Prepared plan.now.header.now bytes rules.now lanes.old lanes.new work.new.fronts.items work.new.tallies.items work.new.table.items ends)) }
+        → Prepared plan.now.header.now bytes rules.now lanes.old lanes.new
+        (record { fronts = work.new.fronts.items; tallies = work.new.tallies.items; table = work.new.table.items }) ends)) }
     // What packing the file reads is left.
     ensures reads { Spends (to_read plan.now.header.now.layout (F.size file.old) lanes.old)
         (to_read plan.now.header.now.layout (F.size file.old) lanes.new
@@ -85,7 +86,8 @@ fn write_file<F: File, O: Sink>(
     ensures work { IsWorkFor plan.now.header.now (length lanes.new) work.new }
     ensures told { IfSome (F.bytes file.old) (λ bytes. All (Stands plan.now.header.now.layout bytes) lanes.old
         → (lists : List (List ItemData)) → AreFronts plan.now.header.now.layout bytes lanes.old work.old.fronts.items work.old.tallies.items lists
-        → IsWritten plan.now.header.now bytes work.old.table.items lists lanes.old lanes.new (O.written out.old) (O.written out.new) result) }
+        → IsWritten plan.now.header.now bytes work.old.table.items lists
+        (record { lanes = lanes.old; written = O.written out.old }) (record { lanes = lanes.new; written = O.written out.new }) result) }
     ensures reads { F.reads file.new ≤ raised (F.reads file.old)
         (all_packing plan.now.header.now.layout (F.size file.old) lanes.old work.old.fronts.items work.old.tallies.items) }
     ensures left { result ≡ End.Done → to_read plan.now.header.now.layout (F.size file.old) lanes.new
@@ -130,7 +132,8 @@ pub(crate) fn make_file<F: File, D: Folder>(
     ensures parts { parts_of lanes.new ≡ parts_of lanes.old }
     ensures told { IfSome (F.bytes file.old) (λ bytes. All (Stands plan.now.header.now.layout bytes) lanes.old
         → length bytes < 2 ^ 64
-        → IsMade plan.now.header.now bytes rules.now (file_name plan.now.words.now.base.now number) lanes.old lanes.new
+        → IsMade (record { header = plan.now.header.now; rules = rules.now; name = file_name plan.now.words.now.base.now number })
+        bytes lanes.old lanes.new
         (record { files = D.files folder.old; counts = D.counts folder.old })
         (record { files = D.files folder.new; counts = D.counts folder.new }) result) }
     ensures counts { CountsOne (D.counts folder.old) (D.counts folder.new) result }

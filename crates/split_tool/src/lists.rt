@@ -109,7 +109,8 @@ fn measure_list<F: File>(
     ensures long { length tallies.new ≡ length lanes.new }
     ensures told { IfOk result (λ ends. IfSome (F.bytes file.old) (λ bytes. All (Stands layout.now bytes) lanes.old
         → Tallied layout.now lanes.old [] tallies.old
-        → ListMeasured layout.now bytes rules.now lanes.old lanes.new tallies.new before ends)) }
+        → ListMeasured layout.now bytes rules.now (record { lanes = lanes.old; ends = before })
+        (record { lanes = lanes.new; ends = ends }) tallies.new)) }
     ensures ready { OnOk result (All (IsReady layout.now) lanes.new) }
     ensures over { SkipsOver lanes.old tallies.old tallies.new }
     ensures reads_done { OnOk result (F.reads file.new ≤ raised (F.reads file.old)

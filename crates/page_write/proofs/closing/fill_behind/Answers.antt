@@ -12,8 +12,8 @@ returns c =
     let put = c.put_lost-behind.new.area in
     let place = c.put_lost-behind.result in
     let count = length area - (c.args.at + length lost) in
-    let same : length put - place ≡ count = omega (arith, c.put_lost-behind.auto.area, c.put_lost-behind.ensures.behind) in
+    let same : length put - place ≡ count = omega (arith, c.put_lost-behind.auto.area, c.put_lost-behind.ensures.end) in
     c.put_zeros.ensures
     ∙ ap (λ (n : ℕ). put_at place (zeros n) put) same
     ∙ ap (λ (t : List ℕ). put_at place (zeros count) t) c.put_lost-behind.ensures.put
-    ∙ filled_behind c.args.at place count lost area c.put_lost-behind.ensures.behind (omega (arith, c.put_lost-behind.ensures.behind, c.requires.room))
+    ∙ filled_behind c.args.at place count lost area c.put_lost-behind.ensures.end (omega (arith, c.put_lost-behind.ensures.end, c.requires.room))

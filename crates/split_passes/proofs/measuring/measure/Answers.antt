@@ -76,7 +76,7 @@ returns-in-Full-clause-measured g c =
     let l = c.args.layout.now in
     told_map _ _ (g.F.File.bytes c.args.file.now) (λ file h s t.
     let r = h s t in
-    full_measured l file c.args.stop c.args.gauge.now c.loop-i.gauge c.args.lanes.now c.next_lane_by.new.lanes c.loop-i.tallies c.in-Lane.i c.index-lanes-i.result c.index-tallies-i.result c.choose.new.tally r.1 c.in-Full.ensures r.0)
+    full_measured l file c.args.stop c.args.gauge.now c.loop-i.gauge c.choose.new.gauge c.args.lanes.now c.next_lane_by.new.lanes c.loop-i.tallies c.in-Lane.i c.index-lanes-i.result c.index-tallies-i.result c.choose.new.tally r.1 c.in-Full.ensures r.0)
     (loaded l (g.F.File.bytes c.args.file.now) (g.F.File.bytes c.loop-i.file) c.args.stop c.args.gauge.now c.loop-i.gauge c.args.lanes.now c.loop-i.lanes c.next_lane_by.new.lanes c.args.tallies.now c.loop-i.tallies (code.Lane c.in-Lane.i)
     c.loop-i.invariant.keeps.bytes c.loop-i.invariant.parts c.next_lane_by.ensures.loads.parts c.loop-i.invariant.runs c.next_lane_by.ensures.loads.rows c.next_lane_by.ensures.loads.stands (next_is c.args.layout.now _ _ c.next_lane_by.new.lanes c.in-Lane.is c.in_ok-i.ensures.next))
 
