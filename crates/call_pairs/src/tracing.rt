@@ -4,7 +4,7 @@ ghost use Rattle.call_pairs.specs.declared.seen.Seen.TheVariants as code;
 ghost use Rattle.call_pairs.specs.Calls.{calls_of, ended, is_last};
 ghost use Rattle.call_pairs.specs.Durations.{duration};
 ghost use Rattle.call_pairs.specs.Marked.{with_leaf, leaf_open};
-ghost use Rattle.call_pairs.specs.Tracings.{IsTracing, WasSeen};
+ghost use Rattle.call_pairs.specs.Tracings.{IsTracing, Sees, WasSeen};
 
 use crate::call::{Call, entry_call, exit_call};
 use crate::seen::{GraphEvent, Seen};
@@ -35,11 +35,11 @@ fn duration(entry: &GraphEvent, exit: &GraphEvent, ran: Option<u64>) -> u64
 }
 
 /// Whether an entry is the last that a thread did.
-fn is_last(open: &Open, last: Option<usize>) -> bool
-    ensures { result ≡ is_last open.now last }
+fn is_last(top: &Open, last: Option<usize>) -> bool
+    ensures { result ≡ is_last top.now last }
 {
     match last {
-        Some(last) => open.place == last,
+        Some(last) => top.place == last,
         None => false,
     }
 }
@@ -85,7 +85,7 @@ impl Tracing {
     pub fn see(&mut self, seen: &Seen) -> Result<(), AllocError>
         requires known { WasSeen self.old }
         ensures known { OnOk result (WasSeen self.new) }
-        ensures seen { (past : List Seen) → IsTracing past self.old → OnOk result (IsTracing (seen.now ∷ past) self.new) }
+        ensures seen { Sees seen.now self.old self.new result }
     {
         match seen {
             Seen::Entry(entry) => self.enter(entry),
@@ -98,7 +98,7 @@ impl Tracing {
     fn enter(&mut self, entry: &GraphEvent) -> Result<(), AllocError>
         requires known { WasSeen self.old }
         ensures known { OnOk result (WasSeen self.new) }
-        ensures seen { (past : List Seen) → IsTracing past self.old → OnOk result (IsTracing (code.Entry entry.now ∷ past) self.new) }
+        ensures seen { Sees (code.Entry entry.now) self.old self.new result }
     {
         self.threads.enter(self.since, self.calls.len(), entry)?;
         self.calls.push(entry_call(entry, None))?;
@@ -109,7 +109,7 @@ impl Tracing {
     fn leave(&mut self, exit: &GraphEvent, ran: Option<u64>) -> Result<(), AllocError>
         requires known { WasSeen self.old }
         ensures known { OnOk result (WasSeen self.new) }
-        ensures seen { (past : List Seen) → IsTracing past self.old → OnOk result (IsTracing (code.Exit exit.now ran ∷ past) self.new) }
+        ensures seen { Sees (code.Exit exit.now ran) self.old self.new result }
     {
         let left = self.threads.leave(self.since, self.calls.len(), exit)?;
         end_call(&mut self.calls, exit, ran, left)
@@ -118,7 +118,7 @@ impl Tracing {
     fn lose(&mut self, cpu: u32, count: Option<u64>) -> Result<(), AllocError>
         requires known { WasSeen self.old }
         ensures known { OnOk result (WasSeen self.new) }
-        ensures seen { (past : List Seen) → IsTracing past self.old → OnOk result (IsTracing (code.Loss cpu count ∷ past) self.new) }
+        ensures seen { Sees (code.Loss cpu count) self.old self.new result }
     {
         self.calls.push(Call::Loss { cpu, count })?;
         self.since = self.calls.len();

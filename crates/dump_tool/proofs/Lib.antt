@@ -1,3 +1,2 @@
-pub mod Putting
 mod Parts
 mod Chosen

@@ -5,7 +5,7 @@ use Rattle.std.specs.Fmt.{decimal}
 use Rattle.std.specs.Prelude.{if◌then◌else◌}
 use Rattle.std.proofs.lemmas.Bool.{cases_Bool}
 use Rattle.trace_base.specs.Kept.{Held}
-use Rattle.report_print.specs.Given.{Given}
+use Rattle.report_print.specs.ContextData.{ContextData}
 use Rattle.report_print.specs.Ending.{is_newline, ends_in_newline, of_held, closed}
 use Rattle.report_print.specs.Line.{loss_text}
 use Rattle.report_print.specs.Prefix.{prefix_text}
@@ -46,7 +46,7 @@ loss_end cpu (Some count) = no_newline (loss_text cpu (Some count)) 93
     (last_behind (decimal cpu) (codes " [" ++ (decimal count ++ codes " EVENTS DROPPED]")) 93
     (last_behind (codes " [") (decimal count ++ codes " EVENTS DROPPED]") 93 (last_behind (decimal count) (codes " EVENTS DROPPED]") 93 refl)))) refl
 
-pub text_end : (given : Given) (call : Call) → ends_in_newline (call_text given call) ≡ false
+pub text_end : (given : ContextData) (call : Call) → ends_in_newline (call_text given call) ≡ false
 text_end given (Entry cpu time common depth func None) =
     no_newline _ 123 (parts_last (prefix_text given cpu time common) None depth (entry_word (function_text func (name_of given func)) None) 123 (last_behind (function_text func (name_of given func)) (codes "() {") 123 refl)) refl
 text_end given (Entry cpu time common depth func (Some took)) =
@@ -65,7 +65,7 @@ pub length_told : (n : ℕ) (silent : Bool) (text : List ℕ) → false ≡ sile
 length_told n silent text loud is = is ∙ ap (λ (b : Bool). length (if b then [] else closed text)) loud
 
 -- no line is longer than 65,537 bytes
-pub line_most : (given : Given) (call : Call) → length (call_line given call) ≤ 65537
+pub line_most : (given : ContextData) (call : Call) → length (call_line given call) ≤ 65537
 unfolding call_line
 line_most given call = elim (cases_Bool (is_silent call)) as (λ _. length (if is_silent call then [] else closed (call_text given call)) ≤ 65537) [
   | inl is_true ↦ rw is_true (omega arith)

@@ -5,19 +5,15 @@ use Rattle.std.proofs.lemmas.List.{reverse-reverse}
 use Rattle.std.proofs.lemmas.List.Concat.{flat_map-append}
 use Rattle.subpage.specs.Arrangement.{Keyed}
 use Rattle.item_pass.specs.Skipping.{and_item, by_item}
-use Rattle.item_pass.specs.declared.passing.PassFault.{PassFault}
-use Rattle.item_pass.specs.declared.passing.PassFault.TheVariants as pass
-use Rattle.report_print.specs.Given.{Given}
+use Rattle.report_print.specs.ContextData.{ContextData}
 use Rattle.call_pairs.specs.declared.seen.Seen.{Seen}
 use Rattle.call_pairs.specs.declared.call.Call.{Call}
 use Rattle.call_pairs.specs.declared.tracing.Tracing.{Tracing}
 use Rattle.call_pairs.specs.Calls.{calls_of}
 use Rattle.call_pairs.specs.Tracings.{IsTracing}
-use Rattle.graph_report.specs.declared.gathering.CallsFault.TheVariants as code
-use Rattle.graph_report.specs.Faults.{fault_of_pass}
 use Rattle.graph_report.specs.Gathered.{seen_at, seen_in, HasSeen}
 
-pub one_more : (given : Given) (xs : List Keyed) (x : Keyed) → seen_in given (and_item (λ _ _. true) xs x) ≡ seen_in given xs ++ seen_at given x
+pub one_more : (given : ContextData) (xs : List Keyed) (x : Keyed) → seen_in given (and_item (λ _ _. true) xs x) ≡ seen_in given xs ++ seen_at given x
 one_more given xs x = flat_map-append (seen_at given) xs (x ∷ []) ∙ ap (λ (ys : List Seen). seen_in given xs ++ ys) (append-nil (seen_at given x))
 
 all_matter : (xs : List Keyed) → filter (by_item (λ _ _. true)) xs ≡ xs
@@ -25,12 +21,8 @@ all_matter [] = refl
 all_matter (x ∷ xs) = ap (λ (ys : List Keyed). x ∷ ys) (all_matter xs)
 
 -- the calls of all items
-pub calls_are : (given : Given) (xs : List Keyed) (t : Tracing) (calls : List Call) → ((past : List Seen) → IsTracing past t → calls ≡ calls_of (reverse past)) → HasSeen (seen_in given (filter (by_item (λ _ _. true)) xs)) t
+pub calls_are : (given : ContextData) (xs : List Keyed) (t : Tracing) (calls : List Call) → ((past : List Seen) → IsTracing past t → calls ≡ calls_of (reverse past)) → HasSeen (seen_in given (filter (by_item (λ _ _. true)) xs)) t
     → calls ≡ calls_of (seen_in given xs)
 calls_are given xs t calls told has =
     told (reverse (seen_in given (filter (by_item (λ _ _. true)) xs))) has
     ∙ ap calls_of (reverse-reverse (seen_in given (filter (by_item (λ _ _. true)) xs)) ∙ ap (seen_in given) (all_matter xs))
-
-pub read_by : (fault : PassFault) → fault_of_pass fault ≡ code.Read → fault ≡ pass.Read
-read_by pass.Read is = refl
-read_by pass.Memory is = absurd cc

@@ -4,7 +4,7 @@ use Rattle.std.specs.Prelude.{ℕ, ◌*◌, Bool, false, min, if◌then◌else�
 use Rattle.std.specs.Fmt.{digits}
 use Rattle.line_columns.specs.Columns.{right, duration_text}
 use Rattle.symbols.specs.NameMap.{nearest}
-use Rattle.report_print.specs.Given.{Given}
+use Rattle.report_print.specs.ContextData.{ContextData}
 use Rattle.report_print.specs.Ending.{closed}
 use Rattle.report_print.specs.Line.{loss_text}
 use Rattle.report_print.specs.Prefix.{prefix_text}
@@ -21,7 +21,7 @@ abbrev pub indent_text : ℕ → List ℕ
 indent_text depth = replicate (2 * min depth 50) 32
 
 -- the name of the symbol at the greatest address that is at most the function's
-abbrev pub name_of : Given → ℕ → Option (List ℕ)
+abbrev pub name_of : ContextData → ℕ → Option (List ℕ)
 name_of given func = option_map (λ found. found.0) (nearest func given.symbols.symbols)
 
 -- a function: its symbol's name, or its address
@@ -49,7 +49,7 @@ is_silent (Exit cpu time common depth leaf func span) = leaf
 is_silent (Loss cpu count) = false
 
 -- the text of a call, where it has a line
-abbrev pub call_text : Given → Call → List ℕ
+abbrev pub call_text : ContextData → Call → List ℕ
 call_text given (Entry cpu time common depth func leaf) =
     parts (prefix_text given cpu time common) leaf depth (entry_word (function_text func (name_of given func)) leaf)
 call_text given (Exit cpu time common depth leaf func span) =
@@ -57,5 +57,5 @@ call_text given (Exit cpu time common depth leaf func span) =
 call_text given (Loss cpu count) = loss_text cpu count
 
 -- its line; the exit of a leaf has none
-unfoldable pub call_line : Given → Call → List ℕ
+unfoldable pub call_line : ContextData → Call → List ℕ
 call_line given call = if is_silent call then [] else closed (call_text given call)

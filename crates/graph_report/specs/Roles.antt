@@ -10,7 +10,7 @@ use Rattle.trace_base.specs.Fields.{field_named, unsigned_in, sized, has_sign, h
 use Rattle.format_parse.specs.declared.format.EventFormat.{EventFormat}
 use Rattle.format_parse.specs.Table.{format_at}
 use Rattle.subpage.specs.ItemData.{ItemData, EventAt, LossAt}
-use Rattle.report_print.specs.Given.{Given}
+use Rattle.report_print.specs.ContextData.{ContextData}
 use Rattle.report_print.specs.CommonFields.{is_number}
 use Rattle.report_print.specs.Line.{id_of}
 use Rattle.report_print.specs.Prefix.{common_in}
@@ -81,7 +81,7 @@ abbrev pub role_by : Option EventFormat → Role
 role_by format = option_map_or role_of format Other
 
 -- an event of such a format: its function modulo 2^64, and its depth modulo 2^32
-abbrev pub graph_event : Given → ℕ → ℕ → List ℕ → Called → GraphEvent
+abbrev pub graph_event : ContextData → ℕ → ℕ → List ℕ → Called → GraphEvent
 graph_event given cpu time payload called = record {
   cpu = cpu;
   time = time;
@@ -95,13 +95,17 @@ abbrev pub ran_by : Order → List ℕ → Option Times → Option ℕ
 ran_by order payload None = None
 ran_by order payload (Some times) = Some (clip (number_at order payload times.to -ℤ number_at order payload times.from))
 
-abbrev pub seen_as : Given → ℕ → ℕ → List ℕ → Role → Option Seen
+abbrev pub seen_as : ContextData → ℕ → ℕ → List ℕ → Role → Option Seen
 seen_as given cpu time payload (Enters called) = Some (seen.Entry (graph_event given cpu time payload called))
 seen_as given cpu time payload (Leaves called times) =
     Some (seen.Exit (graph_event given cpu time payload called) (ran_by given.show.order payload times))
 seen_as given cpu time payload Other = None
 
--- an event by its format, and every loss
-unfoldable pub seen_of : Given → ℕ → ItemData → Option Seen
-seen_of given cpu (EventAt time payload) = seen_as given cpu time payload (role_by (format_at (id_of given payload) given.formats))
+-- an event by its format
+abbrev pub event_seen : ContextData → ℕ → ℕ → List ℕ → Option Seen
+event_seen given cpu time payload = seen_as given cpu time payload (role_by (format_at (id_of given payload) given.formats))
+
+-- such an event, and every loss
+unfoldable pub seen_of : ContextData → ℕ → ItemData → Option Seen
+seen_of given cpu (EventAt time payload) = event_seen given cpu time payload
 seen_of given cpu (LossAt time count) = Some (seen.Loss cpu count)

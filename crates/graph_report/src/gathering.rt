@@ -7,7 +7,6 @@ ghost use Rattle.subpage.specs.Cut.{cut_of};
 ghost use Rattle.event_cursor.specs.Standing.{IsInOrder};
 ghost use Rattle.page_pool.specs.Fresh.{IsFresh};
 ghost use Rattle.time_merge.specs.LaneRows.{parts_of};
-ghost use Rattle.graph_report.specs.Faults.{fault_of_pass};
 ghost use Rattle.graph_report.specs.Gathered.{reached_calls, cut_place};
 
 use crate::sight::Sight;
@@ -30,26 +29,6 @@ pub struct Calls {
     pub cut: Option<(u32, u64)>,
 }
 
-/// Why there are no calls.
-#[derive(Clone, Copy, Debug, PartialEq, Eq, Drop)]
-pub enum CallsFault {
-    /// A read failed. The lanes are not to be used again.
-    Read,
-    /// There is no memory.
-    Memory,
-}
-
-impl From<PassFault> for CallsFault {
-    ghost from_gives = { λ fault calls. calls ≡ fault_of_pass fault };
-
-    fn from(fault: PassFault) -> CallsFault {
-        match fault {
-            PassFault::Read => CallsFault::Read,
-            PassFault::Memory => CallsFault::Memory,
-        }
-    }
-}
-
 /// Gathers the calls of all reached items of the lanes' parts, whatever the filters of the context.
 ///
 /// It takes memory for what the events of each format are, for 64 bytes a call, and for what is open. Each sub-buffer is read
@@ -60,7 +39,7 @@ pub fn gather_calls<F: File>(
     layout: &Layout,
     file: &mut F,
     lanes: &mut [Lane],
-) -> Result<Calls, CallsFault>
+) -> Result<Calls, PassFault>
     requires allowed { IsLayout layout.now }
     requires fresh { All (λ lane. IsFresh lane.cursor) lanes.old }
     requires in_order { All (IsInOrder layout.now) lanes.old }
@@ -70,11 +49,11 @@ pub fn gather_calls<F: File>(
     ensures in_order { All (IsInOrder layout.now) lanes.new }
     ensures parts { parts_of lanes.new ≡ parts_of lanes.old }
     ensures reads { F.reads file.new ≤ raised (F.reads file.old) (sum_by (λ part. part.1.size) (parts_of lanes.old)) }
-    ensures read { result ≡ Err CallsFault.Read → Rose (F.faults file.old) (F.faults file.new) }
+    ensures read { result ≡ Err PassFault.Read → Rose (F.faults file.old) (F.faults file.new) }
     ensures keeps { KeepsFile F.File file.old file.new }
 {
     let Ok(roles) = FormatRoles::of(alloc, context.formats()) else {
-        return Err(CallsFault::Memory);
+        return Err(PassFault::Memory);
     };
     let sight = Sight {
         context,

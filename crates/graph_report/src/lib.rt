@@ -13,6 +13,6 @@ mod seeing;
 mod sight;
 mod text;
 
-pub use gathering::{Calls, CallsFault, gather_calls};
+pub use gathering::{Calls, gather_calls};
 pub use putting::put_calls;
 pub use text::put_line;

@@ -1,13 +1,11 @@
 // Entries, exits and losses, as a pass over a trace gathers them.
 
-ghost use Rattle.std.specs.Prelude.{◌≡◌, ◌++◌, true, List, OnOk, map, option_to_list};
-ghost use Rattle.format_parse.specs.Table.{format_at};
-ghost use Rattle.report_print.specs.Line.{id_of};
+ghost use Rattle.std.specs.Prelude.{true, OnOk};
 ghost use Rattle.subpage.specs.ItemView.{item_view};
-ghost use Rattle.call_pairs.specs.declared.seen.Seen.{Seen};
 ghost use Rattle.call_pairs.specs.Tracings.{WasSeen};
 ghost use Rattle.graph_report.specs.Gathered.{seen_in, HasSeen};
-ghost use Rattle.graph_report.specs.Roles.{role_by, role_of, seen_as, seen_of};
+ghost use Rattle.graph_report.specs.Roles.{event_seen, seen_of};
+ghost use Rattle.graph_report.specs.Sights.{HasRoles, Notes};
 
 use crate::role::Role;
 use crate::seeing::{graph_event, ran_by};
@@ -25,57 +23,51 @@ pub(crate) struct Sight<'a> {
     pub roles: &'a FormatRoles<Role>,
 }
 
-// An event is seen, if it is an entry or an exit. Each of them goes from here to the list of calls in one piece of code: what
-// is seen is never put together in memory.
-#[inline(always)]
-fn note_event(
-    context: &Context,
-    roles: &FormatRoles<Role>,
-    cpu: u32,
-    time: u64,
-    payload: &[u8],
-    tracing: &mut Tracing,
-) -> Result<(), AllocError>
-    requires roles { roles.now ≡ map role_of context.now.formats }
-    requires known { WasSeen tracing.old }
-    ensures known { OnOk result (WasSeen tracing.new) }
-    ensures noted { (before : List Seen) → HasSeen before tracing.old
-        → OnOk result (HasSeen (before ++ option_to_list (seen_as context.now cpu time payload.now (role_by (format_at (id_of context.now payload.now) context.now.formats)))) tracing.new) }
-{
-    let id = context.id(payload);
-    match roles.role(context.formats(), id, Role::Other) {
-        Role::Enters(called) => {
-            let entry = graph_event(context, cpu, time, id, payload, called);
-            tracing.see(&Seen::Entry(entry))
+impl Sight<'_> {
+    // An event is seen, if it is an entry or an exit. Each of them goes from here to the list of calls in one piece of code:
+    // what is seen is never put together in memory.
+    #[inline(always)]
+    fn note_event(
+        &self,
+        cpu: u32,
+        time: u64,
+        payload: &[u8],
+        tracing: &mut Tracing,
+    ) -> Result<(), AllocError>
+        requires roles { HasRoles self.now }
+        requires known { WasSeen tracing.old }
+        ensures known { OnOk result (WasSeen tracing.new) }
+        ensures noted { Notes (event_seen self.now.context.now cpu time payload.now) tracing.old tracing.new result }
+    {
+        let context = self.context;
+        let id = context.id(payload);
+        match self.roles.role(context.formats(), id, Role::Other) {
+            Role::Enters(called) => {
+                let entry = graph_event(context, cpu, time, id, payload, called);
+                tracing.see(&Seen::Entry(entry))
+            }
+            Role::Leaves(called, times) => {
+                let exit = graph_event(context, cpu, time, id, payload, called);
+                let ran = ran_by(context.order(), payload, times);
+                tracing.see(&Seen::Exit(exit, ran))
+            }
+            Role::Other => Ok(()),
         }
-        Role::Leaves(called, times) => {
-            let exit = graph_event(context, cpu, time, id, payload, called);
-            let ran = ran_by(context.order(), payload, times);
-            tracing.see(&Seen::Exit(exit, ran))
-        }
-        Role::Other => Ok(()),
     }
-}
 
-// An item of this processor is seen, if it is one for the calls.
-#[inline(always)]
-#[tactic(auto, unfolding(crate::specs::Roles::seen_of))]
-fn note_item(
-    context: &Context,
-    roles: &FormatRoles<Role>,
-    cpu: u32,
-    item: &Item<'_>,
-    tracing: &mut Tracing,
-) -> Result<(), AllocError>
-    requires roles { roles.now ≡ map role_of context.now.formats }
-    requires known { WasSeen tracing.old }
-    ensures known { OnOk result (WasSeen tracing.new) }
-    ensures noted { (before : List Seen) → HasSeen before tracing.old
-        → OnOk result (HasSeen (before ++ option_to_list (seen_of context.now cpu (item_view item.now))) tracing.new) }
-{
-    match item {
-        Item::Event { time, payload } => note_event(context, roles, cpu, *time, payload, tracing),
-        Item::Loss { time: _, count } => tracing.see(&Seen::Loss { cpu, count: *count }),
+    // An item of this processor is seen, if it is one for the calls.
+    #[inline(always)]
+    #[tactic(auto, unfolding(crate::specs::Roles::seen_of))]
+    fn note_item(&self, cpu: u32, item: &Item<'_>, tracing: &mut Tracing) -> Result<(), AllocError>
+        requires roles { HasRoles self.now }
+        requires known { WasSeen tracing.old }
+        ensures known { OnOk result (WasSeen tracing.new) }
+        ensures noted { Notes (seen_of self.now.context.now cpu (item_view item.now)) tracing.old tracing.new result }
+    {
+        match item {
+            Item::Event { time, payload } => self.note_event(cpu, *time, payload, tracing),
+            Item::Loss { time: _, count } => tracing.see(&Seen::Loss { cpu, count: *count }),
+        }
     }
 }
 
@@ -85,7 +77,7 @@ impl Gatherer for Sight<'_> {
     // In a trace of calls there is little else.
     const LOOKS_AHEAD: bool = false;
 
-    ghost is_sound = { λ sight. sight.roles.now ≡ map role_of sight.context.now.formats };
+    ghost is_sound = { HasRoles };
 
     ghost matters = { λ _ _ _. true };
 
@@ -98,6 +90,6 @@ impl Gatherer for Sight<'_> {
 
     #[inline(always)]
     fn take(&self, cpu: u32, item: &Item<'_>, tracing: &mut Tracing) -> Result<(), AllocError> {
-        note_item(self.context, self.roles, cpu, item, tracing)
+        self.note_item(cpu, item, tracing)
     }
 }

@@ -5,13 +5,12 @@ ghost use Rattle.std.specs.Option.{option_copied};
 ghost use Rattle.trace_base.specs.Kept.{put_held};
 ghost use Rattle.trace_base.specs.TailView.{held, lent};
 ghost use Rattle.report_print.specs.Ending.{of_held, empty_held};
-ghost use Rattle.report_print.specs.Prefix.{prefix_text};
 ghost use Rattle.graph_report.specs.CallText as spec;
-ghost use Rattle.graph_report.specs.CallText.{took_text, indent_text, function_text, entry_word, exit_word, parts, call_text, call_line};
+ghost use Rattle.graph_report.specs.CallText.{took_text, indent_text, function_text, entry_word, exit_word, call_text, call_line};
 
 use call_pairs::Call;
 use line_columns::Front;
-use report_print::{Common, Context, close, prefix, put_loss};
+use report_print::{Context, close, prefix, put_loss};
 use trace_base::{Tail, write_digits};
 
 /// Puts so many spaces.
@@ -132,43 +131,6 @@ fn put_exit_word(context: &Context, func: u64, span: Option<u64>, into: &mut Tai
     }
 }
 
-fn put_entry(
-    context: &Context,
-    cpu: u32,
-    time: u64,
-    common: &Common,
-    depth: u32,
-    func: u64,
-    leaf: Option<u64>,
-    into: &mut Tail<'_>,
-)
-    ensures same_slice { lent into.new ≡ lent into.old }
-    ensures value { held into.new ≡ put_held (held into.old) (parts (prefix_text context.now cpu time common.now) leaf depth (entry_word (function_text func (spec.name_of context.now func)) leaf)) }
-{
-    prefix(context, cpu, time, common, into);
-    put_middle(leaf, depth, into);
-    put_entry_word(context, func, leaf, into);
-}
-
-fn put_exit(
-    context: &Context,
-    cpu: u32,
-    time: u64,
-    common: &Common,
-    depth: u32,
-    func: u64,
-    span: Option<u64>,
-    into: &mut Tail<'_>,
-)
-    ensures same_slice { lent into.new ≡ lent into.old }
-    ensures value { held into.new ≡ put_held (held into.old) (parts (prefix_text context.now cpu time common.now) span depth (exit_word (function_text func (spec.name_of context.now func)) span)) }
-{
-    prefix(context, cpu, time, common, into);
-    put_middle(span, depth, into);
-    put_exit_word(context, func, span, into);
-}
-
-#[tactic(auto, using(trace_base::proofs::TailJoins::put_held_twice))]
 fn put_text(context: &Context, call: &Call, into: &mut Tail<'_>)
     ensures same_slice { lent into.new ≡ lent into.old }
     ensures value { held into.new ≡ put_held (held into.old) (call_text context.now call.now) }
@@ -181,7 +143,11 @@ fn put_text(context: &Context, call: &Call, into: &mut Tail<'_>)
             depth,
             func,
             leaf,
-        } => put_entry(context, *cpu, *time, common, *depth, *func, *leaf, into),
+        } => {
+            prefix(context, *cpu, *time, common, into);
+            put_middle(*leaf, *depth, into);
+            put_entry_word(context, *func, *leaf, into);
+        }
         Call::Exit {
             cpu,
             time,
@@ -190,7 +156,11 @@ fn put_text(context: &Context, call: &Call, into: &mut Tail<'_>)
             leaf: _,
             func,
             span,
-        } => put_exit(context, *cpu, *time, common, *depth, *func, *span, into),
+        } => {
+            prefix(context, *cpu, *time, common, into);
+            put_middle(*span, *depth, into);
+            put_exit_word(context, *func, *span, into);
+        }
         Call::Loss { cpu, count } => put_loss(*cpu, *count, into),
     }
 }

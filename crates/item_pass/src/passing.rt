@@ -20,7 +20,7 @@ use time_merge::{Next, next_lane_by};
 use trace_base::Layout;
 use trace_outside::{Failed, File};
 
-/// Why a pass ended early.
+/// Why a pass, or the gathering that it is part of, ended early.
 #[derive(Clone, Copy, Debug, PartialEq, Eq)]
 pub enum PassFault {
     /// A read failed. The lanes are not to be used again.

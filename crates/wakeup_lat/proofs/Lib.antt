@@ -1,4 +1,3 @@
 pub mod Mattering
-pub mod Putting
 pub mod NoNewline
 pub mod ThreePuts

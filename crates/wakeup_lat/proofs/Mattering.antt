@@ -5,16 +5,12 @@ use Rattle.std.proofs.lemmas.Bool.{cases_Bool}
 use Rattle.subpage.specs.Arrangement.{Keyed}
 use Rattle.subpage.proofs.Filters.{filter-not, filter-yes}
 use Rattle.item_pass.specs.Skipping.{and_item, by_item}
-use Rattle.item_pass.specs.declared.passing.PassFault.{PassFault}
-use Rattle.item_pass.specs.declared.passing.PassFault.TheVariants as pass
-use Rattle.report_print.specs.Given.{Given}
+use Rattle.report_print.specs.ContextData.{ContextData}
 use Rattle.wakeup_pairs.specs.declared.seen.Seen.{Seen}
 use Rattle.wakeup_pairs.specs.declared.seen.Seen.TheVariants.{Wakes, Switches, Lost, Other}
 use Rattle.wakeup_pairs.specs.Pairs.{ArePairs}
 use Rattle.wakeup_pairs.specs.Gathered.{Gathered, none_gathered, and_seen, gathered}
 use Rattle.wakeup_pairs.proofs.Passing.{pass_pairs}
-use Rattle.wakeup_lat.specs.declared.gathering.GatherFault.TheVariants as code
-use Rattle.wakeup_lat.specs.Faults.{fault_of_pass}
 use Rattle.wakeup_lat.specs.Roles.{all_seen, seen_of}
 use Rattle.wakeup_lat.specs.Matter.{is_seen, matters}
 
@@ -24,7 +20,7 @@ other_is (Switches switch) e = absurd cc
 other_is Lost e = absurd cc
 other_is Other e = refl
 
-module _ (given : Given) where
+module _ (given : ContextData) where
   of_matters : (g : Gathered) (xs : List Keyed) → fold and_seen g (all_seen given xs) ≡ fold and_seen g (all_seen given (filter (by_item (matters given)) xs))
   of_matters g [] = refl
   of_matters g (x ∷ xs) = elim (cases_Bool (by_item (matters given) x)) [
@@ -45,14 +41,10 @@ module _ (given : Given) where
         ∙ ap (λ (ys : List Keyed). gathered (all_seen given ys)) (append-nil xs) ∙ sym (ap (and_seen (gathered (all_seen given xs))) (other_is (seen_of given x) other))
   ]
 
-pub and_gathered : (given : Given) (xs : List Keyed) (x : Keyed) (s : Seen) (g h : Gathered) → s ≡ seen_of given x → h ≡ and_seen g s → g ≡ gathered (all_seen given xs) → h ≡ gathered (all_seen given (and_item (matters given) xs x))
+pub and_gathered : (given : ContextData) (xs : List Keyed) (x : Keyed) (s : Seen) (g h : Gathered) → s ≡ seen_of given x → h ≡ and_seen g s → g ≡ gathered (all_seen given xs) → h ≡ gathered (all_seen given (and_item (matters given) xs x))
 and_gathered given xs x s g h is more was = more ∙ ap (and_seen g) is ∙ ap (λ (z : Gathered). and_seen z (seen_of given x)) was ∙ sym (and_one given xs x)
 
 -- the pairs of all items
-pub pairs_are : (given : Given) (xs : List Keyed) (g : Gathered) → g ≡ gathered (all_seen given (filter (by_item (matters given)) xs)) → ArePairs (all_seen given xs) g.pairs
+pub pairs_are : (given : ContextData) (xs : List Keyed) (g : Gathered) → g ≡ gathered (all_seen given (filter (by_item (matters given)) xs)) → ArePairs (all_seen given xs) g.pairs
 pairs_are given xs g is =
     subst (λ (z : Gathered). ArePairs (all_seen given xs) z.pairs) (of_matters given none_gathered xs ∙ sym is) (pass_pairs (all_seen given xs))
-
-pub read_by : (fault : PassFault) → fault_of_pass fault ≡ code.Read → fault ≡ pass.Read
-read_by pass.Read is = refl
-read_by pass.Memory is = absurd cc

@@ -4,7 +4,7 @@ use Rattle.std.specs.Prelude.{codes}
 use Rattle.std.specs.Fmt.{decimal}
 use Rattle.std.specs.List.{last_or}
 use Rattle.line_columns.specs.Columns.{duration_text, zeros}
-use Rattle.report_print.specs.Given.{Given}
+use Rattle.report_print.specs.ContextData.{ContextData}
 use Rattle.report_print.specs.Ending.{is_newline, ends_in_newline}
 use Rattle.report_print.specs.Prefix.{prefix_text}
 use Rattle.wakeup_pairs.specs.declared.seen.Pair.{Pair}
@@ -15,7 +15,7 @@ last_of : (xs : List ℕ) (o : Option ℕ) → last_or o (xs ++ codes " us") ≡
 last_of [] o = refl
 last_of (x ∷ xs) o = last_of xs (Some x)
 
-pub no_newline : (given : Given) (pair : Pair) → ends_in_newline (pair_text given pair) ≡ false
+pub no_newline : (given : ContextData) (pair : Pair) → ends_in_newline (pair_text given pair) ≡ false
 unfolding ends_in_newline pair_text duration_text
 no_newline given pair =
     let nanos = latency pair in

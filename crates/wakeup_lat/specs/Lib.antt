@@ -1,4 +1,3 @@
 pub mod Roles
 pub mod Matter
-pub mod Faults
 pub mod Section

@@ -1,10 +1,15 @@
 -- Which items matter to the latencies.
-use Rattle.std.specs.Prelude.{ℕ, Bool, true, false}
+use Rattle.std.specs.Prelude.{◌≡◌, ℕ, Bool, true, false, map}
 use Rattle.subpage.specs.ItemData.{ItemData}
-use Rattle.report_print.specs.Given.{Given}
+use Rattle.report_print.specs.ContextData.{ContextData}
 use Rattle.wakeup_pairs.specs.declared.seen.Seen.{Seen}
 use Rattle.wakeup_pairs.specs.declared.seen.Seen.TheVariants.{Wakes, Switches, Lost, Other}
-use Rattle.wakeup_lat.specs.Roles.{seen_in}
+use Rattle.wakeup_lat.specs.declared.sight.Sight.{Sight}
+use Rattle.wakeup_lat.specs.Roles.{role_of, seen_in}
+
+-- the roles are those of the context's formats
+abbrev pub HasRoles : Sight → Type 0
+HasRoles sight = sight.roles.now ≡ map role_of sight.context.now.formats
 
 abbrev pub is_seen : Seen → Bool
 is_seen (Wakes wake) = true
@@ -13,5 +18,5 @@ is_seen Lost = true
 is_seen Other = false
 
 -- whether an item of a processor matters
-abbrev pub matters : Given → ℕ → ItemData → Bool
+abbrev pub matters : ContextData → ℕ → ItemData → Bool
 matters given cpu item = is_seen (seen_in given cpu item)

@@ -11,7 +11,7 @@ use Rattle.format_parse.specs.Table.{format_at}
 use Rattle.report_print.specs.declared.common.CommonField.{CommonField}
 use Rattle.report_print.specs.CommonFields.{of_field, is_number, common_signed}
 use Rattle.trace_base.specs.Fields.{field_named}
-use Rattle.report_print.specs.Given.{Given}
+use Rattle.report_print.specs.ContextData.{ContextData}
 use Rattle.report_print.specs.Line.{id_of}
 use Rattle.report_print.specs.Prefix.{common_in}
 use Rattle.wakeup_pairs.specs.declared.seen.Seen.{Seen}
@@ -47,11 +47,11 @@ abbrev pub role_by : Option EventFormat → Role
 role_by format = option_map_or role_of format Other
 
 -- what an event is, by the format of its number
-abbrev pub role_in : Given → List ℕ → Role
+abbrev pub role_in : ContextData → List ℕ → Role
 role_in given payload = role_by (format_at (id_of given payload) given.formats)
 
 -- with its task, its processor and its own time
-abbrev pub seen_as : Given → ℕ → ℕ → List ℕ → Role → Seen
+abbrev pub seen_as : ContextData → ℕ → ℕ → List ℕ → Role → Seen
 seen_as given cpu time payload (Wakes field) =
     seen.Wakes (record { task = common_signed given.show.order payload field; time = time })
 seen_as given cpu time payload (Switches field) = seen.Switches (record {
@@ -63,13 +63,13 @@ seen_as given cpu time payload (Switches field) = seen.Switches (record {
 seen_as given cpu time payload Other = seen.Other
 
 -- what an item of a processor is
-unfoldable pub seen_in : Given → ℕ → ItemData → Seen
+unfoldable pub seen_in : ContextData → ℕ → ItemData → Seen
 seen_in given cpu (EventAt time payload) = seen_as given cpu time payload (role_in given payload)
 seen_in given cpu (LossAt time count) = seen.Lost
 
-abbrev pub seen_of : Given → Keyed → Seen
+abbrev pub seen_of : ContextData → Keyed → Seen
 seen_of given x = seen_in given x.cpu x.item
 
 -- what is seen of items, shown or not
-abbrev pub all_seen : Given → List Keyed → List Seen
+abbrev pub all_seen : ContextData → List Keyed → List Seen
 all_seen given xs = map (seen_of given) xs

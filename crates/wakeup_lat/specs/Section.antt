@@ -2,7 +2,7 @@
 use Rattle.std.specs.Prelude.{ℕ, Bool, List, [], ◌∷◌, ◌++◌, codes, length, flat_map}
 use Rattle.std.specs.Fmt.{decimal}
 use Rattle.line_columns.specs.Columns.{duration_text, bare_time_text}
-use Rattle.report_print.specs.Given.{Given}
+use Rattle.report_print.specs.ContextData.{ContextData}
 use Rattle.report_print.specs.Ending.{closed}
 use Rattle.report_print.specs.Prefix.{prefix_text}
 use Rattle.wakeup_pairs.specs.declared.seen.Pair.{Pair}
@@ -12,11 +12,11 @@ abbrev pub count_line : ℕ → List ℕ
 count_line count = codes "wakeups=" ++ (decimal count ++ codes "\n")
 
 -- a pair: the columns of its switch, with the task that waited, and how long that did
-unfoldable pub pair_text : Given → Pair → List ℕ
+unfoldable pub pair_text : ContextData → Pair → List ℕ
 pair_text given pair =
     prefix_text given pair.cpu pair.time pair.common ++ (codes "latency " ++ duration_text (latency pair))
 
-abbrev pub pair_line : Given → Pair → List ℕ
+abbrev pub pair_line : ContextData → Pair → List ℕ
 pair_line given pair = closed (pair_text given pair)
 
 unfoldable pub average_line : ℕ → List ℕ
@@ -37,5 +37,5 @@ figures full (first ∷ rest) =
 abbrev pub section_by : (Pair → List ℕ) → Bool → List Pair → List ℕ
 section_by line full pairs = count_line (length pairs) ++ (flat_map line pairs ++ figures full pairs)
 
-abbrev pub section : Given → List Pair → List ℕ
+abbrev pub section : ContextData → List Pair → List ℕ
 section given pairs = section_by (pair_line given) given.show.full pairs

@@ -5,7 +5,6 @@ ghost use Rattle.trace_outside.specs.Keeping.{KeepsFile};
 ghost use Rattle.subpage.specs.Arrangement.{CpusRise};
 ghost use Rattle.subpage.specs.Cut.{reached_of};
 ghost use Rattle.wakeup_pairs.specs.Pairs.{ArePairs};
-ghost use Rattle.wakeup_lat.specs.Faults.{fault_of_pass};
 ghost use Rattle.wakeup_lat.specs.Roles.{all_seen};
 
 use crate::sight::Sight;
@@ -19,26 +18,6 @@ use trace_base::{Layout, Part};
 use trace_outside::File;
 use wakeup_pairs::Wakeups;
 
-/// Why nothing was gathered.
-#[derive(Clone, Copy, Debug, PartialEq, Eq)]
-pub enum GatherFault {
-    /// A read failed.
-    Read,
-    /// There was no memory.
-    Memory,
-}
-
-impl From<PassFault> for GatherFault {
-    ghost from_gives = { λ fault gather. gather ≡ fault_of_pass fault };
-
-    fn from(fault: PassFault) -> GatherFault {
-        match fault {
-            PassFault::Read => GatherFault::Read,
-            PassFault::Memory => GatherFault::Memory,
-        }
-    }
-}
-
 /// The pairs of wake-ups and switches among the reached items of these processors, whose numbers rise. A malformed
 /// sub-buffer ends these items, and is no fault. Each sub-buffer is read once, and the memory of all is taken here and given
 /// back, but for the pairs.
@@ -48,22 +27,22 @@ pub fn gather<F: File>(
     layout: &Layout,
     file: &mut F,
     parts: &[(u32, Part)],
-) -> Result<Wakeups, GatherFault>
+) -> Result<Wakeups, PassFault>
     requires allowed { IsLayout layout.now }
     requires few { length parts.now ≤ 1024 }
     requires rise { CpusRise parts.now }
     ensures pairs { IfSome (F.bytes file.old) (λ bytes. IfOk result (λ wakeups.
         ArePairs (all_seen context.now (reached_of layout.now bytes parts.now)) wakeups.pairs)) }
-    ensures read { result ≡ Err GatherFault.Read → Rose (F.faults file.old) (F.faults file.new) }
+    ensures read { result ≡ Err PassFault.Read → Rose (F.faults file.old) (F.faults file.new) }
     ensures reads { F.reads file.new ≤ raised (F.reads file.old) (sum_by (λ part. part.1.size) parts.now) }
     ensures keeps { KeepsFile F.File file.old file.new }
 {
-    let Ok(roles) = FormatRoles::of(alloc, context.formats()) else {
-        return Err(GatherFault::Memory);
-    };
-    // No lines are kept.
-    let Ok(mut pool) = Pool::new(alloc, parts.len() as u32, layout.page, 0) else {
-        return Err(GatherFault::Memory);
+    // The lanes keep no lines.
+    let (Ok(mut pool), Ok(roles)) = (
+        Pool::new(alloc, parts.len() as u32, layout.page, 0),
+        FormatRoles::of(alloc, context.formats()),
+    ) else {
+        return Err(PassFault::Memory);
     };
     let lanes = pool.lanes();
     set_lanes(lanes, parts);

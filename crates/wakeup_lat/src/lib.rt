@@ -13,5 +13,5 @@ mod section;
 mod seeing;
 mod sight;
 
-pub use gathering::{GatherFault, gather};
+pub use gathering::gather;
 pub use section::put_wakeups;

@@ -1,48 +1,48 @@
 // What items are for the latencies. The names in formats are compared once, before any item.
 
-ghost use Rattle.std.specs.Prelude.{◌≡◌, map};
+ghost use Rattle.std.specs.Prelude.{◌≡◌};
 ghost use Rattle.subpage.specs.ItemView.{item_view};
-ghost use Rattle.wakeup_lat.specs.Roles.{role_in, role_of, seen_as, seen_in};
+ghost use Rattle.wakeup_lat.specs.Matter.{HasRoles};
+ghost use Rattle.wakeup_lat.specs.Roles.{role_in, seen_as, seen_in};
 
 use crate::role::Role;
-use format_places::FormatRoles;
-use report_print::Context;
+use crate::sight::Sight;
 use subpage::Item;
 use wakeup_pairs::{Seen, Switch, Wake};
 
-fn see_event(
-    context: &Context,
-    roles: &FormatRoles<Role>,
-    cpu: u32,
-    time: u64,
-    payload: &[u8],
-) -> Seen
-    requires { roles.now ≡ map role_of context.now.formats }
-    ensures { result ≡ seen_as context.now cpu time payload.now (role_in context.now payload.now) }
-{
-    match roles.role(context.formats(), context.id(payload), Role::Other) {
-        Role::Wakes(field) => Seen::Wakes(Wake {
-            task: field.signed(context.order(), payload),
-            time,
-        }),
-        Role::Switches(field) => Seen::Switches(Switch {
-            task: field.signed(context.order(), payload),
-            cpu,
-            time,
-            common: context.common(payload),
-        }),
-        Role::Other => Seen::Other,
+impl Sight<'_> {
+    fn see_event(&self, cpu: u32, time: u64, payload: &[u8]) -> Seen
+        requires { HasRoles self.now }
+        ensures { result ≡ seen_as self.now.context.now cpu time payload.now (role_in self.now.context.now payload.now) }
+    {
+        let context = self.context;
+        match self
+            .roles
+            .role(context.formats(), context.id(payload), Role::Other)
+        {
+            Role::Wakes(field) => Seen::Wakes(Wake {
+                task: field.signed(context.order(), payload),
+                time,
+            }),
+            Role::Switches(field) => Seen::Switches(Switch {
+                task: field.signed(context.order(), payload),
+                cpu,
+                time,
+                common: context.common(payload),
+            }),
+            Role::Other => Seen::Other,
+        }
     }
-}
 
-/// What an item of a processor is. `roles` are those of the context's formats.
-#[tactic(auto, unfolding(crate::specs::Roles::seen_in))]
-pub(crate) fn see(context: &Context, roles: &FormatRoles<Role>, cpu: u32, item: &Item<'_>) -> Seen
-    requires { roles.now ≡ map role_of context.now.formats }
-    ensures { result ≡ seen_in context.now cpu (item_view item.now) }
-{
-    match item {
-        Item::Event { time, payload } => see_event(context, roles, cpu, *time, payload),
-        Item::Loss { .. } => Seen::Lost,
+    /// What an item of a processor is.
+    #[tactic(auto, unfolding(crate::specs::Roles::seen_in))]
+    pub(crate) fn see(&self, cpu: u32, item: &Item<'_>) -> Seen
+        requires { HasRoles self.now }
+        ensures { result ≡ seen_in self.now.context.now cpu (item_view item.now) }
+    {
+        match item {
+            Item::Event { time, payload } => self.see_event(cpu, *time, payload),
+            Item::Loss { .. } => Seen::Lost,
+        }
     }
 }

@@ -1,12 +1,11 @@
 // Wake-ups and switches, as a pass over a trace gathers them.
 
-ghost use Rattle.std.specs.Prelude.{◌≡◌, true, false, map};
+ghost use Rattle.std.specs.Prelude.{◌≡◌, true, false};
 ghost use Rattle.wakeup_pairs.specs.Gathered.{gathered};
-ghost use Rattle.wakeup_lat.specs.Roles.{all_seen, role_of};
-ghost use Rattle.wakeup_lat.specs.Matter.{is_seen, matters};
+ghost use Rattle.wakeup_lat.specs.Roles.{all_seen};
+ghost use Rattle.wakeup_lat.specs.Matter.{HasRoles, is_seen, matters};
 
 use crate::role::Role;
-use crate::seeing::see;
 use format_places::FormatRoles;
 use item_pass::Gatherer;
 use report_print::Context;
@@ -36,18 +35,18 @@ impl Gatherer for Sight<'_> {
     // In most traces few events are wake-ups and switches.
     const LOOKS_AHEAD: bool = true;
 
-    ghost is_sound = { λ sight. sight.roles.now ≡ map role_of sight.context.now.formats };
+    ghost is_sound = { HasRoles };
 
     ghost matters = { λ sight. matters sight.context.now };
 
     ghost holds = { λ sight xs wakeups. wakeups ≡ gathered (all_seen sight.context.now xs) };
 
     fn is_other(&self, cpu: u32, item: &Item<'_>) -> bool {
-        is_other(see(self.context, self.roles, cpu, item))
+        is_other(self.see(cpu, item))
     }
 
     fn take(&self, cpu: u32, item: &Item<'_>, wakeups: &mut Wakeups) -> Result<(), AllocError> {
-        let seen = see(self.context, self.roles, cpu, item);
+        let seen = self.see(cpu, item);
         wakeups.see(seen)
     }
 }

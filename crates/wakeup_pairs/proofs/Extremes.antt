@@ -1,11 +1,11 @@
 -- The extremes of a list, one element after another.
-use Rattle.std.proofs.Common.{◌≡◌, ℕ, zero, suc, ◌+◌, ◌<◌, ◌≤◌, true, false, ltb, List, [], ◌∷◌, ◌++◌, length, slice_get, Some, None, fold, refl, sym, ap, subst, ◌∙◌, append_assoc, append-nil, inl, inr, arith}
+use Rattle.std.proofs.Common.{◌≡◌, ℕ, zero, suc, ◌+◌, ◌<◌, ◌≤◌, Bool, true, false, ltb, if◌then◌else◌, List, [], ◌∷◌, ◌++◌, length, slice_get, Some, fold, refl, sym, ap, subst, ◌∙◌, append_assoc, append-nil, inl, inr, arith}
 use Rattle.std.proofs.lemmas.Bool.{cases_Bool, cases_eq, ltb-true, ltb-false}
 use Rattle.std.proofs.lemmas.List.{length-append}
 use Rattle.std.proofs.lemmas.Option.{slice_get_within, same_Some}
 use Rattle.wakeup_pairs.specs.declared.seen.Pair.{Pair}
 use Rattle.wakeup_pairs.proofs.Places.{get_front, get_last, length_more}
-use Rattle.wakeup_pairs.specs.Figures.{latency, longer, shorter, longest, shortest, IsLongest, IsShortest}
+use Rattle.wakeup_pairs.specs.Figures.{latency, longest, shortest, IsFirstBy, IsLongest, IsShortest}
 
 module _ (xs : List Pair) (x : Pair) where
   -- what stands at a place of a list with one more is that one, or stood there before
@@ -19,74 +19,54 @@ module _ (xs : List Pair) (x : Pair) where
         old k other lt (sym (get_front xs x k lt) ∙ e)
   ]
 
-  more_longest : (one : Pair) → IsLongest xs one → IsLongest (xs ++ x ∷ []) (longer one x)
-  more_longest one h =
-      let inside : h.i < length xs = slice_get_within xs h.i one h.there in
-      elim (cases_Bool (ltb (latency one) (latency x))) as (λ _. IsLongest (xs ++ x ∷ []) (longer one x)) [
-        | inl lt ↦
-            let less : latency one < latency x = ltb-true (latency one) (latency x) lt in
-            rw lt (record {
-              i = length xs;
-              there = get_last xs x;
-              most = either {P = λ o. latency o ≤ latency x} (λ k other b e. omega (arith, less, h.most k other e)) (omega arith);
-              first = λ k other b e. omega (arith, less, h.most k other (sym (get_front xs x k b) ∙ e));
-            })
-        | inr not_lt ↦
-            let le : latency x ≤ latency one = ltb-false (latency one) (latency x) not_lt in
-            rw not_lt (record {
-              i = h.i;
-              there = get_front xs x h.i inside ∙ h.there;
-              most = either {P = λ o. latency o ≤ latency one} (λ k other b e. h.most k other e) le;
-              first = λ k other b e. h.first k other b (sym (get_front xs x k (omega (arith, b, inside))) ∙ e);
-            })
-      ]
-
-  more_shortest : (one : Pair) → IsShortest xs one → IsShortest (xs ++ x ∷ []) (shorter one x)
-  more_shortest one h =
-      let inside : h.i < length xs = slice_get_within xs h.i one h.there in
-      elim (cases_Bool (ltb (latency x) (latency one))) as (λ _. IsShortest (xs ++ x ∷ []) (shorter one x)) [
-        | inl lt ↦
-            let less : latency x < latency one = ltb-true (latency x) (latency one) lt in
-            rw lt (record {
-              i = length xs;
-              there = get_last xs x;
-              least = either {P = λ o. latency x ≤ latency o} (λ k other b e. omega (arith, less, h.least k other e)) (omega arith);
-              first = λ k other b e. omega (arith, less, h.least k other (sym (get_front xs x k b) ∙ e));
-            })
-        | inr not_lt ↦
-            let le : latency one ≤ latency x = ltb-false (latency x) (latency one) not_lt in
-            rw not_lt (record {
-              i = h.i;
-              there = get_front xs x h.i inside ∙ h.there;
-              least = either {P = λ o. latency one ≤ latency o} (λ k other b e. h.least k other e) le;
-              first = λ k other b e. h.first k other b (sym (get_front xs x k (omega (arith, b, inside))) ∙ e);
-            })
-      ]
-
-all_longest : (xs ys : List Pair) (one : Pair) → IsLongest xs one → IsLongest (xs ++ ys) (fold longer one ys)
-all_longest xs [] one h = subst (λ zs. IsLongest zs one) (sym (append-nil xs)) h
-all_longest xs (y ∷ ys) one h = subst (λ zs. IsLongest zs (fold longer (longer one y) ys)) (append_assoc xs (y ∷ []) ys) (all_longest (xs ++ y ∷ []) ys (longer one y) (more_longest xs y one h))
-
-all_shortest : (xs ys : List Pair) (one : Pair) → IsShortest xs one → IsShortest (xs ++ ys) (fold shorter one ys)
-all_shortest xs [] one h = subst (λ zs. IsShortest zs one) (sym (append-nil xs)) h
-all_shortest xs (y ∷ ys) one h = subst (λ zs. IsShortest zs (fold shorter (shorter one y) ys)) (append_assoc xs (y ∷ []) ys) (all_shortest (xs ++ y ∷ []) ys (shorter one y) (more_shortest xs y one h))
-
 only : (first other : Pair) (k : ℕ) → slice_get (first ∷ []) k ≡ Some other → latency other ≡ latency first
 only first other zero e = ap latency (sym (same_Some first other e))
 only first other (suc k) e = absurd (omega (arith, slice_get_within (first ∷ []) (suc k) other e))
 
+-- by a test whether of two latencies the second is the better one
+module _ (beats : ℕ → ℕ → Bool) (within short : ℕ → ℕ → Type 0)
+    (yes : (m n : ℕ) → beats m n ≡ true → short m n) (no : (m n : ℕ) → beats m n ≡ false → within n m)
+    (weaker : (m n : ℕ) → short m n → within m n) (further : (l m n : ℕ) → within l m → short m n → short l n) (same : (n : ℕ) → within n n) where
+  abbrev better : Pair → Pair → Pair
+  better one two = if beats (latency one) (latency two) then two else one
+
+  one_more : (xs : List Pair) (x one : Pair) → IsFirstBy within short xs one → IsFirstBy within short (xs ++ x ∷ []) (better one x)
+  one_more xs x one h = elim (cases_Bool (beats (latency one) (latency x))) as (λ _. IsFirstBy within short (xs ++ x ∷ []) (better one x)) [
+    | inl beaten ↦
+        let short_of : short (latency one) (latency x) = yes (latency one) (latency x) beaten in
+        rw beaten (record {
+          i = length xs;
+          there = get_last xs x;
+          all = either xs x {P = λ o. within (latency o) (latency x)}
+              (λ k other b e. weaker (latency other) (latency x) (further (latency other) (latency one) (latency x) (h.all k other e) short_of)) (same (latency x));
+          first = λ k other b e. further (latency other) (latency one) (latency x) (h.all k other (sym (get_front xs x k b) ∙ e)) short_of;
+        })
+    | inr not_beaten ↦
+        let inside : h.i < length xs = slice_get_within xs h.i one h.there in
+        rw not_beaten (record {
+          i = h.i;
+          there = get_front xs x h.i inside ∙ h.there;
+          all = either xs x {P = λ o. within (latency o) (latency one)} (λ k other b e. h.all k other e) (no (latency one) (latency x) not_beaten);
+          first = λ k other b e. h.first k other b (sym (get_front xs x k (omega (arith, b, inside))) ∙ e);
+        })
+  ]
+
+  all_more : (xs ys : List Pair) (one : Pair) → IsFirstBy within short xs one → IsFirstBy within short (xs ++ ys) (fold better one ys)
+  all_more xs [] one h = subst (λ zs. IsFirstBy within short zs one) (sym (append-nil xs)) h
+  all_more xs (y ∷ ys) one h = subst (λ zs. IsFirstBy within short zs (fold better (better one y) ys)) (append_assoc xs (y ∷ []) ys) (all_more (xs ++ y ∷ []) ys (better one y) (one_more xs y one h))
+
+  best_is : (first : Pair) (rest : List Pair) → IsFirstBy within short (first ∷ rest) (fold better first rest)
+  best_is first rest = all_more (first ∷ []) rest first (record {
+    i = 0;
+    there = refl;
+    all = λ k other e. subst (λ n. within n (latency first)) (sym (only first other k e)) (same (latency first));
+    first = λ k other b e. absurd (omega arith);
+  })
+
 pub longest_is : (first : Pair) (rest : List Pair) → IsLongest (first ∷ rest) (longest first rest)
-longest_is first rest = all_longest (first ∷ []) rest first (record {
-  i = 0;
-  there = refl;
-  most = λ k other e. omega (arith, only first other k e);
-  first = λ k other b e. absurd (omega arith);
-})
+longest_is = best_is (λ m n. ltb m n) (λ other best. other ≤ best) (λ other best. other < best) ltb-true ltb-false
+    (λ m n lt. omega (arith, lt)) (λ l m n le lt. omega (arith, le, lt)) (λ n. omega arith)
 
 pub shortest_is : (first : Pair) (rest : List Pair) → IsShortest (first ∷ rest) (shortest first rest)
-shortest_is first rest = all_shortest (first ∷ []) rest first (record {
-  i = 0;
-  there = refl;
-  least = λ k other e. omega (arith, only first other k e);
-  first = λ k other b e. absurd (omega arith);
-})
+shortest_is = best_is (λ m n. ltb n m) (λ other best. best ≤ other) (λ other best. best < other) (λ m n lt. ltb-true n m lt) (λ m n le. ltb-false n m le)
+    (λ m n lt. omega (arith, lt)) (λ l m n le lt. omega (arith, le, lt)) (λ n. omega arith)

@@ -22,16 +22,17 @@ longest first rest = fold longer first rest
 abbrev pub shortest : Pair → List Pair → Pair
 shortest first rest = fold shorter first rest
 
--- No pair waited longer than this one, and none before it as long.
-pub record IsLongest (pairs : List Pair) (one : Pair) : Type 0 where
+-- No pair's latency is beyond that of this one, and each before it falls short of it.
+pub record IsFirstBy (within short : ℕ → ℕ → Type 0) (pairs : List Pair) (one : Pair) : Type 0 where
   pub i : ℕ
   pub there : slice_get pairs i ≡ Some one
-  pub most : (k : ℕ) (other : Pair) → slice_get pairs k ≡ Some other → latency other ≤ latency one
-  pub first : (k : ℕ) (other : Pair) → k < i → slice_get pairs k ≡ Some other → latency other < latency one
+  pub all : (k : ℕ) (other : Pair) → slice_get pairs k ≡ Some other → within (latency other) (latency one)
+  pub first : (k : ℕ) (other : Pair) → k < i → slice_get pairs k ≡ Some other → short (latency other) (latency one)
 
--- No pair waited shorter than this one, and none before it as short.
-pub record IsShortest (pairs : List Pair) (one : Pair) : Type 0 where
-  pub i : ℕ
-  pub there : slice_get pairs i ≡ Some one
-  pub least : (k : ℕ) (other : Pair) → slice_get pairs k ≡ Some other → latency one ≤ latency other
-  pub first : (k : ℕ) (other : Pair) → k < i → slice_get pairs k ≡ Some other → latency one < latency other
+-- no pair waited longer than this one, and none before it as long
+abbrev pub IsLongest : List Pair → Pair → Type 0
+IsLongest pairs one = IsFirstBy (λ other best. other ≤ best) (λ other best. other < best) pairs one
+
+-- no pair waited shorter than this one, and none before it as short
+abbrev pub IsShortest : List Pair → Pair → Type 0
+IsShortest pairs one = IsFirstBy (λ other best. best ≤ other) (λ other best. best < other) pairs one

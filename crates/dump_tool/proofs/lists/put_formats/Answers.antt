@@ -1,6 +1,6 @@
 use Rattle.std.proofs.Common.{rules, ◌<◌, length, arith}
 use Rattle.dump_tool.specs.Texts.{stored_text}
-use Rattle.dump_tool.proofs.Putting.{stopped_at}
+use Rattle.trace_outside.proofs.Putting.{stopped_at}
 use Rattle.dump_tool.proofs.lists.put_formats.Goals as goal
 
 pub returns-in_err-put_text : goal.returns-in_err-put_text

@@ -2,7 +2,7 @@ use Rattle.std.proofs.Common.{rules}
 use Rattle.std.specs.Prelude.{codes, length}
 use Rattle.std.specs.List.{flat_map}
 use Rattle.dump_tool.specs.Texts.{heading, stored_text}
-use Rattle.dump_tool.proofs.Putting.{put_both, stopped_first}
+use Rattle.trace_outside.proofs.Putting.{put_both, stopped_first}
 use Rattle.dump_tool.proofs.lists.put_ftrace.Goals as goal
 
 pub returns-in_err-put_heading : goal.returns-in_err-put_heading

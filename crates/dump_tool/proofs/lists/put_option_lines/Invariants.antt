@@ -1,7 +1,7 @@
 use Rattle.std.proofs.Common.{take, ◌≡◌, ◌≤◌}
 use Rattle.std.specs.List.{flat_map}
 use Rattle.dump_tool.specs.Lists.{option_line}
-use Rattle.dump_tool.proofs.Putting.{Put}
+use Rattle.trace_outside.proofs.Putting.{Put}
 use Rattle.dump_tool.proofs.lists.put_option_lines.Given as goal
 
 abbrev pub invariant-loop-option : goal.invariant-loop-option

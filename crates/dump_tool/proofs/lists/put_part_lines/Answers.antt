@@ -2,7 +2,7 @@ use Rattle.std.proofs.Common.{rules, ◌<◌, ◌≤◌, length, arith}
 use Rattle.std.proofs.lemmas.List.FromFn.{length-enumerate_from}
 use Rattle.std.specs.List.{enumerate_from}
 use Rattle.dump_tool.specs.Lists.{part_line}
-use Rattle.dump_tool.proofs.Putting.{stopped_at, put_more, put_all}
+use Rattle.trace_outside.proofs.Putting.{stopped_at, put_more, put_all}
 use Rattle.dump_tool.proofs.Parts.{line_at}
 use Rattle.dump_tool.proofs.lists.put_part_lines.Goals as goal
 

@@ -1,7 +1,7 @@
 use Rattle.std.proofs.Common.{take, ◌≡◌, ◌≤◌}
 use Rattle.std.specs.List.{flat_map, enumerate_from}
 use Rattle.dump_tool.specs.Lists.{part_line}
-use Rattle.dump_tool.proofs.Putting.{Put}
+use Rattle.trace_outside.proofs.Putting.{Put}
 use Rattle.dump_tool.proofs.lists.put_part_lines.Given as goal
 
 abbrev pub invariant-loop-cpu : goal.invariant-loop-cpu

@@ -2,7 +2,7 @@ use Rattle.std.proofs.Common.{rules, ◌≡◌, ◌<◌, length, arith, ap, ◌�
 use Rattle.std.specs.List.{flat_map}
 use Rattle.dump_tool.specs.Texts.{stored_text}
 use Rattle.dump_tool.specs.Lists.{system_formats}
-use Rattle.dump_tool.proofs.Putting.{stopped_at}
+use Rattle.trace_outside.proofs.Putting.{stopped_at}
 use Rattle.dump_tool.proofs.lists.put_system_formats.Goals as goal
 
 pub returns-in_err-put_formats : goal.returns-in_err-put_formats

@@ -1,7 +1,7 @@
 use Rattle.std.proofs.Common.{take, ◌≡◌, ◌≤◌}
 use Rattle.std.specs.List.{flat_map}
 use Rattle.dump_tool.specs.Lists.{system_formats}
-use Rattle.dump_tool.proofs.Putting.{Put}
+use Rattle.trace_outside.proofs.Putting.{Put}
 use Rattle.dump_tool.proofs.lists.put_system_formats.Given as goal
 
 abbrev pub invariant-loop-system : goal.invariant-loop-system

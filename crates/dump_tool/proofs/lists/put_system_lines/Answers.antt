@@ -1,6 +1,6 @@
 use Rattle.std.proofs.Common.{rules, ◌<◌, length, arith}
 use Rattle.dump_tool.specs.Lists.{system_line}
-use Rattle.dump_tool.proofs.Putting.{stopped_at}
+use Rattle.trace_outside.proofs.Putting.{stopped_at}
 use Rattle.dump_tool.proofs.lists.put_system_lines.Goals as goal
 
 pub returns-in_err-put_count : goal.returns-in_err-put_count

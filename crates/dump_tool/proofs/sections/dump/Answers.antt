@@ -1,4 +1,4 @@
-use Rattle.dump_tool.proofs.Putting.{gained_from_nothing, stopped_from_nothing, stopped_at_flush}
+use Rattle.trace_outside.proofs.Putting.{gained_from_nothing, stopped_from_nothing, stopped_at_flush}
 use Rattle.dump_tool.proofs.sections.dump.Goals as goal
 
 pub returns-in_err-put_chosen-clause-prefix : goal.returns-in_err-put_chosen-clause-prefix

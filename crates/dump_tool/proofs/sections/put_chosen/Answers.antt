@@ -4,7 +4,7 @@ use Rattle.trace_args.specs.Command.{dump_view}
 use Rattle.word_values.specs.Sections.{sections}
 use Rattle.word_values.specs.declared.section.Section.TheVariants.{Summary}
 use Rattle.dump_tool.specs.Dump.{is_chosen}
-use Rattle.dump_tool.proofs.Putting.{Put, stopped_at, put_more, put_none, put_all}
+use Rattle.trace_outside.proofs.Putting.{Put, stopped_at, put_more, put_none, put_all}
 use Rattle.dump_tool.proofs.Chosen.{text_if, text_of_chosen, chosen_is, left_out_is}
 use Rattle.dump_tool.proofs.sections.put_chosen.Goals as goal
 use Rattle.dump_tool.proofs.sections.put_chosen.Goals.{then-words-place+in_ok-put_section, else-words-place}

@@ -2,7 +2,7 @@ use Rattle.std.proofs.Common.{take, ◌≡◌, ◌≤◌}
 use Rattle.std.specs.List.{flat_map}
 use Rattle.trace_args.specs.Command.{dump_view}
 use Rattle.word_values.specs.Sections.{sections}
-use Rattle.dump_tool.proofs.Putting.{Put}
+use Rattle.trace_outside.proofs.Putting.{Put}
 use Rattle.dump_tool.proofs.Chosen.{text_if}
 use Rattle.dump_tool.proofs.sections.put_chosen.Given as goal
 

@@ -1,7 +1,7 @@
 use Rattle.std.proofs.Common.{take, ◌≡◌, ◌≤◌}
 use Rattle.std.specs.List.{flat_map}
 use Rattle.dump_tool.specs.RowText.{row_text}
-use Rattle.dump_tool.proofs.Putting.{Put}
+use Rattle.trace_outside.proofs.Putting.{Put}
 use Rattle.dump_tool.proofs.summary.put_rows.Given as goal
 
 abbrev pub invariant-loop-row : goal.invariant-loop-row

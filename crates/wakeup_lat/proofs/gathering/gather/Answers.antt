@@ -14,11 +14,11 @@ use Rattle.wakeup_lat.proofs.gathering.gather.Goals as goal
 
 pub pass-requires-clause-fresh : goal.pass-requires-clause-fresh
 pass-requires-clause-fresh g c =
-    unused_fresh c.args.layout.now.page 0 _ (c.set_lanes.ensures.unused _ 0 (new_unused _ _ _ _ c.lanes-lanes.ensures.value c.in-Ok-new.ensures.lanes))
+    unused_fresh c.args.layout.now.page 0 _ (c.set_lanes.ensures.unused _ 0 (new_unused _ _ _ _ c.lanes-lanes.ensures.value c.in-Ok-Ok.ensures.lanes))
 
 pub pass-requires-clause-in_order : goal.pass-requires-clause-in_order
 pass-requires-clause-in_order g c =
-    unused_in_order c.args.layout.now 0 _ (c.set_lanes.ensures.unused _ 0 (new_unused _ _ _ _ c.lanes-lanes.ensures.value c.in-Ok-new.ensures.lanes))
+    unused_in_order c.args.layout.now 0 _ (c.set_lanes.ensures.unused _ 0 (new_unused _ _ _ _ c.lanes-lanes.ensures.value c.in-Ok-Ok.ensures.lanes))
 
 pub pass-requires-clause-rise : goal.pass-requires-clause-rise
 pass-requires-clause-rise g c =

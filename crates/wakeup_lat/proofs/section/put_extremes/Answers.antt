@@ -1,7 +1,7 @@
 use Rattle.std.proofs.Common.{rules}
 use Rattle.std.specs.Prelude.{codes}
 use Rattle.wakeup_lat.specs.Section.{extreme_line}
-use Rattle.wakeup_lat.proofs.Putting.{put_both, stopped_first}
+use Rattle.trace_outside.proofs.Putting.{put_both, stopped_first}
 use Rattle.wakeup_lat.proofs.section.put_extremes.Goals as goal
 
 pub returns-in_err-put_extreme : goal.returns-in_err-put_extreme

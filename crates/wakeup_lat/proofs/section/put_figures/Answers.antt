@@ -2,7 +2,7 @@ use Rattle.std.proofs.Common.{rules, ap, ◌∙◌, ◌++◌, ◌∷◌, ◌≡�
 use Rattle.std.specs.Prelude.{codes}
 use Rattle.wakeup_pairs.specs.Figures.{average, longest, shortest}
 use Rattle.wakeup_lat.specs.Section.{average_line, extreme_line}
-use Rattle.wakeup_lat.proofs.Putting.{put_both, stopped_first}
+use Rattle.trace_outside.proofs.Putting.{put_both, stopped_first}
 use Rattle.wakeup_lat.proofs.section.put_figures.Goals as goal
 
 pub returns-in_err-put_average : goal.returns-in_err-put_average

@@ -1,7 +1,7 @@
 use Rattle.std.proofs.Common.{take, ◌≡◌, ◌≤◌, length}
 use Rattle.std.specs.List.{flat_map}
 use Rattle.wakeup_lat.specs.Section.{pair_line}
-use Rattle.wakeup_lat.proofs.Putting.{Put}
+use Rattle.trace_outside.proofs.Putting.{Put}
 use Rattle.wakeup_lat.proofs.section.put_lines.Given as goal
 
 abbrev pub invariant-loop-pair : goal.invariant-loop-pair

@@ -1,6 +1,6 @@
 use Rattle.std.proofs.Common.{rules, ◌++◌, flat_map, length}
 use Rattle.wakeup_lat.specs.Section.{pair_line, count_line, figures}
-use Rattle.wakeup_lat.proofs.Putting.{put_both, stopped_first}
+use Rattle.trace_outside.proofs.Putting.{put_both, stopped_first}
 use Rattle.wakeup_lat.proofs.section.put_section.Goals as goal
 
 pub returns-in_err-put_count : goal.returns-in_err-put_count
