@@ -4,70 +4,61 @@ use Rattle.std.proofs.lemmas.List.Concat.{flat_map-cons}
 use Rattle.std.specs.List.{flat_map}
 use Rattle.trace_base.specs.declared.part.Part.{Part}
 use Rattle.trace_outside.specs.Writing.{Gained, GainedPrefix}
-use Rattle.trace_outside.proofs.Gains.{gained_nothing}
-use Rattle.subpage.specs.Cut.{Cut, cut_of}
-use Rattle.report_print.specs.Given.{Given}
+use Rattle.subpage.specs.Cut.{cut_of}
+use Rattle.report_print.specs.ContextData.{ContextData}
 use Rattle.dat_header.specs.declared.header.Header.{Header}
 use Rattle.call_pairs.specs.declared.call.Call.{Call}
 use Rattle.graph_report.specs.CallText.{call_line}
 use Rattle.graph_report.specs.Gathered.{cut_place, reached_calls}
-use Rattle.trace_run.specs.declared.status.Status.TheVariants.{ReadFault, WriteFault}
-use Rattle.trace_run.specs.Calls.{called_text, status_at}
-use Rattle.trace_run.specs.Meaning.{Meaning, calls_report, ended}
+use Rattle.trace_run.specs.declared.status.Status.TheVariants.{WriteFault}
+use Rattle.trace_run.specs.Ends.{status_of_cut}
+use Rattle.trace_run.specs.Meaning.{Meaning, calls_report}
 use Rattle.trace_run.specs.Outside.{SinkSeen}
 use Rattle.trace_run.specs.Report.{call_pieces, cpus_line, events_on}
 use Rattle.multi_report.specs.Pieces.{text_of}
 use Rattle.trace_run.specs.Output.{Shows, Writes, WritesFor}
 
-calls_lines : (given : Given) (calls : List Call) → flat_map (call_line given) calls ≡ text_of (map (call_line given) calls)
+calls_lines : (given : ContextData) (calls : List Call) → flat_map (call_line given) calls ≡ text_of (map (call_line given) calls)
 calls_lines given [] = refl
 calls_lines given (x ∷ xs) =
     flat_map-cons (call_line given) x xs ∙ ap (λ rest. call_line given x ++ rest) (calls_lines given xs)
     ∙ sym (flat_map-cons (λ piece. piece) (call_line given x) (map (call_line given) xs))
 
-calls_text : (cpus : ℕ) (given : Given) (calls : List Call) → called_text cpus given calls ≡ text_of (call_pieces cpus given calls)
+-- the first line, and behind it the lines of calls
+pub calls_text : (cpus : ℕ) (given : ContextData) (calls : List Call) → cpus_line cpus ++ flat_map (call_line given) calls ≡ text_of (call_pieces cpus given calls)
 calls_text cpus given calls =
     ap (λ rest. cpus_line cpus ++ rest) (calls_lines given calls)
     ∙ sym (flat_map-cons (λ piece. piece) (cpus_line cpus) (map (call_line given) calls))
 
-ended_at : (cut : Option Cut) → status_at (cut_place cut) ≡ ended cut
-ended_at None = refl
-ended_at (Some cut) = refl
-
-writes_at : (m : Meaning) (cut : Option (ℕ × ℕ)) (old now : Option (List ℕ)) → status_at cut ≡ m.status → Gained old now (text_of m.pieces) → Writes m (status_at cut) old now
+writes_at : (m : Meaning) (cut : Option (ℕ × ℕ)) (old now : Option (List ℕ)) → status_of_cut cut ≡ m.status → Gained old now (text_of m.pieces) → Writes m (status_of_cut cut) old now
 writes_at m None old now is gained = (is, gained)
 writes_at m (Some place) old now is gained = (is, gained)
 
 -- where all was written, no fault shows
-pub cut_shows : (unread : Type 0) (cut : Option (ℕ × ℕ)) (before now : SinkSeen) → Shows unread (status_at cut) before now
+pub cut_shows : (unread : Type 0) (cut : Option (ℕ × ℕ)) (before now : SinkSeen) → Shows unread (status_of_cut cut) before now
 cut_shows unread None before now = tt
 cut_shows unread (Some place) before now = tt
 
-module _ (given : Given) (shown : List (ℕ × Part)) (header : Header) where
+module _ (given : ContextData) (shown : List (ℕ × Part)) (header : Header) where
   abbrev means : List ℕ → Meaning
   means bytes = calls_report (events_on given shown header bytes)
 
   -- the text that was put is that of the meaning
-  text_is : (list : List Call) (bytes : List ℕ) → list ≡ reached_calls given header.layout bytes shown → called_text header.cpus given list ≡ text_of ((means bytes).pieces)
-  text_is list bytes list_is = calls_text header.cpus given list ∙ ap (λ (calls : List Call). text_of (call_pieces header.cpus given calls)) list_is
+  text_is : (list : List Call) (bytes : List ℕ) → list ≡ reached_calls given header.layout bytes shown → text_of (call_pieces header.cpus given list) ≡ text_of ((means bytes).pieces)
+  text_is list bytes list_is = ap (λ (calls : List Call). text_of (call_pieces header.cpus given calls)) list_is
 
   pub calls_written : (told : Option (List ℕ)) (list put : List Call) (cut : Option (ℕ × ℕ)) (old now : Option (List ℕ)) → put ≡ list
       → IfSome told (λ bytes. list ≡ reached_calls given header.layout bytes shown)
       → IfSome told (λ bytes. cut ≡ cut_place (cut_of header.layout bytes shown))
-      → Gained old now (called_text header.cpus given put) → WritesFor means told (status_at cut) old now
+      → Gained old now (text_of (call_pieces header.cpus given put)) → WritesFor means told (status_of_cut cut) old now
   calls_written None list put cut old now put_is list_is cut_is gained = tt
   calls_written (Some bytes) list put cut old now put_is list_is cut_is gained =
-      writes_at (means bytes) cut old now (ap status_at cut_is ∙ ended_at (cut_of header.layout bytes shown))
+      writes_at (means bytes) cut old now (ap status_of_cut cut_is)
       (subst (λ (t : List ℕ). Gained old now t) (text_is put bytes (put_is ∙ list_is)) gained)
 
   pub calls_unwritten : (told : Option (List ℕ)) (list put : List Call) (old now : Option (List ℕ)) → put ≡ list
       → IfSome told (λ bytes. list ≡ reached_calls given header.layout bytes shown)
-      → GainedPrefix old now (called_text header.cpus given put) → WritesFor means told WriteFault old now
+      → GainedPrefix old now (text_of (call_pieces header.cpus given put)) → WritesFor means told WriteFault old now
   calls_unwritten None list put old now put_is list_is prefix = tt
   calls_unwritten (Some bytes) list put old now put_is list_is prefix =
       subst (λ (t : List ℕ). GainedPrefix old now t) (text_is put bytes (put_is ∙ list_is)) prefix
-
-  -- nothing was written
-  pub calls_unread : (told : Option (List ℕ)) (old : Option (List ℕ)) → WritesFor means told ReadFault old old
-  calls_unread None old = tt
-  calls_unread (Some bytes) old = (0, gained_nothing old)

@@ -11,7 +11,7 @@ use Rattle.trace_outside.specs.Causes.{raised}
 use Rattle.trace_outside.specs.Writing.{Gained, GainedPrefix}
 use Rattle.trace_outside.proofs.Gains.{gained_both, gained_nothing}
 use Rattle.dat_header.specs.declared.header.Header.{Header}
-use Rattle.report_print.specs.Given.{Given}
+use Rattle.report_print.specs.ContextData.{ContextData}
 use Rattle.report_rounds.specs.Due.{due_bytes, ReadsDue as RoundsDue}
 use Rattle.trace_run.specs.Input.{ReadsDue, behind_first, due_of, progress_at}
 use Rattle.trace_run.specs.Report.{Events, cpus_line, events_on, item_line}
@@ -24,7 +24,7 @@ behind_line cpus rest =
     ap (λ (whole : Bool). if whole then drop (length (cpus_line cpus)) (cpus_line cpus ++ rest) else []) (begins (cpus_line cpus) rest)
     ∙ drop-append_seam (cpus_line cpus) rest
 
-module _ (given : Given) (shown : List (ℕ × Part)) (header : Header) where
+module _ (given : ContextData) (shown : List (ℕ × Part)) (header : Header) where
   abbrev events : List ℕ → Events
   events bytes = events_on given shown header bytes
 

@@ -5,7 +5,7 @@ use Rattle.std.specs.Option.{option_map}
 use Rattle.trace_outside.specs.Causes.{Rose, raised}
 use Rattle.trace_outside.specs.Names.{NamedFiles}
 use Rattle.restore_tool.specs.Answers.{SomeFaulty}
-use Rattle.restore_tool.specs.Copying.{FileSeen}
+use Rattle.dat_header.specs.Seen.{FileSeen}
 use Rattle.restore_tool.specs.Open.{ClosesMany}
 use Rattle.trace_args.specs.Command.{ReportData}
 use Rattle.trace_run.specs.declared.status.Status.{Status}
@@ -20,7 +20,7 @@ use Rattle.trace_run.proofs.Endings.{Around, ended_around, ended_complete, not_u
 use Rattle.trace_run.proofs.Reading.{both_behind, no_input}
 
 no_file : FileSeen
-no_file = record { told = None; size = 0; faults = 0; reads = 0 }
+no_file = record { bytes = None; size = 0; faults = 0; reads = 0 }
 
 module _ (words : ReportData) (held : List FileSeen) (status : Status) (name : List ℕ) (before mid now : FolderSeen) (out out_now : SinkSeen) where
   read_all : (told : Option NamedFiles) → now.counts.bytes ≡ raised mid.counts.bytes (sum_by (λ file. file.reads) held) → mid.counts.bytes ≡ before.counts.bytes

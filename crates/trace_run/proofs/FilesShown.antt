@@ -20,7 +20,7 @@ use Rattle.multi_report.specs.Sources.{HasRoom, Seen, shown_of}
 use Rattle.trace_outside.specs.declared.outside.File as outside_file
 use Rattle.subpage.specs.Cut.{Cut, is_before}
 use Rattle.restore_tool.specs.Answers.{SomeFaulty}
-use Rattle.restore_tool.specs.Copying.{FileSeen}
+use Rattle.dat_header.specs.Seen.{FileSeen}
 use Rattle.trace_args.specs.Command.{ReportData}
 use Rattle.trace_run.specs.declared.status.Status.TheVariants.{Malformed, NoMemory}
 use Rattle.trace_run.specs.Ending.{Ends}
@@ -31,7 +31,7 @@ use Rattle.trace_run.specs.Naming.{IsInputOf}
 use Rattle.trace_run.specs.Outside.{FolderSeen, SinkSeen, beside}
 use Rattle.trace_run.specs.Output.{Shows, Writes}
 use Rattle.trace_run.specs.Ran.{MissesNothingElse}
-use Rattle.trace_run.specs.Sources.{AreInputs, AreOpened, FilesReported, file_in, reads_due, source_of, source_seen, status_of}
+use Rattle.trace_run.specs.Sources.{AreInputs, AreOpened, FilesReported, file_in, reads_due, source_of, source_seen, status_of_files}
 use Rattle.trace_run.specs.declared.lines.ItemLines.{ItemLines}
 use Rattle.trace_run.proofs.LineLength.{line_short}
 use Rattle.trace_run.proofs.Endings.{Around, ended_around, known_so, if_known}
@@ -97,13 +97,13 @@ module _ (words : ReportData) (old new : List Seen) (before now : FolderSeen) (o
   abbrev unread : Type 0
   unread = Rose before.counts.reading now.counts.reading ⊎ SomeFaulty (map file_in new)
 
-  writes : (e : FilesEnd) → IsFilesReport all_shown out.written out_now.written e → Writes (files_report all_shown) (status_of e) out.written out_now.written
+  writes : (e : FilesEnd) → IsFilesReport all_shown out.written out_now.written e → Writes (files_report all_shown) (status_of_files e) out.written out_now.written
   writes end.Done report = (sym (ap ended_in report.1), report.0)
   writes (end.Malformed source cpu page) report = (sym (ap ended_in report.1.1), report.0)
   writes (end.Read source) report = report
   writes end.Write report = report
 
-  shows : (e : FilesEnd) → ReadRose e old new → WriteRose e out.faults out_now.faults → length new ≡ length old → Shows unread (status_of e) out out_now
+  shows : (e : FilesEnd) → ReadRose e old new → WriteRose e out.faults out_now.faults → length new ≡ length old → Shows unread (status_of_files e) out out_now
   shows end.Done read write same = tt
   shows (end.Malformed source cpu page) read write same = tt
   shows (end.Read source) read write same = inr (faulty_at new source (omega (arith, same, read.0)) (λ d. let rose = read.1 d in omega (arith, rose)))
@@ -114,10 +114,10 @@ module _ (words : ReportData) (old new : List Seen) (before now : FolderSeen) (o
 
   written : (told : Option NamedFiles) → IfSome told (λ files. AreInputs words files (names_in words) old)
       → (All (λ source. IsSome source.told) old → IsFilesReport all_shown out.written out_now.written answer)
-      → IfSome (option_map (files_meaning words) told) (λ m. (m.files ≡ []) × Writes m (status_of answer) out.written out_now.written)
+      → IfSome (option_map (files_meaning words) told) (λ m. (m.files ≡ []) × Writes m (status_of_files answer) out.written out_now.written)
   written None inputs report = tt
   written (Some files) inputs report =
-      subst (λ (m : Meaning). (m.files ≡ []) × Writes m (status_of answer) out.written out_now.written) (meant files inputs)
+      subst (λ (m : Meaning). (m.files ≡ []) × Writes m (status_of_files answer) out.written out_now.written) (meant files inputs)
       (refl, writes answer (report inputs.told))
 
   around : Around (beside before out) (beside now out) (beside now out_now) (beside now out_now)
@@ -170,7 +170,7 @@ module _ (words : ReportData) (old new : List Seen) (before now : FolderSeen) (o
     named_told : (told : Option NamedFiles) (e : FilesEnd) → IfSome told (λ files. AreInputs words files (names_in words) old)
         → IfSome (source_of e) (λ source. IfSome (slice_get (names_in words) source) (λ n. n ≡ name))
         → (All (λ source. IsSome source.told) old → IsFilesReport all_shown out.written out_now.written e)
-        → IfSome told (λ files. IsInputOf words (inputs_in files (names_in words)) (status_of e) name)
+        → IfSome told (λ files. IsInputOf words (inputs_in files (names_in words)) (status_of_files e) name)
     named_told None e inputs is report = tt
     named_told (Some files) end.Done inputs is report = tt
     named_told (Some files) (end.Malformed source cpu page) inputs is report = cut_named files source cpu page inputs is (report inputs.told).1
@@ -179,10 +179,10 @@ module _ (words : ReportData) (old new : List Seen) (before now : FolderSeen) (o
 
     pub files_shown : (All (λ source. IsSome source.told) old → IsFilesReport all_shown out.written out_now.written answer)
         → ReadRose answer old new → WriteRose answer out.faults out_now.faults → AllReadTheirParts old new → AreSame old new
-        → FilesReported words (map file_in new) (status_of answer) name (beside before out) (beside now out_now)
+        → FilesReported words (map file_in new) (status_of_files answer) name (beside before out) (beside now out_now)
     files_shown report read write reads same = record {
-      ended = ended_around (beside before out) (beside now out) (beside now out_now) (beside now out_now) around on_out unread unread (option_map (files_meaning words) before.files) (status_of answer) (λ why. why)
-          (printed_known unread (option_map (files_meaning words) before.files) (status_of answer) out out_now
+      ended = ended_around (beside before out) (beside now out) (beside now out_now) (beside now out_now) around on_out unread unread (option_map (files_meaning words) before.files) (status_of_files answer) (λ why. why)
+          (printed_known unread (option_map (files_meaning words) before.files) (status_of_files answer) out out_now
           (written before.files opened.inputs report) (shows answer read write same.count) now);
       misses = known_so (λ files. now.counts.misses ≡ before.counts.misses) (λ files. MissesNothingElse (files_meaning words files) before.counts now.counts) before.files
           (λ files kept other. kept) opened.misses;
@@ -195,8 +195,8 @@ module _ (words : ReportData) (old new : List Seen) (before now : FolderSeen) (o
         opened = omega (arith, length-map new file_in, same.count, opened.counts.opened);
         closed = omega (arith, opened.counts.closed);
       };
-      bytes = any_answer (status_of answer) opened.counts.bytes;
-      reads = any_answer (status_of answer) (reads_within before.files same.count reads opened.inputs);
+      bytes = any_answer (status_of_files answer) opened.counts.bytes;
+      reads = any_answer (status_of_files answer) (reads_within before.files same.count reads opened.inputs);
       named = (named, named_told before.files answer opened.inputs place report);
     }
 

@@ -2,6 +2,7 @@ pub mod LineLength
 pub mod Formats
 pub mod Said
 pub mod Printing
+pub mod Flushed
 pub mod Latency
 pub mod PartsPrinted
 pub mod CallsPrinted
@@ -21,6 +22,7 @@ pub mod Reading
 pub mod Filters
 pub mod Numbers
 pub mod Workers
+pub mod Readings
 pub mod Usages
 pub mod Shared
 pub mod DueReading
@@ -30,7 +32,6 @@ pub mod RestoreNames
 pub mod RestoreWords
 pub mod InputWords
 pub mod InputNames
-pub mod InputLists
 pub mod Opening
 pub mod OpenInputs
 pub mod FilesShown

@@ -29,7 +29,7 @@ use Rattle.trace_run.specs.Outside.{FolderSeen, SinkSeen, beside}
 use Rattle.trace_run.specs.Ran.{MissesNothingElse}
 use Rattle.trace_run.specs.Sources.{AreInputs, AreOpened, IsInput, IsOpened, IsUnopened, LeavesHeld, FilesReported, StandsAt, file_in, reads_due}
 use Rattle.trace_run.proofs.Endings.{if_known, stored_none}
-use Rattle.trace_run.proofs.InputLists.{inputs_more, inputs_wrong}
+use Rattle.trace_run.proofs.Readings.{readings_fault, readings_more}
 use Rattle.trace_run.proofs.InputNames.{named_any}
 
 sum_push : {X : Type 0} (f : X → ℕ) (xs : List X) (x : X) → sum_by f (xs ++ x ∷ []) ≡ sum_by f xs + f x
@@ -51,7 +51,7 @@ module _ (words : ReportData) (names : List (List ℕ)) (name : List ℕ) (sourc
   inputs_are : (files : NamedFiles) (source : Seen) → AreInputs words files names sources → IsInput words files name source → AreInputs words files (names ++ name ∷ []) (sources ++ source ∷ [])
   inputs_are files source all one = record {
     inputs = all.inputs ++ one.input ∷ [];
-    read = inputs_more files names name all.inputs one.input all.read one.read;
+    read = readings_more (input_named files) names name all.inputs one.input all.read one.read;
     told = All-push (λ (s : Seen). IsSome s.told) sources source all.told one.told;
     shown =
         map-append shown_of sources (source ∷ [])
@@ -98,7 +98,7 @@ module _ (words : ReportData) (names : List (List ℕ)) (name : List ℕ) (sourc
 
     -- the meaning where this name is wrong
     wrong_meaning : (files : NamedFiles) (wrong : WrongInput) → AreInputs words files names sources → input_named files name ≡ Err wrong → inputs_in files (names_in words) ≡ Err wrong
-    wrong_meaning files wrong inputs is = ap (inputs_in files) are ∙ inputs_wrong files names name inputs.inputs rest wrong inputs.read is
+    wrong_meaning files wrong inputs is = ap (inputs_in files) are ∙ readings_fault (input_named files) names name inputs.inputs rest wrong inputs.read is
 
     missed_here : (files : NamedFiles) (found : Option (List ℕ)) → get files name ≡ found → AreInputs words files names sources → mid.counts.misses ≡ before.counts.misses
         → now.counts.misses ≡ misses_after files name mid.counts.misses → (files_meaning words files).status ≢ ReadFault → now.counts.misses ≡ before.counts.misses

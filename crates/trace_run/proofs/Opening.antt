@@ -21,7 +21,7 @@ use Rattle.subpage.specs.ItemData.{ItemData}
 use Rattle.subpage.specs.Arrangement.{CpusRise}
 use Rattle.multi_report.specs.Order as several
 use Rattle.multi_report.specs.Sources.{IsFreshSource, IsUsable, shown_of}
-use Rattle.restore_tool.specs.Copying.{FileSeen}
+use Rattle.dat_header.specs.Seen.{FileSeen}
 use Rattle.restore_tool.specs.Open.{OpensMany}
 use Rattle.trace_args.specs.Command.{ReportData}
 use Rattle.trace_run.specs.declared.sources.Basis.{Basis}
@@ -32,7 +32,7 @@ use Rattle.trace_run.specs.Inputs.{shown_in, input_found, input_named, input_wit
 use Rattle.trace_run.specs.Outside.{FolderSeen}
 use Rattle.trace_run.specs.Report.{item_line}
 use Rattle.trace_run.specs.Selection.{has, set_or_all}
-use Rattle.trace_run.specs.Sources.{IsBasis, IsInput, IsOpened, IsRead, IsReason, IsUnopened, IsUnread, seen_with}
+use Rattle.trace_run.specs.Sources.{IsBasis, IsInput, IsOpened, IsRead, WhyUnopened, IsUnopened, WhyUnread, seen_with}
 use Rattle.trace_run.proofs.Chosen.{chosen_rise}
 use Rattle.trace_run.proofs.Endings.{refused_by}
 use Rattle.time_merge.proofs.UnusedLanes.{unused_fresh, unused_in_order}
@@ -53,7 +53,7 @@ module _ (words : ReportData) (header : Header) (basis : Basis) (is : IsBasis wo
   pub basis_fresh : (name : List ℕ) (file : FileSeen) → IsFreshSource (seen_with name file basis)
   basis_fresh name file = unused_fresh header.layout.page 0 basis.pool is.unused
 
-  basis_shown : (name bytes : List ℕ) (file : FileSeen) → file.told ≡ Some bytes
+  basis_shown : (name bytes : List ℕ) (file : FileSeen) → file.bytes ≡ Some bytes
       → shown_of (seen_with name file basis) ≡ shown_in words (record { name = name; header = header; bytes = bytes })
   basis_shown name bytes file told =
       same_shown name is.cpus is.layout (ap (λ (t : Option (List ℕ)). unwrap_or t []) told) is.parts (ap item_line is.context)
@@ -69,7 +69,7 @@ module _ (words : ReportData) (header : Header) (basis : Basis) (is : IsBasis wo
 
   -- the file is told, and its bytes begin with the header
   pub basis_input : (files : NamedFiles) (name bytes : List ℕ) (file : FileSeen) → get files name ≡ Some bytes → header_of bytes ≡ Ok header
-      → file.told ≡ Some bytes → file.reads ≤ header.end → IsInput words files name (seen_with name file basis)
+      → file.bytes ≡ Some bytes → file.reads ≤ header.end → IsInput words files name (seen_with name file basis)
   basis_input files name bytes file found read told reads = record {
     input = record { name = name; header = header; bytes = bytes };
     read = ap (input_found name) found ∙ ap (input_with name bytes) read;
@@ -80,7 +80,7 @@ module _ (words : ReportData) (header : Header) (basis : Basis) (is : IsBasis wo
 
 -- the same where it is not known whether the files are told
 pub opened_input : (words : ReportData) (told : Option NamedFiles) (name : List ℕ) (bytes : Option (List ℕ)) (file : FileSeen) (reads : ℕ) (basis : Basis) → IsFileOf told name bytes
-    → file.told ≡ bytes → reads ≡ 0 → IsRead words bytes reads file.reads basis → IfSome told (λ files. IsInput words files name (seen_with name file basis))
+    → file.bytes ≡ bytes → reads ≡ 0 → IsRead words bytes reads file.reads basis → IfSome told (λ files. IsInput words files name (seen_with name file basis))
 opened_input words None name bytes file reads basis is kept none read = tt
 opened_input words (Some files) name bytes file reads basis is kept none read = by_found (get files name) refl is.0
   where
@@ -106,7 +106,7 @@ opened_refused (Some files) name bytes fault is refusal read = by_found (get fil
 
 -- the folder opened a file, whose header was read
 pub source_opened : (words : ReportData) (name : List ℕ) (file : FileSeen) (bytes : Option (List ℕ)) (reads : ℕ) (basis : Basis) (before now : FolderSeen)
-    → now.files ≡ before.files → IsFileOf before.files name bytes → file.told ≡ bytes → reads ≡ 0 → IsRead words bytes reads file.reads basis
+    → now.files ≡ before.files → IsFileOf before.files name bytes → file.bytes ≡ bytes → reads ≡ 0 → IsRead words bytes reads file.reads basis
     → OpensMany before.counts now.counts 1 → IfSome before.files (λ files. now.counts.misses ≡ misses_after files name before.counts.misses)
     → IsOpened words name (seen_with name file basis) before now
 source_opened words name file bytes reads basis before now files is kept none read counts misses = record {
@@ -155,7 +155,7 @@ module _ {I E : Type 0} (name : List ℕ) (bytes : Option (List ℕ)) (faults fa
   missed_then None misses = tt
   missed_then (Some files) misses = closes.misses ∙ misses
 
-  reason_of : (status : Status) → IsUnread bytes (Rose faults faults_now) status → IsReason name status before now
+  reason_of : (status : Status) → WhyUnread bytes (Rose faults faults_now) status → WhyUnopened name status before now
   reason_of (Refused fault) why = (why.0, opened_refused before.files name bytes fault is why.0 why.1)
   reason_of ReadFault why =
       let faulty : Rose mid.counts.reading now.counts.reading = closes.faulty (omega (arith, why, none)) in
@@ -167,7 +167,7 @@ module _ {I E : Type 0} (name : List ℕ) (bytes : Option (List ℕ)) (faults fa
   reason_of WriteFault why = absurd why
 
   -- the folder opened a file that cannot be shown, and closed it
-  pub closed_unopened : (status : Status) → IsUnread bytes (Rose faults faults_now) status → IsUnopened name status before now
+  pub closed_unopened : (status : Status) → WhyUnread bytes (Rose faults faults_now) status → IsUnopened name status before now
   closed_unopened status why = record {
     files = then ∙ first;
     counts = record {

@@ -15,31 +15,31 @@ use Rattle.subpage.specs.Cut.{cut_of, reached_of}
 use Rattle.time_merge.specs.declared.ending.End.{End}
 use Rattle.time_merge.specs.declared.ending.End.TheVariants as code
 use Rattle.report_rounds.specs.Reports.{IsReport, lines_text}
-use Rattle.report_print.specs.Given.{Given}
+use Rattle.report_print.specs.ContextData.{ContextData}
 use Rattle.dat_header.specs.declared.header.Header.{Header}
 use Rattle.trace_run.specs.declared.status.Status.TheVariants.{WriteFault}
 use Rattle.trace_run.specs.Meaning.{Meaning, ended, events_report, prints}
 use Rattle.trace_run.specs.Report.{cpus_line, entry_line, events_on, item_line, report_pieces}
-use Rattle.trace_run.specs.Ends.{status_of}
+use Rattle.trace_run.specs.Ends.{status_of_end}
 use Rattle.multi_report.specs.Pieces.{text_of}
 use Rattle.trace_run.specs.Output.{Writes, WritesFor}
 
-lines_are : (given : Given) (items : List Keyed) → lines_text (item_line given) items ≡ text_of (filled_lines None (map (entry_line given) items))
+lines_are : (given : ContextData) (items : List Keyed) → lines_text (item_line given) items ≡ text_of (filled_lines None (map (entry_line given) items))
 lines_are given items = refl
 
 -- the report's text: the first line, and then those of the items
-report_text : (cpus : ℕ) (given : Given) (items : List Keyed) → cpus_line cpus ++ lines_text (item_line given) items ≡ text_of (report_pieces cpus given items)
+report_text : (cpus : ℕ) (given : ContextData) (items : List Keyed) → cpus_line cpus ++ lines_text (item_line given) items ≡ text_of (report_pieces cpus given items)
 report_text cpus given items =
     ap (λ rest. cpus_line cpus ++ rest) (lines_are given items)
     ∙ sym (flat_map-cons (λ piece. piece) (cpus_line cpus) (filled_lines None (map (entry_line given) items)))
 
 -- the first few of its pieces
-first_text : (cpus : ℕ) (given : Given) (items : List Keyed) (count : ℕ)
+first_text : (cpus : ℕ) (given : ContextData) (items : List Keyed) (count : ℕ)
     → cpus_line cpus ++ lines_text (item_line given) (take count items) ≡ text_of (take (suc count) (report_pieces cpus given items))
 first_text cpus given items count =
     report_text cpus given (take count items) ∙ ap (λ (lines : List (List ℕ)). text_of (cpus_line cpus ∷ lines)) (sym (along_take hole_time filled_bytes count None (map (entry_line given) items) ∙ ap (filled_lines None) (take-map (entry_line given) count items)))
 
-module _ (cpus : ℕ) (given : Given) (layout : Layout) (bytes : List ℕ) (parts : List (ℕ × Part)) where
+module _ (cpus : ℕ) (given : ContextData) (layout : Layout) (bytes : List ℕ) (parts : List (ℕ × Part)) where
   abbrev items : List Keyed
   items = reached_of layout bytes parts
 
@@ -49,7 +49,7 @@ module _ (cpus : ℕ) (given : Given) (layout : Layout) (bytes : List ℕ) (part
 
   -- by how the rounds behind the first line ended
   report_written : (old mid now : Option (List ℕ)) (end : End) → Gained old mid (cpus_line cpus) → IsReport (item_line given) layout bytes parts mid now end
-      → Writes (prints (report_pieces cpus given items) (ended (cut_of layout bytes parts))) (status_of end) old now
+      → Writes (prints (report_pieces cpus given items) (ended (cut_of layout bytes parts))) (status_of_end end) old now
   report_written old mid now code.Done first report = (sym (ap ended report.1), whole old mid now first report.0)
   report_written old mid now (code.Malformed cpu page) first report = (sym (ap ended report.1.1), whole old mid now first report.0)
   report_written old mid now code.Read first report = (
@@ -62,12 +62,12 @@ module _ (cpus : ℕ) (given : Given) (layout : Layout) (bytes : List ℕ) (part
       (sym (report_text cpus given items) ∙ ap (λ rest. cpus_line cpus ++ rest) (sym (append-nil (lines_text (item_line given) items))))
       first report
 
-module _ (given : Given) (shown : List (ℕ × Part)) (header : Header) where
+module _ (given : ContextData) (shown : List (ℕ × Part)) (header : Header) where
   abbrev means : List ℕ → Meaning
   means bytes = events_report (events_on given shown header bytes)
 
   pub parts_written : (told : Option (List ℕ)) (old mid now : Option (List ℕ)) (end : End) → Gained old mid (cpus_line header.cpus)
-      → IfSome told (λ bytes. IsReport (item_line given) header.layout bytes shown mid now end) → WritesFor means told (status_of end) old now
+      → IfSome told (λ bytes. IsReport (item_line given) header.layout bytes shown mid now end) → WritesFor means told (status_of_end end) old now
   parts_written None old mid now end first report = tt
   parts_written (Some bytes) old mid now end first report = report_written header.cpus given header.layout bytes shown old mid now end first report
 

@@ -5,6 +5,9 @@ use Rattle.std.specs.Option.{option_map}
 use Rattle.trace_outside.specs.Causes.{Rose}
 use Rattle.trace_outside.specs.Writing.{Gained, GainedPrefix}
 use Rattle.new_files.specs.Stored.{NewFile, FilesStored}
+use Rattle.trace_outside.proofs.Gains.{gained_nothing}
+use Rattle.item_pass.specs.declared.passing.PassFault.{PassFault}
+use Rattle.item_pass.specs.declared.passing.PassFault.TheVariants as pass
 use Rattle.time_merge.specs.declared.ending.End.{End}
 use Rattle.time_merge.specs.declared.ending.End.TheVariants as end
 use Rattle.trace_run.specs.declared.status.Status.{Status}
@@ -13,9 +16,9 @@ use Rattle.trace_run.specs.Ending.{Ends, IsCaused, LeavesAll, Prints}
 use Rattle.trace_run.specs.Meaning.{Meaning, on_out, prints}
 use Rattle.trace_run.specs.Outside.{FolderSeen, Outside, SinkSeen, beside}
 use Rattle.trace_run.specs.Output.{Shows, Writes, WritesFor}
-use Rattle.trace_run.specs.Ends.{status_of}
+use Rattle.trace_run.specs.Ends.{status_of_end, status_of_pass}
 use Rattle.multi_report.specs.Pieces.{text_of}
-use Rattle.trace_run.proofs.Endings.{known_so, stored_none, stored_first_none}
+use Rattle.trace_run.proofs.Endings.{known_so, stored_none, stored_first_none, unprinted}
 
 module _ (unread : Type 0) (folder : FolderSeen) (before now : SinkSeen) where
   abbrev was : Outside
@@ -84,6 +87,16 @@ printed_of unread means told status before now none writes shows = λ folder. re
   causes = caused unread folder before now status shows;
 }
 
+-- a pass in front of all output ended early
+pub pass_printed : (unread : Type 0) (means : List ℕ → Meaning) (told : Option (List ℕ)) (fault : PassFault) (out : SinkSeen) → ((bytes : List ℕ) → (means bytes).files ≡ [])
+    → (fault ≡ pass.Read → unread) → Prints unread (option_map means told) (status_of_pass fault) out out
+pass_printed unread means told pass.Read out none read = printed_of unread means told ReadFault out out none (unbegun told) (read refl)
+  where
+    unbegun : (known : Option (List ℕ)) → WritesFor means known ReadFault out.written out.written
+    unbegun None = tt
+    unbegun (Some bytes) = (0, gained_nothing out.written)
+pass_printed unread means told pass.Memory out none read = unprinted unread (option_map means told) out
+
 -- by what is meant in any case
 pub printed : (unread : Type 0) (m : Meaning) (status : Status) (before now : SinkSeen) → m.files ≡ []
     → Writes m status before.written now.written → Shows unread status before now → Prints unread (Some m) status before now
@@ -121,7 +134,7 @@ piece_unprinted unread piece put before now prefix rose is =
 
 -- the end of a report of events shows its faults
 pub end_shows : (unread : Type 0) (answer : End) (before now : SinkSeen) → (answer ≡ end.Read → unread) → (answer ≡ end.Write → Rose before.faults now.faults)
-    → Shows unread (status_of answer) before now
+    → Shows unread (status_of_end answer) before now
 end_shows unread end.Done before now read write = tt
 end_shows unread (end.Malformed cpu page) before now read write = tt
 end_shows unread end.Read before now read write = read refl

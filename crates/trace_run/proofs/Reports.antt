@@ -7,7 +7,7 @@ use Rattle.trace_outside.proofs.Gains.{gained_nothing}
 use Rattle.dat_header.specs.declared.header.Header.{Header}
 use Rattle.dat_header.specs.declared.header.Body.{Body}
 use Rattle.dat_header.specs.declared.header.Body.TheVariants.{Fly, Latency}
-use Rattle.report_print.specs.Given.{Given}
+use Rattle.report_print.specs.ContextData.{ContextData}
 use Rattle.trace_args.specs.Command.{ReportData}
 use Rattle.word_values.specs.declared.listing.Listing.{Listing}
 use Rattle.trace_run.specs.declared.status.Status.{Status}
@@ -72,13 +72,13 @@ module _ (words : ReportData) (header : Header) (told : Option (List ℕ)) (stat
       (record { prints = there.prints; reads = there.reads; due = there.due })
 
   -- what is shown is what the words choose
-  pub chosen_reported : (parts : List Part) (given : Given) (shown : List (ℕ × Part)) (before now : AtWork) → given ≡ context_of words header → shown ≡ chosen (set_or_all words.cpus) parts
+  pub chosen_reported : (parts : List Part) (given : ContextData) (shown : List (ℕ × Part)) (before now : AtWork) → given ≡ context_of words header → shown ≡ chosen (set_or_all words.cpus) parts
       → Reported (parts_task words.calls words.wakeups given shown header) told status before now → Reported (chosen_task words header parts) told status before now
   chosen_reported parts given shown before now given_is shown_is did =
-      subst (λ (by : Given). Reported (parts_task words.calls words.wakeups by (chosen (set_or_all words.cpus) parts) header) told status before now) given_is
+      subst (λ (by : ContextData). Reported (parts_task words.calls words.wakeups by (chosen (set_or_all words.cpus) parts) header) told status before now) given_is
       (subst (λ (ps : List (ℕ × Part)). Reported (parts_task words.calls words.wakeups given ps header) told status before now) shown_is did)
 
-module _ (given : Given) (shown : List (ℕ × Part)) (header : Header) (told : Option (List ℕ)) (before now : AtWork) where
+module _ (given : ContextData) (shown : List (ℕ × Part)) (header : Header) (told : Option (List ℕ)) (before now : AtWork) where
   -- calls are gathered in one pass
   calls_share : (wakeups : Bool) → now.reads ≤ raised before.reads (parts_size shown) → now.reads ≤ raised before.reads (parts_share wakeups shown)
   calls_share false reads = reads

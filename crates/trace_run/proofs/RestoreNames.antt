@@ -9,7 +9,7 @@ use Rattle.trace_run.specs.declared.status.Status.{Status}
 use Rattle.trace_run.specs.Job.{Restore}
 use Rattle.trace_run.specs.Naming.{IsNameAt, IsNameOf, IsNamed, restore_inputs}
 use Rattle.trace_run.specs.Outside.{FolderSeen}
-use Rattle.trace_run.specs.Restore.{status_of}
+use Rattle.trace_run.specs.Restore.{status_of_restore}
 
 -- the partial file
 pub input_at : (words : RestoreData) → IsNameAt words 0 words.input
@@ -24,14 +24,14 @@ pub past_data : (words : RestoreData) (place : ℕ) → length words.files ≤ p
 past_data words place past = record { one = (input_at words).one; there = λ inside d. absurd (omega (arith, inside, past)) }
 
 -- the file that an answer tells is the one that is named
-pub restore_named : (words : RestoreData) (answer : Answer) (status : Status) (name : List ℕ) (before now : FolderSeen) → status ≡ status_of answer
+pub restore_named : (words : RestoreData) (answer : Answer) (status : Status) (name : List ℕ) (before now : FolderSeen) → status ≡ status_of_restore answer
     → IfRead answer (λ source. IsUnread before.files (restore_inputs words) before.counts.misses now.counts.misses (place_of source))
     → IsNameOf words answer name → IsNamed (Restore words) status before now name
 restore_named words answer status name before now told unread named =
     subst (λ (s : Status). IsNamed (Restore words) s before now name) (sym told) (by_answer answer unread named)
   where
     by_answer : (a : Answer) → IfRead a (λ source. IsUnread before.files (restore_inputs words) before.counts.misses now.counts.misses (place_of source))
-        → IsNameOf words a name → IsNamed (Restore words) (status_of a) before now name
+        → IsNameOf words a name → IsNamed (Restore words) (status_of_restore a) before now name
     by_answer code.Done unread named = named
     by_answer (code.Refused fault) unread named = named
     by_answer (code.Read source) unread named = record { place = place_of source; name_is = named; unread = unread }

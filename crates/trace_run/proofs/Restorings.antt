@@ -19,7 +19,7 @@ use Rattle.trace_run.specs.Job.{Restore}
 use Rattle.trace_run.specs.Meaning.{Meaning, names_of, on_folder, only, restore_meaning, task_means}
 use Rattle.trace_run.specs.Outside.{FolderSeen, SinkSeen, beside}
 use Rattle.trace_run.specs.Ran.{MissesNothingElse, Ran}
-use Rattle.trace_run.specs.Restore.{status_of}
+use Rattle.trace_run.specs.Restore.{status_of_restore}
 use Rattle.trace_run.proofs.Endings.{ended_complete, not_usage, stored_none}
 use Rattle.trace_run.proofs.Reading.{no_input}
 
@@ -91,7 +91,7 @@ module _ (output : List ℕ) (named : NamedFiles) (before now : FolderSeen) (out
   unheld_ends task created files = record { output = refl; files = files ∙ sym is; created = created }
 
   task_ends : (answer : Answer) (task : Task) → Created answer before.counts.created now.counts.created → IsDone task output before.counts now.counts named now.files answer
-      → Ends (task_means task) (status_of answer) (beside before out) (beside now out)
+      → Ends (task_means task) (status_of_restore answer) (beside before out) (beside now out)
   task_ends code.Done task created done = done_ends task created done
   task_ends (code.Refused fault) task created done = refused_ends task fault created done.0 done.1
   task_ends (code.Read source) task created done = read_ends task done.0 done.1
@@ -99,7 +99,7 @@ module _ (output : List ℕ) (named : NamedFiles) (before now : FolderSeen) (out
   task_ends code.NoMemory task created done = unheld_ends task created done
 
 -- after a fault of reading all files are as they were
-as_before : (answer : Answer) {told now : Option NamedFiles} → KeepsFiles answer told now → status_of answer ≡ ReadFault → now ≡ told
+as_before : (answer : Answer) {told now : Option NamedFiles} → KeepsFiles answer told now → status_of_restore answer ≡ ReadFault → now ≡ told
 as_before code.Done kept unread = absurd cc
 as_before (code.Refused fault) kept unread = absurd cc
 as_before (code.Read source) kept unread = kept
@@ -112,7 +112,7 @@ task_misses (refused fault) before now some other = some (λ is. cc)
 task_misses (made file) before now some other = some (λ is. cc)
 
 -- what a restoring by names promises is what a run of it promises
-pub restored_ran : (words : RestoreData) (answer : Answer) (status : Status) (out : SinkSeen) (before now : FolderSeen) → status ≡ status_of answer
+pub restored_ran : (words : RestoreData) (answer : Answer) (status : Status) (out : SinkSeen) (before now : FolderSeen) → status ≡ status_of_restore answer
     → IfSome before.files (λ named. IsDone (task_of named (names_of words)) words.output before.counts now.counts named now.files answer)
     → Causes answer (Rose before.counts.reading now.counts.reading) (Rose before.counts.writing now.counts.writing)
     → KeepsFiles answer before.files now.files
@@ -123,12 +123,12 @@ pub restored_ran : (words : RestoreData) (answer : Answer) (status : Status) (ou
 restored_ran words answer status out before now told done causes kept created misses counts =
     subst (λ (s : Status). Ran (Ok (Restore words)) s (beside before out) (beside now out)) (sym told) (record {
       ended = ended;
-      complete = ended_complete on_folder unread means (status_of answer) (beside before out) (beside now out) ended;
-      usage = (not_usage on_folder unread (status_of answer) (beside before out) (beside now out) (λ unasked. unasked) ended.causes, refl, as_before answer kept);
+      complete = ended_complete on_folder unread means (status_of_restore answer) (beside before out) (beside now out) ended;
+      usage = (not_usage on_folder unread (status_of_restore answer) (beside before out) (beside now out) (λ unasked. unasked) ended.causes, refl, as_before answer kept);
       misses = missed before.files misses;
       closes = λ opened closed. omega (arith, counts.opened, counts.closed);
       opens = omega (arith, counts.opened, counts.few);
-      reads = no_input (status_of answer) (progress (beside before out)) (progress (beside now out));
+      reads = no_input (status_of_restore answer) (progress (beside before out)) (progress (beside now out));
       reads_all = tt;
     })
   where
@@ -139,11 +139,11 @@ restored_ran words answer status out before now told done causes kept created mi
     means = option_map (restore_meaning words) before.files
 
     ends : (known : Option NamedFiles) → before.files ≡ known → IfSome known (λ named. IsDone (task_of named (names_of words)) words.output before.counts now.counts named now.files answer)
-        → IfSome (option_map (restore_meaning words) known) (λ m. Ends m (status_of answer) (beside before out) (beside now out))
+        → IfSome (option_map (restore_meaning words) known) (λ m. Ends m (status_of_restore answer) (beside before out) (beside now out))
     ends None is done = tt
     ends (Some named) is done = task_ends words.output named before now out is answer (task_of named (names_of words)) created done
 
-    leaves : (a : Answer) → KeepsFiles a before.files now.files → Created a before.counts.created now.counts.created → LeavesAll (status_of a) (beside before out) (beside now out)
+    leaves : (a : Answer) → KeepsFiles a before.files now.files → Created a before.counts.created now.counts.created → LeavesAll (status_of_restore a) (beside before out) (beside now out)
     leaves code.Done kept created = tt
     leaves (code.Refused fault) kept created = record { output = refl; files = kept; created = created }
     leaves (code.Read source) kept created = tt
@@ -151,14 +151,14 @@ restored_ran words answer status out before now told done causes kept created mi
     leaves code.NoMemory kept created = record { output = refl; files = kept; created = created }
 
     caused : (a : Answer) → Causes a (Rose before.counts.reading now.counts.reading) (Rose before.counts.writing now.counts.writing)
-        → IsCaused on_folder (Rose before.counts.reading now.counts.reading) (status_of a) (beside before out) (beside now out)
+        → IsCaused on_folder (Rose before.counts.reading now.counts.reading) (status_of_restore a) (beside before out) (beside now out)
     caused code.Done cause = tt
     caused (code.Refused fault) cause = cause
     caused (code.Read source) cause = cause
     caused code.Write cause = cause
     caused code.NoMemory cause = tt
 
-    ended : Ended on_folder (Rose before.counts.reading now.counts.reading) (option_map (restore_meaning words) before.files) (status_of answer) (beside before out) (beside now out)
+    ended : Ended on_folder (Rose before.counts.reading now.counts.reading) (option_map (restore_meaning words) before.files) (status_of_restore answer) (beside before out) (beside now out)
     ended = record { ends = ends before.files refl done; untouched = leaves answer kept created; causes = caused answer causes }
 
     missed : (known : Option NamedFiles) → IfSome known (λ named. task_of named (names_of words) ≢ missing → now.counts.misses ≡ before.counts.misses)

@@ -14,28 +14,28 @@ use Rattle.new_files.specs.Stored.{NewFile}
 use Rattle.trace_run.specs.Ending.{Ends, IsCaused, LeavesAll, MakesFiles}
 use Rattle.trace_run.specs.Meaning.{on_folder, split_by}
 use Rattle.trace_run.specs.Outside.{FolderSeen, SinkSeen, beside}
-use Rattle.trace_run.specs.Ends.{status_of}
+use Rattle.trace_run.specs.Ends.{status_of_end}
 use Rattle.trace_run.specs.Split.{split_end, split_files, taken_of}
 
 module _ (words : SplitData) (header : Header) (before now : FolderSeen) (out : SinkSeen) where
   -- the four answers of a split
   split_ends : (bytes : List ℕ) (answer : End) → IsSplit (split_files words header bytes) (split_end words header bytes) before.counts now.counts before.files now.files answer
       → Creates (length (split_files words header bytes)) before.counts.created now.counts.created answer
-      → Ends (split_by words header bytes) (status_of answer) (beside before out) (beside now out)
-  split_ends bytes end.Done split creates = record { answer = ap status_of split.0; output = gained_nothing out.written; files = split.1; created = creates }
+      → Ends (split_by words header bytes) (status_of_end answer) (beside before out) (beside now out)
+  split_ends bytes end.Done split creates = record { answer = ap status_of_end split.0; output = gained_nothing out.written; files = split.1; created = creates }
   split_ends bytes (end.Malformed cpu page) split creates =
-      record { answer = ap status_of split.0; output = gained_nothing out.written; files = split.1; created = creates }
+      record { answer = ap status_of_end split.0; output = gained_nothing out.written; files = split.1; created = creates }
   split_ends bytes end.Read split creates = record { output = (0, gained_nothing out.written); files = split; created = creates }
   split_ends bytes end.Write split creates = record { output = (0, gained_nothing out.written); files = split; created = creates }
 
-  split_leaves : (answer : End) → LeavesAll (status_of answer) (beside before out) (beside now out)
+  split_leaves : (answer : End) → LeavesAll (status_of_end answer) (beside before out) (beside now out)
   split_leaves end.Done = tt
   split_leaves (end.Malformed cpu page) = tt
   split_leaves end.Read = tt
   split_leaves end.Write = tt
 
   split_caused : (unread : Type 0) (answer : End) → (answer ≡ end.Read → unread) → (answer ≡ end.Write → Rose before.counts.writing now.counts.writing)
-      → IsCaused on_folder unread (status_of answer) (beside before out) (beside now out)
+      → IsCaused on_folder unread (status_of_end answer) (beside before out) (beside now out)
   split_caused unread end.Done read write = tt
   split_caused unread (end.Malformed cpu page) read write = tt
   split_caused unread end.Read read write = read refl
@@ -54,7 +54,7 @@ pub cut : (unread : Type 0) (words : SplitData) (header dropped : Header) (parts
     → IfSome told (λ bytes. IsSplit (new_files words dropped bytes parts) (end_of words dropped bytes parts) before.counts now.counts before.files now.files answer)
     → IfSome told (λ bytes. Creates (length (new_files words dropped bytes parts)) before.counts.created now.counts.created answer)
     → (answer ≡ end.Read → unread) → (answer ≡ end.Write → Rose before.counts.writing now.counts.writing)
-    → MakesFiles unread (option_map (split_by words header) told) (status_of answer) before now
+    → MakesFiles unread (option_map (split_by words header) told) (status_of_end answer) before now
 cut unread words header dropped parts told before now answer dropped_is parts_are split creates read write = λ out. record {
   ends = by_told told out split creates;
   untouched = split_leaves words header before now out answer;
@@ -64,7 +64,7 @@ cut unread words header dropped parts told before now answer dropped_is parts_ar
     by_told : (known : Option (List ℕ)) (out : SinkSeen)
         → IfSome known (λ bytes. IsSplit (new_files words dropped bytes parts) (end_of words dropped bytes parts) before.counts now.counts before.files now.files answer)
         → IfSome known (λ bytes. Creates (length (new_files words dropped bytes parts)) before.counts.created now.counts.created answer)
-        → IfSome (option_map (split_by words header) known) (λ m. Ends m (status_of answer) (beside before out) (beside now out))
+        → IfSome (option_map (split_by words header) known) (λ m. Ends m (status_of_end answer) (beside before out) (beside now out))
     by_told None out told made = tt
     by_told (Some bytes) out told made =
         split_ends words header before now out bytes answer

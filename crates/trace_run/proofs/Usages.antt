@@ -1,6 +1,7 @@
 -- What words ask for, by what was read of them.
-use Rattle.std.proofs.Common.{◌≡◌, ℕ, zero, suc, ◌+◌, ◌-◌, ◌<◌, ◌≤◌, Bool, List, [], ◌∷◌, ◌++◌, map, length, drop, get_or, Result, Ok, Err, refl, ap, sym, subst, ◌∙◌, arith}
-use Rattle.std.proofs.lemmas.List.{append_assoc, append-nil, map-append, drop_all, length-drop}
+use Rattle.std.proofs.Common.{◌≡◌, ℕ, suc, ◌+◌, ◌-◌, ◌<◌, ◌≤◌, Bool, List, [], ◌∷◌, ◌++◌, map, length, take, drop, get_or, Result, Ok, Err, ap, sym, subst, ◌∙◌, arith}
+use Rattle.std.proofs.Math.Seq.{split_at}
+use Rattle.std.proofs.lemmas.List.{map-append, length-drop, take_all, take_more}
 use Rattle.trace_args.specs.declared.fault.WordFault.{WordFault}
 use Rattle.trace_args.specs.declared.command.FilterWord.{FilterWord}
 use Rattle.trace_args.specs.Command.{ReportData, FilterData, filter_view}
@@ -19,7 +20,8 @@ use Rattle.trace_run.specs.declared.usage.UsageFault.{UsageFault}
 use Rattle.trace_run.specs.declared.usage.UsageFault.TheVariants.{Word, Filter}
 use Rattle.trace_run.specs.declared.usage.AskFault.{AskFault}
 use Rattle.trace_run.specs.declared.usage.AskFault.TheVariants.{Usage, Memory}
-use Rattle.trace_run.specs.Usage.{use_by, use_read, before_others, filters_read, job_filters, with_filters, asked_by, asked, uses_in}
+use Rattle.trace_run.proofs.Readings.{readings_fault, readings_more}
+use Rattle.trace_run.specs.Usage.{use_by, use_read, filters_read, job_filters, with_filters, asked_by, asked, uses_in}
 use Rattle.trace_run.specs.UsageView.{IsFaultOf, ask_fault}
 use Rattle.trace_run.specs.Selftest.{plain_report}
 
@@ -32,55 +34,32 @@ no_use word place = Err (Filter word place)
 abbrev pub Filters : Type 0
 Filters = Result (List UseData) UsageFault
 
--- filters that were read, and the others behind them
-abbrev pub behind : List UseData → Filters → Filters
-behind uses (Ok others) = Ok (uses ++ others)
-behind uses (Err fault) = Err fault
-
-pub none_behind : (others : Filters) → behind [] others ≡ others
-none_behind (Ok others) = refl
-none_behind (Err fault) = refl
-
-one_behind : (uses : List UseData) (one : UseData) (others : Filters) → behind (uses ++ one ∷ []) others ≡ behind uses (before_others (Ok one) others)
-one_behind uses one (Ok others) = ap Ok (append_assoc uses (one ∷ []) others)
-one_behind uses one (Err fault) = refl
-
-abbrev pub rest_read : List FilterWord → ℕ → Filters
-rest_read ws i = filters_read (map filter_view (drop i ws))
-
-there : (ws : List FilterWord) (i : ℕ) (w : FilterWord) → i < length ws → w ≡ get_or ws i w → rest_read ws i ≡ before_others (use_read (filter_view w)) (rest_read ws (suc i))
-there [] i w lt is = absurd (omega arith)
-there (v ∷ ws) zero w lt is = ap (λ (x : FilterWord). before_others (use_read (filter_view x)) (filters_read (map filter_view ws))) (sym is)
-there (v ∷ ws) (suc i) w lt is = there ws i w (omega arith) is
-
-pub next_there : (ws : List FilterWord) (i : ℕ) (w : FilterWord) → i < length ws → w ≡ get_or ws i w → rest_read ws i ≡ before_others (use_read (filter_view w)) (rest_read ws (i + 1))
-next_there ws i w lt is =
-    let next : suc i ≡ i + 1 = omega arith in there ws i w lt is ∙ ap (λ (n : ℕ). before_others (use_read (filter_view w)) (rest_read ws n)) next
+-- what the first few words' filters give
+abbrev pub read_up_to : List FilterWord → ℕ → Filters
+read_up_to ws i = filters_read (map filter_view (take i ws))
 
 -- one more filter was read
 pub one_more : (ws : List FilterWord) (i : ℕ) (w : FilterWord) (done all : List FilterUse) (one : FilterUse) → i < length ws → w ≡ get_or ws i w → all ≡ done ++ one ∷ [] → use_read (filter_view w) ≡ Ok (use_of one)
-    → behind (map use_of done) (rest_read ws i) ≡ filters_read (map filter_view ws) → behind (map use_of all) (rest_read ws (i + 1)) ≡ filters_read (map filter_view ws)
+    → read_up_to ws i ≡ Ok (map use_of done) → read_up_to ws (i + 1) ≡ Ok (map use_of all)
 one_more ws i w done all one lt is pushed read so_far =
-    ap (λ (us : List FilterUse). behind (map use_of us) (rest_read ws (i + 1))) pushed
-    ∙ ap (λ (us : List UseData). behind us (rest_read ws (i + 1))) (map-append use_of done (one ∷ []))
-    ∙ one_behind (map use_of done) (use_of one) (rest_read ws (i + 1))
-    ∙ ap (λ (r : Result UseData UsageFault). behind (map use_of done) (before_others r (rest_read ws (i + 1)))) (sym read)
-    ∙ ap (behind (map use_of done)) (sym (next_there ws i w lt is)) ∙ so_far
+    ap (λ (us : List FilterWord). filters_read (map filter_view us)) (take_more ws i w lt ∙ ap (λ (u : FilterWord). take i ws ++ u ∷ []) (sym is))
+    ∙ ap filters_read (map-append filter_view (take i ws) (w ∷ []))
+    ∙ readings_more use_read (map filter_view (take i ws)) (filter_view w) (map use_of done) (use_of one) so_far read
+    ∙ ap Ok (sym (map-append use_of done (one ∷ []))) ∙ ap (λ (us : List FilterUse). Ok (map use_of us)) (sym pushed)
 
 -- all were read
-pub all_read : (ws : List FilterWord) (i : ℕ) (done : List FilterUse) → length ws ≤ i → behind (map use_of done) (rest_read ws i) ≡ filters_read (map filter_view ws) → filters_read (map filter_view ws) ≡ Ok (map use_of done)
-all_read ws i done past so_far =
-    sym so_far ∙ ap (λ (us : List FilterWord). behind (map use_of done) (filters_read (map filter_view us))) (drop_all i ws past) ∙ ap Ok (append-nil (map use_of done))
+pub all_read : (ws : List FilterWord) (i : ℕ) (done : List FilterUse) → length ws ≤ i → read_up_to ws i ≡ Ok (map use_of done) → filters_read (map filter_view ws) ≡ Ok (map use_of done)
+all_read ws i done past so_far = ap (λ (us : List FilterWord). filters_read (map filter_view us)) (sym (take_all i ws past)) ∙ so_far
 
 -- one was none
-fault_there : (uses : List UseData) (read : Result UseData UsageFault) (others : Filters) (why : AskFault) → IsFaultOf read why → IsFaultOf (behind uses (before_others read others)) why
-fault_there uses read others (Usage fault) is = ap (λ (r : Result UseData UsageFault). behind uses (before_others r others)) is
-fault_there uses read others Memory is = tt
-
 pub one_none : (ws : List FilterWord) (i : ℕ) (w : FilterWord) (done : List FilterUse) (why : AskFault) → i < length ws → w ≡ get_or ws i w → IsFaultOf (use_read (filter_view w)) why
-    → behind (map use_of done) (rest_read ws i) ≡ filters_read (map filter_view ws) → IsFaultOf (filters_read (map filter_view ws)) why
-one_none ws i w done why lt is fault so_far =
-    subst (λ (r : Filters). IsFaultOf r why) (ap (behind (map use_of done)) (sym (next_there ws i w lt is)) ∙ so_far) (fault_there (map use_of done) (use_read (filter_view w)) (rest_read ws (i + 1)) why fault)
+    → read_up_to ws i ≡ Ok (map use_of done) → IsFaultOf (filters_read (map filter_view ws)) why
+one_none ws i w done (Usage fault) lt is bad so_far =
+    let rest = drop (suc i) ws in
+    ap (λ (us : List FilterWord). filters_read (map filter_view us)) (split_at ws i w lt ∙ ap (λ (u : FilterWord). take i ws ++ u ∷ rest) (sym is))
+    ∙ ap filters_read (map-append filter_view (take i ws) (w ∷ rest))
+    ∙ readings_fault use_read (map filter_view (take i ws)) (filter_view w) (map use_of done) (map filter_view rest) fault so_far bad
+one_none ws i w done Memory lt is bad so_far = tt
 
 -- the words have a reading, and all filters have one
 pub all_asked : (words : List (List ℕ)) (job : Job) (uses : List UseData) → job_of words ≡ Ok job → filters_read (job_filters job) ≡ Ok uses → asked words ≡ Ok job

@@ -9,7 +9,7 @@ use Rattle.format_parse.specs.declared.format.EventFormat.{EventFormat}
 use Rattle.format_parse.specs.Table.{formats_in, with_formats}
 use Rattle.symbols.specs.Maps.{Maps, maps_of}
 use Rattle.report_print.specs.declared.show.Show.{Show}
-use Rattle.report_print.specs.Given.{Given}
+use Rattle.report_print.specs.ContextData.{ContextData}
 use Rattle.trace_run.specs.Usage.{uses_in}
 
 -- the formats of ftrace's own events, and behind them those of each system
@@ -37,7 +37,7 @@ show_of words layout = record {
   raw_events = words.raw_events;
 }
 
-abbrev pub context_of : ReportData → Header → Given
+abbrev pub context_of : ReportData → Header → ContextData
 context_of words header = record {
   formats = formats_of header;
   symbols = symbols_of header;

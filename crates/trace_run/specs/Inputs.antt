@@ -15,6 +15,7 @@ use Rattle.trace_args.specs.Command.{ReportData}
 use Rattle.trace_run.specs.declared.status.Status.{Status}
 use Rattle.trace_run.specs.declared.status.Status.TheVariants.{Refused, ReadFault}
 use Rattle.trace_run.specs.Context.{context_of}
+use Rattle.trace_run.specs.Readings.{readings}
 use Rattle.trace_run.specs.Report.{item_line}
 use Rattle.trace_run.specs.Selection.{chosen, set_or_all}
 
@@ -40,15 +41,9 @@ input_found name (Some bytes) = input_with name bytes (header_of bytes)
 abbrev pub input_named : NamedFiles → List ℕ → Result NamedInput WrongInput
 input_named files name = input_found name (get files name)
 
-abbrev pub before_others : Result NamedInput WrongInput → Result (List NamedInput) WrongInput → Result (List NamedInput) WrongInput
-before_others (Ok input) (Ok inputs) = Ok (input ∷ inputs)
-before_others (Ok input) (Err wrong) = Err wrong
-before_others (Err wrong) others = Err wrong
-
 -- the inputs of these names, or the first that is wrong
 abbrev pub inputs_in : NamedFiles → List (List ℕ) → Result (List NamedInput) WrongInput
-inputs_in files [] = Ok []
-inputs_in files (name ∷ names) = before_others (input_named files name) (inputs_in files names)
+inputs_in files names = readings (input_named files) names
 
 -- the names that words give
 abbrev pub names_in : ReportData → List (List ℕ)

@@ -2,12 +2,12 @@ pub mod Selection
 pub mod Context
 pub mod Lists
 pub mod Report
-pub mod Calls
 pub mod Restore
 pub mod Job
 pub mod Allowed
 pub mod Split
 pub mod Ends
+pub mod Readings
 pub mod Usage
 pub mod UsageView
 pub mod Selftest

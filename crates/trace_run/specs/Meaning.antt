@@ -9,8 +9,9 @@ use Rattle.dat_header.specs.declared.header.Body.{Body}
 use Rattle.dat_header.specs.declared.header.Body.TheVariants.{Latency, Fly}
 use Rattle.dat_header.specs.Header.{header_of}
 use Rattle.subpage.specs.Cut.{Cut, cut_of, reached_of}
+use Rattle.item_pass.specs.Skipping.{cut_place}
 use Rattle.trace_run.specs.declared.status.Status.{Status}
-use Rattle.trace_run.specs.declared.status.Status.TheVariants.{Done, Usage, Refused, Malformed, ReadFault}
+use Rattle.trace_run.specs.declared.status.Status.TheVariants.{Done, Usage, Refused, ReadFault}
 use Rattle.trace_run.specs.declared.usage.UsageFault.{UsageFault}
 use Rattle.trace_run.specs.Usage.{asked}
 use Rattle.trace_args.specs.Command.{ReportData, DumpData, SelfData, SplitData, RestoreData}
@@ -21,7 +22,7 @@ use Rattle.trace_run.specs.Job.{FileCommand, Report, Dump, Split, Job, OnFile, O
 use Rattle.graph_report.specs.Gathered.{reached_calls}
 use Rattle.trace_run.specs.Report.{Events, call_pieces, cpus_line, parts_events, report_pieces, waits_section}
 use Rattle.trace_run.specs.Selftest.{self_test_line}
-use Rattle.trace_run.specs.Ends.{status_of}
+use Rattle.trace_run.specs.Ends.{status_of_cut, status_of_end}
 use Rattle.trace_run.specs.Split.{split_end, split_files}
 use Rattle.dump_tool.specs.Dump.{dump_text}
 use Rattle.new_files.specs.Stored.{NewFile}
@@ -53,8 +54,7 @@ only status = prints [] status
 
 -- a report ends at the first malformed sub-buffer in the order of its lines
 abbrev pub ended : Option Cut → Status
-ended None = Done
-ended (Some cut) = Malformed cut.cpu cut.page
+ended cut = status_of_cut (cut_place cut)
 
 -- the report of events: the lines of the reached items, in the order in which these happened
 abbrev pub events_report : Events → Meaning
@@ -108,7 +108,7 @@ dump_of words header = prints (dump_text words header ∷ []) Done
 abbrev pub split_by : SplitData → Header → List ℕ → Meaning
 split_by words header bytes = record {
   pieces = [];
-  status = status_of (split_end words header bytes);
+  status = status_of_end (split_end words header bytes);
   files = split_files words header bytes;
 }
 
@@ -130,8 +130,7 @@ restore_meaning words files = task_means (task_of files (names_of words))
 
 -- a report of several files ends at the first malformed sub-buffer of all of them
 abbrev pub ended_in : Option FileCut → Status
-ended_in None = Done
-ended_in (Some cut) = Malformed cut.cut.cpu cut.cut.page
+ended_in cut = ended (option_map (λ c. c.cut) cut)
 
 -- first a line for each file, and then the lines of the reached items of all, in the order in which these happened
 abbrev pub files_report : List several.ShownFile → Meaning

@@ -1,12 +1,18 @@
 -- What a command that only prints leaves on the output, where there was memory.
-use Rattle.std.specs.Prelude.{Option, ◌≡◌, ℕ, List, take, IfSome}
-use Rattle.trace_outside.specs.Causes.{Rose}
+use Rattle.std.specs.Prelude.{Option, Result, ◌≡◌, ℕ, List, take, IfSome, OnOk, OnErr}
+use Rattle.trace_outside.specs.Causes.{HasCause, Rose}
 use Rattle.trace_outside.specs.Writing.{Gained, GainedPrefix}
 use Rattle.trace_run.specs.declared.status.Status.{Status}
 use Rattle.trace_run.specs.declared.status.Status.TheVariants.{Done, Usage, Refused, Malformed, ReadFault, WriteFault, NoMemory}
 use Rattle.trace_run.specs.Meaning.{Meaning}
 use Rattle.trace_run.specs.Outside.{SinkSeen}
 use Rattle.multi_report.specs.Pieces.{text_of}
+
+-- a text was written, and after a fault, which the output counted, a prefix of it
+pub record WritesText {T E : Type 0} (text : List ℕ) (before now : SinkSeen) (result : Result T E) : Type 0 where
+  pub gained : OnOk result (Gained before.written now.written text)
+  pub prefix : OnErr result (GainedPrefix before.written now.written text)
+  pub cause : HasCause before.faults now.faults result
 
 -- all of it, after a fault of reading its first few pieces, after one of writing a prefix
 abbrev pub Writes : Meaning → Status → Option (List ℕ) → Option (List ℕ) → Type 0

@@ -10,7 +10,7 @@ use Rattle.line_holes.specs.Holes.{LineText, filled_lines, line_text}
 use Rattle.subpage.specs.ItemData.{ItemData}
 use Rattle.subpage.specs.Arrangement.{Keyed}
 use Rattle.subpage.specs.Cut.{reached_of}
-use Rattle.report_print.specs.Given.{Given}
+use Rattle.report_print.specs.ContextData.{ContextData}
 use Rattle.report_print.specs.Line.{hole, line}
 use Rattle.call_pairs.specs.declared.call.Call.{Call}
 use Rattle.graph_report.specs.CallText.{call_line}
@@ -28,31 +28,31 @@ abbrev pub cpus_line : ℕ → List ℕ
 cpus_line cpus = text_of (codes "cpus=" ∷ decimal cpus ∷ codes "\n" ∷ [])
 
 -- the line of an item, with its hole
-abbrev pub item_line : Given → ℕ → ItemData → LineText
+abbrev pub item_line : ContextData → ℕ → ItemData → LineText
 item_line given cpu item = line_text (line given cpu item) (hole given cpu item)
 
 -- a report's first line and the lines of calls
-abbrev pub call_pieces : ℕ → Given → List Call → List (List ℕ)
+abbrev pub call_pieces : ℕ → ContextData → List Call → List (List ℕ)
 call_pieces cpus given calls = cpus_line cpus ∷ map (call_line given) calls
 
 -- the line of an item in its place
-abbrev pub entry_line : Given → Keyed → LineText
+abbrev pub entry_line : ContextData → Keyed → LineText
 entry_line given keyed = item_line given keyed.cpu keyed.item
 
 -- the pieces of a report of these items: behind the first line one for each, its line filled from the last one before it
 -- that has a hole
-abbrev pub report_pieces : ℕ → Given → List Keyed → List (List ℕ)
+abbrev pub report_pieces : ℕ → ContextData → List Keyed → List (List ℕ)
 report_pieces cpus given items = cpus_line cpus ∷ filled_lines None (map (entry_line given) items)
 
 -- A report of events: what its lines stand on, the parts that it shows with their processors, and the file's header and
 -- bytes.
 pub record Events : Type 0 where
-  pub given : Given
+  pub given : ContextData
   pub parts : List (ℕ × Part)
   pub header : Header
   pub bytes : List ℕ
 
-abbrev pub events_on : Given → List (ℕ × Part) → Header → List ℕ → Events
+abbrev pub events_on : ContextData → List (ℕ × Part) → Header → List ℕ → Events
 events_on given parts header bytes = record { given = given; parts = parts; header = header; bytes = bytes }
 
 abbrev pub parts_events : ReportData → Header → List Part → List ℕ → Events

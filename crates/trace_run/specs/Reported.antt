@@ -11,7 +11,7 @@ use Rattle.dat_header.specs.declared.header.Body.{Body}
 use Rattle.subpage.specs.Arrangement.{CpusRise}
 use Rattle.filter_truth.specs.declared.select.FilterUse.{FilterUse}
 use Rattle.filter_truth.specs.SelectionView.{use_of}
-use Rattle.report_print.specs.Given.{Given}
+use Rattle.report_print.specs.ContextData.{ContextData}
 use Rattle.trace_args.specs.Command.{ReportData}
 use Rattle.trace_run.specs.declared.report.ReportPlan.{ReportPlan}
 use Rattle.trace_run.specs.declared.report.Shown.{Shown}
@@ -57,7 +57,7 @@ body_task words header body size = record {
 }
 
 -- of these parts with their processors, by whether calls are shown in place of the events, and the latencies behind them
-abbrev pub parts_task : Bool → Bool → Given → List (ℕ × Part) → Header → Task
+abbrev pub parts_task : Bool → Bool → ContextData → List (ℕ × Part) → Header → Task
 parts_task calls wakeups given parts header = record {
   means = λ bytes. report_as calls wakeups (events_on given parts header bytes);
   share = parts_share wakeups parts;

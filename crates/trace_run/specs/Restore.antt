@@ -4,9 +4,9 @@ use Rattle.trace_run.specs.declared.status.Status.TheVariants.{Done, Refused, Re
 use Rattle.restore_tool.specs.declared.named.Answer.{Answer}
 use Rattle.restore_tool.specs.declared.named.Answer.TheVariants as code
 
-abbrev pub status_of : Answer → Status
-status_of code.Done = Done
-status_of (code.Refused fault) = Refused fault
-status_of (code.Read source) = ReadFault
-status_of code.Write = WriteFault
-status_of code.NoMemory = NoMemory
+abbrev pub status_of_restore : Answer → Status
+status_of_restore code.Done = Done
+status_of_restore (code.Refused fault) = Refused fault
+status_of_restore (code.Read source) = ReadFault
+status_of_restore code.Write = WriteFault
+status_of_restore code.NoMemory = NoMemory

@@ -16,7 +16,7 @@ use Rattle.multi_report.specs.declared.report.FilesEnd.TheVariants as end
 use Rattle.multi_report.specs.declared.source.Source.{Source}
 use Rattle.multi_report.specs.Sources.{Seen, seen, shown_of, IsFreshSource, IsUsable}
 use Rattle.restore_tool.specs.Answers.{SomeFaulty}
-use Rattle.restore_tool.specs.Copying.{FileSeen}
+use Rattle.dat_header.specs.Seen.{FileSeen}
 use Rattle.restore_tool.specs.Open.{OpensMany}
 use Rattle.trace_args.specs.Command.{ReportData}
 use Rattle.trace_run.specs.declared.command.Outcome.{Outcome}
@@ -46,7 +46,7 @@ seen_with name opened basis = record {
   cpus = basis.cpus;
   layout = basis.layout;
   text = item_line basis.form.context;
-  told = opened.told;
+  told = opened.bytes;
   size = opened.size;
   faults = opened.faults;
   reads = opened.reads;
@@ -56,7 +56,7 @@ seen_with name opened basis = record {
 
 -- its file
 abbrev pub file_in : Seen → FileSeen
-file_in source = record { told = source.told; size = source.size; faults = source.faults; reads = source.reads }
+file_in source = record { bytes = source.told; size = source.size; faults = source.faults; reads = source.reads }
 
 -- what the lines of a file with this header stand on, and lanes over the parts that are shown of it, of which nothing was used up
 pub record IsBasis (words : ReportData) (header : Header) (basis : Basis) : Type 0 where
@@ -76,11 +76,11 @@ pub record IsRead (words : ReportData) (told : Option (List ℕ)) (before now : 
   pub reads : now ≤ raised before header.end
 
 -- why a file cannot be shown: its bytes begin with no header, a read failed, or there was no memory
-abbrev pub IsUnread : Option (List ℕ) → Type 0 → Status → Type 0
-IsUnread told rose (Refused fault) = IsRefusal fault × ReadsHeader told (Err fault)
-IsUnread told rose ReadFault = rose
-IsUnread told rose NoMemory = Unit {0}
-IsUnread told rose status = ⊥
+abbrev pub WhyUnread : Option (List ℕ) → Type 0 → Status → Type 0
+WhyUnread told rose (Refused fault) = IsRefusal fault × ReadsHeader told (Err fault)
+WhyUnread told rose ReadFault = rose
+WhyUnread told rose NoMemory = Unit {0}
+WhyUnread told rose status = ⊥
 
 -- what was read of it, and what its parts have
 abbrev pub reads_due : Seen → ℕ
@@ -112,12 +112,12 @@ pub record IsOpened (words : ReportData) (name : List ℕ) (source : Seen) (befo
   pub misses : IfSome before.files (λ files. now.counts.misses ≡ misses_after files name before.counts.misses)
 
 -- why an input cannot be shown: its bytes begin with no header, it is missing or a read failed, or there was no memory
-abbrev pub IsReason : List ℕ → Status → FolderSeen → FolderSeen → Type 0
-IsReason name (Refused fault) before now =
+abbrev pub WhyUnopened : List ℕ → Status → FolderSeen → FolderSeen → Type 0
+WhyUnopened name (Refused fault) before now =
     IsRefusal fault × IfSome before.files (λ files. input_named files name ≡ Err (record { name = name; status = Refused fault }))
-IsReason name ReadFault before now = Rose before.counts.reading now.counts.reading
-IsReason name NoMemory before now = Unit {0}
-IsReason name status before now = ⊥
+WhyUnopened name ReadFault before now = Rose before.counts.reading now.counts.reading
+WhyUnopened name NoMemory before now = Unit {0}
+WhyUnopened name status before now = ⊥
 
 -- no file is open that was not before: as many were closed as were opened, and those were at most so many
 pub record ClosesAgain (most : ℕ) (before now : Counts) : Type 0 where
@@ -132,7 +132,7 @@ pub record ClosesAgain (most : ℕ) (before now : Counts) : Type 0 where
 pub record IsUnopened (name : List ℕ) (status : Status) (before now : FolderSeen) : Type 0 where
   pub files : now.files ≡ before.files
   pub counts : ClosesAgain 1 before.counts now.counts
-  pub reason : IsReason name status before now
+  pub reason : WhyUnopened name status before now
   pub misses : IfSome before.files (λ files. now.counts.misses ≡ misses_after files name before.counts.misses)
 
 -- inputs of these names were opened, and all of them are open
@@ -178,11 +178,11 @@ OpensAll words sources before now (Err outcome) = (out : SinkSeen)
     → FilesReported words (map file_in sources) outcome.status outcome.file.now (beside before out) (beside now out)
 
 -- the answer for an end of the report
-abbrev pub status_of : FilesEnd → Status
-status_of end.Done = Done
-status_of (end.Malformed source cpu page) = Malformed cpu page
-status_of (end.Read source) = ReadFault
-status_of end.Write = WriteFault
+abbrev pub status_of_files : FilesEnd → Status
+status_of_files end.Done = Done
+status_of_files (end.Malformed source cpu page) = Malformed cpu page
+status_of_files (end.Read source) = ReadFault
+status_of_files end.Write = WriteFault
 
 -- the file that it is of, if it is of one
 abbrev pub source_of : FilesEnd → Option ℕ

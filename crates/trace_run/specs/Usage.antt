@@ -1,6 +1,6 @@
 -- What the words ask for, with the filters of a report read. All words are read first, and then each filter in its
 -- place; the first that is none is the fault. Source: trace-cmd-report(1), `-F` and `-v`.
-use Rattle.std.specs.Prelude.{ℕ, List, [], ◌∷◌, Result, Ok, Err}
+use Rattle.std.specs.Prelude.{ℕ, List, [], Result, Ok, Err}
 use Rattle.std.specs.Result.{result_unwrap_or}
 use Rattle.trace_args.specs.Command.{FilterData}
 use Rattle.trace_args.specs.declared.fault.WordFault.{WordFault}
@@ -8,10 +8,11 @@ use Rattle.filter_lang.specs.Filter as lang
 use Rattle.filter_lang.specs.Reading as filter_text
 use Rattle.filter_truth.specs.Selection.{UseData}
 use Rattle.trace_run.specs.Job.{FileCommand, Report, Dump, Split, Job, OnFile, OnFiles, SelfTest, Restore, job_of}
+use Rattle.trace_run.specs.Readings.{readings}
 use Rattle.trace_run.specs.declared.usage.UsageFault.{UsageFault}
 use Rattle.trace_run.specs.declared.usage.UsageFault.TheVariants.{Word, Filter}
 
--- one filter, and what is read before the others
+-- one filter
 abbrev pub use_by : FilterData → Result lang.FilterData ℕ → Result UseData UsageFault
 use_by w (Ok filter) = Ok (record { hide = w.hide; filter = filter })
 use_by w (Err place) = Err (Filter w.word place)
@@ -19,15 +20,9 @@ use_by w (Err place) = Err (Filter w.word place)
 abbrev pub use_read : FilterData → Result UseData UsageFault
 use_read w = use_by w (filter_text.reading w.text)
 
-abbrev pub before_others : Result UseData UsageFault → Result (List UseData) UsageFault → Result (List UseData) UsageFault
-before_others (Ok use') (Ok uses) = Ok (use' ∷ uses)
-before_others (Ok use') (Err fault) = Err fault
-before_others (Err fault) others = Err fault
-
 -- all filters of some words, or the fault of the first that is none
 abbrev pub filters_read : List FilterData → Result (List UseData) UsageFault
-filters_read [] = Ok []
-filters_read (w ∷ ws) = before_others (use_read w) (filters_read ws)
+filters_read ws = readings use_read ws
 
 -- the filters among a command's words
 abbrev pub command_filters : FileCommand → List FilterData

@@ -1,28 +1,30 @@
 // The function graph, printed in place of the events.
 
 ghost use Rattle.std.specs.Option.{option_map};
-ghost use Rattle.std.specs.Prelude.{◌≡◌, ◌≤◌, [], Err, length, IfOk, IfSome, OnOk, OnErr};
+ghost use Rattle.std.specs.Prelude.{◌≡◌, ◌≤◌, [], Err, length, IfOk, IfSome};
 ghost use Rattle.trace_base.specs.Layout.{IsLayout};
-ghost use Rattle.trace_outside.specs.Causes.{HasCause, Rose, raised};
+ghost use Rattle.trace_outside.specs.Causes.{Rose, raised};
 ghost use Rattle.trace_outside.specs.Pending.{PutsText, on_way};
-ghost use Rattle.trace_outside.specs.Writing.{Gained, GainedPrefix};
 ghost use Rattle.subpage.specs.Arrangement.{CpusRise};
 ghost use Rattle.subpage.specs.Cut.{cut_of};
+ghost use Rattle.multi_report.specs.Pieces.{text_of};
 ghost use Rattle.graph_report.specs.Gathered.{cut_place, reached_calls};
-ghost use Rattle.trace_run.specs.Calls as spec;
-ghost use Rattle.trace_run.specs.Calls.{called_text};
 ghost use Rattle.trace_run.specs.Ending.{Prints};
 ghost use Rattle.trace_run.specs.Input.{parts_size};
 ghost use Rattle.trace_run.specs.Meaning.{calls_report};
 ghost use Rattle.trace_run.specs.Outside.{sink_seen};
+ghost use Rattle.trace_run.specs.Output.{WritesText};
+ghost use Rattle.trace_run.specs.Report.{call_pieces};
 ghost use Rattle.trace_run.specs.Reported.{IsShown, events_shown};
 
+use crate::ends::{status_of_cut, status_of_pass};
 use crate::events::line_buffer;
 use crate::lines::put_cpus;
 use crate::report::{ReportPlan, Shown};
 use crate::status::Status;
 use call_pairs::Call;
-use graph_report::{Calls, CallsFault, gather_calls, put_calls};
+use graph_report::{Calls, gather_calls, put_calls};
+use item_pass::PassFault;
 use page_pool::Pool;
 use report_print::Context;
 use std::alloc::Global;
@@ -52,12 +54,11 @@ pub(crate) fn print_calls<I: File, O: Sink>(
     };
     let calls = match gathered(alloc, context, &header.layout, shown.parts, file) {
         Ok(calls) => calls,
-        Err(CallsFault::Read) => return Status::ReadFault,
-        Err(CallsFault::Memory) => return Status::NoMemory,
+        Err(fault) => return status_of_pass(fault),
     };
     let list = calls.list.as_slice();
     match put_whole(context, header.cpus, list, &mut buffer, &mut pending, out) {
-        Ok(()) => status_at(calls.cut),
+        Ok(()) => status_of_cut(calls.cut),
         Err(Failed) => Status::WriteFault,
     }
 }
@@ -69,18 +70,18 @@ fn gathered<I: File>(
     layout: &Layout,
     chosen: &[(u32, Part)],
     file: &mut I,
-) -> Result<Calls, CallsFault>
+) -> Result<Calls, PassFault>
     requires allowed { IsLayout layout.now }
     requires few { length chosen.now ≤ 1024 }
     requires rise { CpusRise chosen.now }
     ensures list { IfSome (I.bytes file.old) (λ bytes. IfOk result (λ calls. calls.list.items ≡ reached_calls context.now layout.now bytes chosen.now)) }
     ensures cut { IfSome (I.bytes file.old) (λ bytes. IfOk result (λ calls. calls.cut ≡ cut_place (cut_of layout.now bytes chosen.now))) }
-    ensures read { result ≡ Err CallsFault.Read → Rose (I.faults file.old) (I.faults file.new) }
+    ensures read { result ≡ Err PassFault.Read → Rose (I.faults file.old) (I.faults file.new) }
     ensures reads { I.reads file.new ≤ raised (I.reads file.old) (parts_size chosen.now) }
 {
     // No lines are kept.
     let Ok(mut pool) = Pool::new(alloc, chosen.len() as u32, layout.page, 0) else {
-        return Err(CallsFault::Memory);
+        return Err(PassFault::Memory);
     };
     let lanes = pool.lanes();
     set_lanes(lanes, chosen);
@@ -98,9 +99,7 @@ fn put_whole<O: Sink>(
 ) -> Result<(), Failed>
     requires empty { pending.old ≡ [] }
     requires room { 65537 ≤ length buffer.old }
-    ensures gained { OnOk result (Gained (O.written out.old) (O.written out.new) (called_text cpus context.now calls.now)) }
-    ensures prefix { OnErr result (GainedPrefix (O.written out.old) (O.written out.new) (called_text cpus context.now calls.now)) }
-    ensures cause { HasCause (O.faults out.old) (O.faults out.new) result }
+    ensures { WritesText (text_of (call_pieces cpus context.now calls.now)) (sink_seen O.Sink out.old) (sink_seen O.Sink out.new) result }
 {
     put_all(context, cpus, calls, buffer, pending, out)?;
     pending.flush(out)
@@ -115,18 +114,8 @@ fn put_all<O: Sink>(
     out: &mut O,
 ) -> Result<(), Failed>
     requires { 65537 ≤ length buffer.old }
-    ensures { PutsText (called_text cpus context.now calls.now) (on_way O.written O.name O.faults out.old pending.old) (on_way O.written O.name O.faults out.new pending.new) result }
+    ensures { PutsText (text_of (call_pieces cpus context.now calls.now)) (on_way O.written O.name O.faults out.old pending.old) (on_way O.written O.name O.faults out.new pending.new) result }
 {
     put_cpus(pending, out, cpus)?;
     put_calls(context, calls, buffer, pending, out)
-}
-
-// The answer of a report whose items end before this sub-buffer, or before none.
-fn status_at(cut: Option<(u32, u64)>) -> Status
-    ensures { result ≡ spec.status_at cut }
-{
-    match cut {
-        None => Status::Done,
-        Some((cpu, page)) => Status::Malformed { cpu, page },
-    }
 }

@@ -1,14 +1,15 @@
-// The answer of a run for the end that its lanes come to.
+// The answer of a run for the end that its lanes come to, for a pass over them that ended early, and for a cut.
 
 ghost use Rattle.std.specs.Prelude.{◌≡◌};
 ghost use Rattle.trace_run.specs.Ends as spec;
 
 use crate::status::Status;
+use item_pass::PassFault;
 use time_merge::End;
 
 /// The answer for this end.
-pub(crate) fn status_of(end: End) -> Status
-    ensures { result ≡ spec.status_of end }
+pub(crate) fn status_of_end(end: End) -> Status
+    ensures { result ≡ spec.status_of_end end }
 {
     match end {
         End::Done => Status::Done,
@@ -23,8 +24,28 @@ pub(crate) fn status_or_memory(end: Option<End>) -> Status
     ensures { result ≡ spec.status_or_memory end }
 {
     match end {
-        Some(end) => status_of(end),
+        Some(end) => status_of_end(end),
         None => Status::NoMemory,
+    }
+}
+
+/// The answer for a pass that ended early.
+pub(crate) fn status_of_pass(fault: PassFault) -> Status
+    ensures { result ≡ spec.status_of_pass fault }
+{
+    match fault {
+        PassFault::Read => Status::ReadFault,
+        PassFault::Memory => Status::NoMemory,
+    }
+}
+
+/// The answer of a report whose items end before this sub-buffer of this processor, or before none.
+pub(crate) fn status_of_cut(cut: Option<(u32, u64)>) -> Status
+    ensures { result ≡ spec.status_of_cut cut }
+{
+    match cut {
+        None => Status::Done,
+        Some((cpu, page)) => Status::Malformed { cpu, page },
     }
 }
 

@@ -1,33 +1,33 @@
 // A report of events: the lines of the items, and behind them how long woken tasks waited.
 
 ghost use Rattle.std.specs.Option.{option_map};
-ghost use Rattle.std.specs.Prelude.{◌≡◌, ◌≤◌, ◌*◌, [], length, true, IfNone, IfOk, IfSome, OnOk, OnErr};
-ghost use Rattle.trace_outside.specs.Causes.{HasCause, Rose, raised};
-ghost use Rattle.trace_outside.specs.Writing.{Gained, GainedPrefix};
+ghost use Rattle.std.specs.Prelude.{◌≡◌, ◌≤◌, ◌*◌, [], length, true, IfNone, IfOk, IfSome, OnOk};
+ghost use Rattle.trace_outside.specs.Causes.{Rose, raised};
 ghost use Rattle.wakeup_lat.specs.Section.{section};
 ghost use Rattle.trace_run.specs.Ending.{Prints};
-ghost use Rattle.trace_run.specs.Ends.{status_of};
+ghost use Rattle.trace_run.specs.Ends.{status_of_end};
 ghost use Rattle.trace_run.specs.Input.{ReadsDue, parts_size, progress_at};
 ghost use Rattle.trace_run.specs.Meaning.{events_report, shown_report};
 ghost use Rattle.trace_run.specs.Outside.{sink_seen};
-ghost use Rattle.trace_run.specs.Output.{Shows, WritesFor};
+ghost use Rattle.trace_run.specs.Output.{Shows, WritesFor, WritesText};
 ghost use Rattle.trace_run.specs.Report.{cpus_line};
 ghost use Rattle.trace_run.specs.Reported.{IsShown, events_shown};
 
-use crate::ends::{is_whole, status_of};
+use crate::ends::{is_whole, status_of_end, status_of_pass};
 use crate::lines::{LINES_ROOM, put_cpus};
 use crate::report::{ReportPlan, Shown};
 use crate::resources::Resources;
 use crate::status::Status;
+use cpu_workers::Workers;
 use least_tree::LeastTree;
 use page_pool::Pool;
 use report_print::Context;
-use report_rounds::report_rounds;
+use report_rounds::{RoundWork, report_rounds};
 use std::alloc::{AllocError, Global};
 use std::thread::Threads;
 use time_merge::{End, set_lanes};
 use trace_outside::{Failed, File, Gate, Pending, Sink};
-use wakeup_lat::{GatherFault, gather, put_wakeups};
+use wakeup_lat::{gather, put_wakeups};
 use wakeup_pairs::Wakeups;
 
 /// Prints the first line, and behind it the lines of the processors' items in the order in which they happened. All memory
@@ -41,8 +41,8 @@ pub(crate) fn print_lines<R: Threads + Sync, I: File, O: Sink, G: Gate>(
 ) -> Option<End>
     requires { IsShown plan.now shown.now }
     ensures writes { IfSome result (λ end. WritesFor (λ bytes. events_report (events_shown plan.now shown.now bytes))
-        (I.bytes file.old) (status_of end) (O.written out.old) (O.written out.new)) }
-    ensures shows { IfSome result (λ end. Shows (Rose (I.faults file.old) (I.faults file.new)) (status_of end)
+        (I.bytes file.old) (status_of_end end) (O.written out.old) (O.written out.new)) }
+    ensures shows { IfSome result (λ end. Shows (Rose (I.faults file.old) (I.faults file.new)) (status_of_end end)
         (sink_seen O.Sink out.old) (sink_seen O.Sink out.new)) }
     ensures untouched { IfNone result (sink_seen O.Sink out.new ≡ sink_seen O.Sink out.old) }
     ensures out_later { O.faults out.old ≤ O.faults out.new }
@@ -53,7 +53,7 @@ pub(crate) fn print_lines<R: Threads + Sync, I: File, O: Sink, G: Gate>(
     let alloc = resources.alloc;
     let header = plan.header;
     let count = shown.parts.len() as u32;
-    let (Ok(mut pool), Ok(mut heads), Ok(mut pending)) = (
+    let (Ok(mut pool), Ok(heads), Ok(mut pending)) = (
         Pool::new(alloc, count, header.layout.page, LINES_ROOM),
         LeastTree::new(alloc, count),
         Pending::new(alloc),
@@ -67,18 +67,13 @@ pub(crate) fn print_lines<R: Threads + Sync, I: File, O: Sink, G: Gate>(
         Err(Failed) => return Some(End::Write),
     }
     let layout = &header.layout;
-    Some(report_rounds(
-        resources.rt,
-        shown.form,
-        layout,
-        file,
-        lanes,
-        plan.words.workers,
-        resources.gate,
-        &mut heads,
-        &mut pending,
-        out,
-    ))
+    let workers = Workers {
+        rt: resources.rt,
+        count: plan.words.workers,
+        gate: resources.gate,
+    };
+    let mut work = RoundWork { heads, pending };
+    Some(report_rounds(&workers, shown.form, layout, file, lanes, &mut work, out))
 }
 
 /// Prints the same, and behind it how long woken tasks waited. This is gathered before, in a pass of its own over the file,
@@ -100,8 +95,7 @@ pub(crate) fn print_waits<R: Threads + Sync, I: File, O: Sink, G: Gate>(
     let context = &shown.form.context;
     let wakeups = match gather(alloc, context, &plan.header.layout, file, shown.parts) {
         Ok(wakeups) => wakeups,
-        Err(GatherFault::Read) => return Status::ReadFault,
-        Err(GatherFault::Memory) => return Status::NoMemory,
+        Err(fault) => return status_of_pass(fault),
     };
     let (Ok(mut buffer), Ok(mut pending)) = (line_buffer(alloc), Pending::new(alloc)) else {
         return Status::NoMemory;
@@ -110,10 +104,10 @@ pub(crate) fn print_waits<R: Threads + Sync, I: File, O: Sink, G: Gate>(
         return Status::NoMemory;
     };
     if !is_whole(end) {
-        return status_of(end);
+        return status_of_end(end);
     }
     match print_section(context, &wakeups, &mut buffer, &mut pending, out) {
-        Ok(()) => status_of(end),
+        Ok(()) => status_of_end(end),
         Err(Failed) => Status::WriteFault,
     }
 }
@@ -135,9 +129,7 @@ fn print_section<O: Sink>(
 ) -> Result<(), Failed>
     requires long { 65537 ≤ length buffer.old }
     requires empty { pending.old ≡ [] }
-    ensures gained { OnOk result (Gained (O.written out.old) (O.written out.new) (section context.now wakeups.now.pairs)) }
-    ensures prefix { OnErr result (GainedPrefix (O.written out.old) (O.written out.new) (section context.now wakeups.now.pairs)) }
-    ensures cause { HasCause (O.faults out.old) (O.faults out.new) result }
+    ensures { WritesText (section context.now wakeups.now.pairs) (sink_seen O.Sink out.old) (sink_seen O.Sink out.new) result }
 {
     put_wakeups(context, wakeups, buffer, pending, out)?;
     pending.flush(out)
@@ -150,10 +142,8 @@ pub(crate) fn print_cpus<O: Sink>(
     out: &mut O,
 ) -> Result<(), Failed>
     requires { pending.old ≡ [] }
-    ensures gained { OnOk result (Gained (O.written out.old) (O.written out.new) (cpus_line cpus)) }
+    ensures writes { WritesText (cpus_line cpus) (sink_seen O.Sink out.old) (sink_seen O.Sink out.new) result }
     ensures empty { OnOk result (pending.new ≡ []) }
-    ensures prefix { OnErr result (GainedPrefix (O.written out.old) (O.written out.new) (cpus_line cpus)) }
-    ensures cause { HasCause (O.faults out.old) (O.faults out.new) result }
 {
     put_cpus(pending, out, cpus)?;
     pending.flush(out)

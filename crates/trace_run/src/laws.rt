@@ -9,7 +9,7 @@ ghost use Rattle.dat_header.specs.Header.{header_of};
 ghost use Rattle.dat_header.specs.Written.{without_instances};
 ghost use Rattle.line_holes.specs.Places.{AreFilled};
 ghost use Rattle.subpage.specs.Arrangement.{CpusRise, Keyed};
-ghost use Rattle.report_print.specs.Given.{Given};
+ghost use Rattle.report_print.specs.ContextData.{ContextData};
 ghost use Rattle.trace_args.specs.Command.{SplitData};
 ghost use Rattle.split_tool.specs.NewFiles.{ReadBack};
 ghost use Rattle.trace_run.specs.Job.{Split};
@@ -37,6 +37,6 @@ pub fn split_files_read_back()
 /// The pieces of a report are its first line and the lines of its items, each filled by the time of the last item before it whose
 /// line has a hole; and no other pieces are.
 pub fn differences_by_places()
-    ensures { (cpus : ℕ) (given : Given) (items : List Keyed) (lines : List (List ℕ))
+    ensures { (cpus : ℕ) (given : ContextData) (items : List Keyed) (lines : List (List ℕ))
         → AreFilled (map (entry_line given) items) lines → cpus_line cpus ∷ lines ≡ report_pieces cpus given items }
 {}

@@ -1,13 +1,12 @@
 // The lists that a report prints in place of the events.
 
-ghost use Rattle.std.specs.Prelude.{Some, ◌≡◌, [], OnOk, OnErr};
-ghost use Rattle.trace_outside.specs.Causes.{HasCause};
+ghost use Rattle.std.specs.Prelude.{Some, ◌≡◌, []};
 ghost use Rattle.trace_outside.specs.Pending.{PutsText, on_way};
-ghost use Rattle.trace_outside.specs.Writing.{Gained, GainedPrefix};
 ghost use Rattle.trace_run.specs.Ending.{Prints};
 ghost use Rattle.trace_run.specs.Lists.{list_text};
 ghost use Rattle.trace_run.specs.Meaning.{list_report};
 ghost use Rattle.trace_run.specs.Outside.{sink_seen};
+ghost use Rattle.trace_run.specs.Output.{WritesText};
 
 use crate::context::{read_formats, read_symbols};
 use crate::status::Status;
@@ -52,9 +51,7 @@ fn put_whole<O: Sink>(
     out: &mut O,
 ) -> Result<(), Failed>
     requires { pending.old ≡ [] }
-    ensures gained { OnOk result (Gained (O.written out.old) (O.written out.new) (list_text formats.now symbols.now list)) }
-    ensures prefix { OnErr result (GainedPrefix (O.written out.old) (O.written out.new) (list_text formats.now symbols.now list)) }
-    ensures cause { HasCause (O.faults out.old) (O.faults out.new) result }
+    ensures { WritesText (list_text formats.now symbols.now list) (sink_seen O.Sink out.old) (sink_seen O.Sink out.new) result }
 {
     put_list(list, formats, symbols, pending, out)?;
     pending.flush(out)

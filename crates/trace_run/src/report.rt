@@ -6,7 +6,7 @@ ghost use Rattle.trace_args.specs.Command.{report_view};
 ghost use Rattle.trace_run.specs.Ending.{Prints};
 ghost use Rattle.trace_run.specs.Meaning.{latency_report};
 ghost use Rattle.trace_run.specs.Outside.{sink_seen};
-ghost use Rattle.trace_run.specs.Reported.{IsAsked, IsShown, Reported, at_work, body_task, chosen_task, file_task, shown_task};
+ghost use Rattle.trace_run.specs.Reported.{IsAsked, IsShown, Reported, at_work, chosen_task, file_task, shown_task};
 
 use crate::calls::print_calls;
 use crate::context::context_of;
@@ -40,7 +40,7 @@ pub(crate) struct Shown<'a> {
     pub(crate) parts: &'a [(u32, Part)],
 }
 
-/// Prints the report of a file: the events, or the calls or the list that the words ask for.
+/// Prints the report of a file: the events, or the calls or the list that the words ask for; of a latency file the rest of it.
 pub(crate) fn print_report<R: Threads + Sync, I: File, O: Sink, G: Gate>(
     resources: &Resources<'_, R, G>,
     plan: &ReportPlan<'_, '_>,
@@ -55,31 +55,13 @@ pub(crate) fn print_report<R: Threads + Sync, I: File, O: Sink, G: Gate>(
     ensures { Reported (file_task (report_view plan.now.words.now) plan.now.header.now (I.size file.old)) (I.bytes file.old) result
         (at_work I.File O.Sink file.old out.old) (at_work I.File O.Sink file.new out.new) }
 {
-    match plan.words.list {
-        None => print_events(resources, plan, filters, file, out),
-        Some(list) => print_list(resources.alloc, list, plan.header, out),
-    }
-}
-
-// Prints the events of a file or the calls among them, or the rest of a latency file.
-fn print_events<R: Threads + Sync, I: File, O: Sink, G: Gate>(
-    resources: &Resources<'_, R, G>,
-    plan: &ReportPlan<'_, '_>,
-    filters: Vec<FilterUse>,
-    file: &mut I,
-    out: &mut O,
-) -> Status
-    requires asked { IsAsked (report_view plan.now.words.now) filters.items plan.now.header.now }
-    requires inside { plan.now.header.now.end ≤ I.size file.old }
-    requires parts { IsBody plan.now.header.now.cpus plan.now.header.now.body }
-    requires few { plan.now.header.now.cpus ≤ 1024 }
-    ensures { Reported (body_task (report_view plan.now.words.now) plan.now.header.now plan.now.header.now.body (I.size file.old)) (I.bytes file.old) result
-        (at_work I.File O.Sink file.old out.old) (at_work I.File O.Sink file.new out.new) }
-{
     let header = plan.header;
-    match &header.body {
-        Body::Latency => print_latency(resources.alloc, header.cpus, header.end, file, out),
-        Body::Fly(parts) => print_parts(resources, plan, filters, parts.as_slice(), file, out),
+    match plan.words.list {
+        Some(list) => print_list(resources.alloc, list, header, out),
+        None => match &header.body {
+            Body::Latency => print_latency(resources.alloc, header.cpus, header.end, file, out),
+            Body::Fly(parts) => print_parts(resources, plan, filters, parts.as_slice(), file, out),
+        },
     }
 }
 

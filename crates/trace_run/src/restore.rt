@@ -7,7 +7,7 @@ ghost use Rattle.trace_run.specs.Job.{Restore};
 ghost use Rattle.trace_run.specs.Naming.{IsNameAt, IsNameOf, IsNamed};
 ghost use Rattle.trace_run.specs.Outside.{SinkSeen, beside, folder_seen};
 ghost use Rattle.trace_run.specs.Ran.{Ran};
-ghost use Rattle.trace_run.specs.Restore.{status_of};
+ghost use Rattle.trace_run.specs.Restore.{status_of_restore};
 
 use crate::command::Outcome;
 use crate::status::Status;
@@ -35,13 +35,13 @@ pub(crate) fn restore_files<'a, F: Folder>(
     };
     let answer = restore_named(alloc, &names, folder);
     Outcome {
-        status: status_of(answer),
+        status: status_of_restore(answer),
         file: file_of(words, answer),
     }
 }
 
-fn status_of(answer: Answer) -> Status
-    ensures { result ≡ status_of answer }
+fn status_of_restore(answer: Answer) -> Status
+    ensures { result ≡ status_of_restore answer }
 {
     match answer {
         Answer::Done => Status::Done,

@@ -96,7 +96,7 @@ fn print_sources<'a, I: File, O: Sink>(
 
 // The answer for an end of the report, and the file that it is of.
 fn outcome_of<'a>(words: &ReportWords<'a>, end: FilesEnd) -> Outcome<'a>
-    ensures status { result.status ≡ spec.status_of end }
+    ensures status { result.status ≡ spec.status_of_files end }
     ensures named { Contains (names_in (report_view words.now)) result.file.now }
     ensures source { IsNameOfEnd (report_view words.now) end result.file.now }
 {

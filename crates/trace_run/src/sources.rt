@@ -8,12 +8,12 @@ ghost use Rattle.dat_header.specs.Allowed.{IsBody};
 ghost use Rattle.trace_outside.specs.Keeping.{KeepsFile};
 ghost use Rattle.time_merge.specs.LaneRows.{parts_of};
 ghost use Rattle.trace_args.specs.Command.{report_view};
-ghost use Rattle.restore_tool.specs.Copying.{seen};
+ghost use Rattle.dat_header.specs.Seen.{file_seen};
 ghost use Rattle.restore_tool.specs.Open.{ClosesMany};
 ghost use Rattle.trace_run.specs.Inputs as spec;
 ghost use Rattle.time_merge.specs.Unused.{IsUnused};
 ghost use Rattle.trace_run.specs.Outside.{FolderSeen, folder_seen};
-ghost use Rattle.trace_run.specs.Sources.{AreOpened, IsBasis, IsOpened, IsRead, IsUnopened, IsUnread, OpensAll, OpensNext, StandsAt, file_in, seen_with, source_seen};
+ghost use Rattle.trace_run.specs.Sources.{AreOpened, IsBasis, IsOpened, IsRead, IsUnopened, WhyUnread, OpensAll, OpensNext, StandsAt, file_in, seen_with, source_seen};
 
 use crate::command::Outcome;
 use crate::context::context_of;
@@ -101,7 +101,7 @@ fn read_basis<I: File>(
     file: &mut I,
 ) -> Result<Basis, Status>
     ensures read { IfOk result (λ basis. IsRead (report_view words.now) (I.bytes file.old) (I.reads file.old) (I.reads file.new) basis) }
-    ensures unread { IfErr result (λ status. IsUnread (I.bytes file.old) (Rose (I.faults file.old) (I.faults file.new)) status) }
+    ensures unread { IfErr result (λ status. WhyUnread (I.bytes file.old) (Rose (I.faults file.old) (I.faults file.new)) status) }
     ensures keeps { KeepsFile I.File file.old file.new }
 {
     match read_header(alloc, file) {
@@ -141,7 +141,7 @@ fn open_source<'a, F: Folder>(
 
 // The source of a file and of what its lines stand on.
 fn source_on<'a, I: File>(name: &'a str, file: I, basis: Basis) -> Source<'a, I, ItemLines>
-    ensures { source_seen I.File result ≡ seen_with name.now (seen I.bytes I.size I.faults I.reads file) basis }
+    ensures { source_seen I.File result ≡ seen_with name.now (file_seen I.File file) basis }
 {
     let Basis {
         layout,

@@ -14,7 +14,7 @@ ghost use Rattle.trace_run.specs.Meaning.{split_by};
 ghost use Rattle.trace_run.specs.Outside.{folder_seen};
 ghost use Rattle.trace_run.specs.Split.{taken_of};
 
-use crate::ends::status_of;
+use crate::ends::status_of_end;
 use crate::selection::Selection;
 use crate::status::Status;
 use dat_header::{Body, Header};
@@ -61,7 +61,7 @@ pub(crate) fn cut_file<F: Folder>(
         words,
         header: &header,
     };
-    status_of(split(&plan, file, lanes, &mut work, folder))
+    status_of_end(split(&plan, file, lanes, &mut work, folder))
 }
 
 // The processors that a split takes, with their numbers.

@@ -35,11 +35,11 @@ report_rounds-requires-clause-rise g c κs live =
     subst (λ (ps : List (ℕ × Part)). CpusRise ps) (sym c.set_lanes.ensures.parts) c.requires.rise
 
 pub returns-in-Err-clause-writes : goal.returns-in-Err-clause-writes
-returns-in-Err-clause-writes g c = parts_unbegun c.args.shown.now.form.now.context c.args.shown.now.parts.now c.args.plan.now.header.now _ _ _ c.in-Err.ensures.prefix
+returns-in-Err-clause-writes g c = parts_unbegun c.args.shown.now.form.now.context c.args.shown.now.parts.now c.args.plan.now.header.now _ _ _ c.in-Err.ensures.writes.prefix
 
 pub returns-clause-writes : goal.returns-clause-writes
 returns-clause-writes g c =
-    parts_written c.args.shown.now.form.now.context c.args.shown.now.parts.now c.args.plan.now.header.now _ _ _ _ c.report_rounds.result c.in-Ok.ensures.gained
+    parts_written c.args.shown.now.form.now.context c.args.shown.now.parts.now c.args.plan.now.header.now _ _ _ _ c.report_rounds.result c.in-Ok.ensures.writes.gained
     (subst (λ (ps : List (ℕ × Part)). IfSome (g.I.File.bytes c.args.file.now) (λ bytes. IsReport (item_line c.args.shown.now.form.now.context) c.args.plan.now.header.now.layout bytes ps
     (g.O.Sink.written c.print_cpus.new.out) (g.O.Sink.written c.report_rounds.new.out) c.report_rounds.result)) c.set_lanes.ensures.parts c.report_rounds.ensures.report)
 
@@ -47,18 +47,18 @@ pub returns-clause-shows : goal.returns-clause-shows
 returns-clause-shows g c =
     end_shows _ c.report_rounds.result (sink_seen g.O.Sink c.args.out.now) (sink_seen g.O.Sink c.report_rounds.new.out) c.report_rounds.ensures.read (λ is.
     let rose : Rose (g.O.Sink.faults c.print_cpus.new.out) (g.O.Sink.faults c.report_rounds.new.out) = c.report_rounds.ensures.write is in
-    omega (arith, rose, c.in-Ok.ensures.cause.later))
+    omega (arith, rose, c.in-Ok.ensures.writes.cause.later))
 
 pub returns-clause-reads : goal.returns-clause-reads
 returns-clause-reads g c =
     subst (λ (ps : List (ℕ × Part)). g.I.File.reads c.report_rounds.new.file ≤ raised (g.I.File.reads c.args.file.now) (sum_by (λ part. part.1.size) ps)) c.set_lanes.ensures.parts c.report_rounds.ensures.reads
 
 pub returns-in-Err-clause-due : goal.returns-in-Err-clause-due
-returns-in-Err-clause-due g c = parts_unbegun_unread c.args.shown.now.form.now.context c.args.shown.now.parts.now c.args.plan.now.header.now _ _ _ _ c.in-Err.ensures.prefix
+returns-in-Err-clause-due g c = parts_unbegun_unread c.args.shown.now.form.now.context c.args.shown.now.parts.now c.args.plan.now.header.now _ _ _ _ c.in-Err.ensures.writes.prefix
 
 pub returns-clause-due : goal.returns-clause-due
 returns-clause-due g c =
-    parts_read c.args.shown.now.form.now.context c.args.shown.now.parts.now c.args.plan.now.header.now _ _ _ _ _ _ c.in-Ok.ensures.gained
+    parts_read c.args.shown.now.form.now.context c.args.shown.now.parts.now c.args.plan.now.header.now _ _ _ _ _ _ c.in-Ok.ensures.writes.gained
     (subst (λ (ps : List (ℕ × Part)). IfSome (g.I.File.bytes c.args.file.now) (λ bytes. rounds.ReadsDue (item_line c.args.shown.now.form.now.context) c.args.plan.now.header.now.layout bytes ps
     (g.O.Sink.written c.print_cpus.new.out) (g.O.Sink.written c.report_rounds.new.out) (g.I.File.reads c.args.file.now) (g.I.File.reads c.report_rounds.new.file))) c.set_lanes.ensures.parts c.report_rounds.ensures.due)
 

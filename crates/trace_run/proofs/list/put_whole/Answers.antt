@@ -1,14 +1,11 @@
-use Rattle.dump_tool.proofs.Putting.{gained_from_nothing, stopped_from_nothing, stopped_at_flush}
+use Rattle.std.proofs.Common.{rules}
+use Rattle.trace_run.proofs.Flushed.{flushed_text, stopped_text}
 use Rattle.trace_run.proofs.list.put_whole.Goals as goal
 
-pub returns-in_err-put_list-clause-prefix : goal.returns-in_err-put_list-clause-prefix
-returns-in_err-put_list-clause-prefix g c =
-    stopped_from_nothing _ _ _ _ c.from_residual.result c.requires c.in_err-put_list.ensures.puts
+pub returns-in_err-put_list : goal.returns-in_err-put_list
+returns-in_err-put_list g c =
+    stopped_text _ _ _ _ c.from_residual.result c.requires c.from_residual.ensures.0 c.in_err-put_list.ensures.puts (search rules)
 
-pub returns-clause-gained : goal.returns-clause-gained
-returns-clause-gained g c =
-    gained_from_nothing _ _ _ _ _ _ _ c.flush.result c.requires c.in_ok-put_list.ensures.puts c.flush.ensures.flushes
-
-pub returns-clause-prefix : goal.returns-clause-prefix
-returns-clause-prefix g c =
-    stopped_at_flush _ _ _ _ _ _ _ c.flush.result c.requires c.in_ok-put_list.ensures.puts c.flush.ensures.flushes
+pub returns : goal.returns
+returns g c =
+    flushed_text _ _ _ _ _ _ _ c.flush.result c.requires c.in_ok-put_list.ensures.puts c.flush.ensures.flushes (search rules)

@@ -21,8 +21,8 @@ returns-clause-ran g c = λ out.
     let files = c.as_slice.result.now in
     let before = folder_seen g.F.Folder c.args.folder.now in
     let now = folder_seen g.F.Folder c.restore_named-answer.new.folder in
-    subst (λ (files : List (Bor (List ℕ))). Ran (Ok (Restore (of words.input.now words.output.now files))) c.status_of.result (beside before out) (beside now out)) c.as_slice.ensures.value
-    (restored_ran (of words.input.now words.output.now files) c.restore_named-answer.result c.status_of.result out before now c.status_of.ensures
+    subst (λ (files : List (Bor (List ℕ))). Ran (Ok (Restore (of words.input.now words.output.now files))) c.status_of_restore.result (beside before out) (beside now out)) c.as_slice.ensures.value
+    (restored_ran (of words.input.now words.output.now files) c.restore_named-answer.result c.status_of_restore.result out before now c.status_of_restore.ensures
     did.done did.causes did.kept did.created did.misses
     (subst (λ (n : ℕ). ClosesAll (n + 1) (g.F.Folder.counts c.args.folder.now) (g.F.Folder.counts c.restore_named-answer.new.folder)) (sym (length-map files (λ name. name.now))) did.counts))
 
@@ -32,7 +32,7 @@ returns-clause-named g c =
     let before = folder_seen g.F.Folder c.args.folder.now in
     let now = folder_seen g.F.Folder c.restore_named-answer.new.folder in
     let answer = c.restore_named-answer.result in
-    restore_named (restore_view words) answer c.status_of.result c.file_of.result.now before now c.status_of.ensures
+    restore_named (restore_view words) answer c.status_of_restore.result c.file_of.result.now before now c.status_of_restore.ensures
     (subst (λ (files : List (Bor (List ℕ))). IfRead answer (λ source. IsUnread before.files (restore_inputs (of words.input.now words.output.now files)) before.counts.misses now.counts.misses (place_of source)))
     c.as_slice.ensures.value c.restore_named-answer.ensures.unread)
     c.file_of.ensures

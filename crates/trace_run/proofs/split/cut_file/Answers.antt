@@ -35,7 +35,7 @@ split-requires-clause-cpus g c =
 pub returns-clause-makes : goal.returns-clause-makes
 returns-clause-makes g c =
     let are = c.set_lanes.ensures.parts ∙ c.deref.ensures.value ∙ c.in-Ok.ensures.taken in
-    rw c.status_of.ensures
+    rw c.status_of_end.ensures
     (cut _ (split_view c.args.words.now) c.args.header c.drop_instances.new.self _ _ _ _ c.split.result
     c.drop_instances.ensures.dropped are c.split.ensures.told c.split.ensures.created c.split.ensures.read c.split.ensures.write)
 
