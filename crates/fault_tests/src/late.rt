@@ -1,6 +1,6 @@
 // A sub-buffer that cannot be read, behind 2,720 lines of its processor.
 
-use super::runs::{folder_of, is_first_lines, run_line};
+use sample_runs::{folder_of, is_first_lines, run_line};
 use std::test::Fail;
 use trace_outside::{MemFault, MemSink};
 use trace_run::Status;

@@ -1,5 +1,10 @@
-//! Runs in which one call of the outside fails, each call in its turn: reads, writes, openings, creations and finishes. What was
-//! written before stands, and nothing else.
+//! Whole runs of `trace_run::run` in which one call of the outside fails, each call in its turn. What was written before
+//! stands, and nothing else.
+//!
+//! A line whose output fails is a row of `LINES` in `writes`, and one whose message fails a row of `MESSAGES`. A byte that
+//! cannot be read is in `reads`, where a line that needs no sub-buffer is a row of `HEADERS_ALONE`, and one behind thousands of
+//! lines in `late`. A creation, a write or a finish of a split that fails is a row of `FAULTS` in `splits`. Want of memory is a
+//! test of its own in `memory` for each line, since the number of the allocation that fails is given from outside.
 #![tactic(auto)]
 
 #[cfg(test)]
@@ -8,8 +13,6 @@ mod late;
 mod memory;
 #[cfg(test)]
 mod reads;
-#[cfg(test)]
-mod runs;
 #[cfg(test)]
 mod splits;
 #[cfg(test)]

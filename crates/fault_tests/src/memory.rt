@@ -1,7 +1,7 @@
 // Runs that may find no memory. By themselves they have all that they ask for and must be done; with the allocation of some
 // number refused (`rt try --test --fail-alloc N`, apart from the gate) each must end as one of these does.
 
-use super::runs::{folder_of, run_line};
+use sample_runs::{folder_of, run_line};
 use std::alloc::{Alloc, AllocError, Global};
 use std::process::Abort;
 use std::test::Fail;

@@ -1,6 +1,6 @@
 // A byte of the file that cannot be read, and a file that cannot be opened.
 
-use super::runs::{folder_of, is_first_lines, run_line};
+use sample_runs::{folder_of, is_first_lines, run_line};
 use std::alloc::{Alloc, Global};
 use std::process::Abort;
 use std::test::Fail;

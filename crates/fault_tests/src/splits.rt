@@ -1,6 +1,6 @@
 // Splits in which a creation, a write or a finish fails, in a folder that has older files of the new names.
 
-use super::runs::{folder_of, run_line};
+use sample_runs::{folder_of, run_line};
 use std::alloc::{Alloc, Global};
 use std::process::Abort;
 use std::test::Fail;

@@ -1,7 +1,7 @@
 // Outputs that fail from one write on, and messages that cannot be written.
 
-use super::runs::{folder_of, run_line};
 use dat_header::OpenFault;
+use sample_runs::{folder_of, run_line};
 use std::alloc::{Alloc, Global};
 use std::process::Abort;
 use std::test::Fail;

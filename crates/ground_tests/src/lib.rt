@@ -1,4 +1,10 @@
-//! Tests of the public calls on which the other crates stand: numbers and field lines, the outside, samples, and words.
+//! Tests of the public calls on which the other crates stand: `trace_base`, `trace_outside`, `trace_samples`, `word_values` and
+//! `trace_args`.
+//!
+//! A line of a field and its reading is a row of `LINES` in `field_lines`, a line of words and its reading one of `LINES` in
+//! `words`, a sample sub-buffer and its items one of `PAGES` in `samples`, and a call of a file, folder or writer that fails,
+//! in memory or of the system, a row of the tables in `outside`. `texts` calls each function over numbers, texts and lists
+//! once.
 #![tactic(auto)]
 
 #[cfg(test)]

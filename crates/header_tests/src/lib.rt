@@ -1,4 +1,8 @@
-//! Tests of the header of a trace file: its sections, as a whole, and as it is dumped.
+//! Tests of the header of a trace file: its sections (`dat_options`), the whole (`dat_header`), and its dump (`dump_tool`).
+//!
+//! What is wrong in a header, and where, is a row of `WRONG` in `headers`, and a section alone one of the tables in `sections`.
+//! The size of a sub-buffer beside that of a page is a row of `SIZES` in `sub_buffer_sizes`; `dumps` has the texts of two
+//! headers, section by section.
 #![tactic(auto)]
 
 #[cfg(test)]

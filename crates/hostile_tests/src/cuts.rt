@@ -1,6 +1,6 @@
 // A trace of two processors cut behind each of its bytes.
 
-use super::runs::{answers, prints, run_line};
+use super::runs::{answers, prints, run_line_over};
 use dat_header::OpenFault;
 use std::alloc::{Alloc, Global};
 use std::process::Abort;
@@ -106,10 +106,10 @@ fn is_split<R: Alloc<A = Global> + Abort + Threads + Sync>(
     } else {
         status_of(len)
     };
-    let ran = run_line(rt, "split -o p", front_of(file, len))?;
+    let (ran, folder) = run_line_over(rt, "split -o p", front_of(file, len))?;
     assert!(rt; ran.status == status, "{len}");
-    assert_eq!(rt; ran.folder.get("p.1").is_some(), len >= HEADER, "{len}");
-    assert!(rt; ran.folder.get("p.2").is_none(), "{len}");
+    assert_eq!(rt; folder.get("p.1").is_some(), len >= HEADER, "{len}");
+    assert!(rt; folder.get("p.2").is_none(), "{len}");
     Ok(())
 }
 

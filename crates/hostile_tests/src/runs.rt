@@ -1,12 +1,13 @@
 // One run over a file in memory.
 
+use sample_runs::{Ran, folder_of, run_words};
 use std::alloc::{Alloc, Global};
 use std::process::Abort;
 use std::test::Fail;
 use std::thread::Threads;
 use trace_base::Words;
-use trace_outside::{MemFolder, MemSink, NoGate};
-use trace_run::{Status, run};
+use trace_outside::{MemFolder, NoGate};
+use trace_run::Status;
 use trace_samples::{TraceFile, words_of_line};
 
 /// An event of id 7 and pid 1 at a microsecond.
@@ -21,42 +22,24 @@ pub(super) fn file_of(alloc: Global, format: &[u8], event: &[u8]) -> Result<Vec<
     Ok(trace.bytes(alloc)?)
 }
 
-/// How a run ended, what it wrote, and the folder that it left.
-#[derive(Drop)]
-pub(super) struct Ran {
-    pub(super) status: Status,
-    pub(super) out: MemSink,
-    pub(super) err: MemSink,
-    pub(super) folder: MemFolder,
-}
-
-/// Runs words over a folder with this file under the name trace.dat.
-pub(super) fn run_words<R: Alloc<A = Global> + Threads + Sync>(
+/// Runs words over a folder with this file under the name trace.dat. The folder comes back with what the run left.
+pub(super) fn run_over<R: Alloc<A = Global> + Threads + Sync>(
     rt: &R,
     words: &Words,
     file: &[u8],
-) -> Result<Ran, Fail> {
-    let alloc = rt.alloc();
-    let mut folder = MemFolder::new(alloc);
-    folder.put("trace.dat", file)?;
-    let mut out = MemSink::new(alloc);
-    let mut err = MemSink::new(alloc);
-    let status = run(rt, alloc, words, &mut folder, &mut out, &mut err, &NoGate);
-    Ok(Ran {
-        status,
-        out,
-        err,
-        folder,
-    })
+) -> Result<(Ran, MemFolder), Fail> {
+    let mut folder = folder_of(rt.alloc(), file)?;
+    let ran = run_words(rt, words, &mut folder, &NoGate);
+    Ok((ran, folder))
 }
 
 /// The same of the words of a line.
-pub(super) fn run_line<R: Alloc<A = Global> + Threads + Sync>(
+pub(super) fn run_line_over<R: Alloc<A = Global> + Threads + Sync>(
     rt: &R,
     line: &str,
     file: &[u8],
-) -> Result<Ran, Fail> {
-    run_words(rt, &words_of_line(rt.alloc(), line)?, file)
+) -> Result<(Ran, MemFolder), Fail> {
+    run_over(rt, &words_of_line(rt.alloc(), line)?, file)
 }
 
 /// The words of a line give this status, this output and this message over this file.
@@ -68,14 +51,14 @@ pub(super) fn answers<R: Alloc<A = Global> + Abort + Threads + Sync>(
     out: &[u8],
     err: &[u8],
 ) -> Result<(), Fail> {
-    let ran = run_line(rt, line, file)?;
+    let (ran, folder) = run_line_over(rt, line, file)?;
     assert!(rt;
         ran.status == status && ran.err.bytes() == err,
         "{line}: {:?}",
         ran.status
     );
     assert!(rt; ran.out.bytes() == out, "{line}");
-    assert!(rt; ran.folder.wants() == 0 && ran.out.wants() == 0);
+    assert!(rt; folder.wants() == 0 && ran.out.wants() == 0);
     Ok(())
 }
 

@@ -43,89 +43,72 @@ const EARLY: &[(usize, &[u8])] = &[
     (87, b"options  \0\x01\0\xff\xff\xff\xff"),
 ];
 
+/// How a run ends, what it writes, and what it says.
+type Answer = (Status, &'static [u8], &'static [u8]);
+
+/// No sub-buffer is whole.
+const CUT_FIRST: Answer = (
+    Malformed { cpu: 0, page: 0 },
+    b"cpus=1\n",
+    b"trace-cmd: trace.dat: malformed sub-page 0 of processor 0\n",
+);
+
+/// The first one is.
+const CUT_SECOND: Answer = (
+    Malformed { cpu: 0, page: 1 },
+    b"cpus=1\n           <...>-1234  [000]     1.000000: [UNKNOWN EVENT 58]\n",
+    b"trace-cmd: trace.dat: malformed sub-page 1 of processor 0\n",
+);
+
+const NOT_SPLIT: Answer = (
+    Malformed { cpu: 0, page: 1 },
+    b"",
+    b"trace-cmd: trace.dat: malformed sub-page 1 of processor 0\n",
+);
+
+const BAD_PAGE_SIZE: Answer = (
+    Refused(BadPageSize(14)),
+    b"",
+    b"trace-cmd: trace.dat: bad page size at byte 14\n",
+);
+
+const TOO_MANY: Answer = (
+    Refused(TooManyCpus(83)),
+    b"",
+    b"trace-cmd: trace.dat: too many processors at byte 83\n",
+);
+
+const VALID: Answer = (
+    Done,
+    b"[flyrecord 1]\ncpu 0 offset 18446744073709551615 size 18446744073709551615\nvalid\n",
+    b"",
+);
+
+const GREATEST: &[u8] = b"\xff\xff\xff\xff\xff\xff\xff\xff";
+
 /// What stands at a place of the header instead, how much of the file there is, the words, and the answer.
-const OTHERS: &[(usize, &[u8], usize, &str, Status, &[u8], &[u8])] = &[
-    (
-        14,
-        b"\xff\xff\xff\xff",
-        HEADER,
-        "report",
-        Refused(BadPageSize(14)),
-        b"",
-        b"trace-cmd: trace.dat: bad page size at byte 14\n",
-    ),
-    (
-        83,
-        b"\xff\xff\xff\xff",
-        HEADER,
-        "report",
-        Refused(TooManyCpus(83)),
-        b"",
-        b"trace-cmd: trace.dat: too many processors at byte 83\n",
-    ),
+const OTHERS: &[(usize, &[u8], usize, &str, Answer)] = &[
+    (14, b"\xff\xff\xff\xff", HEADER, "report", BAD_PAGE_SIZE),
+    (83, b"\xff\xff\xff\xff", HEADER, "report", TOO_MANY),
     // parts that begin past the file, or past all files, and parts that end there
-    (
-        97,
-        b"\xff\xff\xff\xff",
-        8192,
-        "report",
-        Malformed { cpu: 0, page: 0 },
-        b"cpus=1\n",
-        b"trace-cmd: trace.dat: malformed sub-page 0 of processor 0\n",
-    ),
-    (
-        97,
-        b"\xff\xff\xff\xff\xff\xff\xff\xff",
-        8192,
-        "report",
-        Malformed { cpu: 0, page: 0 },
-        b"cpus=1\n",
-        b"trace-cmd: trace.dat: malformed sub-page 0 of processor 0\n",
-    ),
+    (97, b"\xff\xff\xff\xff", 8192, "report", CUT_FIRST),
+    (97, GREATEST, 8192, "report", CUT_FIRST),
     (
         97,
         b"\0\xf0\xff\xff\xff\xff\xff\xff",
         8192,
         "report",
-        Malformed { cpu: 0, page: 0 },
-        b"cpus=1\n",
-        b"trace-cmd: trace.dat: malformed sub-page 0 of processor 0\n",
+        CUT_FIRST,
     ),
-    (
-        105,
-        b"\xff\xff\xff\xff",
-        8192,
-        "report",
-        Malformed { cpu: 0, page: 1 },
-        b"cpus=1\n           <...>-1234  [000]     1.000000: [UNKNOWN EVENT 58]\n",
-        b"trace-cmd: trace.dat: malformed sub-page 1 of processor 0\n",
-    ),
-    (
-        105,
-        b"\xff\xff\xff\xff\xff\xff\xff\xff",
-        8192,
-        "report",
-        Malformed { cpu: 0, page: 1 },
-        b"cpus=1\n           <...>-1234  [000]     1.000000: [UNKNOWN EVENT 58]\n",
-        b"trace-cmd: trace.dat: malformed sub-page 1 of processor 0\n",
-    ),
-    (
-        105,
-        b"\xff\xff\xff\xff\xff\xff\xff\xff",
-        8192,
-        "split -o p",
-        Malformed { cpu: 0, page: 1 },
-        b"",
-        b"trace-cmd: trace.dat: malformed sub-page 1 of processor 0\n",
-    ),
+    (105, b"\xff\xff\xff\xff", 8192, "report", CUT_SECOND),
+    (105, GREATEST, 8192, "report", CUT_SECOND),
+    (105, GREATEST, 8192, "split -o p", NOT_SPLIT),
     (
         97,
         b"\xff\xff\xff\xff\xff\xff\xff\xff\xff\xff\xff\xff\xff\xff\xff\xff",
         HEADER,
         "dump --flyrecord --validate",
-        Done,
-        b"[flyrecord 1]\ncpu 0 offset 18446744073709551615 size 18446744073709551615\nvalid\n",
-        b"",
+        VALID,
     ),
 ];
 
@@ -159,7 +142,7 @@ fn sizes_past_the_end(rt: HostRuntime) -> Result<(), Fail> {
 
 #[test]
 fn other_numbers_past_their_ranges(rt: HostRuntime) -> Result<(), Fail> {
-    for (place, bytes, len, line, status, out, err) in OTHERS {
+    for (place, bytes, len, line, (status, out, err)) in OTHERS {
         let file = patched(rt.alloc(), *place, bytes, *len)?;
         answers(&rt, line, &file, *status, out, err)?;
     }

@@ -1,6 +1,6 @@
 // Sub-buffers that are spelled by no elements, stamps that go back, and times at the last nanosecond.
 
-use super::runs::{answers, prints, run_line};
+use super::runs::{answers, prints, run_line_over};
 use std::alloc::{AllocError, Global};
 use std::test::Fail;
 use trace_run::Status;
@@ -108,11 +108,11 @@ const SPLITS: &[(&str, bool)] = &[
 fn splits_at_the_last_nanosecond(rt: HostRuntime) -> Result<(), Fail> {
     let file = file_of(rt.alloc(), &[LAST])?;
     for (line, has) in SPLITS {
-        let ran = run_line(&rt, line, &file)?;
+        let (ran, folder) = run_line_over(&rt, line, &file)?;
         assert!(rt; ran.status == Status::Done, "{line}");
-        let len = ran.folder.get("p.1").map_or(0, |bytes| bytes.len());
+        let len = folder.get("p.1").map_or(0, |bytes| bytes.len());
         assert!(rt; len == if *has { 8192 } else { 4096 }, "{line}: {len}");
-        assert!(rt; ran.folder.get("p.2").is_none(), "{line}");
+        assert!(rt; folder.get("p.2").is_none(), "{line}");
     }
     Ok(())
 }

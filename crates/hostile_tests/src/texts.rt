@@ -1,7 +1,7 @@
 // Texts of a header that are long in every way: one part again and again.
 
 use super::long::{Long, text_of};
-use super::runs::{EVENT, file_of, prints, run_line};
+use super::runs::{EVENT, file_of, prints, run_line_over};
 use std::alloc::{Alloc, Global};
 use std::process::Abort;
 use std::test::Fail;
@@ -175,7 +175,7 @@ fn a_text_longer_than_a_line(rt: HostRuntime) -> Result<(), Fail> {
     };
     let format = text_of(alloc, &long)?;
     let file = file_of(alloc, format.as_bytes(), EVENT)?;
-    let ran = run_line(&rt, "report", &file)?;
+    let (ran, _) = run_line_over(&rt, "report", &file)?;
     assert_eq!(rt; ran.status, Status::Done);
     assert_eq!(rt; ran.out.bytes().len(), 7 + 65_537);
     assert!(rt; ran.out.bytes().ends_with(b"xxx...\n"));

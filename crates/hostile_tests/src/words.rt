@@ -1,7 +1,7 @@
 // Command lines and filters of a megabyte.
 
 use super::long::{Long, text_of};
-use super::runs::{EVENT, answers, file_of, run_words};
+use super::runs::{EVENT, answers, file_of, run_over};
 use std::test::Fail;
 use trace_base::Words;
 use trace_run::Status;
@@ -134,7 +134,7 @@ fn filters_of_a_megabyte(rt: HostRuntime) -> Result<(), Fail> {
         } else {
             Status::Usage
         };
-        let ran = run_words(&rt, &words, &file)?;
+        let (ran, _) = run_over(&rt, &words, &file)?;
         assert!(rt;
             ran.status == status && ran.err.bytes() == err.as_bytes(),
             "{err}"

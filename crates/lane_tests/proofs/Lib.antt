@@ -1,4 +1,3 @@
 pub mod FreshLanes
 pub mod FilledLanes
-pub mod TwoLanes
 pub mod GoneThrough

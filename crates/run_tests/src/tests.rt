@@ -15,13 +15,14 @@ mod waits;
 
 use dat_header::OpenFault;
 use known::{FUNCTION, SWITCH, Task, carry, put_entry, put_exit, put_function, put_switch};
+use sample_runs::run_words;
 use std::alloc::Global;
 use std::process::Abort;
 use std::test::Fail;
 use std::thread::Threads;
 use trace_base::Words;
-use trace_outside::{Folder, Gate, MemFolder, MemSink, NoGate};
-use trace_run::{Status, run};
+use trace_outside::{Folder, MemFolder, NoGate};
+use trace_run::Status;
 use trace_samples::{LATENCY_FILE, ONE_EVENT, TraceFile};
 
 /// A header without processors. The count of processors stands at its byte 83.
@@ -103,6 +104,9 @@ const ONE: Input = Input::Processors(
     Carried::Nothing,
     &[&[Page::Of(1_000_000_000, &[Record::Event(0, 58, 1234, 0, 0)])]],
 );
+
+/// Its report.
+const ONE_REPORT: &str = "cpus=1\n           <...>-1234  [000]     1.000000: [UNKNOWN EVENT 58]\n";
 
 /// The same in a hard interrupt, with interrupts off and a preempt count of one.
 const IN_INTERRUPT: Input = Input::Processors(
@@ -262,7 +266,7 @@ const ROWS: &[Row] = &[
         words: &["report"],
         file: ONE,
         status: Status::Done,
-        out: "cpus=1\n           <...>-1234  [000]     1.000000: [UNKNOWN EVENT 58]\n",
+        out: ONE_REPORT,
         err: "",
     },
     // rounding carries into the second
@@ -270,7 +274,7 @@ const ROWS: &[Row] = &[
         words: &["report", "-i", "trace.dat", "-N"],
         file: BEFORE_A_SECOND,
         status: Status::Done,
-        out: "cpus=1\n           <...>-1234  [000]     1.000000: [UNKNOWN EVENT 58]\n",
+        out: ONE_REPORT,
         err: "",
     },
     // an empty sub-buffer before another
@@ -284,7 +288,7 @@ const ROWS: &[Row] = &[
             ]],
         ),
         status: Status::Done,
-        out: "cpus=1\n           <...>-1234  [000]     1.000000: [UNKNOWN EVENT 58]\n",
+        out: ONE_REPORT,
         err: "",
     },
     // the idle task, a negative pid, and a payload that ends before its pid
@@ -373,7 +377,7 @@ const ROWS: &[Row] = &[
         words: &["report", "-S"],
         file: IN_INTERRUPT,
         status: Status::Done,
-        out: "cpus=1\n           <...>-1234  [000]     1.000000: [UNKNOWN EVENT 58]\n",
+        out: ONE_REPORT,
         err: "",
     },
     // a malformed sub-buffer ends the report of all processors
@@ -666,27 +670,6 @@ fn folder_of(alloc: Global, file: &Input) -> Result<MemFolder, Fail> {
     Ok(folder)
 }
 
-// How a run ended, and what it wrote.
-#[derive(Drop)]
-struct Outcome {
-    status: Status,
-    out: MemSink,
-    err: MemSink,
-}
-
-fn outcome_of<R: Alloc<A = Global> + Threads + Sync, F: Folder, G: Gate>(
-    rt: &R,
-    words: &Words,
-    folder: &mut F,
-    gate: &G,
-) -> Outcome {
-    let alloc = rt.alloc();
-    let mut out = MemSink::new(alloc);
-    let mut err = MemSink::new(alloc);
-    let status = run(rt, alloc, words, folder, &mut out, &mut err, gate);
-    Outcome { status, out, err }
-}
-
 // Runs words without a gate. They end so, and write this.
 fn ends_as<R: Alloc<A = Global> + Abort + Threads + Sync, F: Folder>(
     rt: &R,
@@ -694,10 +677,10 @@ fn ends_as<R: Alloc<A = Global> + Abort + Threads + Sync, F: Folder>(
     folder: &mut F,
     expected: (Status, &str, &str),
 ) {
-    let outcome = outcome_of(rt, words, folder, &NoGate);
-    assert_eq!(rt; outcome.status, expected.0);
-    assert_eq!(rt; outcome.out.bytes(), expected.1.as_bytes());
-    assert_eq!(rt; outcome.err.bytes(), expected.2.as_bytes());
+    let ran = run_words(rt, words, folder, &NoGate);
+    assert_eq!(rt; ran.status, expected.0);
+    assert_eq!(rt; ran.out.bytes(), expected.1.as_bytes());
+    assert_eq!(rt; ran.err.bytes(), expected.2.as_bytes());
 }
 
 // Runs a row's words with these behind them.

@@ -1,5 +1,7 @@
-//! Whole runs of `trace_run::run` over several files in memory. This crate has tests alone, so that they are not proved together
-//! with the functions that they call.
+//! Whole runs of `trace_run::run` over several files in memory.
+//!
+//! Words, the files and what must come of them are a row of `ROWS` in `rows`, and `files` has what a file may be. Lines at
+//! their limit are in `runs`, with the calls that fail in `FAILING`.
 #![tactic(auto)]
 
 #[cfg(test)]

@@ -1,4 +1,8 @@
-//! Tests of the crates that split a trace: the two passes over a piece, and whole files that are cut and read back.
+//! Tests of the crates that split a trace: `split_passes` and `split_tool`.
+//!
+//! The pieces of two processors, each measured and packed, are a line of `ROWS` in `passes`, and passes that fail a row of its
+//! `FAULTS`. Whole traces that are cut by the words of a command line and read back are a line of `ROWS` in `whole`, and
+//! folders in which a call fails a row of `FAULTS` in `faults`.
 #![tactic(auto)]
 
 #[cfg(test)]

@@ -1,4 +1,5 @@
-//! Rows of texts, and what is read in them: a kind of text, the text, and behind ` => ` what it comes to.
+//! Rows of texts, and what is read in them: a kind of text, the text, or several with ` ; ` between them, and behind ` => ` what
+//! each comes to.
 
 use crate::{directives, literals, tokens, trees};
 use std::alloc::{AllocError, Global};
@@ -46,9 +47,11 @@ fn told(alloc: Global, kind: &str, text: &str) -> Result<Vec<u8>, Fail> {
 
 fn holds(rt: &impl Abort, alloc: Global, row: &str) -> Result<(), Fail> {
     let (kind, rest) = row.split_once(' ').unwrap_or(("", ""));
-    let (text, expected) = rest.split_once(" => ").unwrap_or(("", "no row"));
-    let found = told(alloc, kind, text)?;
-    assert!(rt; found.as_slice() == expected.as_bytes(), "{row}");
+    let (texts, expected) = rest.split_once(" => ").unwrap_or(("", "no row"));
+    for text in texts.split(" ; ") {
+        let found = told(alloc, kind, text)?;
+        assert!(rt; found.as_slice() == expected.as_bytes(), "{row}");
+    }
     Ok(())
 }
 

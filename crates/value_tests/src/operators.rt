@@ -1,458 +1,225 @@
-//! The operators and casts of C.
+//! The operators and casts of C, whose rows are in `OPERANDS_AND_VALUES`.
 
-use crate::trees::{boxed, chain, no_payload, written};
-use c_operators::BinaryOp as Op;
+use crate::trees::{boxed, chain, no_payload};
+use c_operators::BinaryOp;
 use fmt_eval::{Num, number};
 use fmt_expr::CKind::{I32, I64, U32, U64};
 use fmt_expr::{CKind, CastTo, Expr, PrefixOp};
-use std::alloc::{AllocError, Global};
+use std::alloc::Global;
+use std::process::Abort;
+use std::test::Fail;
 
-type OperatorRow = (Op, i64, CKind, i64, CKind, i64, CKind);
+/// The first line of a part has operands, and each line behind it an operator and its value for each of them. A number is its
+/// 64 bits, written with a sign, and behind them `u`, `l` or `ul` where it is no int but unsigned, long or both. The values
+/// were computed by gcc -fwrapv: volatile variables of int, unsigned, long long and unsigned long long, and the value's type
+/// told by _Generic; casts are of a long long, and their values promoted. The parts behind the casts are cases of their own,
+/// and the last four what C leaves undefined: a quotient or a remainder by 0 is 0, and so is a shift by a negative count or by
+/// the width and more.
+static OPERANDS_AND_VALUES: &str = "\
+-7,2 -1,1u 5u,-3 -1,3ul -5000000000l,4000000000u 4294967295u,-1l -1l,1ul 2147483647,3
+|| 1 1 1 1 1 1 1 1
+&& 1 1 1 1 1 1 1 1
+| -5 4294967295u 4294967293u -1ul -4295283200l -1l -1ul 2147483647
+^ -5 4294967294u 4294967288u -4ul -7590566400l -4294967296l -2ul 2147483644
+& 0 1u 5u 3ul 3295283200l 4294967295l 1ul 3
+== 0 0 0 0 0 0 0 0
+!= 1 1 1 1 1 1 1 1
+< 1 0 1 0 1 0 0 0
+<= 1 0 1 0 1 0 0 0
+> 0 1 0 1 0 1 1 1
+>= 0 1 0 1 0 1 1 1
++ -5 0u 2u 2ul -1000000000l 4294967294l 0ul -2147483646
+- -9 4294967294u 8u -4ul -9000000000l 4294967296l -2ul 2147483644
+* -14 4294967295u 4294967281u -3ul -1553255926290448384l -4294967295l -1ul 2147483645
+/ -3 4294967295u 0u 6148914691236517205ul -1l -4294967295l -1ul 715827882
+% -1 0u 5u 0ul -1000000000l 0l 0ul 1
 
-type PrefixRow = (PrefixOp, i64, CKind, i64, CKind);
+-7,1 3,31 2147483649u,1 1u,31ul -9l,2 5l,63u -9223372036854775807ul,1 255ul,60l
+<< -14 -2147483648 2u 2147483648u -36l -9223372036854775808l 2ul -1152921504606846976ul
+>> -4 0 1073741824u 0u -3l 0l 4611686018427387904ul 0ul
 
-type CastRow = (CastTo, i64, i64, CKind);
+-2147483648 1u 5l 0ul
++ -2147483648 1u 5l 0ul
+- -2147483648 4294967295u -5l 0ul
+! 0 0 0 1
+~ 2147483647 4294967294u -6l -1ul
 
-/// An operator, its operands and its value, each by its 64 bits and its kind. These were computed by gcc -fwrapv: volatile variables of int, unsigned,
-/// long long and unsigned long long, and the value's type told by _Generic.
-const OPERATORS: [OperatorRow; 151] = [
-    (Op::LogicOr, -7, I32, 2, I32, 1, I32),
-    (Op::LogicOr, -1, I32, 1, U32, 1, I32),
-    (Op::LogicOr, 5, U32, -3, I32, 1, I32),
-    (Op::LogicOr, -1, I32, 3, U64, 1, I32),
-    (Op::LogicOr, -5000000000, I64, 4000000000, U32, 1, I32),
-    (Op::LogicOr, 4294967295, U32, -1, I64, 1, I32),
-    (Op::LogicOr, -1, I64, 1, U64, 1, I32),
-    (Op::LogicOr, 2147483647, I32, 3, I32, 1, I32),
-    (Op::LogicAnd, -7, I32, 2, I32, 1, I32),
-    (Op::LogicAnd, -1, I32, 1, U32, 1, I32),
-    (Op::LogicAnd, 5, U32, -3, I32, 1, I32),
-    (Op::LogicAnd, -1, I32, 3, U64, 1, I32),
-    (Op::LogicAnd, -5000000000, I64, 4000000000, U32, 1, I32),
-    (Op::LogicAnd, 4294967295, U32, -1, I64, 1, I32),
-    (Op::LogicAnd, -1, I64, 1, U64, 1, I32),
-    (Op::LogicAnd, 2147483647, I32, 3, I32, 1, I32),
-    (Op::BitOr, -7, I32, 2, I32, -5, I32),
-    (Op::BitOr, -1, I32, 1, U32, 4294967295, U32),
-    (Op::BitOr, 5, U32, -3, I32, 4294967293, U32),
-    (Op::BitOr, -1, I32, 3, U64, -1, U64),
-    (
-        Op::BitOr,
-        -5000000000,
-        I64,
-        4000000000,
-        U32,
-        -4295283200,
-        I64,
-    ),
-    (Op::BitOr, 4294967295, U32, -1, I64, -1, I64),
-    (Op::BitOr, -1, I64, 1, U64, -1, U64),
-    (Op::BitOr, 2147483647, I32, 3, I32, 2147483647, I32),
-    (Op::BitXor, -7, I32, 2, I32, -5, I32),
-    (Op::BitXor, -1, I32, 1, U32, 4294967294, U32),
-    (Op::BitXor, 5, U32, -3, I32, 4294967288, U32),
-    (Op::BitXor, -1, I32, 3, U64, -4, U64),
-    (
-        Op::BitXor,
-        -5000000000,
-        I64,
-        4000000000,
-        U32,
-        -7590566400,
-        I64,
-    ),
-    (Op::BitXor, 4294967295, U32, -1, I64, -4294967296, I64),
-    (Op::BitXor, -1, I64, 1, U64, -2, U64),
-    (Op::BitXor, 2147483647, I32, 3, I32, 2147483644, I32),
-    (Op::BitAnd, -7, I32, 2, I32, 0, I32),
-    (Op::BitAnd, -1, I32, 1, U32, 1, U32),
-    (Op::BitAnd, 5, U32, -3, I32, 5, U32),
-    (Op::BitAnd, -1, I32, 3, U64, 3, U64),
-    (
-        Op::BitAnd,
-        -5000000000,
-        I64,
-        4000000000,
-        U32,
-        3295283200,
-        I64,
-    ),
-    (Op::BitAnd, 4294967295, U32, -1, I64, 4294967295, I64),
-    (Op::BitAnd, -1, I64, 1, U64, 1, U64),
-    (Op::BitAnd, 2147483647, I32, 3, I32, 3, I32),
-    (Op::Equal, -7, I32, 2, I32, 0, I32),
-    (Op::Equal, -1, I32, 1, U32, 0, I32),
-    (Op::Equal, 5, U32, -3, I32, 0, I32),
-    (Op::Equal, -1, I32, 3, U64, 0, I32),
-    (Op::Equal, -5000000000, I64, 4000000000, U32, 0, I32),
-    (Op::Equal, 4294967295, U32, -1, I64, 0, I32),
-    (Op::Equal, -1, I64, 1, U64, 0, I32),
-    (Op::Equal, 2147483647, I32, 3, I32, 0, I32),
-    (Op::NotEqual, -7, I32, 2, I32, 1, I32),
-    (Op::NotEqual, -1, I32, 1, U32, 1, I32),
-    (Op::NotEqual, 5, U32, -3, I32, 1, I32),
-    (Op::NotEqual, -1, I32, 3, U64, 1, I32),
-    (Op::NotEqual, -5000000000, I64, 4000000000, U32, 1, I32),
-    (Op::NotEqual, 4294967295, U32, -1, I64, 1, I32),
-    (Op::NotEqual, -1, I64, 1, U64, 1, I32),
-    (Op::NotEqual, 2147483647, I32, 3, I32, 1, I32),
-    (Op::Less, -7, I32, 2, I32, 1, I32),
-    (Op::Less, -1, I32, 1, U32, 0, I32),
-    (Op::Less, 5, U32, -3, I32, 1, I32),
-    (Op::Less, -1, I32, 3, U64, 0, I32),
-    (Op::Less, -5000000000, I64, 4000000000, U32, 1, I32),
-    (Op::Less, 4294967295, U32, -1, I64, 0, I32),
-    (Op::Less, -1, I64, 1, U64, 0, I32),
-    (Op::Less, 2147483647, I32, 3, I32, 0, I32),
-    (Op::LessEqual, -7, I32, 2, I32, 1, I32),
-    (Op::LessEqual, -1, I32, 1, U32, 0, I32),
-    (Op::LessEqual, 5, U32, -3, I32, 1, I32),
-    (Op::LessEqual, -1, I32, 3, U64, 0, I32),
-    (Op::LessEqual, -5000000000, I64, 4000000000, U32, 1, I32),
-    (Op::LessEqual, 4294967295, U32, -1, I64, 0, I32),
-    (Op::LessEqual, -1, I64, 1, U64, 0, I32),
-    (Op::LessEqual, 2147483647, I32, 3, I32, 0, I32),
-    (Op::Greater, -7, I32, 2, I32, 0, I32),
-    (Op::Greater, -1, I32, 1, U32, 1, I32),
-    (Op::Greater, 5, U32, -3, I32, 0, I32),
-    (Op::Greater, -1, I32, 3, U64, 1, I32),
-    (Op::Greater, -5000000000, I64, 4000000000, U32, 0, I32),
-    (Op::Greater, 4294967295, U32, -1, I64, 1, I32),
-    (Op::Greater, -1, I64, 1, U64, 1, I32),
-    (Op::Greater, 2147483647, I32, 3, I32, 1, I32),
-    (Op::GreaterEqual, -7, I32, 2, I32, 0, I32),
-    (Op::GreaterEqual, -1, I32, 1, U32, 1, I32),
-    (Op::GreaterEqual, 5, U32, -3, I32, 0, I32),
-    (Op::GreaterEqual, -1, I32, 3, U64, 1, I32),
-    (Op::GreaterEqual, -5000000000, I64, 4000000000, U32, 0, I32),
-    (Op::GreaterEqual, 4294967295, U32, -1, I64, 1, I32),
-    (Op::GreaterEqual, -1, I64, 1, U64, 1, I32),
-    (Op::GreaterEqual, 2147483647, I32, 3, I32, 1, I32),
-    (Op::Plus, -7, I32, 2, I32, -5, I32),
-    (Op::Plus, -1, I32, 1, U32, 0, U32),
-    (Op::Plus, 5, U32, -3, I32, 2, U32),
-    (Op::Plus, -1, I32, 3, U64, 2, U64),
-    (
-        Op::Plus,
-        -5000000000,
-        I64,
-        4000000000,
-        U32,
-        -1000000000,
-        I64,
-    ),
-    (Op::Plus, 4294967295, U32, -1, I64, 4294967294, I64),
-    (Op::Plus, -1, I64, 1, U64, 0, U64),
-    (Op::Plus, 2147483647, I32, 3, I32, -2147483646, I32),
-    (Op::Minus, -7, I32, 2, I32, -9, I32),
-    (Op::Minus, -1, I32, 1, U32, 4294967294, U32),
-    (Op::Minus, 5, U32, -3, I32, 8, U32),
-    (Op::Minus, -1, I32, 3, U64, -4, U64),
-    (
-        Op::Minus,
-        -5000000000,
-        I64,
-        4000000000,
-        U32,
-        -9000000000,
-        I64,
-    ),
-    (Op::Minus, 4294967295, U32, -1, I64, 4294967296, I64),
-    (Op::Minus, -1, I64, 1, U64, -2, U64),
-    (Op::Minus, 2147483647, I32, 3, I32, 2147483644, I32),
-    (Op::Times, -7, I32, 2, I32, -14, I32),
-    (Op::Times, -1, I32, 1, U32, 4294967295, U32),
-    (Op::Times, 5, U32, -3, I32, 4294967281, U32),
-    (Op::Times, -1, I32, 3, U64, -3, U64),
-    (
-        Op::Times,
-        -5000000000,
-        I64,
-        4000000000,
-        U32,
-        -1553255926290448384,
-        I64,
-    ),
-    (Op::Times, 4294967295, U32, -1, I64, -4294967295, I64),
-    (Op::Times, -1, I64, 1, U64, -1, U64),
-    (Op::Times, 2147483647, I32, 3, I32, 2147483645, I32),
-    (Op::Divide, -7, I32, 2, I32, -3, I32),
-    (Op::Divide, -1, I32, 1, U32, 4294967295, U32),
-    (Op::Divide, 5, U32, -3, I32, 0, U32),
-    (Op::Divide, -1, I32, 3, U64, 6148914691236517205, U64),
-    (Op::Divide, -5000000000, I64, 4000000000, U32, -1, I64),
-    (Op::Divide, 4294967295, U32, -1, I64, -4294967295, I64),
-    (Op::Divide, -1, I64, 1, U64, -1, U64),
-    (Op::Divide, 2147483647, I32, 3, I32, 715827882, I32),
-    (Op::Remainder, -7, I32, 2, I32, -1, I32),
-    (Op::Remainder, -1, I32, 1, U32, 0, U32),
-    (Op::Remainder, 5, U32, -3, I32, 5, U32),
-    (Op::Remainder, -1, I32, 3, U64, 0, U64),
-    (
-        Op::Remainder,
-        -5000000000,
-        I64,
-        4000000000,
-        U32,
-        -1000000000,
-        I64,
-    ),
-    (Op::Remainder, 4294967295, U32, -1, I64, 0, I64),
-    (Op::Remainder, -1, I64, 1, U64, 0, U64),
-    (Op::Remainder, 2147483647, I32, 3, I32, 1, I32),
-    (Op::LogicAnd, 1099511627776, U64, 2199023255552, U64, 1, I32),
-    (Op::LogicOr, 0, I32, 0, U64, 0, I32),
-    (Op::Times, 65536, I32, 65536, I32, 0, I32),
-    (Op::Times, -1, U64, -1, U64, 1, U64),
-    (
-        Op::Plus,
-        9223372036854775807,
-        I64,
-        1,
-        I32,
-        -9223372036854775808,
-        I64,
-    ),
-    (Op::Divide, -1, U64, 2, I32, 9223372036854775807, U64),
-    (
-        Op::Remainder,
-        -9000000000,
-        I64,
-        4000000000,
-        I64,
-        -1000000000,
-        I64,
-    ),
-    (Op::ShiftLeft, -7, I32, 1, I32, -14, I32),
-    (Op::ShiftLeft, 3, I32, 31, I32, -2147483648, I32),
-    (Op::ShiftLeft, 2147483649, U32, 1, I32, 2, U32),
-    (Op::ShiftLeft, 1, U32, 31, U64, 2147483648, U32),
-    (Op::ShiftLeft, -9, I64, 2, I32, -36, I64),
-    (Op::ShiftLeft, 5, I64, 63, U32, -9223372036854775808, I64),
-    (Op::ShiftLeft, -9223372036854775807, U64, 1, I32, 2, U64),
-    (Op::ShiftLeft, 255, U64, 60, I64, -1152921504606846976, U64),
-    (Op::ShiftRight, -7, I32, 1, I32, -4, I32),
-    (Op::ShiftRight, 3, I32, 31, I32, 0, I32),
-    (Op::ShiftRight, 2147483649, U32, 1, I32, 1073741824, U32),
-    (Op::ShiftRight, 1, U32, 31, U64, 0, U32),
-    (Op::ShiftRight, -9, I64, 2, I32, -3, I64),
-    (Op::ShiftRight, 5, I64, 63, U32, 0, I64),
-    (
-        Op::ShiftRight,
-        -9223372036854775807,
-        U64,
-        1,
-        I32,
-        4611686018427387904,
-        U64,
-    ),
-    (Op::ShiftRight, 255, U64, 60, I64, 0, U64),
+-1l 1311768467294899695l 128l -32769l 4294967296l 0l
+(s8) -1 -17 -128 -1 0 0
+(u8) 255 239 128 255 0 0
+(s16) -1 -12817 128 32767 0 0
+(u16) 65535 52719 128 32767 0 0
+(s32) -1 -1867788817 128 -32769 0 0
+(u32) 4294967295u 2427178479u 128u 4294934527u 0u 0u
+(s64) -1l 1311768467294899695l 128l -32769l 4294967296l 0l
+(u64) -1ul 1311768467294899695ul 128ul -32769ul 4294967296ul 0ul
+(bool) 1 1 1 1 1 0
+
+1099511627776ul,2199023255552ul
+&& 1
+
+0,0ul
+|| 0
+
+65536,65536 -1ul,-1ul
+* 0 1ul
+
+9223372036854775807l,1
++ -9223372036854775808l
+
+-1ul,2
+/ 9223372036854775807ul
+
+-9000000000l,4000000000l
+% -1000000000l
+
+7,0 -2147483648,-1
+/ 0 -2147483648
+
+7,0ul -9223372036854775808l,-1l
+% 0ul 0l
+
+1,32 1,-1 1,4294967295u 1ul,64 3,31ul
+<< 0 0 0 0ul -2147483648
+
+-7,32 -7l,64 128u,-1l
+>> 0 0l 0u";
+
+const BINARY: &[(&str, BinaryOp)] = &[
+    ("||", BinaryOp::LogicOr),
+    ("&&", BinaryOp::LogicAnd),
+    ("|", BinaryOp::BitOr),
+    ("^", BinaryOp::BitXor),
+    ("&", BinaryOp::BitAnd),
+    ("==", BinaryOp::Equal),
+    ("!=", BinaryOp::NotEqual),
+    ("<", BinaryOp::Less),
+    ("<=", BinaryOp::LessEqual),
+    (">", BinaryOp::Greater),
+    (">=", BinaryOp::GreaterEqual),
+    ("<<", BinaryOp::ShiftLeft),
+    (">>", BinaryOp::ShiftRight),
+    ("+", BinaryOp::Plus),
+    ("-", BinaryOp::Minus),
+    ("*", BinaryOp::Times),
+    ("/", BinaryOp::Divide),
+    ("%", BinaryOp::Remainder),
 ];
 
-/// What C leaves undefined: a quotient or a remainder by 0 is 0, and so is a shift by a negative count or by the width
-/// and more.
-const UNDEFINED: [OperatorRow; 12] = [
-    (Op::Divide, 7, I32, 0, I32, 0, I32),
-    (Op::Remainder, 7, I32, 0, U64, 0, U64),
-    (Op::Divide, -2147483648, I32, -1, I32, -2147483648, I32),
-    (Op::Remainder, -9223372036854775808, I64, -1, I64, 0, I64),
-    (Op::ShiftLeft, 1, I32, 32, I32, 0, I32),
-    (Op::ShiftLeft, 1, I32, -1, I32, 0, I32),
-    (Op::ShiftLeft, 1, I32, 4294967295, U32, 0, I32),
-    (Op::ShiftLeft, 1, U64, 64, I32, 0, U64),
-    (Op::ShiftLeft, 3, I32, 31, U64, -2147483648, I32),
-    (Op::ShiftRight, -7, I32, 32, I32, 0, I32),
-    (Op::ShiftRight, -7, I64, 64, I32, 0, I64),
-    (Op::ShiftRight, 128, U32, -1, I64, 0, U32),
+const PREFIXES: &[(&str, PrefixOp)] = &[
+    ("+", PrefixOp::Plus),
+    ("-", PrefixOp::Minus),
+    ("!", PrefixOp::LogicNot),
+    ("~", PrefixOp::Invert),
 ];
 
-/// A prefix operator, its operand and its value, computed by gcc in the same way.
-const PREFIXES: [PrefixRow; 16] = [
-    (PrefixOp::Plus, -2147483648, I32, -2147483648, I32),
-    (PrefixOp::Plus, 1, U32, 1, U32),
-    (PrefixOp::Plus, 5, I64, 5, I64),
-    (PrefixOp::Plus, 0, U64, 0, U64),
-    (PrefixOp::Minus, -2147483648, I32, -2147483648, I32),
-    (PrefixOp::Minus, 1, U32, 4294967295, U32),
-    (PrefixOp::Minus, 5, I64, -5, I64),
-    (PrefixOp::Minus, 0, U64, 0, U64),
-    (PrefixOp::LogicNot, -2147483648, I32, 0, I32),
-    (PrefixOp::LogicNot, 1, U32, 0, I32),
-    (PrefixOp::LogicNot, 5, I64, 0, I32),
-    (PrefixOp::LogicNot, 0, U64, 1, I32),
-    (PrefixOp::Invert, -2147483648, I32, 2147483647, I32),
-    (PrefixOp::Invert, 1, U32, 4294967294, U32),
-    (PrefixOp::Invert, 5, I64, -6, I64),
-    (PrefixOp::Invert, 0, U64, -1, U64),
+/// How many bits a type has, and whether it has a sign.
+const TYPES: &[(&str, (u32, bool))] = &[
+    ("(s8)", (8, true)),
+    ("(u8)", (8, false)),
+    ("(s16)", (16, true)),
+    ("(u16)", (16, false)),
+    ("(s32)", (32, true)),
+    ("(u32)", (32, false)),
+    ("(s64)", (64, true)),
+    ("(u64)", (64, false)),
 ];
 
-const SIGNED_8: CastTo = CastTo::Bits {
-    width: 8,
-    signed: true,
-};
+const KINDS: &[(&str, CKind)] = &[("ul", U64), ("u", U32), ("l", I64)];
 
-const UNSIGNED_8: CastTo = CastTo::Bits {
-    width: 8,
-    signed: false,
-};
+/// What has this name.
+fn named<T: Copy>(all: &[(&str, T)], name: &str) -> Option<T> {
+    for (text, what) in all {
+        if *text == name {
+            return Some(*what);
+        }
+    }
+    None
+}
 
-const SIGNED_16: CastTo = CastTo::Bits {
-    width: 16,
-    signed: true,
-};
+fn cast(name: &str) -> Option<CastTo> {
+    if name == "(bool)" {
+        return Some(CastTo::Truth);
+    }
+    let (width, signed) = named(TYPES, name)?;
+    Some(CastTo::Bits { width, signed })
+}
 
-const UNSIGNED_16: CastTo = CastTo::Bits {
-    width: 16,
-    signed: false,
-};
+/// The digits of a number, and its kind.
+fn parts(word: &str) -> (&str, CKind) {
+    for (end, kind) in KINDS {
+        if let Some(digits) = word.strip_suffix(*end) {
+            return (digits, *kind);
+        }
+    }
+    (word, I32)
+}
 
-const SIGNED_32: CastTo = CastTo::Bits {
-    width: 32,
-    signed: true,
-};
-
-const UNSIGNED_32: CastTo = CastTo::Bits {
-    width: 32,
-    signed: false,
-};
-
-const SIGNED_64: CastTo = CastTo::Bits {
-    width: 64,
-    signed: true,
-};
-
-const UNSIGNED_64: CastTo = CastTo::Bits {
-    width: 64,
-    signed: false,
-};
-
-/// A cast, a number of kind I64, and what is left of it after promotion, computed by gcc in the same way.
-const CASTS: [CastRow; 54] = [
-    (SIGNED_8, -1, -1, I32),
-    (UNSIGNED_8, -1, 255, I32),
-    (SIGNED_16, -1, -1, I32),
-    (UNSIGNED_16, -1, 65535, I32),
-    (SIGNED_32, -1, -1, I32),
-    (UNSIGNED_32, -1, 4294967295, U32),
-    (SIGNED_64, -1, -1, I64),
-    (UNSIGNED_64, -1, -1, U64),
-    (CastTo::Truth, -1, 1, I32),
-    (SIGNED_8, 1311768467294899695, -17, I32),
-    (UNSIGNED_8, 1311768467294899695, 239, I32),
-    (SIGNED_16, 1311768467294899695, -12817, I32),
-    (UNSIGNED_16, 1311768467294899695, 52719, I32),
-    (SIGNED_32, 1311768467294899695, -1867788817, I32),
-    (UNSIGNED_32, 1311768467294899695, 2427178479, U32),
-    (SIGNED_64, 1311768467294899695, 1311768467294899695, I64),
-    (UNSIGNED_64, 1311768467294899695, 1311768467294899695, U64),
-    (CastTo::Truth, 1311768467294899695, 1, I32),
-    (SIGNED_8, 128, -128, I32),
-    (UNSIGNED_8, 128, 128, I32),
-    (SIGNED_16, 128, 128, I32),
-    (UNSIGNED_16, 128, 128, I32),
-    (SIGNED_32, 128, 128, I32),
-    (UNSIGNED_32, 128, 128, U32),
-    (SIGNED_64, 128, 128, I64),
-    (UNSIGNED_64, 128, 128, U64),
-    (CastTo::Truth, 128, 1, I32),
-    (SIGNED_8, -32769, -1, I32),
-    (UNSIGNED_8, -32769, 255, I32),
-    (SIGNED_16, -32769, 32767, I32),
-    (UNSIGNED_16, -32769, 32767, I32),
-    (SIGNED_32, -32769, -32769, I32),
-    (UNSIGNED_32, -32769, 4294934527, U32),
-    (SIGNED_64, -32769, -32769, I64),
-    (UNSIGNED_64, -32769, -32769, U64),
-    (CastTo::Truth, -32769, 1, I32),
-    (SIGNED_8, 4294967296, 0, I32),
-    (UNSIGNED_8, 4294967296, 0, I32),
-    (SIGNED_16, 4294967296, 0, I32),
-    (UNSIGNED_16, 4294967296, 0, I32),
-    (SIGNED_32, 4294967296, 0, I32),
-    (UNSIGNED_32, 4294967296, 0, U32),
-    (SIGNED_64, 4294967296, 4294967296, I64),
-    (UNSIGNED_64, 4294967296, 4294967296, U64),
-    (CastTo::Truth, 4294967296, 1, I32),
-    (SIGNED_8, 0, 0, I32),
-    (UNSIGNED_8, 0, 0, I32),
-    (SIGNED_16, 0, 0, I32),
-    (UNSIGNED_16, 0, 0, I32),
-    (SIGNED_32, 0, 0, I32),
-    (UNSIGNED_32, 0, 0, U32),
-    (SIGNED_64, 0, 0, I64),
-    (UNSIGNED_64, 0, 0, U64),
-    (CastTo::Truth, 0, 0, I32),
-];
-
-/// A number by its bits, which are written with a sign.
-fn num(bits: i64, kind: CKind) -> Num {
-    Num {
+fn num(word: &str) -> Result<Num, Fail> {
+    let (digits, kind) = parts(word);
+    let bits = digits.parse::<i64>().ok().ok_or("no number")?;
+    Ok(Num {
         bits: bits.cast_unsigned(),
         kind,
+    })
+}
+
+fn written(num: Num) -> Expr {
+    Expr::Number {
+        bits: num.bits,
+        kind: num.kind,
     }
 }
 
-fn operator_gives(alloc: Global, row: &OperatorRow) -> Result<bool, AllocError> {
-    let (op, bits, kind, other_bits, other_kind, wanted, wanted_kind) = *row;
-    let expr = chain(
-        alloc,
-        written(bits, kind),
-        op,
-        written(other_bits, other_kind),
-    )?;
-    Ok(number(&expr, &no_payload()) == num(wanted, wanted_kind))
+fn binary(alloc: Global, name: &str, left: &str, right: &str) -> Result<Expr, Fail> {
+    let op = named(BINARY, name).ok_or("no operator")?;
+    let left = num(left)?;
+    let right = num(right)?;
+    Ok(chain(alloc, written(left), op, written(right))?)
 }
 
-/// The first row that does not hold.
-fn wrong_operator(alloc: Global, rows: &[OperatorRow]) -> Result<Option<usize>, AllocError> {
-    for (i, row) in rows.iter().enumerate() {
-        if !operator_gives(alloc, row)? {
-            return Ok(Some(i));
+fn unary(alloc: Global, name: &str, operand: &str) -> Result<Expr, Fail> {
+    let operand = num(operand)?;
+    let of = boxed(alloc, written(operand))?;
+    match (named(PREFIXES, name), cast(name)) {
+        (Some(op), _) => Ok(Expr::Prefix { op, of }),
+        (None, Some(to)) => Ok(Expr::Cast { to, of }),
+        (None, None) => Err(Fail::from("no operator")),
+    }
+}
+
+fn value(alloc: Global, name: &str, operands: &str) -> Result<Num, Fail> {
+    let tree = match operands.split_once(',') {
+        Some((left, right)) => binary(alloc, name, left, right)?,
+        None => unary(alloc, name, operands)?,
+    };
+    Ok(number(&tree, &no_payload()))
+}
+
+/// An operator has just these values, one for each of the operands.
+fn has(alloc: Global, name: &str, operands: &str, values: &str) -> Result<bool, Fail> {
+    let mut values = values.split(' ');
+    for operand in operands.split(' ') {
+        if value(alloc, name, operand)? != num(values.next().unwrap_or(""))? {
+            return Ok(false);
         }
     }
-    Ok(None)
+    Ok(values.next().is_none())
 }
 
-fn prefix_gives(alloc: Global, row: &PrefixRow) -> Result<bool, AllocError> {
-    let (op, bits, kind, wanted, wanted_kind) = *row;
-    let of = boxed(alloc, written(bits, kind))?;
-    Ok(number(&Expr::Prefix { op, of }, &no_payload()) == num(wanted, wanted_kind))
-}
-
-fn wrong_prefix(alloc: Global, rows: &[PrefixRow]) -> Result<Option<usize>, AllocError> {
-    for (i, row) in rows.iter().enumerate() {
-        if !prefix_gives(alloc, row)? {
-            return Ok(Some(i));
-        }
+fn holds(rt: &impl Abort, alloc: Global, part: &str) -> Result<(), Fail> {
+    let (operands, lines) = part.split_once('\n').unwrap_or(("", ""));
+    for line in lines.lines() {
+        let (name, values) = line.split_once(' ').unwrap_or(("", ""));
+        assert!(rt; has(alloc, name, operands, values)?, "{line}");
     }
-    Ok(None)
-}
-
-fn cast_gives(alloc: Global, row: &CastRow) -> Result<bool, AllocError> {
-    let (to, bits, wanted, kind) = *row;
-    let of = boxed(alloc, written(bits, I64))?;
-    Ok(number(&Expr::Cast { to, of }, &no_payload()) == num(wanted, kind))
-}
-
-fn wrong_cast(alloc: Global, rows: &[CastRow]) -> Result<Option<usize>, AllocError> {
-    for (i, row) in rows.iter().enumerate() {
-        if !cast_gives(alloc, row)? {
-            return Ok(Some(i));
-        }
-    }
-    Ok(None)
-}
-
-#[test]
-fn operators_are_those_of_c(rt: HostRuntime) -> Result<(), AllocError> {
-    assert_eq!(rt; wrong_operator(rt.alloc(), &OPERATORS)?, None);
-    assert_eq!(rt; wrong_operator(rt.alloc(), &UNDEFINED)?, None);
     Ok(())
 }
 
 #[test]
-fn prefixes_and_casts_are_those_of_c(rt: HostRuntime) -> Result<(), AllocError> {
-    assert_eq!(rt; wrong_prefix(rt.alloc(), &PREFIXES)?, None);
-    assert_eq!(rt; wrong_cast(rt.alloc(), &CASTS)?, None);
+fn operators_and_casts_are_those_of_c(rt: HostRuntime) -> Result<(), Fail> {
+    for part in OPERANDS_AND_VALUES.split("\n\n") {
+        holds(&rt, rt.alloc(), part)?;
+    }
     Ok(())
 }

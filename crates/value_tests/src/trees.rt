@@ -2,7 +2,7 @@
 
 use c_operators::BinaryOp;
 use fmt_expr::CKind::I32;
-use fmt_expr::{CKind, Expr, Operand};
+use fmt_expr::{Expr, Operand};
 use std::alloc::{AllocError, Global};
 use trace_base::{ByteText, Field, FieldKind, FieldPlace, Order, Rec};
 
@@ -10,14 +10,6 @@ pub const PAYLOAD: [u8; 16] = *b"ab\0d\xff\xff\xfe\xff\x05\x00\x03\x00wxyz";
 
 pub fn boxed(alloc: Global, expr: Expr) -> Result<Box<Expr>, AllocError> {
     Ok(Box::new(alloc, expr)?)
-}
-
-/// A number by its bits, which are written with a sign.
-pub fn written(bits: i64, kind: CKind) -> Expr {
-    Expr::Number {
-        bits: bits.cast_unsigned(),
-        kind,
-    }
 }
 
 pub fn int(bits: u64) -> Expr {

@@ -5,6 +5,7 @@ mod sections;
 mod sub_buffers;
 
 use formats::context_of;
+use item_pass::PassFault;
 use report_print::Context;
 use sections::{IN_FULL, ROWS};
 use std::alloc::{AllocError, Global};
@@ -13,7 +14,7 @@ use sub_buffers::put_sub_buffers;
 use trace_base::{ByteText, Part};
 use trace_outside::{File, MemFile, MemSink, Pending, Sink};
 use trace_samples::layout;
-use wakeup_lat::{GatherFault, gather, put_wakeups};
+use wakeup_lat::{gather, put_wakeups};
 use wakeup_pairs::Wakeups;
 
 /// The bytes of the sub-buffers of processors 0 and 1, and where those of processor 1 begin.
@@ -38,7 +39,7 @@ fn gather_from<F: File>(
     context: &Context,
     file: &mut F,
     middle: u64,
-) -> Result<Wakeups, GatherFault> {
+) -> Result<Wakeups, PassFault> {
     let size = file.len().saturating_sub(middle);
     let first = Part {
         offset: 0,
@@ -94,7 +95,7 @@ fn is_unread(alloc: Global, context: &Context, items: &str, from: u64) -> Result
     file.fail_at(from);
     match gather_from(alloc, context, &mut file, recorded.middle) {
         Ok(_) => Ok(false),
-        Err(fault) => Ok(fault == GatherFault::Read),
+        Err(fault) => Ok(fault == PassFault::Read),
     }
 }
 

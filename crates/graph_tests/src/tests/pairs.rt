@@ -97,30 +97,15 @@ fn is_lasting(word: &str, mark: &str, nanos: u64) -> Result<bool, Fail> {
 // Whether the word tells the call.
 fn is_told(call: &Call, word: &str) -> Result<bool, Fail> {
     match call {
-        Call::Entry {
-            cpu: _,
-            time: _,
-            common: _,
-            depth: _,
-            func: _,
-            leaf,
-        } => match leaf {
+        Call::Entry { leaf, .. } => match leaf {
             Some(nanos) => is_lasting(word, "()", *nanos),
             None => Ok(word == "("),
         },
-        Call::Exit {
-            cpu: _,
-            time: _,
-            common: _,
-            depth: _,
-            leaf,
-            func: _,
-            span,
-        } => match span {
+        Call::Exit { leaf, span, .. } => match span {
             Some(nanos) => is_lasting(word, if *leaf { "_" } else { ")" }, *nanos),
             None => Ok(word == ")" && !*leaf),
         },
-        Call::Loss { cpu: _, count: _ } => Ok(word == "!"),
+        Call::Loss { .. } => Ok(word == "!"),
     }
 }
 

@@ -1,6 +1,7 @@
 // The calls of whole traces of two processors, and what is printed of them.
 
 ghost use Rattle.std.specs.Prelude.{◌≡◌, All, length};
+ghost use Rattle.trace_base.specs.Layout.{IsLayout};
 ghost use Rattle.subpage.specs.Arrangement.{CpusRise};
 ghost use Rattle.page_pool.specs.Fresh.{IsFresh, IsNew};
 ghost use Rattle.event_cursor.specs.Standing.{IsInOrder};
@@ -9,11 +10,13 @@ ghost use Rattle.time_merge.specs.LaneRows.{parts_of};
 use super::lines::{KALLSYMS, context};
 use super::sub_buffers::recording_of;
 use format_parse::FormatTable;
-use graph_report::{Calls, CallsFault, gather_calls, put_calls};
+use graph_report::{Calls, gather_calls, put_calls};
+use item_pass::PassFault;
 use page_pool::{Lane, Pool};
 use report_print::Context;
 use std::alloc::{AllocError, Global};
 use std::test::Fail;
+use time_merge::set_lanes;
 use trace_base::{ByteText, Layout, Part};
 use trace_outside::{File, MemFile, MemSink, Pending, Sink};
 use trace_samples::layout;
@@ -125,33 +128,20 @@ times below 0
               sh-7     [000]     0.000001:     0.600 us | outer();
 ";
 
-fn set_lane(lane: &mut Lane, cpu: u32, part: Part)
-    ensures cursor { lane.new.cursor ≡ lane.old.cursor }
-    ensures page { lane.new.page ≡ lane.old.page }
-    ensures cpu { lane.new.cpu ≡ cpu }
-{
-    lane.cpu = cpu;
-    lane.part = part;
-}
-
 // Of so many bytes the first ones are of processor 0, and the others of processor 1.
-fn set_lanes(layout: &Layout, lanes: &mut [Lane], size: u64, other: u64)
+fn set_parts(layout: &Layout, lanes: &mut [Lane], size: u64, other: u64)
     requires two { length lanes.old ≡ 2 }
-    requires page { layout.now.page ≡ 4096 }
-    requires new { All (IsNew 4096 16) lanes.old }
+    requires new { All (IsNew layout.now.page 16) lanes.old }
     ensures in_order { All (IsInOrder layout.now) lanes.new }
     ensures rise { CpusRise (parts_of lanes.new) }
     ensures fresh { All (λ lane. IsFresh lane.cursor) lanes.new }
 {
-    set_lane(&mut lanes[0], 0, Part { offset: 0, size });
-    set_lane(
-        &mut lanes[1],
-        1,
-        Part {
-            offset: size,
-            size: other,
-        },
-    );
+    let first = Part { offset: 0, size };
+    let second = Part {
+        offset: size,
+        size: other,
+    };
+    set_lanes(lanes, &[(0, first), (1, second)]);
 }
 
 // A context with the entry's format and this one.
@@ -166,17 +156,18 @@ fn context_with(alloc: Global, format: &str) -> Result<Context, Fail> {
 fn gather_over<F: File>(
     alloc: Global,
     context: &Context,
+    layout: &Layout,
     file: &mut F,
     middle: u64,
     lanes: &mut [Lane],
-) -> Result<Calls, CallsFault>
+) -> Result<Calls, PassFault>
+    requires allowed { IsLayout layout.now }
     requires two { length lanes.old ≡ 2 }
-    requires new { All (IsNew 4096 16) lanes.old }
+    requires new { All (IsNew layout.now.page 16) lanes.old }
 {
-    let layout = layout();
     let other = file.len().saturating_sub(middle);
-    set_lanes(&layout, lanes, middle, other);
-    gather_calls(alloc, context, &layout, file, lanes)
+    set_parts(layout, lanes, middle, other);
+    gather_calls(alloc, context, layout, file, lanes)
 }
 
 // The calls of a file, in which the sub-buffers of processor 1 begin at this byte.
@@ -185,11 +176,12 @@ fn gathered<F: File>(
     context: &Context,
     file: &mut F,
     middle: u64,
-) -> Result<Calls, CallsFault> {
-    let Ok(mut pool) = Pool::new(alloc, 2, 4096, 16) else {
-        return Err(CallsFault::Memory);
+) -> Result<Calls, PassFault> {
+    let layout = layout();
+    let Ok(mut pool) = Pool::new(alloc, 2, layout.page, 16) else {
+        return Err(PassFault::Memory);
     };
-    gather_over(alloc, context, file, middle, pool.lanes())
+    gather_over(alloc, context, &layout, file, middle, pool.lanes())
 }
 
 // The calls of what is recorded, of which each byte is read once.
@@ -254,7 +246,7 @@ fn is_unread(alloc: Global, context: &Context, told: &str) -> Result<bool, Fail>
     file.fail_at(10);
     match gathered(alloc, context, &mut file, recorded.middle) {
         Ok(_) => Ok(false),
-        Err(fault) => Ok(fault == CallsFault::Read && file.faults() == 1),
+        Err(fault) => Ok(fault == PassFault::Read && file.faults() == 1),
     }
 }
 

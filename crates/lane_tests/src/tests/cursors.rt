@@ -6,7 +6,7 @@ ghost use Rattle.trace_base.specs.Layout.{IsLayout};
 ghost use Rattle.page_pool.specs.Fresh.{IsNew};
 ghost use Rattle.event_cursor.specs.Standing.{IsInOrder, held_left};
 
-use event_cursor::{Loaded, Place, Sought, head, head_key, is_there, load, place, seek, step};
+use event_cursor::{Loaded, Place, Sought, head, head_key, is_there, load, seek, step};
 use page_pool::{Lane, LaneState, Pool};
 use std::alloc::{AllocError, Global};
 use std::str::Split;
@@ -170,7 +170,7 @@ fn go_on<F: File>(layout: &Layout, file: &mut F, lane: &mut Lane, count: u32)
 fn stands_at(lane: &Lane, wanted: &Place) -> bool {
     match lane.cursor.state {
         LaneState::Held => {
-            let found = place(lane);
+            let found = Place::of(&lane.cursor);
             found.page == wanted.page && found.at == wanted.at && found.high == wanted.high
         }
         LaneState::Fresh | LaneState::Ended | LaneState::Malformed => false,

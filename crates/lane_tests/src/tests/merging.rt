@@ -1,4 +1,4 @@
-//! Lanes gone through whole: two processors, and where a malformed sub-buffer ends them.
+//! Lanes gone through whole: two processors, and where a malformed sub-buffer ends them (`ENDS`).
 
 ghost use Rattle.std.specs.Prelude.{◌≡◌, ◌+◌, ◌<◌, ◌≤◌, length, Some, All, IfOk, IfSome, OnErr, option_map};
 ghost use Rattle.trace_base.specs.Layout.{IsLayout};
@@ -15,7 +15,7 @@ use event_cursor::{head, step};
 use page_pool::{Lane, LaneState, Pool};
 use std::alloc::{AllocError, Global};
 use std::test::Fail;
-use time_merge::{Next, next_lane};
+use time_merge::{Next, next_lane, set_lanes};
 use trace_base::{ByteText, Layout, Part};
 use trace_outside::{Failed, File, MemFile};
 use trace_samples::Page::{Malformed, Of};
@@ -70,40 +70,23 @@ fn all_keys<F: File>(
     }
 }
 
-fn set_lane(lane: &mut Lane, cpu: u32, part: Part)
-    ensures cursor { lane.new.cursor ≡ lane.old.cursor }
-    ensures page { lane.new.page ≡ lane.old.page }
-    ensures cpu { lane.new.cpu ≡ cpu }
-{
-    lane.cpu = cpu;
-    lane.part = part;
-}
-
 // Processor 3 has the first three sub-buffers of the file, processor 7 the other two.
-fn set_lanes(layout: &Layout, lanes: &mut [Lane])
+fn set_parts(layout: &Layout, lanes: &mut [Lane])
     requires two { length lanes.old ≡ 2 }
-    requires page { layout.now.page ≡ 4096 }
-    requires new { All (IsNew 4096 16) lanes.old }
+    requires new { All (IsNew layout.now.page 16) lanes.old }
     ensures in_order { All (IsInOrder layout.now) lanes.new }
     ensures rise { CpusRise (parts_of lanes.new) }
     ensures fresh { All (λ lane. IsFresh lane.cursor) lanes.new }
 {
-    set_lane(
-        &mut lanes[0],
-        3,
-        Part {
-            offset: 0,
-            size: 12288,
-        },
-    );
-    set_lane(
-        &mut lanes[1],
-        7,
-        Part {
-            offset: 12288,
-            size: 8192,
-        },
-    );
+    let first = Part {
+        offset: 0,
+        size: 12288,
+    };
+    let second = Part {
+        offset: 12288,
+        size: 8192,
+    };
+    set_lanes(lanes, &[(3, first), (7, second)]);
 }
 
 // A file of five sub-buffers, of which the third and the last are given.
@@ -148,10 +131,11 @@ fn ends_so(
     end: Next,
 ) -> Result<bool, AllocError> {
     let mut file = file_of(alloc, third, last)?;
-    let mut pool = Pool::new(alloc, 2, 4096, 16)?;
+    let layout = layout();
+    let mut pool = Pool::new(alloc, 2, layout.page, 16)?;
     let lanes = pool.lanes();
-    set_lanes(&layout(), lanes);
-    let (keys, ended) = all_keys(alloc, &layout(), &mut file, lanes)?;
+    set_parts(&layout, lanes);
+    let (keys, ended) = all_keys(alloc, &layout, &mut file, lanes)?;
     Ok(ended == Ok(end) && keys.as_slice() == &KEYS[..reached.min(8)])
 }
 

@@ -1,24 +1,15 @@
-//! Sub-buffers packed again: two that a kernel wrote, and some written out byte by byte.
+//! Sub-buffers packed again: two that a kernel wrote, and some written out byte by byte (`PACKED`).
 
 ghost use Rattle.std.specs.Prelude.{◌≡◌, ◌≤◌, All, length, IfOk, IfSome};
 ghost use Rattle.trace_base.specs.Layout.{IsLayout};
 ghost use Rattle.page_write.specs.PageBytes.{IsPackable};
 
+use Order::{Big, Little};
 use page_write::{Added, Packer, Room, both_add};
 use std::alloc::{AllocError, Global};
 use std::test::Fail;
 use subpage::{Page, check_page};
 use trace_base::{Layout, Order, put_u32, put_u64};
-
-/// A sub-buffer of 4096 bytes with a commit word of 8: its timestamp, its commit word and the bytes that its data begin
-/// with; zero bytes fill it.
-#[derive(Clone, Copy)]
-struct SubBuffer {
-    order: Order,
-    time: u64,
-    commit: u64,
-    data: &'static [u8],
-}
 
 fn layout_of(order: Order) -> Layout
     ensures allowed { IsLayout result }
@@ -28,15 +19,13 @@ fn layout_of(order: Order) -> Layout
     Layout::plain(order, 8, 4096)
 }
 
-fn bytes_of(alloc: Global, buffer: &SubBuffer) -> Result<Vec<u8>, AllocError>
+// A sub-buffer that begins with these bytes; zero bytes fill it.
+fn bytes_of(alloc: Global, front: &[u8]) -> Result<Vec<u8>, AllocError>
     ensures { IfOk result (λ v. length v.items ≡ 4096) }
 {
     let mut out = vec![in alloc; 0; 4096]?;
-    let bytes = out.as_mut_slice();
-    put_u64(buffer.order, buffer.time, &mut bytes[..8]);
-    put_u64(buffer.order, buffer.commit, &mut bytes[8..16]);
-    let len = buffer.data.len().min(4080);
-    bytes[16..16 + len].copy_from_slice(&buffer.data[..len]);
+    let len = front.len().min(4096);
+    out.as_mut_slice()[..len].copy_from_slice(&front[..len]);
     Ok(out)
 }
 
@@ -67,8 +56,8 @@ fn checked<'a>(layout: &Layout, bytes: &'a [u8]) -> Option<Page<'a>>
 }
 
 // Whether the items of the first sub-buffer are packed into just the second one.
-fn packs(alloc: Global, from: &SubBuffer, to: &SubBuffer) -> Result<bool, AllocError> {
-    let layout = layout_of(from.order);
+fn packs(alloc: Global, order: Order, from: &[u8], to: &[u8]) -> Result<bool, AllocError> {
+    let layout = layout_of(order);
     let bytes = bytes_of(alloc, from)?;
     let want = bytes_of(alloc, to)?;
     let mut into = vec![in alloc; 0xff; 4096]?;
@@ -80,84 +69,51 @@ fn packs(alloc: Global, from: &SubBuffer, to: &SubBuffer) -> Result<bool, AllocE
 }
 
 // The last sub-buffer of processor 0 in a recording of an x86-64 kernel (28 events of the sched system).
-const RECORDED_LITTLE: SubBuffer = SubBuffer {
-    order: Order::Little,
-    time: 67956784482,
-    commit: 1428,
-    data: b"\x10\0\0\0?\x01\x01\x02\x0e\0\0\0ksoftirqd/0\0\0\0\0\0\x0e\0\0\0x\0\0\0\x01\0\0\0\0\0\0\0sh\0\0\0\0\0\0\0\0\0\0\0\0\0\0\xd4\0\0\0x\0\0\0\x89\xa7\xd8\x038\x01\0\0\xd4\0\0\0\x14\0\x0f\0\xd4\0\0\0\xd4\0\0\0/proc/self/exe\0\0l\x85^\x023\x01\x09\x01\xd4\0\0\0exe\0\0\0\0\0\0\0\0\0\0\0\0\0\xd4\0\0\0\0\0\0\0(\xd21\0\0\0\0\0f\xab\xedE\x06\0\0\0\xe9\xde6\0B\x01\x11\x02\xd4\0\0\0rcu_preempt\0\0\0\0\0\x0f\0\0\0x\0\0\0\0\0\0\0\xea\xc7\x0f\0>\x01\x11\x02\xd4\0\0\0rcu_preempt\0\0\0\0\0\x0f\0\0\0x\0\0\0\0\0\0\0\x01\0\0\0,IG\x073\x01\x09\x02\xd4\0\0\0cat\0\0\0\0\0\0\0\0\0\0\0\0\0\xd4\0\0\0\0\0\0\0\xb7`<\0\0\0\0\0\x1d\x0c*F\x06\0\0\0\xa8\xb2\xdc\x01<\x01\0\0\xd4\0\0\0cat\0\0\0\0\0\0\0\0\0\0\0\0\0\xd4\0\0\0x\0\0\0\xac\x13u\03\x01\x01\x02\xd4\0\0\0cat\0\0\0\0\0\0\0\0\0\0\0\0\0\xd4\0\0\0\0\0\0\0\xb3\xbf\x12\0\0\0\0\0\xd0\xcb<F\x06\0\0\0\x89\x16I\0B\x01%\x04\xd4\0\0\0sh\0\0\0\0\0\0\0\0\0\0\0\0\0\0\xd2\0\0\0x\0\0\0\x01\0\0\0l\xdf5\03\x01%\x02\xd4\0\0\0cat\0\0\0\0\0\0\0\0\0\0\0\0\0\xd4\0\0\0\0\0\0\0Q\x18\x04\0\0\0\0\0!\xe4@F\x06\0\0\0p\x0d\x16\0?\x01\x01\x02\xd4\0\0\0cat\0\0\0\0\0\0\0\0\0\0\0\0\0\xd4\0\0\0x\0\0\0 \0\0\0\0\0\0\0swapper/0\0\0\0\0\0\0\0\0\0\0\0x\0\0\0\xe9\xf3\xef\x05A\x01-\x02\0\0\0\0sh\0\0\0\0\0\0\0\0\0\0\0\0\0\0\x9c\0\0\0x\0\0\0\0\0\0\0\x10\xd6\x18\0?\x01\x01\x02\0\0\0\0swapper/0\0\0\0\0\0\0\0\0\0\0\0x\0\0\0\0\0\0\0\0\0\0\0sh\0\0\0\0\0\0\0\0\0\0\0\0\0\0\x9c\0\0\0x\0\0\0hO\xf2\0:\x01\0\0\x9c\0\0\0sh\0\0\0\0\0\0\0\0\0\0\0\0\0\0\0\0\0\0x\0\0\0\xe8Hn\0:\x01\0\0\x9c\0\0\0sh\0\0\0\0\0\0\0\0\0\0\0\0\0\0\0\0\0\0x\0\0\0\x88.B\x03<\x01\0\0\x9c\0\0\0sh\0\0\0\0\0\0\0\0\0\0\0\0\0\0\x9c\0\0\0x\0\0\0L\x85\x96\03\x01\x01\x02\x9c\0\0\0sh\0\0\0\0\0\0\0\0\0\0\0\0\0\0\x9c\0\0\0\0\0\0\0\x15\xfb*\0\0\0\0\0\xb6Q\x10F\x06\0\0\0p\xb4&\0?\x01\x01\x02\x9c\0\0\0sh\0\0\0\0\0\0\0\0\0\0\0\0\0\0\x9c\0\0\0x\0\0\0\x02\0\0\0\0\0\0\0swapper/0\0\0\0\0\0\0\0\0\0\0\0x\0\0\0\xc9\x80\x93\0A\x01-\x02\0\0\0\0sh\0\0\0\0\0\0\0\0\0\0\0\0\0\0\x9c\0\0\0x\0\0\0\0\0\0\0\xb0\x8fe\0?\x01\x01\x02\0\0\0\0swapper/0\0\0\0\0\0\0\0\0\0\0\0x\0\0\0\0\0\0\0\0\0\0\0sh\0\0\0\0\0\0\0\0\0\0\0\0\0\0\x9c\0\0\0x\0\0\0L+\x85\03\x01\x01\x02\x9c\0\0\0sh\0\0\0\0\0\0\0\0\0\0\0\0\0\0\x9c\0\0\0\0\0\0\0A\xb7\x05\0\0\0\0\0\xf7\x08\x16F\x06\0\0\0\x10T\x0d\0?\x01\x01\x02\x9c\0\0\0sh\0\0\0\0\0\0\0\0\0\0\0\0\0\0\x9c\0\0\0x\0\0\0\x02\0\0\0\0\0\0\0swapper/0\0\0\0\0\0\0\0\0\0\0\0x\0\0\0\x89\xfcV\0A\x01-\x02\0\0\0\0sh\0\0\0\0\0\0\0\0\0\0\0\0\0\0\x9c\0\0\0x\0\0\0\0\0\0\00\x14\x0d\0?\x01\x01\x02\0\0\0\0swapper/0\0\0\0\0\0\0\0\0\0\0\0x\0\0\0\0\0\0\0\0\0\0\0sh\0\0\0\0\0\0\0\0\0\0\0\0\0\0\x9c\0\0\0x\0\0\0,\x8b*\03\x01\x01\x02\x9c\0\0\0sh\0\0\0\0\0\0\0\0\0\0\0\0\0\0\x9c\0\0\0\0\0\0\0\x9e\xf6\x01\0\0\0\0\0\x95\xff\x17F\x06\0\0\0Io0\0B\x01%\x05\x9c\0\0\0trace-cmd\0\0\0\0\0\0\0\x99\0\0\0x\0\0\0\x01\0\0\0L\xbd#\03\x01%\x02\x9c\0\0\0sh\0\0\0\0\0\0\0\0\0\0\0\0\0\0\x9c\0\0\0\0\0\0\0\x9f\xac\x02\0\0\0\0\04\xac\x1aF\x06\0\0\0\xb0:\x09\0?\x01\x01\x02\x9c\0\0\0sh\0\0\0\0\0\0\0\0\0\0\0\0\0\0\x9c\0\0\0x\0\0\0 \0\0\0\0\0\0\0swapper/0\0\0\0\0\0\0\0\0\0\0\0x\0\0\0",
-};
+const RECORDED_LITTLE: &[u8] =
+    b"b=\x8a\xd2\x0f\0\0\0\x94\x05\0\0\0\0\0\0\x10\0\0\0?\x01\x01\x02\x0e\0\0\0ksoftirqd/0\0\0\0\0\0\x0e\0\0\0x\0\0\0\x01\0\0\0\0\0\0\0sh\0\0\0\0\0\0\0\0\0\0\0\0\0\0\xd4\0\0\0x\0\0\0\x89\xa7\xd8\x038\x01\0\0\xd4\0\0\0\x14\0\x0f\0\xd4\0\0\0\xd4\0\0\0/proc/self/exe\0\0l\x85^\x023\x01\x09\x01\xd4\0\0\0exe\0\0\0\0\0\0\0\0\0\0\0\0\0\xd4\0\0\0\0\0\0\0(\xd21\0\0\0\0\0f\xab\xedE\x06\0\0\0\xe9\xde6\0B\x01\x11\x02\xd4\0\0\0rcu_preempt\0\0\0\0\0\x0f\0\0\0x\0\0\0\0\0\0\0\xea\xc7\x0f\0>\x01\x11\x02\xd4\0\0\0rcu_preempt\0\0\0\0\0\x0f\0\0\0x\0\0\0\0\0\0\0\x01\0\0\0,IG\x073\x01\x09\x02\xd4\0\0\0cat\0\0\0\0\0\0\0\0\0\0\0\0\0\xd4\0\0\0\0\0\0\0\xb7`<\0\0\0\0\0\x1d\x0c*F\x06\0\0\0\xa8\xb2\xdc\x01<\x01\0\0\xd4\0\0\0cat\0\0\0\0\0\0\0\0\0\0\0\0\0\xd4\0\0\0x\0\0\0\xac\x13u\03\x01\x01\x02\xd4\0\0\0cat\0\0\0\0\0\0\0\0\0\0\0\0\0\xd4\0\0\0\0\0\0\0\xb3\xbf\x12\0\0\0\0\0\xd0\xcb<F\x06\0\0\0\x89\x16I\0B\x01%\x04\xd4\0\0\0sh\0\0\0\0\0\0\0\0\0\0\0\0\0\0\xd2\0\0\0x\0\0\0\x01\0\0\0l\xdf5\03\x01%\x02\xd4\0\0\0cat\0\0\0\0\0\0\0\0\0\0\0\0\0\xd4\0\0\0\0\0\0\0Q\x18\x04\0\0\0\0\0!\xe4@F\x06\0\0\0p\x0d\x16\0?\x01\x01\x02\xd4\0\0\0cat\0\0\0\0\0\0\0\0\0\0\0\0\0\xd4\0\0\0x\0\0\0 \0\0\0\0\0\0\0swapper/0\0\0\0\0\0\0\0\0\0\0\0x\0\0\0\xe9\xf3\xef\x05A\x01-\x02\0\0\0\0sh\0\0\0\0\0\0\0\0\0\0\0\0\0\0\x9c\0\0\0x\0\0\0\0\0\0\0\x10\xd6\x18\0?\x01\x01\x02\0\0\0\0swapper/0\0\0\0\0\0\0\0\0\0\0\0x\0\0\0\0\0\0\0\0\0\0\0sh\0\0\0\0\0\0\0\0\0\0\0\0\0\0\x9c\0\0\0x\0\0\0hO\xf2\0:\x01\0\0\x9c\0\0\0sh\0\0\0\0\0\0\0\0\0\0\0\0\0\0\0\0\0\0x\0\0\0\xe8Hn\0:\x01\0\0\x9c\0\0\0sh\0\0\0\0\0\0\0\0\0\0\0\0\0\0\0\0\0\0x\0\0\0\x88.B\x03<\x01\0\0\x9c\0\0\0sh\0\0\0\0\0\0\0\0\0\0\0\0\0\0\x9c\0\0\0x\0\0\0L\x85\x96\03\x01\x01\x02\x9c\0\0\0sh\0\0\0\0\0\0\0\0\0\0\0\0\0\0\x9c\0\0\0\0\0\0\0\x15\xfb*\0\0\0\0\0\xb6Q\x10F\x06\0\0\0p\xb4&\0?\x01\x01\x02\x9c\0\0\0sh\0\0\0\0\0\0\0\0\0\0\0\0\0\0\x9c\0\0\0x\0\0\0\x02\0\0\0\0\0\0\0swapper/0\0\0\0\0\0\0\0\0\0\0\0x\0\0\0\xc9\x80\x93\0A\x01-\x02\0\0\0\0sh\0\0\0\0\0\0\0\0\0\0\0\0\0\0\x9c\0\0\0x\0\0\0\0\0\0\0\xb0\x8fe\0?\x01\x01\x02\0\0\0\0swapper/0\0\0\0\0\0\0\0\0\0\0\0x\0\0\0\0\0\0\0\0\0\0\0sh\0\0\0\0\0\0\0\0\0\0\0\0\0\0\x9c\0\0\0x\0\0\0L+\x85\03\x01\x01\x02\x9c\0\0\0sh\0\0\0\0\0\0\0\0\0\0\0\0\0\0\x9c\0\0\0\0\0\0\0A\xb7\x05\0\0\0\0\0\xf7\x08\x16F\x06\0\0\0\x10T\x0d\0?\x01\x01\x02\x9c\0\0\0sh\0\0\0\0\0\0\0\0\0\0\0\0\0\0\x9c\0\0\0x\0\0\0\x02\0\0\0\0\0\0\0swapper/0\0\0\0\0\0\0\0\0\0\0\0x\0\0\0\x89\xfcV\0A\x01-\x02\0\0\0\0sh\0\0\0\0\0\0\0\0\0\0\0\0\0\0\x9c\0\0\0x\0\0\0\0\0\0\00\x14\x0d\0?\x01\x01\x02\0\0\0\0swapper/0\0\0\0\0\0\0\0\0\0\0\0x\0\0\0\0\0\0\0\0\0\0\0sh\0\0\0\0\0\0\0\0\0\0\0\0\0\0\x9c\0\0\0x\0\0\0,\x8b*\03\x01\x01\x02\x9c\0\0\0sh\0\0\0\0\0\0\0\0\0\0\0\0\0\0\x9c\0\0\0\0\0\0\0\x9e\xf6\x01\0\0\0\0\0\x95\xff\x17F\x06\0\0\0Io0\0B\x01%\x05\x9c\0\0\0trace-cmd\0\0\0\0\0\0\0\x99\0\0\0x\0\0\0\x01\0\0\0L\xbd#\03\x01%\x02\x9c\0\0\0sh\0\0\0\0\0\0\0\0\0\0\0\0\0\0\x9c\0\0\0\0\0\0\0\x9f\xac\x02\0\0\0\0\04\xac\x1aF\x06\0\0\0\xb0:\x09\0?\x01\x01\x02\x9c\0\0\0sh\0\0\0\0\0\0\0\0\0\0\0\0\0\0\x9c\0\0\0x\0\0\0 \0\0\0\0\0\0\0swapper/0\0\0\0\0\0\0\0\0\0\0\0x\0\0\0";
 
 // The sub-buffer of processor 0 in a recording of an s390x kernel (15 events).
-const RECORDED_BIG: SubBuffer = SubBuffer {
-    order: Order::Big,
-    time: 19140906969,
-    commit: 660,
-    data: b"\x80\0\0\0\0\xfc\x01\0\0\0\0\xa5sh\0\0\0\0\0\0\0\0\0\0\0\0\0\0\0\0\0\xa5\0\0\0x\0\0\0\0\0\0\0\0kworker/0:1\0\0\0\0\0\0\0\0\x16\0\0\0x\x80\x03O\x86\0\xfc\x01\0\0\0\0\x16kworker/0:1\0\0\0\0\0\0\0\0\x16\0\0\0x\0\0\0\0\0\0\0\x80sh\0\0\0\0\0\0\0\0\0\0\0\0\0\0\0\0\0\xa5\0\0\0x8\xd0y\x9e\0\x05\0\0\0\0\0\xa5\0\0\0\0\0&Ybmarker 0\x0a\0\x0108\x16j\xdc\0\x05\0\0\0\0\0\xa5\0\0\0\0\0&Ybmarker 1\x0a\0$\x908\x16\x0bP\0\x05\0\0\0\0\0\xa5\0\0\0\0\0&Ybmarker 2\x0a\0\0\08\x10\x17I\0\x05\0\0\0\0\0\xa5\0\0\0\0\0&Ybmarker 3\x0a\0Q\xb08\x17\xfe\xc8\0\x05\0\0\0\0\0\xa5\0\0\0\0\0&Ybmarker 4\x0a\0\0\08\x14\xcb\xa0\0\x05\0\0\0\0\0\xa5\0\0\0\0\0&Ybmarker 5\x0a\0\0\08\x10\x9d\x81\0\x05\0\0\0\0\0\xa5\0\0\0\0\0&Ybmarker 6\x0a\0AX8\x0f]\x1d\0\x05\0\0\0\0\0\xa5\0\0\0\0\0&Ybmarker 7\x0a\0he8\x15P\x1f\0\x05\0\0\0\0\0\xa5\0\0\0\0\0&Ybmarker 8\x0a\0\0\x968\x0fs\xb0\0\x05\0\0\0\0\0\xa5\0\0\0\0\0&Ybmarker 9\x0a\0\0\x0a\x803\x8d\x90\0\xfc\x01\0\0\0\0\xa5sh\0\0\0\0\0\0\0\0\0\0\0\0\0\0\0\0\0\xa5\0\0\0x\0\0\0\0\0\0\0\x01swapper/0\0\0\0\0\0\0\0\0\0\0\0\0\0\0x\x81\xa9\xe2\x0f\0\xfc\x01\0\0\0\0\0swapper/0\0\0\0\0\0\0\0\0\0\0\0\0\0\0x\0\0\0\0\0\0\0\0sh\0\0\0\0\0\0\0\0\0\0\0\0\0\0\0\0\0\xa5\0\0\0x\x80%+\xfa\0\xfc\x01\0\0\0\0\xa5sh\0\0\0\0\0\0\0\0\0\0\0\0\0\0\0\0\0\xa5\0\0\0x\0\0\0\0\0\0\0 swapper/0\0\0\0\0\0\0\0\0\0\0\0\0\0\0x",
-};
+const RECORDED_BIG: &[u8] =
+    b"\0\0\0\x04t\xe3\x0f\xd9\0\0\0\0\0\0\x02\x94\x80\0\0\0\0\xfc\x01\0\0\0\0\xa5sh\0\0\0\0\0\0\0\0\0\0\0\0\0\0\0\0\0\xa5\0\0\0x\0\0\0\0\0\0\0\0kworker/0:1\0\0\0\0\0\0\0\0\x16\0\0\0x\x80\x03O\x86\0\xfc\x01\0\0\0\0\x16kworker/0:1\0\0\0\0\0\0\0\0\x16\0\0\0x\0\0\0\0\0\0\0\x80sh\0\0\0\0\0\0\0\0\0\0\0\0\0\0\0\0\0\xa5\0\0\0x8\xd0y\x9e\0\x05\0\0\0\0\0\xa5\0\0\0\0\0&Ybmarker 0\x0a\0\x0108\x16j\xdc\0\x05\0\0\0\0\0\xa5\0\0\0\0\0&Ybmarker 1\x0a\0$\x908\x16\x0bP\0\x05\0\0\0\0\0\xa5\0\0\0\0\0&Ybmarker 2\x0a\0\0\08\x10\x17I\0\x05\0\0\0\0\0\xa5\0\0\0\0\0&Ybmarker 3\x0a\0Q\xb08\x17\xfe\xc8\0\x05\0\0\0\0\0\xa5\0\0\0\0\0&Ybmarker 4\x0a\0\0\08\x14\xcb\xa0\0\x05\0\0\0\0\0\xa5\0\0\0\0\0&Ybmarker 5\x0a\0\0\08\x10\x9d\x81\0\x05\0\0\0\0\0\xa5\0\0\0\0\0&Ybmarker 6\x0a\0AX8\x0f]\x1d\0\x05\0\0\0\0\0\xa5\0\0\0\0\0&Ybmarker 7\x0a\0he8\x15P\x1f\0\x05\0\0\0\0\0\xa5\0\0\0\0\0&Ybmarker 8\x0a\0\0\x968\x0fs\xb0\0\x05\0\0\0\0\0\xa5\0\0\0\0\0&Ybmarker 9\x0a\0\0\x0a\x803\x8d\x90\0\xfc\x01\0\0\0\0\xa5sh\0\0\0\0\0\0\0\0\0\0\0\0\0\0\0\0\0\xa5\0\0\0x\0\0\0\0\0\0\0\x01swapper/0\0\0\0\0\0\0\0\0\0\0\0\0\0\0x\x81\xa9\xe2\x0f\0\xfc\x01\0\0\0\0\0swapper/0\0\0\0\0\0\0\0\0\0\0\0\0\0\0x\0\0\0\0\0\0\0\0sh\0\0\0\0\0\0\0\0\0\0\0\0\0\0\0\0\0\xa5\0\0\0x\x80%+\xfa\0\xfc\x01\0\0\0\0\xa5sh\0\0\0\0\0\0\0\0\0\0\0\0\0\0\0\0\0\xa5\0\0\0x\0\0\0\0\0\0\0 swapper/0\0\0\0\0\0\0\0\0\0\0\0\0\0\0x";
 
-const FAR: SubBuffer = SubBuffer {
-    order: Order::Little,
-    time: 1000,
-    commit: 32,
-    data: b"\x02\0\0\0firstone\x1e\0\0\0\x01\0\0\0\x02\0\0\0laterone",
-};
+const FAR: &[u8] =
+    b"\xe8\x03\0\0\0\0\0\0 \0\0\0\0\0\0\0\x02\0\0\0firstone\x1e\0\0\0\x01\0\0\0\x02\0\0\0laterone";
 
-const BACK: SubBuffer = SubBuffer {
-    order: Order::Little,
-    time: 1000,
-    commit: 32,
-    data: b"\x02\0\0\0firstone\xff\x7c\0\0\0\0\0\0\x02\0\0\0laterone",
-};
+const BACK: &[u8] =
+    b"\xe8\x03\0\0\0\0\0\0 \0\0\0\0\0\0\0\x02\0\0\0firstone\xff\x7c\0\0\0\0\0\0\x02\0\0\0laterone";
 
-const FIRST: SubBuffer = SubBuffer {
-    order: Order::Little,
-    time: 1000,
-    commit: 12,
-    data: b"\x02\0\0\0firstone",
-};
+const FIRST: &[u8] = b"\xe8\x03\0\0\0\0\0\0\x0c\0\0\0\0\0\0\0\x02\0\0\0firstone";
 
-const COUNTED: SubBuffer = SubBuffer {
-    order: Order::Little,
-    time: 1000,
-    commit: 0xc000_000c,
-    data: b"\x02\0\0\0firstone\x03\0\0\0\0\0\0\0",
-};
+const COUNTED: &[u8] =
+    b"\xe8\x03\0\0\0\0\0\0\x0c\0\0\xc0\0\0\0\0\x02\0\0\0firstone\x03\0\0\0\0\0\0\0";
 
-const UNCOUNTED: SubBuffer = SubBuffer {
-    order: Order::Little,
-    time: 1000,
-    commit: 0x8000_000c,
-    data: b"\x02\0\0\0firstone",
-};
+const UNCOUNTED: &[u8] = b"\xe8\x03\0\0\0\0\0\0\x0c\0\0\x80\0\0\0\0\x02\0\0\0firstone";
 
-const LONG: SubBuffer = SubBuffer {
-    order: Order::Little,
-    time: 5,
-    commit: 12,
-    data: b"\0\0\0\0\x05\0\0\0x\0\0\0",
-};
+const LONG: &[u8] = b"\x05\0\0\0\0\0\0\0\x0c\0\0\0\0\0\0\0\0\0\0\0\x05\0\0\0x\0\0\0";
 
-const FILLED: SubBuffer = SubBuffer {
-    order: Order::Little,
-    time: 5,
-    commit: 12,
-    data: b"\0\0\0\0\x05\0\0\0x\xff\xff\xff",
-};
+const FILLED: &[u8] = b"\x05\0\0\0\0\0\0\0\x0c\0\0\0\0\0\0\0\0\0\0\0\x05\0\0\0x\xff\xff\xff";
 
-const PACKED: &[(&str, SubBuffer, SubBuffer)] = &[
-    ("recorded on x86-64", RECORDED_LITTLE, RECORDED_LITTLE),
-    ("recorded on s390x", RECORDED_BIG, RECORDED_BIG),
-    ("a step of 2^27", FAR, FAR),
-    ("a time that goes back", BACK, FIRST),
-    ("a loss with its number", COUNTED, COUNTED),
-    ("a loss without a number", UNCOUNTED, UNCOUNTED),
-    ("a payload of one byte", FILLED, LONG),
+/// What a row shows, the byte order, the front of a sub-buffer, and that of the one that its items are packed into. A front is a
+/// timestamp and a commit word of 8 bytes each, and data.
+const PACKED: &[(&str, Order, &[u8], &[u8])] = &[
+    (
+        "recorded on x86-64",
+        Little,
+        RECORDED_LITTLE,
+        RECORDED_LITTLE,
+    ),
+    ("recorded on s390x", Big, RECORDED_BIG, RECORDED_BIG),
+    ("a step of 2^27", Little, FAR, FAR),
+    ("a time that goes back", Little, BACK, FIRST),
+    ("a loss with its number", Little, COUNTED, COUNTED),
+    ("a loss without a number", Little, UNCOUNTED, UNCOUNTED),
+    ("a payload of one byte", Little, FILLED, LONG),
 ];
 
 #[test]
 fn packs_again(rt: HostRuntime) -> Result<(), Fail> {
-    for (name, from, to) in PACKED {
-        assert!(rt; packs(rt.alloc(), from, to)?, "{name}");
+    for (name, order, from, to) in PACKED {
+        assert!(rt; packs(rt.alloc(), *order, from, to)?, "{name}");
     }
     Ok(())
 }
@@ -200,8 +156,8 @@ fn packs_filled(alloc: Global, order: Order, size: u32) -> Result<bool, AllocErr
 #[test]
 fn sub_buffers_of_several_pages_are_packed_again(rt: HostRuntime) -> Result<(), Fail> {
     for size in [8_192, 262_144] {
-        let little = packs_filled(rt.alloc(), Order::Little, size)?;
-        assert!(rt; little && packs_filled(rt.alloc(), Order::Big, size)?);
+        let little = packs_filled(rt.alloc(), Little, size)?;
+        assert!(rt; little && packs_filled(rt.alloc(), Big, size)?);
     }
     Ok(())
 }

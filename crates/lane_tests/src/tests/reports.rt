@@ -4,11 +4,12 @@ mod marks;
 mod pages;
 
 use End::{Done, Malformed, Read, Write};
+use cpu_workers::Workers;
 use least_tree::LeastTree;
 use marks::{Marks, len_of, mark};
 use page_pool::Pool;
 use pages::{Page, bytes_of, open_lanes};
-use report_rounds::report_rounds;
+use report_rounds::{RoundWork, report_rounds};
 use std::alloc::{AllocError, Global};
 use std::test::Fail;
 use std::thread::Threads;
@@ -35,20 +36,16 @@ fn report<R: Threads + Sync, F: File, O: Sink>(
     let mut pool = Pool::new(alloc, counts.len() as u32, 4096, room)?;
     let lanes = pool.lanes();
     open_lanes(&layout, lanes, counts, room);
-    let mut heads = LeastTree::new(alloc, counts.len() as u32)?;
-    let mut pending = Pending::new(alloc)?;
-    Ok(Some(report_rounds(
+    let mut work = RoundWork {
+        heads: LeastTree::new(alloc, counts.len() as u32)?,
+        pending: Pending::new(alloc)?,
+    };
+    let workers = Workers {
         rt,
-        &Marks,
-        &layout,
-        file,
-        lanes,
-        workers,
-        &NoGate,
-        &mut heads,
-        &mut pending,
-        out,
-    )))
+        count: workers,
+        gate: &NoGate,
+    };
+    Ok(Some(report_rounds(&workers, &Marks, &layout, file, lanes, &mut work, out)))
 }
 
 // Whether a report has this text and this end.

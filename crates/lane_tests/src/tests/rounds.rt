@@ -1,9 +1,8 @@
-//! Rounds over the lines of two processors.
+//! Rounds over the lines of two processors: a round by its horizon in `HORIZONS`, and rounds that fail in `WRITES`.
 
-ghost use Rattle.std.specs.Prelude.{◌≡◌, ◌≤◌, [], All, IfSome, length};
-ghost use Rattle.subpage.specs.Arrangement.{CpusRise};
-ghost use Rattle.time_merge.specs.LaneRows.{parts_of};
+ghost use Rattle.std.specs.Prelude.{◌≡◌, ◌≤◌, [], IfSome, length};
 ghost use Rattle.round_print.specs.Prints.{KeysRise, KeysUpTo};
+ghost use Rattle.round_print.specs.Rounds.{AreRising};
 
 use Horizon::{All, Start, To};
 use least_tree::LeastTree;
@@ -13,6 +12,31 @@ use std::alloc::{AllocError, Global};
 use std::test::Fail;
 use time_merge::Horizon;
 use trace_outside::{Failed, MemSink, Pending, Sink};
+
+/// A line that is kept: its key, its text and its hole.
+type Kept = (u64, &'static str, Option<(u32, u64)>);
+
+/// The lines of processors 3 and 7.
+type Lines = [&'static [Kept]; 2];
+
+const LINES: Lines = [
+    &[
+        (10, "a", None),
+        (30, "b", None),
+        (30, "c", None),
+        (50, "d", None),
+    ],
+    &[(20, "e", None), (30, "f", None), (40, "g", None)],
+];
+
+const HOLED: Lines = [
+    &[
+        (10, "a1\n", Some((2, 10))),
+        (30, "b\n", None),
+        (50, "c\n", Some((0, 5))),
+    ],
+    &[(20, "d2\n", Some((2, 17))), (40, "e4\n", Some((3, 40)))],
+];
 
 // Copies the text to the front of the bytes, as far as there is room.
 fn copy(into: &mut [u8], text: &[u8]) -> u32 {
@@ -44,67 +68,27 @@ fn keep(lane: &mut Lane, last: u64, key: u64, text: &[u8], hole: Option<(u32, u6
     lane.region.put_line(key, len, hole);
 }
 
-fn fill_first(lane: &mut Lane)
+fn fill_lane(lane: &mut Lane, cpu: u32, lines: &[Kept])
     ensures rises { KeysRise lane.new }
-    ensures cpu { lane.new.cpu ≡ 3 }
+    ensures cpu { lane.new.cpu ≡ cpu }
 {
     lane.region.clear();
-    lane.cpu = 3;
-    keep(lane, 0, 10, b"a", None);
-    keep(lane, 10, 30, b"b", None);
-    keep(lane, 30, 30, b"c", None);
-    keep(lane, 30, 50, b"d", None);
+    lane.cpu = cpu;
+    let mut last = 0_u64;
+    for line in lines {
+        let (at, text, hole) = *line;
+        let key = last.max(at);
+        keep(lane, last, key, text.as_bytes(), hole);
+        last = key;
+    }
 }
 
-fn fill_second(lane: &mut Lane)
-    ensures rises { KeysRise lane.new }
-    ensures cpu { lane.new.cpu ≡ 7 }
+fn fill(lanes: &mut [Lane], lines: &Lines)
+    requires { length lanes.old ≡ 2 }
+    ensures { AreRising lanes.new }
 {
-    lane.region.clear();
-    lane.cpu = 7;
-    keep(lane, 0, 20, b"e", None);
-    keep(lane, 20, 30, b"f", None);
-    keep(lane, 30, 40, b"g", None);
-}
-
-fn fill(lanes: &mut [Lane])
-    requires two { length lanes.old ≡ 2 }
-    ensures rise { CpusRise (parts_of lanes.new) }
-    ensures rises { All KeysRise lanes.new }
-{
-    fill_first(&mut lanes[0]);
-    fill_second(&mut lanes[1]);
-}
-
-// Lines of both, of which some have a hole.
-fn fill_holed(lanes: &mut [Lane])
-    requires two { length lanes.old ≡ 2 }
-    ensures rise { CpusRise (parts_of lanes.new) }
-    ensures rises { All KeysRise lanes.new }
-{
-    fill_holed_first(&mut lanes[0]);
-    fill_holed_second(&mut lanes[1]);
-}
-
-fn fill_holed_first(lane: &mut Lane)
-    ensures rises { KeysRise lane.new }
-    ensures cpu { lane.new.cpu ≡ 3 }
-{
-    lane.region.clear();
-    lane.cpu = 3;
-    keep(lane, 0, 10, b"a1\n", Some((2, 10)));
-    keep(lane, 10, 30, b"b\n", None);
-    keep(lane, 30, 50, b"c\n", Some((0, 5)));
-}
-
-fn fill_holed_second(lane: &mut Lane)
-    ensures rises { KeysRise lane.new }
-    ensures cpu { lane.new.cpu ≡ 7 }
-{
-    lane.region.clear();
-    lane.cpu = 7;
-    keep(lane, 0, 20, b"d2\n", Some((2, 17)));
-    keep(lane, 20, 40, b"e4\n", Some((3, 40)));
+    fill_lane(&mut lanes[0], 3, lines[0]);
+    fill_lane(&mut lanes[1], 7, lines[1]);
 }
 
 fn kept(lanes: &[Lane]) -> (u32, u32)
@@ -121,8 +105,7 @@ fn print_rounds<O: Sink>(
     pending: &mut Pending,
     out: &mut O,
 ) -> Result<(), Failed>
-    requires rise { CpusRise (parts_of lanes.old) }
-    requires rises { All KeysRise lanes.old }
+    requires rising { AreRising lanes.old }
     requires heads { length heads.old ≡ length lanes.old }
     requires empty { pending.old ≡ [] }
 {
@@ -135,53 +118,89 @@ fn print_rounds<O: Sink>(
     Ok(())
 }
 
-// What a round up to a horizon prints, and how many lines the lanes then keep.
+// Prints rounds over lanes with these lines. The last time behind them, and how many lines the lanes then keep, where no write
+// failed.
 fn prints(
     alloc: Global,
-    horizon: &Horizon,
-    text: &str,
-    left: (u32, u32),
-) -> Result<bool, AllocError> {
+    lines: &Lines,
+    rounds: &[Horizon],
+    last: Option<u64>,
+    out: &mut MemSink,
+) -> Result<Option<(Option<u64>, (u32, u32))>, AllocError> {
     let mut pool = Pool::new(alloc, 2, 4096, 16)?;
     let lanes = pool.lanes();
-    fill(lanes);
+    fill(lanes, lines);
     let mut heads = LeastTree::new(alloc, 2)?;
     let mut pending = Pending::new(alloc)?;
-    let mut out = MemSink::new(alloc);
-    let result = print_round(
-        horizon,
-        lanes,
-        &mut heads,
-        &mut None,
-        &mut pending,
-        &mut out,
-    );
-    Ok(result == Ok(()) && out.bytes() == text.as_bytes() && kept(lanes) == left)
+    let mut time = last;
+    match print_rounds(rounds, lanes, &mut heads, &mut time, &mut pending, out) {
+        Ok(()) => Ok(Some((time, kept(lanes)))),
+        Err(Failed) => Ok(None),
+    }
 }
 
-const HORIZONS: &[(Horizon, &str, (u32, u32))] = &[
-    (Start(3), "", (4, 3)),
-    (To(9, 9), "", (4, 3)),
-    (To(10, 3), "a", (3, 3)),
-    (To(20, 6), "a", (3, 3)),
-    (To(20, 7), "ae", (3, 2)),
-    (To(30, 3), "aebc", (1, 2)),
-    (To(30, 7), "aebcf", (1, 1)),
-    (To(49, 9), "aebcfg", (1, 0)),
-    (All, "aebcfgd", (0, 0)),
+/// A round: the lines, its horizon, the last time before it, what it prints, the last time behind it, and how many lines the
+/// lanes then keep.
+type Round = (
+    Lines,
+    Horizon,
+    Option<u64>,
+    &'static str,
+    Option<u64>,
+    (u32, u32),
+);
+
+const HORIZONS: &[Round] = &[
+    (LINES, Start(3), None, "", None, (4, 3)),
+    (LINES, To(9, 9), None, "", None, (4, 3)),
+    (LINES, To(10, 3), None, "a", None, (3, 3)),
+    (LINES, To(20, 6), None, "a", None, (3, 3)),
+    (LINES, To(20, 7), None, "ae", None, (3, 2)),
+    (LINES, To(30, 3), None, "aebc", None, (1, 2)),
+    (LINES, To(30, 7), None, "aebcf", None, (1, 1)),
+    (LINES, To(49, 9), None, "aebcfg", None, (1, 0)),
+    (LINES, All, None, "aebcfgd", None, (0, 0)),
+    // holes are filled from the line before
+    (HOLED, To(10, 3), None, "a1\n", Some(10), (2, 2)),
+    (HOLED, To(20, 7), None, "a1\nd2 (+7)\n", Some(17), (2, 1)),
+    (
+        HOLED,
+        To(30, 7),
+        Some(12),
+        "a1 (-2)\nd2 (+7)\nb\n",
+        Some(17),
+        (1, 1),
+    ),
+    (
+        HOLED,
+        All,
+        None,
+        "a1\nd2 (+7)\nb\ne4\n (+23) (-35)c\n",
+        Some(5),
+        (0, 0),
+    ),
+    (HOLED, Start(3), Some(9), "", Some(9), (3, 2)),
 ];
+
+fn is_printed(alloc: Global, round: &Round) -> Result<bool, AllocError> {
+    let (lines, horizon, last, text, now, left) = *round;
+    let mut out = MemSink::new(alloc);
+    let ended = prints(alloc, &lines, &[horizon], last, &mut out)?;
+    Ok(ended == Some((now, left)) && out.bytes() == text.as_bytes())
+}
 
 #[test]
 fn lines_up_to_a_horizon(rt: HostRuntime) -> Result<(), Fail> {
-    for (horizon, text, left) in HORIZONS {
-        assert!(rt; prints(rt.alloc(), horizon, text, *left)?, "{text}");
+    for round in HORIZONS {
+        assert!(rt; is_printed(rt.alloc(), round)?, "{}", round.3);
     }
     Ok(())
 }
 
 const ROUNDS: &[Horizon] = &[To(10, 3), To(30, 3), All];
 
-// Each round is one write, the first of which that fails ends them.
+/// From which write on the sink fails, whether one of those rounds does, what it took, and how many writes there were: one for each
+/// round, up to the first that fails.
 const WRITES: &[(u64, bool, &str, u64)] = &[
     (4, false, "aebcfgd", 3),
     (3, true, "aebc", 3),
@@ -196,16 +215,11 @@ fn fails_so(
     text: &str,
     writes: u64,
 ) -> Result<bool, AllocError> {
-    let mut pool = Pool::new(alloc, 2, 4096, 16)?;
-    let lanes = pool.lanes();
-    fill(lanes);
-    let mut heads = LeastTree::new(alloc, 2)?;
-    let mut pending = Pending::new(alloc)?;
     let mut out = MemSink::new(alloc);
     out.fail_from(from);
-    let found = print_rounds(ROUNDS, lanes, &mut heads, &mut None, &mut pending, &mut out);
+    let ended = prints(alloc, &LINES, ROUNDS, None, &mut out)?;
     let is_told = out.bytes() == text.as_bytes() && out.writes() == writes;
-    Ok(found.is_err() == fails && is_told && out.faults() == u64::from(fails))
+    Ok(ended.is_none() == fails && is_told && out.faults() == u64::from(fails))
 }
 
 #[test]
@@ -215,47 +229,6 @@ fn one_round_behind_another(rt: HostRuntime) -> Result<(), Fail> {
             fails_so(rt.alloc(), *from, *fails, text, *writes)?,
             "{from}"
         );
-    }
-    Ok(())
-}
-
-const FILLED: &[(Horizon, Option<u64>, &str, Option<u64>)] = &[
-    (To(10, 3), None, "a1\n", Some(10)),
-    (To(20, 7), None, "a1\nd2 (+7)\n", Some(17)),
-    (To(30, 7), Some(12), "a1 (-2)\nd2 (+7)\nb\n", Some(17)),
-    (All, None, "a1\nd2 (+7)\nb\ne4\n (+23) (-35)c\n", Some(5)),
-    (Start(3), Some(9), "", Some(9)),
-];
-
-fn fills(
-    alloc: Global,
-    horizon: &Horizon,
-    last: Option<u64>,
-    text: &str,
-    now: Option<u64>,
-) -> Result<bool, AllocError> {
-    let mut pool = Pool::new(alloc, 2, 4096, 16)?;
-    let lanes = pool.lanes();
-    fill_holed(lanes);
-    let mut heads = LeastTree::new(alloc, 2)?;
-    let mut pending = Pending::new(alloc)?;
-    let mut out = MemSink::new(alloc);
-    let mut time = last;
-    let result = print_round(
-        horizon,
-        lanes,
-        &mut heads,
-        &mut time,
-        &mut pending,
-        &mut out,
-    );
-    Ok(result == Ok(()) && out.bytes() == text.as_bytes() && time == now)
-}
-
-#[test]
-fn holes_are_filled_from_the_line_before(rt: HostRuntime) -> Result<(), Fail> {
-    for (horizon, last, text, now) in FILLED {
-        assert!(rt; fills(rt.alloc(), horizon, *last, text, *now)?, "{text}");
     }
     Ok(())
 }

@@ -10,7 +10,7 @@ ghost use Rattle.subpage.specs.ItemView.{item_view};
 ghost use Rattle.page_pool.specs.Fresh.{IsNew};
 ghost use Rattle.event_cursor.specs.Standing.{IsInOrder};
 
-use cpu_workers::{Form, format_lanes};
+use cpu_workers::{Form, Workers, format_lanes};
 use event_cursor::load;
 use page_pool::{Lane, LaneState, Pool};
 use std::alloc::{AllocError, Global};
@@ -126,7 +126,12 @@ fn formats<R: Threads + Sync>(
     let mut pool = Pool::new(alloc, 3, 4096, room)?;
     let lanes = pool.lanes();
     open_lanes(&layout, &mut file, lanes, room);
-    format_lanes(rt, &Letters, &layout, lanes, workers, &NoGate);
+    let workers = Workers {
+        rt,
+        count: workers,
+        gate: &NoGate,
+    };
+    format_lanes(&workers, &Letters, &layout, lanes);
     Ok(have(lanes, first, second))
 }
 

@@ -1,8 +1,8 @@
 // Reports with the differences between times.
 
 use super::{
-    Carried, FALLING, IN_INTERRUPT, Input, LATENCY, MALFORMED_LATER, Page, Record, Row, SWITCHES,
-    TWO_AT_ONCE, run_all,
+    Carried, FALLING, IN_INTERRUPT, Input, LATENCY, MALFORMED_LATER, ONE_REPORT, Page, Record, Row,
+    SWITCHES, TWO_AT_ONCE, run_all,
 };
 use std::test::Fail;
 use trace_run::Status;
@@ -99,7 +99,7 @@ const ROWS: &[Row] = &[
         words: &["report", "--ts-diff"],
         file: IN_INTERRUPT,
         status: Status::Done,
-        out: "cpus=1\n           <...>-1234  [000]     1.000000: [UNKNOWN EVENT 58]\n",
+        out: ONE_REPORT,
         err: "",
     },
     // known events, and those that a filter leaves

@@ -2,7 +2,7 @@
 
 use super::calls::LONE;
 use super::waits::WAITS;
-use super::{Input, ONE, ends_as, folder_of, words_of};
+use super::{Input, ONE, ONE_REPORT, ends_as, folder_of, words_of};
 use std::alloc::Global;
 use std::process::Abort;
 use std::test::Fail;
@@ -36,12 +36,7 @@ const ROWS: &[Row] = &[
                 READ_FAILED,
             ),
             // behind the end of the file
-            (
-                MemFault::ReadAt(8192),
-                Status::Done,
-                "cpus=1\n           <...>-1234  [000]     1.000000: [UNKNOWN EVENT 58]\n",
-                "",
-            ),
+            (MemFault::ReadAt(8192), Status::Done, ONE_REPORT, ""),
         ],
     },
     // of calls and of wake-ups all is read before the first byte is printed

@@ -1,7 +1,7 @@
 // Reports with filters, and words whose filters have no reading.
 
 use super::known::Task;
-use super::{Carried, Input, ONE, Page, Record, Row, SWITCHES, run_all};
+use super::{Carried, Input, ONE, ONE_REPORT, Page, Record, Row, SWITCHES, run_all};
 use std::test::Fail;
 use trace_run::Status;
 
@@ -65,7 +65,7 @@ const ROWS: &[Row] = &[
         words: &["report", "-v", "-F", "nothing"],
         file: ONE,
         status: Status::Done,
-        out: "cpus=1\n           <...>-1234  [000]     1.000000: [UNKNOWN EVENT 58]\n",
+        out: ONE_REPORT,
         err: "",
     },
     Row {

@@ -1,6 +1,7 @@
 // Gates that see which lanes are formatted, and when.
 
-use super::{TWO_AT_ONCE, folder_of, outcome_of, words_of};
+use super::{TWO_AT_ONCE, folder_of, words_of};
+use sample_runs::run_words;
 use std::sync::atomic::AtomicU64;
 use std::sync::atomic::Ordering::SeqCst;
 use std::test::Fail;
@@ -28,8 +29,8 @@ fn each_lane_passes_the_gate(rt: HostRuntime) -> Result<(), Fail> {
             passed: AtomicU64::new(0),
         };
         let mut folder = MemFolder::new(rt.alloc());
-        let outcome = outcome_of(&rt, &words, &mut folder, &gate);
-        assert_eq!(rt; outcome.status, Status::Done);
+        let ran = run_words(&rt, &words, &mut folder, &gate);
+        assert_eq!(rt; ran.status, Status::Done);
         assert!(rt; gate.passed.load(SeqCst) >= 4, "{workers}");
     }
     Ok(())
@@ -70,8 +71,8 @@ fn two_lanes_are_formatted_at_once(rt: HostRuntime) -> Result<(), Fail> {
         alone: AtomicU64::new(0),
     };
     let mut folder = folder_of(alloc, &TWO_AT_ONCE)?;
-    let outcome = outcome_of(&rt, &words, &mut folder, &gate);
-    assert_eq!(rt; outcome.status, Status::Done);
+    let ran = run_words(&rt, &words, &mut folder, &gate);
+    assert_eq!(rt; ran.status, Status::Done);
     assert_eq!(rt; gate.alone.load(SeqCst), 0);
     Ok(())
 }

@@ -1,12 +1,13 @@
 // Reports of many events and of long lines, on any number of threads.
 
 use super::known::carry;
-use super::{Carried, PAGE, outcome_of, put_common, put_head, words_of};
+use super::{Carried, PAGE, put_common, put_head, words_of};
+use sample_runs::{folder_of, run_words};
 use std::alloc::Global;
 use std::process::Abort;
 use std::test::Fail;
 use std::thread::Threads;
-use trace_outside::{MemFolder, NoGate};
+use trace_outside::NoGate;
 use trace_run::Status;
 use trace_samples::{TraceFile, many_events, many_events_report};
 
@@ -75,13 +76,12 @@ fn reports_on<R: Alloc<A = Global> + Abort + Threads + Sync>(
     text: &[u8],
 ) -> Result<(), Fail> {
     let alloc = rt.alloc();
-    let mut folder = MemFolder::new(alloc);
-    folder.put("trace.dat", file)?;
+    let mut folder = folder_of(alloc, file)?;
     let words = words_of(alloc, &["report", "-t", "--workers", workers])?;
-    let outcome = outcome_of(rt, &words, &mut folder, &NoGate);
-    assert_eq!(rt; outcome.status, Status::Done);
-    assert!(rt; outcome.out.bytes() == text, "{workers}");
-    assert!(rt; outcome.err.bytes().is_empty(), "{workers}");
+    let ran = run_words(rt, &words, &mut folder, &NoGate);
+    assert_eq!(rt; ran.status, Status::Done);
+    assert!(rt; ran.out.bytes() == text, "{workers}");
+    assert!(rt; ran.err.bytes().is_empty(), "{workers}");
     Ok(())
 }
 

@@ -9,17 +9,12 @@ use std::thread::Threads;
 use trace_outside::MemFolder;
 use trace_run::Status;
 
-/// A file of pages of 4,096 bytes and one processor.
+/// A file of pages of 4,096 bytes and one processor: how many bytes of data a sub-buffer has, as the header_page text says it
+/// (they stand behind 16 bytes); how many sub-buffers stand in the file from its second page on; and how many bytes the table
+/// says that they have. Each has an event of 5,000 bytes of pid 7, the first at one second, and each other one a second behind
+/// the last.
 #[derive(Drop)]
-struct Trace {
-    /// How many bytes of data a sub-buffer has, as the header_page text says it. They stand behind 16 bytes.
-    data: u32,
-    /// How many sub-buffers stand in the file from its second page on: each has an event of 5,000 bytes of pid 7, the first at
-    /// one second, and each other one a second behind the last.
-    count: u64,
-    /// How many bytes the table says that they have.
-    size: u64,
-}
+struct Trace(u32, u64, u64);
 
 struct Row {
     words: &'static [&'static str],
@@ -32,22 +27,14 @@ struct Row {
 const ROWS: &[Row] = &[
     Row {
         words: &["report"],
-        trace: Trace {
-            data: 8_176,
-            count: 1,
-            size: 8_192,
-        },
+        trace: Trace(8_176, 1, 8_192),
         status: Status::Done,
         out: "cpus=1\n           <...>-7     [000]     1.000000: [UNKNOWN EVENT 58]\n",
         err: "",
     },
     Row {
         words: &["report"],
-        trace: Trace {
-            data: 262_128,
-            count: 2,
-            size: 524_288,
-        },
+        trace: Trace(262_128, 2, 524_288),
         status: Status::Done,
         out: "cpus=1\n           <...>-7     [000]     1.000000: [UNKNOWN EVENT 58]\n           <...>-7     [000]     2.000000: [UNKNOWN EVENT 58]\n",
         err: "",
@@ -55,61 +42,43 @@ const ROWS: &[Row] = &[
     // no power of two, and less than a page
     Row {
         words: &["report"],
-        trace: Trace {
-            data: 12_272,
-            count: 1,
-            size: 12_288,
-        },
+        trace: Trace(12_272, 1, 12_288),
         status: Status::Refused(OpenFault::BadHeaderPage(38)),
         out: "",
-        err: "trace-cmd: trace.dat: bad header_page at byte 38\n",
+        err: BAD_SIZE,
     },
     Row {
         words: &["report"],
-        trace: Trace {
-            data: 2_032,
-            count: 1,
-            size: 8_192,
-        },
+        trace: Trace(2_032, 1, 8_192),
         status: Status::Refused(OpenFault::BadHeaderPage(38)),
         out: "",
-        err: "trace-cmd: trace.dat: bad header_page at byte 38\n",
+        err: BAD_SIZE,
     },
     // a part that ends within its first sub-buffer, and one that ends within its second
     Row {
         words: &["report"],
-        trace: Trace {
-            data: 8_176,
-            count: 1,
-            size: 4_096,
-        },
+        trace: Trace(8_176, 1, 4_096),
         status: Status::Malformed { cpu: 0, page: 0 },
         out: "cpus=1\n",
         err: "trace-cmd: trace.dat: malformed sub-page 0 of processor 0\n",
     },
     Row {
         words: &["report", "--workers", "3"],
-        trace: Trace {
-            data: 8_176,
-            count: 2,
-            size: 12_288,
-        },
+        trace: Trace(8_176, 2, 12_288),
         status: Status::Malformed { cpu: 0, page: 1 },
         out: "cpus=1\n           <...>-7     [000]     1.000000: [UNKNOWN EVENT 58]\n",
         err: "trace-cmd: trace.dat: malformed sub-page 1 of processor 0\n",
     },
     Row {
         words: &["dump", "--validate", "--flyrecord"],
-        trace: Trace {
-            data: 8_176,
-            count: 2,
-            size: 16_384,
-        },
+        trace: Trace(8_176, 2, 16_384),
         status: Status::Done,
         out: "[flyrecord 1]\ncpu 0 offset 4096 size 16384\nvalid\n",
         err: "",
     },
 ];
+
+const BAD_SIZE: &str = "trace-cmd: trace.dat: bad header_page at byte 38\n";
 
 fn put_sub_buffer(file: &mut Vec<u8>, size: usize, seconds: u64) -> Result<(), Fail> {
     let end = file.len().saturating_add(size);
@@ -133,10 +102,11 @@ fn header_page(alloc: Global, data: u32) -> Result<String, AllocError> {
 
 /// A folder that has the file under the name trace.dat.
 fn folder_of(alloc: Global, trace: &Trace) -> Result<MemFolder, Fail> {
-    let text = header_page(alloc, trace.data)?;
-    let mut file = with_part(alloc, text.as_bytes(), 4_096, trace.size)?;
-    for index in 0..trace.count {
-        let size = (trace.data as usize).saturating_add(16);
+    let Trace(data, count, table_size) = *trace;
+    let text = header_page(alloc, data)?;
+    let mut file = with_part(alloc, text.as_bytes(), 4_096, table_size)?;
+    for index in 0..count {
+        let size = (data as usize).saturating_add(16);
         put_sub_buffer(&mut file, size, index.wrapping_add(1))?;
     }
     let mut folder = MemFolder::new(alloc);
@@ -192,12 +162,7 @@ fn is_file<R: Alloc<A = Global> + Abort + Threads + Sync>(
 #[test]
 fn a_split_keeps_the_size_of_sub_buffers(rt: HostRuntime) -> Result<(), Fail> {
     let alloc = rt.alloc();
-    let trace = Trace {
-        data: 65_520,
-        count: 2,
-        size: 131_072,
-    };
-    let mut folder = folder_of(alloc, &trace)?;
+    let mut folder = folder_of(alloc, &Trace(65_520, 2, 131_072))?;
     let words = words_of(alloc, &["split", "-e", "1", "-r", "-o", "part"])?;
     ends_as(&rt, &words, &mut folder, (Status::Done, "", ""));
     for file in FILES {
@@ -225,12 +190,7 @@ fn put_data(alloc: Global, folder: &mut MemFolder, name: &str, seconds: u64) -> 
 #[test]
 fn a_restore_keeps_the_size_of_sub_buffers(rt: HostRuntime) -> Result<(), Fail> {
     let alloc = rt.alloc();
-    let trace = Trace {
-        data: 65_520,
-        count: 0,
-        size: 0,
-    };
-    let mut folder = folder_of(alloc, &trace)?;
+    let mut folder = folder_of(alloc, &Trace(65_520, 0, 0))?;
     put_data(alloc, &mut folder, "c0", 1)?;
     put_data(alloc, &mut folder, "c1", 2)?;
     let words = words_of(

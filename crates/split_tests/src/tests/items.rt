@@ -1,8 +1,11 @@
 // Items of sub-buffers, as they are written in rows: an event's time in microseconds, behind a point the nanoseconds that are
 // left; of a loss `!`, its time, and behind `#` its number.
 
+ghost use Rattle.trace_base.specs.Layout.{IsLayout};
+
 use std::test::Fail;
-use subpage::Item;
+use subpage::{Item, check_page};
+use trace_base::Layout;
 
 fn put_time(text: &mut String, time: u64) -> Result<(), Fail> {
     let micros = time / 1000;
@@ -15,7 +18,7 @@ fn put_time(text: &mut String, time: u64) -> Result<(), Fail> {
     Ok(())
 }
 
-pub(super) fn put_item(text: &mut String, item: &Item<'_>) -> Result<(), Fail> {
+fn put_item(text: &mut String, item: &Item<'_>) -> Result<(), Fail> {
     match item {
         Item::Event { time, .. } => put_time(text, *time)?,
         Item::Loss { time, count } => {
@@ -28,4 +31,32 @@ pub(super) fn put_item(text: &mut String, item: &Item<'_>) -> Result<(), Fail> {
     }
     text.push_str(" ")?;
     Ok(())
+}
+
+/// The items of so many sub-buffers at the front, and `|`. The bytes behind these.
+pub(super) fn put_sub_buffers<'a>(
+    text: &mut String,
+    layout: &Layout,
+    bytes: &'a [u8],
+    count: u64,
+) -> Result<&'a [u8], Fail>
+    requires { IsLayout layout.now }
+{
+    let mut rest = bytes;
+    for _ in 0..count {
+        let Some((page, behind)) = rest.split_at_checked(layout.page as usize) else {
+            break;
+        };
+        match check_page(layout, page) {
+            Some(page) => {
+                for item in page.items() {
+                    put_item(text, &item)?;
+                }
+            }
+            None => text.push_str("malformed ")?,
+        }
+        rest = behind;
+    }
+    text.push_str("|")?;
+    Ok(rest)
 }

@@ -9,7 +9,7 @@ ghost use Rattle.time_merge.specs.LaneRows.{parts_of};
 use page_pool::Lane;
 use trace_base::{Layout, Part};
 
-pub(super) fn set_lane(lane: &mut Lane, cpu: u32, part: Part)
+fn set_lane(lane: &mut Lane, cpu: u32, part: Part)
     ensures cursor { lane.new.cursor ≡ lane.old.cursor }
     ensures page { lane.new.page ≡ lane.old.page }
     ensures cpu { lane.new.cpu ≡ cpu }

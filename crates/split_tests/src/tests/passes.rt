@@ -7,8 +7,8 @@ ghost use Rattle.page_pool.specs.Fresh.{IsNew};
 ghost use Rattle.event_cursor.specs.Standing.{IsInOrder};
 ghost use Rattle.time_merge.specs.LaneRows.{parts_of};
 
-use super::items::put_item;
-use super::lanes::set_lane;
+use super::items::put_sub_buffers;
+use super::lanes::set_lanes;
 use super::watched::{Then, WatchedFile};
 use PieceEnd::{Done, Full};
 use PieceUnit::{All, Events, Nanos};
@@ -19,7 +19,6 @@ use split_passes::{PieceEnd, Tally, clear, measure, note_fronts, pack_all};
 use split_pieces::Gauge;
 use std::alloc::Global;
 use std::test::Fail;
-use subpage::check_page;
 use time_merge::{End, make_all_ready};
 use trace_base::{Layout, Part};
 use trace_outside::{Failed, File, MemSink, Sink};
@@ -99,24 +98,20 @@ fn stop_of(words: &str) -> Option<Moment> {
 }
 
 // The first processor's sub-buffers are followed by the other's.
-fn set_lanes(layout: &Layout, lanes: &mut [Lane], cpus: [&[Page<'_>]; 2])
+fn set_parts(layout: &Layout, lanes: &mut [Lane], cpus: [&[Page<'_>]; 2])
     requires two { length lanes.old ≡ 2 }
-    requires page { layout.now.page ≡ 4096 }
-    requires new { All (IsNew 4096 16) lanes.old }
+    requires new { All (IsNew layout.now.page 0) lanes.old }
     ensures in_order { All (IsInOrder layout.now) lanes.new }
     ensures rise { CpusRise (parts_of lanes.new) }
 {
     let size = (cpus[0].len() as u64).wrapping_mul(PAGE as u64);
     let other = (cpus[1].len() as u64).wrapping_mul(PAGE as u64);
-    set_lane(&mut lanes[0], 0, Part { offset: 0, size });
-    set_lane(
-        &mut lanes[1],
-        1,
-        Part {
-            offset: size,
-            size: other,
-        },
-    );
+    let first = Part { offset: 0, size };
+    let second = Part {
+        offset: size,
+        size: other,
+    };
+    set_lanes(layout, lanes, 0, &[first, second]);
 }
 
 fn bytes_of(alloc: Global, cpus: [&[Page<'_>]; 2]) -> Result<Vec<u8>, Fail> {
@@ -176,28 +171,6 @@ fn pass_piece<F: File, O: Sink>(
     })
 }
 
-// The items of so many sub-buffers at the front, and the bytes behind them.
-fn put_told<'a>(text: &mut String, bytes: &'a [u8], pages: u64) -> Result<&'a [u8], Fail> {
-    let layout = layout();
-    let mut rest = bytes;
-    for _ in 0..pages {
-        let Some((page, behind)) = rest.split_at_checked(PAGE) else {
-            break;
-        };
-        match check_page(&layout, page) {
-            Some(page) => {
-                for item in page.items() {
-                    put_item(text, &item)?;
-                }
-            }
-            None => text.push_str("malformed ")?,
-        }
-        rest = behind;
-    }
-    text.push_str("|")?;
-    Ok(rest)
-}
-
 // The next piece, as it is packed.
 fn put_piece<F: File>(
     alloc: Global,
@@ -230,8 +203,8 @@ fn put_piece<F: File>(
         text.push_str("unread")?;
         return Ok(Done);
     };
-    let rest = put_told(text, out.bytes(), passed.pages[0])?;
-    let rest = put_told(text, rest, passed.pages[1])?;
+    let rest = put_sub_buffers(text, layout, out.bytes(), passed.pages[0])?;
+    let rest = put_sub_buffers(text, layout, rest, passed.pages[1])?;
     if passed.packed != End::Done || !rest.is_empty() {
         text.push_str("?")?;
     }
@@ -283,10 +256,10 @@ fn text_of(alloc: Global, name: &str, words: &str) -> Result<String, Fail> {
         faults: 0,
         reads: 0,
     };
-    let mut pool = Pool::new(alloc, 2, 4096, 16)?;
-    let lanes = pool.lanes();
     let layout = layout();
-    set_lanes(&layout, lanes, cpus);
+    let mut pool = Pool::new(alloc, 2, layout.page, 0)?;
+    let lanes = pool.lanes();
+    set_parts(&layout, lanes, cpus);
     let mut text = String::new(alloc);
     let end = put_pieces(alloc, &layout, &mut file, lanes, words, &mut text)?;
     put_end(&mut text, end)?;
@@ -332,10 +305,10 @@ fn passes(
     let mut out = MemSink::new(alloc);
     out.short(1);
     out.fail_from(room.saturating_add(1));
-    let mut pool = Pool::new(alloc, 2, 4096, 16)?;
-    let lanes = pool.lanes();
     let layout = layout();
-    set_lanes(&layout, lanes, THREE);
+    let mut pool = Pool::new(alloc, 2, layout.page, 0)?;
+    let lanes = pool.lanes();
+    set_parts(&layout, lanes, THREE);
     let mut nexts = LeastTree::new(alloc, 2)?;
     match pass_piece(&layout, &mut file, lanes, All, None, &mut nexts, &mut out) {
         Ok(passed) => Ok(Ok((passed.end, passed.packed))),

@@ -5,14 +5,13 @@ ghost use Rattle.trace_base.specs.Layout.{IsLayout};
 ghost use Rattle.dat_header.specs.Allowed.{IsHeader};
 ghost use Rattle.split_pieces.specs.Pieces.{IsUnit};
 
-use super::items::put_item;
+use super::items::put_sub_buffers;
 use super::lanes::set_lanes;
 use dat_header::{Body, read_header};
 use page_pool::Pool;
 use split_tool::{End, SplitPlan, SplitWork, split};
 use std::alloc::{AllocError, Global};
 use std::test::Fail;
-use subpage::check_page;
 use trace_args::SplitWords;
 use trace_base::{ByteText, Layout, Part, Words};
 use trace_outside::{Folder, MemFile};
@@ -22,24 +21,10 @@ use word_values::PieceUnit;
 fn put_part(text: &mut String, layout: &Layout, part: Part, bytes: &[u8]) -> Result<(), Fail>
     requires { IsLayout layout.now }
 {
-    let (_, mut rest) = bytes
+    let (_, rest) = bytes
         .split_at_checked(part.offset as usize)
         .unwrap_or((&[], &[]));
-    for _ in 0..part.size / u64::from(layout.page) {
-        let Some((page, behind)) = rest.split_at_checked(layout.page as usize) else {
-            break;
-        };
-        match check_page(layout, page) {
-            Some(page) => {
-                for item in page.items() {
-                    put_item(text, &item)?;
-                }
-            }
-            None => text.push_str("malformed ")?,
-        }
-        rest = behind;
-    }
-    text.push_str("|")?;
+    put_sub_buffers(text, layout, rest, part.size / u64::from(layout.page))?;
     Ok(())
 }
 

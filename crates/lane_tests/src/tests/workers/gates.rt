@@ -1,7 +1,7 @@
 //! Who passes the gate, how often, and how many at once.
 
 use super::{Letters, file_of, open_lanes};
-use cpu_workers::format_lanes;
+use cpu_workers::{Workers, format_lanes};
 use page_pool::Pool;
 use std::alloc::{AllocError, Global};
 use std::sync::atomic::AtomicU64;
@@ -66,7 +66,12 @@ fn entries<R: Threads + Sync>(
         inside: AtomicU64::new(0),
         met: AtomicU64::new(0),
     };
-    format_lanes(rt, &Letters, &layout, lanes, workers, &gate);
+    let workers = Workers {
+        rt,
+        count: workers,
+        gate: &gate,
+    };
+    format_lanes(&workers, &Letters, &layout, lanes);
     Ok((gate.entries.load(SeqCst), gate.met.load(SeqCst) == 1))
 }
 
