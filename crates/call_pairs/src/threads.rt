@@ -1,8 +1,6 @@
-ghost use Rattle.std.specs.Prelude.{◌≡◌, ◌+◌, ℕ, true, None, Some, length, reverse, OnOk, IfOk};
+ghost use Rattle.std.specs.Prelude.{◌≡◌, true, None, Some, OnOk, IfOk};
 ghost use Rattle.std.specs.BTreeMap.{get};
-ghost use Rattle.call_pairs.specs.Stacks.{closing, last_in, opens_in, shallower};
 ghost use Rattle.call_pairs.specs.StackMap.{ArePlaces, IsEntered, IsLeft, KeepsTold, order, stack_of, thread_at};
-ghost use Rattle.call_pairs.specs.Threads.{thread_of};
 ghost use Rattle.call_pairs.specs.declared.thread.Thread.{Thread};
 
 use crate::seen::GraphEvent;

@@ -4,6 +4,10 @@
 //! What a lane has used up and what it has left is one definition, `Stands` in `specs/Standing.antt`. A call over a file
 //! that tells its bytes leaves what was left as it was, or takes its first item. Over any file a lane stays in order:
 //! what its cursor says of the held sub-buffer is so.
+//!
+//! Going on: [`load`] reads the next sub-buffers until one holds an item, [`head`] tells the item at the lane's place (or
+//! [`head_key`] its key alone), and [`step`] uses it up. Going back, for a second pass: [`Place`] notes where a lane stands,
+//! and [`seek`] takes it there again.
 #![tactic(auto)]
 
 mod fetching;

@@ -5,7 +5,7 @@ use Rattle.std.proofs.lemmas.Bool.Decides.{eqb_tells}
 use Rattle.trace_base.specs.declared.field.Field.{Field}
 use Rattle.trace_base.specs.declared.field.FieldKind.{FieldKind}
 use Rattle.trace_base.specs.declared.field.FieldKind.TheVariants as fields
-use Rattle.trace_base.specs.Fields.{has_sign, has_number, sized, unsigned_in, number_in}
+use Rattle.trace_base.specs.Fields.{is_number, has_number, sized, unsigned_in, number_in}
 use Rattle.c_operators.specs.declared.binary.BinaryOp.{BinaryOp}
 use Rattle.c_operators.specs.declared.binary.BinaryOp.TheVariants.{BitAnd}
 use Rattle.fmt_literal.specs.declared.ckind.CKind.{CKind}
@@ -42,14 +42,14 @@ reads_at at size signed t g h = elim (eqb_tells size 4) as (λ _. number_by (rea
 -- the number of a field by its kind
 abbrev by_kind : RecData → Field → FieldKind → numbers.Number
 by_kind g f k =
-    let kind = sized_kind (if has_sign k then f.signed else false) f.size in
-    number kind (reduced kind (if has_number k then sized (has_sign k && f.signed) f.size (unsigned_in g.order g.payload f.offset f.size) else pos 0))
+    let kind = sized_kind (if is_number k then f.signed else false) f.size in
+    number kind (reduced kind (if has_number k then sized (is_number k && f.signed) f.size (unsigned_in g.order g.payload f.offset f.size) else pos 0))
 
 field_by_kind : (g : RecData) (f : Field) → number_of g (tree.field_number f) ≡ by_kind g f f.kind
 unfolding number_in
 field_by_kind g f = refl
 
-reads_field : (f : Field) (g : RecData) (k : FieldKind) → f.kind ≡ k → number_by (field_read_by (has_number k) (has_sign k) f) g (tree.field_number f) ≡ number_of g (tree.field_number f)
+reads_field : (f : Field) (g : RecData) (k : FieldKind) → f.kind ≡ k → number_by (field_read_by (has_number k) (is_number k) f) g (tree.field_number f) ≡ number_of g (tree.field_number f)
 reads_field f g fields.Number is = reads_at f.offset f.size f.signed (tree.field_number f) g (field_by_kind g f ∙ ap (by_kind g f) is)
 reads_field f g fields.Pointer is = reads_at f.offset f.size false (tree.field_number f) g (field_by_kind g f ∙ ap (by_kind g f) is)
 reads_field f g fields.Text is = refl
@@ -142,5 +142,5 @@ one_mask read [] o one is = absurd (omega (arith, one))
 one_mask read (x ∷ []) o one is = ap (λ (p : Operand). operand_test read p.op (tree_of p.value)) is
 one_mask read (x ∷ (next ∷ rest)) o one is = absurd (omega (arith, one))
 
-pub field_is : (read : Read) (f : Field) (k : FieldKind) → f.kind ≡ k → read ≡ field_read_by (has_number k) (has_sign k) f → read ≡ field_read f
-field_is read f k is made = made ∙ ap (λ (kind : FieldKind). field_read_by (has_number kind) (has_sign kind) f) (sym is)
+pub field_is : (read : Read) (f : Field) (k : FieldKind) → f.kind ≡ k → read ≡ field_read_by (has_number k) (is_number k) f → read ≡ field_read f
+field_is read f k is made = made ∙ ap (λ (kind : FieldKind). field_read_by (has_number kind) (is_number kind) f) (sym is)

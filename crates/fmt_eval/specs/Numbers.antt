@@ -3,6 +3,7 @@ use Rattle.std.specs.Prelude.{◌≡◌, ℕ, ◌^◌, ℤ, pos, negsuc, ◌+ℤ
 use Rattle.std.specs.Int.{w32, w64, int_rem_euclid, int_wrap}
 use Rattle.fmt_literal.specs.declared.ckind.CKind.{CKind}
 use Rattle.fmt_literal.specs.declared.ckind.CKind.TheVariants.{I32, U32, I64, U64}
+use Rattle.fmt_literal.specs.Numeral.{width_of}
 
 pub record Number : Type 0 where
   pub kind : CKind
@@ -10,13 +11,6 @@ pub record Number : Type 0 where
 
 abbrev pub number : CKind → ℤ → Number
 number kind exact = record { kind = kind; exact = exact }
-
--- how many bits a kind has
-abbrev pub width : CKind → ℕ
-width I32 = 32
-width U32 = 32
-width I64 = 64
-width U64 = 64
 
 -- the least and the greatest number of a kind
 abbrev pub least : CKind → ℤ
@@ -37,7 +31,7 @@ IsOf kind z = (least kind ≤ℤ z) × (z ≤ℤ greatest kind)
 -- What a kind leaves of an exact number: the number of that kind that differs from it by a multiple of two to the
 -- kind's width.
 abbrev pub IsReduced : CKind → ℤ → ℤ → Type 0
-IsReduced kind z r = IsOf kind r × ((times : ℤ) × (z ≡ r +ℤ times *ℤ pos (2 ^ width kind)))
+IsReduced kind z r = IsOf kind r × ((times : ℤ) × (z ≡ r +ℤ times *ℤ pos (2 ^ width_of kind)))
 
 -- this number, computed
 unfoldable pub reduced : CKind → ℤ → ℤ

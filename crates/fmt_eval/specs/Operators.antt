@@ -7,13 +7,14 @@ use Rattle.std.specs.Ordering.{int_eq}
 use Rattle.std.specs.Int.{w8, w16, int_rem_euclid, int_div_euclid, int_wrap}
 use Rattle.fmt_literal.specs.declared.ckind.CKind.{CKind}
 use Rattle.fmt_literal.specs.declared.ckind.CKind.TheVariants.{I32, U32, I64, U64}
+use Rattle.fmt_literal.specs.Numeral.{width_of}
 use Rattle.fmt_literal.specs.declared.cast_to.CastTo.{CastTo}
 use Rattle.fmt_literal.specs.declared.cast_to.CastTo.TheVariants.{Bits, Truth, Same}
 use Rattle.c_operators.specs.declared.binary.BinaryOp.{BinaryOp}
 use Rattle.c_operators.specs.declared.binary.BinaryOp.TheVariants as op
 use Rattle.fmt_expr.specs.declared.expr.PrefixOp.{PrefixOp}
 use Rattle.fmt_expr.specs.declared.expr.PrefixOp.TheVariants as prefix
-use Rattle.fmt_eval.specs.Numbers.{Number, number, width, reduced, pattern, truth, is_zero, is_true}
+use Rattle.fmt_eval.specs.Numbers.{Number, number, reduced, pattern, truth, is_zero, is_true}
 
 -- the kind to which two operands are converted (C11 6.3.1.8)
 abbrev pub common : CKind → CKind → CKind
@@ -53,7 +54,7 @@ remainder a b = if is_zero b then pos 0 else int_rem a b
 
 -- the count of a shift, if it is not negative and below the width
 abbrev pub shift_count : CKind → ℤ → Option ℕ
-shift_count kind (pos n) = if nat_lt n (width kind) then Some n else None
+shift_count kind (pos n) = if nat_lt n (width_of kind) then Some n else None
 shift_count kind (negsuc n) = None
 
 -- A shift is a product or a quotient by a power of two; it has the kind of its left operand. The quotient is rounded

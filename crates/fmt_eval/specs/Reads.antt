@@ -1,7 +1,7 @@
 -- What is known of a tree before any record is read: how its number is read, and how it is tested.
 use Rattle.std.specs.Prelude.{◌≡◌, ℕ, Bool, false, ◌==◌, ◌&&◌, if◌then◌else◌}
 use Rattle.trace_base.specs.declared.field.Field.{Field}
-use Rattle.trace_base.specs.Fields.{has_sign, has_number, sized, unsigned_in}
+use Rattle.trace_base.specs.Fields.{is_number, has_number, sized, unsigned_in}
 use Rattle.fmt_literal.specs.declared.cast_to.CastTo.{CastTo}
 use Rattle.fmt_literal.specs.declared.cast_to.CastTo.TheVariants.{Bits, Truth, Same}
 use Rattle.fmt_expr.specs.Tree.{Tree, Operands, no_operands, operand}
@@ -48,11 +48,11 @@ pub record TestsAs (made : Test) (t : Tree) : Type 0 where
 abbrev pub read_at : ℕ → ℕ → Bool → Read
 read_at at size signed = if size == 4 then Half at signed else (if size == 8 then Whole at signed else Walk)
 
-abbrev pub field_read_by : (has_number has_sign : Bool) → Field → Read
-field_read_by has_number has_sign f = if has_number then read_at f.offset f.size (has_sign && f.signed) else Walk
+abbrev pub field_read_by : (has_number is_number : Bool) → Field → Read
+field_read_by has_number is_number f = if has_number then read_at f.offset f.size (is_number && f.signed) else Walk
 
 abbrev pub field_read : Field → Read
-field_read f = field_read_by (has_number f.kind) (has_sign f.kind) f
+field_read f = field_read_by (has_number f.kind) (is_number f.kind) f
 
 -- a cast to 64 bits without a sign changes no eight bytes without a sign
 abbrev pub unsigned_read : Read → Read

@@ -3,7 +3,7 @@ use Rattle.std.specs.Prelude.{ℕ, ◌*◌, ◌/◌, ◌^◌, ℤ, pos, negsuc, 
 use Rattle.trace_base.specs.declared.order.Order.{Order}
 use Rattle.trace_base.specs.declared.field.Field.{Field}
 use Rattle.trace_base.specs.declared.rec.Rec.{Rec}
-use Rattle.trace_base.specs.Fields.{has_sign, sized, unsigned_in, number_in, bytes_in}
+use Rattle.trace_base.specs.Fields.{is_number, sized, unsigned_in, number_in, bytes_in}
 use Rattle.fmt_literal.specs.declared.ckind.CKind.{CKind}
 use Rattle.fmt_literal.specs.declared.ckind.CKind.TheVariants.{I32, U32, I64, U64}
 use Rattle.fmt_expr.specs.Tree as tree
@@ -28,7 +28,7 @@ abbrev pub nothing : Number
 nothing = number I32 (pos 0)
 
 abbrev pub field_number : RecData → Field → Number
-field_number g f = let kind = sized_kind (if has_sign f.kind then f.signed else false) f.size in number kind (reduced kind (number_in g.order g.payload f))
+field_number g f = let kind = sized_kind (if is_number f.kind then f.signed else false) f.size in number kind (reduced kind (number_in g.order g.payload f))
 
 -- an element of a field's bytes; 0 where the index is not inside
 abbrev pub element_at : RecData → Field → ℤ → ℤ

@@ -1,7 +1,8 @@
 //! C's operators on numbers.
 
 ghost use Rattle.std.specs.Prelude.{◌≡◌, ◌^◌, ◌<◌, unsigned_abs, pos, ◌+ℤ◌, ◌-ℤ◌, ◌*ℤ◌, IfSome, bit_or, bit_and};
-ghost use Rattle.fmt_eval.specs.Numbers.{number, reduced, width};
+ghost use Rattle.fmt_literal.specs.Numeral.{width_of};
+ghost use Rattle.fmt_eval.specs.Numbers.{number, reduced};
 ghost use Rattle.fmt_eval.specs.Operators.{common, bitwise, shift_count, signed, quotient, remainder, shifted_left, shifted_right, applied, prefixed};
 ghost use Rattle.fmt_eval.specs.NumView.{num_view};
 
@@ -24,7 +25,7 @@ pub fn common(a: CKind, b: CKind) -> CKind
 
 /// How many bits a kind has.
 fn width(kind: CKind) -> i128
-    ensures { result ≡ pos (width kind) }
+    ensures { result ≡ pos (width_of kind) }
 {
     match kind {
         CKind::I32 | CKind::U32 => 32,

@@ -6,12 +6,11 @@ use Rattle.std.specs.Str.{bytes_eq}
 use Rattle.std.specs.Int.{cast_unsigned, w128}
 use Rattle.trace_base.specs.declared.order.Order.{Order}
 use Rattle.trace_base.specs.declared.field.Field.{Field}
-use Rattle.trace_base.specs.Fields.{field_named, unsigned_in, sized, has_sign, has_number}
+use Rattle.trace_base.specs.Fields.{field_named, unsigned_in, sized, is_number, has_number}
 use Rattle.format_parse.specs.declared.format.EventFormat.{EventFormat}
 use Rattle.format_parse.specs.Table.{format_at}
 use Rattle.subpage.specs.ItemData.{ItemData, EventAt, LossAt}
 use Rattle.report_print.specs.ContextData.{ContextData}
-use Rattle.report_print.specs.CommonFields.{is_number}
 use Rattle.report_print.specs.Line.{id_of}
 use Rattle.report_print.specs.Prefix.{common_in}
 use Rattle.call_pairs.specs.declared.seen.GraphEvent.{GraphEvent}
@@ -26,7 +25,7 @@ use Rattle.graph_report.specs.declared.role.Role.TheVariants.{Enters, Leaves, Ot
 
 -- where a field's number stands, and whether it has a sign, as only a number may have
 abbrev pub place_of : Field → Place
-place_of field = record { offset = field.offset; size = field.size; signed = has_sign field.kind && field.signed }
+place_of field = record { offset = field.offset; size = field.size; signed = is_number field.kind && field.signed }
 
 -- the exact number at a place, and 0 where one of its bytes is missing
 abbrev pub number_at : Order → List ℕ → Place → ℤ

@@ -1,9 +1,9 @@
 ghost use Rattle.std.specs.Prelude.{◌≡◌, ◌%◌, ◌^◌};
 ghost use Rattle.std.specs.Int.{cast_unsigned, w128};
-ghost use Rattle.trace_base.specs.Fields.{has_sign, sized, unsigned_in};
+ghost use Rattle.trace_base.specs.Fields.{sized, unsigned_in};
 ghost use Rattle.graph_report.specs.Roles.{place_of, number_at};
 
-use trace_base::{Field, FieldKind, Order, sized, unsigned_at};
+use trace_base::{Field, Order, sized, unsigned_at};
 
 /// Where a number stands in an event.
 #[derive(Clone, Copy, Debug, PartialEq, Eq)]
@@ -16,15 +16,6 @@ pub struct Place {
     pub signed: bool,
 }
 
-fn has_sign(kind: FieldKind) -> bool
-    ensures { result ≡ has_sign kind }
-{
-    match kind {
-        FieldKind::Number => true,
-        FieldKind::Text | FieldKind::Bytes | FieldKind::Pointer => false,
-    }
-}
-
 impl Place {
     /// Where a field's number stands.
     pub(crate) fn of(field: &Field) -> Place
@@ -33,7 +24,7 @@ impl Place {
         Place {
             offset: field.offset,
             size: field.size,
-            signed: has_sign(field.kind) && field.signed,
+            signed: field.kind.is_number() && field.signed,
         }
     }
 

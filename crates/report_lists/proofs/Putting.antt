@@ -1,19 +1,14 @@
 -- The entries of a list that are put one behind another.
-use Rattle.std.proofs.Common.{◌≡◌, ℕ, zero, suc, ◌+◌, ◌<◌, ◌≤◌, List, [], ◌∷◌, ◌++◌, length, take, slice_get, append_assoc, append-nil, Option, Some, None, Result, IsErr, subst, sym, ap, refl, ◌∙◌, arith}
-use Rattle.std.proofs.lemmas.List.{take_all}
+use Rattle.std.proofs.Common.{◌≡◌, ℕ, ◌+◌, ◌<◌, ◌≤◌, List, [], ◌∷◌, ◌++◌, length, take, slice_get, append_assoc, append-nil, Option, Some, None, Result, IsErr, subst, sym, ap, refl, ◌∙◌, arith}
 use Rattle.std.proofs.lemmas.List.Concat.{flat_map-cons}
 use Rattle.std.proofs.lemmas.Grind.{flat_map-append}
 use Rattle.std.proofs.lemmas.Option.{slice_get-get_or}
 use Rattle.std.specs.List.{flat_map, cons_option}
+use Rattle.trace_base.proofs.TakeLemmas.{take_next}
 use Rattle.trace_outside.specs.Pending.{Holds, Puts}
 use Rattle.trace_outside.proofs.PendingLemmas.{parts_stopped}
 use Rattle.trace_outside.proofs.Putting.{Put, Stopped}
 use Rattle.report_lists.specs.Lists.{entry}
-
-take_next : {X : Type 0} (xs : List X) (i : ℕ) → take (i + 1) xs ≡ take i xs ++ cons_option (slice_get xs i) []
-take_next [] i = take_all (i + 1) [] (omega arith) ∙ sym (ap (λ (l : List _). l ++ []) (take_all i [] (omega arith)))
-take_next (x ∷ xs) zero = refl
-take_next (x ∷ xs) (suc i) = let more : suc i + 1 ≡ suc (i + 1) = omega arith in ap (λ (n : ℕ). take n (x ∷ xs)) more ∙ ap (λ (l : List _). x ∷ l) (take_next xs i)
 
 one_entry : {X : Type 0} (f : X → List ℕ) (o : Option X) → flat_map f (cons_option o []) ≡ entry f o
 one_entry f None = refl

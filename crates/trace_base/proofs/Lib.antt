@@ -12,3 +12,4 @@ pub mod TailFronts
 pub mod TailJoins
 pub mod TailNuls
 pub mod NulLemmas
+pub mod TakeLemmas

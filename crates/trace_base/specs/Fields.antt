@@ -36,11 +36,11 @@ has_number kinds.Text = false
 has_number kinds.Bytes = false
 
 -- only a number has a sign: a pointer is unsigned of its size
-abbrev pub has_sign : FieldKind → Bool
-has_sign kinds.Number = true
-has_sign kinds.Pointer = false
-has_sign kinds.Text = false
-has_sign kinds.Bytes = false
+abbrev pub is_number : FieldKind → Bool
+is_number kinds.Number = true
+is_number kinds.Pointer = false
+is_number kinds.Text = false
+is_number kinds.Bytes = false
 
 -- so many bytes as a number, by a sign
 abbrev pub sized : Bool → ℕ → ℕ → ℤ
@@ -50,7 +50,7 @@ sized signed size n = if signed then signed_of size n else pos n
 unfoldable pub number_in : Order → List ℕ → Field → ℤ
 number_in order payload field =
     let n = unsigned_in order payload field.offset field.size in
-    if has_number field.kind then sized (has_sign field.kind && field.signed) field.size n else pos 0
+    if has_number field.kind then sized (is_number field.kind && field.signed) field.size n else pos 0
 
 -- where a field's bytes begin, and how many they are
 abbrev pub place_by : FieldPlace → ℕ → ℕ → ℕ → ℕ → ℕ × ℕ

@@ -1,6 +1,6 @@
 ghost use Rattle.std.specs.Prelude.{◌≡◌, IfOk};
 ghost use Rattle.std.specs.Option.{option_copied};
-ghost use Rattle.trace_base.specs.Fields.{field_named};
+ghost use Rattle.trace_base.specs.Fields.{field_named, has_number, is_number};
 
 use crate::byte_text::ByteText;
 use std::alloc::{AllocError, Global};
@@ -16,6 +16,30 @@ pub enum FieldKind {
     Bytes,
     /// An address of 4 or 8 bytes.
     Pointer,
+}
+
+impl FieldKind {
+    /// Whether it is a number, which alone may have a sign.
+    #[inline(always)]
+    pub fn is_number(self) -> bool
+        ensures { result ≡ is_number self }
+    {
+        match self {
+            FieldKind::Number => true,
+            FieldKind::Text | FieldKind::Bytes | FieldKind::Pointer => false,
+        }
+    }
+
+    /// Whether it has a value as a number: an address has one too.
+    #[inline(always)]
+    pub fn has_number(self) -> bool
+        ensures { result ≡ has_number self }
+    {
+        match self {
+            FieldKind::Number | FieldKind::Pointer => true,
+            FieldKind::Text | FieldKind::Bytes => false,
+        }
+    }
 }
 
 /// Where the bytes of a field stand in its record (the kernel's `__data_loc` and `__rel_loc`).

@@ -2,9 +2,9 @@
 
 ghost use Rattle.std.specs.Prelude.{◌≡◌, ◌≤◌, ◌+◌, ◌<◌, ◌^◌, length, take, if◌then◌else◌};
 ghost use Rattle.trace_base.specs.Number.{num};
-ghost use Rattle.trace_base.specs.Fields.{is_size, has_number, half, sized, unsigned_in, signed_of, number_in, place_in, bytes_in};
+ghost use Rattle.trace_base.specs.Fields.{is_size, half, sized, unsigned_in, signed_of, number_in, place_in, bytes_in};
 
-use crate::field::{Field, FieldKind, FieldPlace};
+use crate::field::{Field, FieldPlace};
 use crate::numbers::{read_u16, read_u32, read_u64};
 use crate::order::Order;
 
@@ -43,29 +43,17 @@ fn front(order: Order, bytes: &[u8], size: u32) -> u64
     }
 }
 
-fn has_number(kind: FieldKind) -> bool
-    ensures { result ≡ has_number kind }
-{
-    match kind {
-        FieldKind::Number | FieldKind::Pointer => true,
-        FieldKind::Text | FieldKind::Bytes => false,
-    }
-}
-
 /// The field's exact value; 0 where it is no number and no pointer, or where one of its bytes is missing.
 #[tactic(auto, unfolding(crate::specs::Fields::number_in))]
 pub fn number_of(rec: &Rec<'_>, field: &Field) -> i128
     ensures { result ≡ number_in rec.now.order rec.now.payload.now field.now }
 {
-    if !has_number(field.kind) {
+    if !field.kind.has_number() {
         return 0;
     }
     let number = unsigned_at(rec.order, rec.payload, field.offset as usize, field.size);
-    sized(
-        field.kind == FieldKind::Number && field.signed,
-        field.size,
-        number,
-    )
+    let signed = field.kind.is_number() && field.signed;
+    sized(signed, field.size, number)
 }
 
 /// So many bytes as a number, by a sign.

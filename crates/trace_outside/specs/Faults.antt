@@ -23,9 +23,9 @@ abbrev pub no_calls : Calls
 no_calls = record { opens = 0; creates = 0; writes = 0; finishes = 0 }
 
 -- the call of this number is the one that fails
-abbrev pub is_due : Option ℕ → ℕ → Bool
-is_due None number = false
-is_due (Some call) number = number == call
+abbrev pub is_failing : Option ℕ → ℕ → Bool
+is_failing None number = false
+is_failing (Some call) number = number == call
 
 -- calls fail from this number on, or from an earlier one
 abbrev pub is_from : Option ℕ → ℕ → Bool

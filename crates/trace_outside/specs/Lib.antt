@@ -8,3 +8,4 @@ pub mod Folders
 pub mod Faults
 pub mod Memory
 pub mod Keeping
+pub mod Seen

@@ -4,7 +4,7 @@ use Rattle.std.specs.Prelude.{ℕ, Bool, not, ◌||◌, ◌&&◌, ◌==◌, Opti
 use Rattle.std.specs.FinMap.{get}
 use Rattle.trace_outside.specs.declared.counts.Counts.{Counts}
 use Rattle.trace_outside.specs.Causes.{raised, FailsJustThere}
-use Rattle.trace_outside.specs.Faults.{is_due, is_from, due_after}
+use Rattle.trace_outside.specs.Faults.{is_failing, is_from, due_after}
 use Rattle.trace_outside.specs.Names.{NamedFiles}
 use Rattle.trace_outside.specs.declared.memory.faults.Settings.{Settings}
 use Rattle.trace_outside.specs.declared.memory.faults.Calls.{Calls}
@@ -42,7 +42,7 @@ sink_due sink = sink.due
 
 -- whether a fault is set for the sink's write of this number, of so many bytes; a write of none does not fail
 abbrev pub write_fails : MemSink → ℕ → ℕ → Bool
-write_fails sink number count = not (count == 0) && (is_from sink.from number || is_due sink.due number)
+write_fails sink number count = not (count == 0) && (is_from sink.from number || is_failing sink.due number)
 
 -- how many calls of the folder, and of the sinks that it took back, found no memory
 abbrev pub folder_wants : MemFolder → ℕ

@@ -9,8 +9,8 @@ use Rattle.subpage.specs.Arrangement.{Keyed}
 use Rattle.format_parse.specs.declared.format.EventFormat.{EventFormat}
 use Rattle.format_parse.specs.Table.{format_at}
 use Rattle.report_print.specs.declared.common.CommonField.{CommonField}
-use Rattle.report_print.specs.CommonFields.{of_field, is_number, common_signed}
-use Rattle.trace_base.specs.Fields.{field_named}
+use Rattle.report_print.specs.CommonFields.{of_field, common_signed}
+use Rattle.trace_base.specs.Fields.{field_named, is_number}
 use Rattle.report_print.specs.ContextData.{ContextData}
 use Rattle.report_print.specs.Line.{id_of}
 use Rattle.report_print.specs.Prefix.{common_in}

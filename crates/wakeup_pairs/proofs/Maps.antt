@@ -1,11 +1,11 @@
 -- The map of the code as a finite map.
-use Rattle.std.proofs.Common.{◌≡◌, ℕ, ℤ, Bool, true, false, cond, List, [], ◌∷◌, ◌++◌, Option, Some, None, is_some, refl, sym, ap, ◌∙◌, true≢false}
+use Rattle.std.proofs.Common.{◌≡◌, ℕ, ℤ, true, false, cond, List, [], ◌∷◌, ◌++◌, Option, Some, None, is_some, refl, sym, ap, ◌∙◌, true≢false}
 use Rattle.std.specs.Ordering.{int_cmp, eq_by_cmp, is_eq}
 use Rattle.std.specs.Cmp.{int_cmp_total, eq_by_cmp_equiv}
 use Rattle.std.specs.Map.{lookup}
 use Rattle.std.specs.BTreeMap as tree
 use Rattle.std.specs.BTreeMap.{BTreeMap, is_at}
-use Rattle.std.specs.FinMap.{FinMap, find, from_entries, empty, get, insert, remove, get-from_entries, get-insert, get-remove, get-empty, same_map, int_cmp-IsAntisymmetric}
+use Rattle.std.specs.FinMap.{find, from_entries, get, insert, remove, get-from_entries, get-insert, get-remove, same_map, int_cmp-IsAntisymmetric}
 use Rattle.wakeup_pairs.specs.declared.seen.Pair.{Pair}
 use Rattle.wakeup_pairs.specs.declared.seen.Switch.{Switch}
 use Rattle.wakeup_pairs.specs.declared.seen.Wake.{Wake}

@@ -1,13 +1,13 @@
 -- Each is paired once, and the list of pairs is one.
-use Rattle.std.proofs.Common.{◌≡◌, ◌≢◌, ℕ, ℤ, zero, suc, ◌+◌, ◌<◌, ◌≤◌, ◌⊎◌, List, [], ◌∷◌, ◌++◌, length, slice_get, slice_index_or, Option, Some, None, Contains, refl, sym, ap, ◌∙◌, subst, inl, inr, arith}
+use Rattle.std.proofs.Common.{◌≡◌, ℕ, zero, suc, ◌+◌, ◌<◌, ◌≤◌, ◌⊎◌, List, [], ◌∷◌, slice_get, Some, Contains, refl, sym, ap, ◌∙◌, subst, inl, inr, arith}
 use Rattle.std.specs.List.{AllZip}
-use Rattle.std.proofs.lemmas.Bool.{cases_eq, cases_order}
+use Rattle.std.proofs.lemmas.Bool.{cases_order}
 use Rattle.wakeup_pairs.specs.declared.seen.Pair.{Pair}
 use Rattle.wakeup_pairs.specs.declared.seen.Switch.{Switch}
 use Rattle.wakeup_pairs.specs.declared.seen.Wake.{Wake}
 use Rattle.wakeup_pairs.specs.declared.seen.Seen.{Seen}
-use Rattle.wakeup_pairs.specs.declared.seen.Seen.TheVariants.{Wakes, Switches, Lost, Other}
-use Rattle.wakeup_pairs.specs.Pairs.{IsQuiet, WaitsFrom, IsPaired, IsPairAt, pair_of, RiseFrom, ArePairs}
+use Rattle.wakeup_pairs.specs.declared.seen.Seen.TheVariants.{Wakes, Switches}
+use Rattle.wakeup_pairs.specs.Pairs.{WaitsFrom, IsPaired, IsPairAt, pair_of, RiseFrom, ArePairs}
 use Rattle.wakeup_pairs.proofs.Places.{same_wake, same_switch}
 
 waits_same : (xs : List Seen) (a b : Switch) (i j : ℕ) → a ≡ b → WaitsFrom xs a.task i j → WaitsFrom xs b.task i j

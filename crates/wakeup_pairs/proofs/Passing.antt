@@ -1,13 +1,13 @@
 -- The pass finds the pairs.
-use Rattle.std.proofs.Common.{◌≡◌, ◌≢◌, ℕ, ℤ, zero, suc, ◌+◌, ◌<◌, ◌≤◌, ◌⊎◌, Bool, true, false, cond, List, [], ◌∷◌, ◌++◌, length, slice_get, Option, Some, None, Contains, fold, refl, sym, ap, ◌∙◌, subst, inl, inr, true≢false, append_assoc, append-nil, arith}
+use Rattle.std.proofs.Common.{◌≡◌, ◌≢◌, ℕ, ℤ, ◌+◌, ◌<◌, ◌≤◌, ◌⊎◌, true, false, cond, List, [], ◌∷◌, ◌++◌, length, Option, Some, None, Contains, fold, refl, sym, ap, ◌∙◌, subst, inl, inr, true≢false, append_assoc, append-nil, arith}
 use Rattle.std.specs.List.{AllZip}
 use Rattle.std.specs.Ordering.{int_cmp, eq_by_cmp, is_eq}
 use Rattle.std.specs.declared.cmp.Ordering.{Ordering}
 use Rattle.std.specs.declared.cmp.Ordering.TheVariants.{Less, Equal, Greater}
 use Rattle.std.specs.Cmp.{int_cmp_total, eq_by_cmp_equiv}
-use Rattle.std.specs.FinMap.{FinMap, empty, get, insert, remove, get-insert, get-remove, get-empty, int_cmp-IsAntisymmetric}
+use Rattle.std.specs.FinMap.{empty, get, insert, remove, get-insert, get-remove, get-empty, int_cmp-IsAntisymmetric}
 use Rattle.std.proofs.lemmas.Bool.{cases_eq}
-use Rattle.std.proofs.lemmas.Option.{slice_get_within, same_Some, none-some}
+use Rattle.std.proofs.lemmas.Option.{slice_get_within, none-some}
 use Rattle.std.proofs.lemmas.List.Elements.{Contains-append_left, Contains-push}
 use Rattle.wakeup_pairs.specs.declared.seen.Pair.{Pair}
 use Rattle.wakeup_pairs.specs.declared.seen.Switch.{Switch}
@@ -17,7 +17,7 @@ use Rattle.wakeup_pairs.specs.declared.seen.Seen.TheVariants.{Wakes, Switches, L
 use Rattle.wakeup_pairs.specs.Pairs.{IsQuiet, WaitsFrom, IsPaired, IsPairAt, pair_of, RiseFrom, ArePairs}
 use Rattle.wakeup_pairs.specs.Gathered.{Gathered, none_gathered, and_woken, and_switched, and_seen, gathered}
 use Rattle.wakeup_pairs.proofs.Partners.{one_wake}
-use Rattle.wakeup_pairs.proofs.Places.{length_more, waits_up, waits_down, waits_more, waits_new, waits_back, paired_up, paired_down, paired_within, paired_last, pair_up, pair_last, same_switch, same_wake}
+use Rattle.wakeup_pairs.proofs.Places.{length_more, waits_more, waits_new, waits_back, paired_down, paired_within, paired_last, pair_up, pair_last, same_switch, same_wake}
 
 -- two tasks are one or not, as the map's order tells them apart
 tasks : (a b : ℤ) → ((eq_by_cmp int_cmp a b ≡ true) × (a ≡ b)) ⊎ ((eq_by_cmp int_cmp a b ≡ false) × (a ≢ b))

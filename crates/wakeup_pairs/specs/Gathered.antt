@@ -1,5 +1,5 @@
 -- The pairs in one pass: of each task that waits the time at which it was first woken.
-use Rattle.std.specs.Prelude.{ℕ, ℤ, List, [], ◌∷◌, ◌++◌, Option, Some, None, fold}
+use Rattle.std.specs.Prelude.{ℕ, List, [], ◌∷◌, ◌++◌, Option, Some, None, fold}
 use Rattle.std.specs.Ordering.{int_cmp}
 use Rattle.std.specs.FinMap as map
 use Rattle.wakeup_pairs.specs.declared.seen.Pair.{Pair}

@@ -1,5 +1,5 @@
 -- A code for what was gathered, by which a proof tells it apart.
-use Rattle.std.specs.Prelude.{ℕ, ℤ, List, refl}
+use Rattle.std.specs.Prelude.{ℕ, List, refl}
 use Rattle.std.specs.Coded.{Coded, code_by, coded_ℕ, coded_ℤ, coded_list, coded×}
 use Rattle.std.specs.Ordering.{int_cmp}
 use Rattle.std.specs.FinMap as map

@@ -2,7 +2,7 @@
 
 ghost use Rattle.std.specs.Prelude.{◌≡◌, ◌<◌, ◌≤◌};
 ghost use Rattle.trace_outside.specs.Causes.{raised};
-ghost use Rattle.trace_outside.specs.Faults.{asks_for, at_limit, due_after, is_due, is_from, with_fault};
+ghost use Rattle.trace_outside.specs.Faults.{asks_for, at_limit, due_after, is_failing, is_from, with_fault};
 
 /// A call of a folder in memory, or of what it gives, that is to fail.
 #[derive(Clone, Copy, Debug, PartialEq, Eq)]
@@ -106,8 +106,8 @@ pub(super) fn next_number(calls: u64) -> u64
 }
 
 // Whether the call of this number is the one that fails.
-pub(super) fn is_due(call: Option<u64>, number: u64) -> bool
-    ensures { result ≡ is_due call number }
+pub(super) fn is_failing(call: Option<u64>, number: u64) -> bool
+    ensures { result ≡ is_failing call number }
 {
     match call {
         None => false,

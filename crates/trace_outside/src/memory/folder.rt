@@ -5,11 +5,11 @@ ghost use Rattle.std.specs.Cmp.Lexicographic.{slice_cmp};
 ghost use Rattle.trace_outside.specs.Names.{stored, asked};
 ghost use Rattle.trace_outside.specs.Causes.{raised};
 ghost use Rattle.trace_outside.specs.Folders.{IsEmptySink, IsFileOf, Opens, Closes, Creates, Finishes, Drops, Stores, KeepsOthers, no_counts};
-ghost use Rattle.trace_outside.specs.Faults.{is_due, no_calls, no_settings, with_fault};
+ghost use Rattle.trace_outside.specs.Faults.{is_failing, no_calls, no_settings, with_fault};
 ghost use Rattle.trace_outside.specs.Memory.{folder_wants, folder_set, folder_calls, sink_wants, sink_writes, KeepsFaults, FailsReading, FailsWriting, with_faults, with_read_faults, FailsAsSet, OpensAsSet, CountsCalls, IsSetFile, IsSetSink};
 
 use crate::counts::Counts;
-use crate::memory::faults::{Calls, MemFault, Settings, due_after, is_due, next_number};
+use crate::memory::faults::{Calls, MemFault, Settings, due_after, is_failing, next_number};
 use crate::memory::file::MemFile;
 use crate::memory::sink::MemSink;
 use crate::outside::{Failed, File, Folder, Sink};
@@ -138,7 +138,7 @@ impl Folder for MemFolder {
         ensures counts { Opens (⟦<MemFolder as Folder>⟧.files self.old) name.now (⟦<MemFolder as Folder>⟧.counts self.old) (⟦<MemFolder as Folder>⟧.counts self.new) result }
         ensures just_there { FailsReading (⟦<MemFolder as Folder>⟧.counts self.old) (⟦<MemFolder as Folder>⟧.counts self.new) result }
         ensures fails { OpensAsSet (⟦<MemFolder as Folder>⟧.files self.old) name.now
-            (is_due (folder_set self.old).opening (raised (folder_calls self.old).opens 1)) (folder_wants self.old) (folder_wants self.new) result }
+            (is_failing (folder_set self.old).opening (raised (folder_calls self.old).opens 1)) (folder_wants self.old) (folder_wants self.new) result }
         ensures set_file { IfOk result (IsSetFile (folder_set self.old)) }
         ensures calls { CountsCalls 1 0 0 0 (folder_calls self.old) (folder_calls self.new) }
         ensures set { folder_set self.new ≡ folder_set self.old }
@@ -150,7 +150,7 @@ impl Folder for MemFolder {
             self.counts.reading = self.counts.reading.saturating_add(1);
             return Err(Failed);
         };
-        if is_due(self.set.opening, number) {
+        if is_failing(self.set.opening, number) {
             self.counts.reading = self.counts.reading.saturating_add(1);
             return Err(Failed);
         }
@@ -189,7 +189,7 @@ impl Folder for MemFolder {
         ensures files { ⟦<MemFolder as Folder>⟧.files self.new ≡ ⟦<MemFolder as Folder>⟧.files self.old }
         ensures counts { Creates (⟦<MemFolder as Folder>⟧.counts self.old) (⟦<MemFolder as Folder>⟧.counts self.new) result }
         ensures just_there { FailsWriting (⟦<MemFolder as Folder>⟧.counts self.old) (⟦<MemFolder as Folder>⟧.counts self.new) result }
-        ensures fails { FailsAsSet (is_due (folder_set self.old).creation (raised (folder_calls self.old).creates 1)) (folder_wants self.old) (folder_wants self.new) result }
+        ensures fails { FailsAsSet (is_failing (folder_set self.old).creation (raised (folder_calls self.old).creates 1)) (folder_wants self.old) (folder_wants self.new) result }
         ensures no_wants { IfOk result (λ file. sink_wants file ≡ 0) }
         ensures set_sink { IfOk result (IsSetSink (folder_set self.old) (folder_calls self.old).writes) }
         ensures calls { CountsCalls 0 1 0 0 (folder_calls self.old) (folder_calls self.new) }
@@ -197,7 +197,7 @@ impl Folder for MemFolder {
     {
         let number = next_number(self.calls.creates);
         self.calls.creates = number;
-        if is_due(self.set.creation, number) {
+        if is_failing(self.set.creation, number) {
             self.counts.writing = self.counts.writing.saturating_add(1);
             return Err(Failed);
         }
@@ -223,7 +223,7 @@ impl Folder for MemFolder {
         ensures kept { OnErr result (⟦<MemFolder as Folder>⟧.files self.new ≡ ⟦<MemFolder as Folder>⟧.files self.old) }
         ensures counts { Finishes (⟦<MemSink as Sink>⟧.faults file) (⟦<MemFolder as Folder>⟧.counts self.old) (⟦<MemFolder as Folder>⟧.counts self.new) result }
         ensures just_there { FailsWriting (with_faults (⟦<MemSink as Sink>⟧.faults file) (⟦<MemFolder as Folder>⟧.counts self.old)) (⟦<MemFolder as Folder>⟧.counts self.new) result }
-        ensures fails { FailsAsSet (is_due (folder_set self.old).finish (raised (folder_calls self.old).finishes 1)) (raised (folder_wants self.old) (sink_wants file)) (folder_wants self.new) result }
+        ensures fails { FailsAsSet (is_failing (folder_set self.old).finish (raised (folder_calls self.old).finishes 1)) (raised (folder_wants self.old) (sink_wants file)) (folder_wants self.new) result }
         ensures calls { CountsCalls 0 0 (sink_writes file) 1 (folder_calls self.old) (folder_calls self.new) }
         ensures set { folder_set self.new ≡ folder_set self.old }
     {
@@ -236,7 +236,7 @@ impl Folder for MemFolder {
             ..
         } = file;
         let number = next_number(self.calls.finishes);
-        let is_to_fail = is_due(self.set.finish, number);
+        let is_to_fail = is_failing(self.set.finish, number);
         self.calls.finishes = number;
         self.calls.writes = self.calls.writes.saturating_add(writes);
         self.wants = self.wants.saturating_add(wants);

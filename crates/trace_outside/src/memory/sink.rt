@@ -4,7 +4,7 @@ ghost use Rattle.trace_outside.specs.Writing.{Takes};
 ghost use Rattle.trace_outside.specs.Faults.{at_limit};
 ghost use Rattle.trace_outside.specs.Memory.{sink_wants, sink_writes, sink_limit, sink_from, sink_due, write_fails, SetAsBefore, FailsAsSet};
 
-use crate::memory::faults::{at_limit, is_due, is_from, next_number};
+use crate::memory::faults::{at_limit, is_failing, is_from, next_number};
 use crate::outside::{Failed, Sink};
 use std::alloc::Global;
 use trace_base::ByteText;
@@ -120,7 +120,7 @@ impl MemSink {
     fn is_to_fail(&self, number: u64, piece: &[u8]) -> bool
         ensures { result ≡ write_fails self.now number (length piece.now) }
     {
-        !piece.is_empty() && (is_from(self.from, number) || is_due(self.due, number))
+        !piece.is_empty() && (is_from(self.from, number) || is_failing(self.due, number))
     }
 }
 

@@ -1,0 +1,13 @@
+-- What a folder shows at one moment.
+use Rattle.std.specs.Prelude.{Option}
+use Rattle.trace_outside.specs.declared.counts.Counts.{Counts}
+use Rattle.trace_outside.specs.declared.outside.Folder as folder_trait
+use Rattle.trace_outside.specs.Names.{NamedFiles}
+
+-- its files, where it tells them, and what became of those that were made in it
+pub record FolderSeen : Type 0 where
+  pub files : Option NamedFiles
+  pub counts : Counts
+
+abbrev pub folder_seen : {F In Out : Type 0} → folder_trait.Ghosts F In Out → F → FolderSeen
+folder_seen f folder = record { files = f.files folder; counts = f.counts folder }
