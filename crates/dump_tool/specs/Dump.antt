@@ -7,7 +7,8 @@ use Rattle.word_values.specs.declared.section.Section.{Section}
 use Rattle.word_values.specs.declared.section.Section.TheVariants.{Summary, HeadPage, HeadEvent, FtraceEvents, Systems, Events, Kallsyms, Printk, CmdLines, Options, Flyrecord, Validate}
 use Rattle.dat_header.specs.declared.header.Header.{Header}
 use Rattle.dump_tool.specs.Texts.{stored_text}
-use Rattle.dump_tool.specs.Lists.{ftrace_text, systems_text, events_text, options_of, options_text, body_text}
+use Rattle.dump_tool.specs.Entries.{list_text}
+use Rattle.dump_tool.specs.Lists.{system_line, events_text, options_of, option_line, body_text}
 use Rattle.dump_tool.specs.Summary.{summary_text}
 
 -- the text of a section, for the header of a file with this name
@@ -15,13 +16,13 @@ abbrev pub section_text : List ℕ → Header → Section → List ℕ
 section_text name header Summary = summary_text name header
 section_text name header HeadPage = stored_text (codes "header_page") header.page_text
 section_text name header HeadEvent = stored_text (codes "header_event") header.event_text
-section_text name header FtraceEvents = ftrace_text header.ftrace
-section_text name header Systems = systems_text header.systems
+section_text name header FtraceEvents = list_text (codes "ftrace formats") (stored_text (codes "format")) header.ftrace
+section_text name header Systems = list_text (codes "systems") system_line header.systems
 section_text name header Events = events_text header.systems
 section_text name header Kallsyms = stored_text (codes "kallsyms") header.kallsyms
 section_text name header Printk = stored_text (codes "printk formats") header.printk
 section_text name header CmdLines = stored_text (codes "command lines") header.cmdlines
-section_text name header Options = options_text (options_of header.options)
+section_text name header Options = list_text (codes "options") option_line (options_of header.options)
 section_text name header Flyrecord = body_text header.body
 section_text name header Validate = codes "valid\n"
 

@@ -1,4 +1,5 @@
 pub mod Texts
+pub mod Entries
 pub mod Lists
 pub mod Summary
 pub mod RowText

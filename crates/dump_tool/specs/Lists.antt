@@ -9,25 +9,21 @@ use Rattle.dat_header.specs.declared.header.System.{System}
 use Rattle.dat_header.specs.declared.header.Body.{Body}
 use Rattle.dat_header.specs.declared.header.Body.TheVariants.{Latency, Fly}
 use Rattle.dump_tool.specs.Texts.{count_line, heading, stored_text}
+use Rattle.dump_tool.specs.Entries.{list_text}
 
--- the formats of ftrace's own events
-abbrev pub ftrace_text : List (List ℕ) → List ℕ
-ftrace_text formats = heading (codes "ftrace formats") (length formats) ++ flat_map (stored_text (codes "format")) formats
-
--- the systems, each with the number of its events
+-- a system with the number of its events
 abbrev pub system_line : System → List ℕ
 system_line system = count_line system.name (length system.formats)
 
-abbrev pub systems_text : List System → List ℕ
-systems_text systems = heading (codes "systems") (length systems) ++ flat_map system_line systems
-
--- the formats of all systems' events, each under its system's name
+-- how many events the systems have
 abbrev pub event_count : List System → ℕ
 event_count systems = sum_by (λ system. length system.formats) systems
 
+-- the formats of a system's events, each under its name
 abbrev pub system_formats : System → List ℕ
 system_formats system = flat_map (stored_text system.name) system.formats
 
+-- the formats of all systems' events
 abbrev pub events_text : List System → List ℕ
 events_text systems = heading (codes "events") (event_count systems) ++ flat_map system_formats systems
 
@@ -39,17 +35,12 @@ options_of (Some options) = options
 abbrev pub option_line : Opt → List ℕ
 option_line option = concat (codes "option " ∷ decimal option.id ∷ codes " " ∷ decimal (length option.bytes) ∷ codes " bytes\n" ∷ [])
 
-abbrev pub options_text : List Opt → List ℕ
-options_text options = heading (codes "options") (length options) ++ flat_map option_line options
-
--- where each processor's data stand, the processors numbered from 0
+-- where a processor's data stand
 abbrev pub part_line : ℕ × Part → List ℕ
 part_line (cpu, part) = concat (
     codes "cpu " ∷ decimal cpu ∷ codes " offset " ∷ decimal part.offset ∷ codes " size " ∷ decimal part.size ∷ codes "\n" ∷ [])
 
-abbrev pub parts_text : List Part → List ℕ
-parts_text parts = heading (codes "flyrecord") (length parts) ++ flat_map part_line (enumerate_from 0 parts)
-
+-- where each processor's data stand, the processors numbered from 0
 abbrev pub body_text : Body → List ℕ
 body_text Latency = codes "[latency]\n"
-body_text (Fly parts) = parts_text parts
+body_text (Fly parts) = list_text (codes "flyrecord") part_line (enumerate_from 0 parts)

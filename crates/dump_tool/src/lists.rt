@@ -1,40 +1,27 @@
 // The sections that show a list.
 
-ghost use Rattle.std.specs.Prelude.{◌≡◌, ◌++◌, length};
-ghost use Rattle.std.specs.List.{flat_map, enumerate_from};
+ghost use Rattle.std.specs.Prelude.{◌≡◌};
 ghost use Rattle.trace_outside.specs.Pending.{PutsText, on_way};
-ghost use Rattle.dump_tool.specs.Texts.{stored_text};
 ghost use Rattle.dump_tool.specs.Lists as spec;
 
+use crate::entries::{put_each, put_list};
 use crate::lines::{put_count, put_heading, put_text};
 use dat_header::{Body, Header, System};
 use dat_options::Opt;
 use itoa::Buffer;
-use trace_base::{ByteText, Part};
+use trace_base::Part;
 use trace_outside::{Failed, Pending, Sink};
 
-/// Puts the formats of ftrace's own events.
-pub(crate) fn put_ftrace<O: Sink>(
+/// Puts a system's name and the number of its events.
+pub(crate) fn put_system<O: Sink>(
     pending: &mut Pending,
     out: &mut O,
-    formats: &[ByteText],
+    system: &System,
 ) -> Result<(), Failed>
-    ensures { PutsText (spec.ftrace_text formats.now) (on_way O.written O.name O.faults out.old pending.old) (on_way O.written O.name O.faults out.new pending.new) result }
+    ensures { PutsText (spec.system_line system.now) (on_way O.written O.name O.faults out.old pending.old) (on_way O.written O.name O.faults out.new pending.new) result }
 {
-    put_heading(pending, out, "ftrace formats", formats.len() as u128)?;
-    put_formats(pending, out, b"format", formats)
-}
-
-/// Puts the systems with the numbers of their events.
-pub(crate) fn put_systems<O: Sink>(
-    pending: &mut Pending,
-    out: &mut O,
-    systems: &[System],
-) -> Result<(), Failed>
-    ensures { PutsText (spec.systems_text systems.now) (on_way O.written O.name O.faults out.old pending.old) (on_way O.written O.name O.faults out.new pending.new) result }
-{
-    put_heading(pending, out, "systems", systems.len() as u128)?;
-    put_system_lines(pending, out, systems)
+    let events = system.formats.as_slice().len() as u128;
+    put_count(pending, out, system.name.as_bytes(), events)
 }
 
 /// Puts the formats of all systems' events.
@@ -46,19 +33,22 @@ pub(crate) fn put_events<O: Sink>(
     ensures { PutsText (spec.events_text systems.now) (on_way O.written O.name O.faults out.old pending.old) (on_way O.written O.name O.faults out.new pending.new) result }
 {
     put_heading(pending, out, "events", event_count(systems))?;
-    put_system_formats(pending, out, systems)
+    put_each(pending, out, systems.iter(), put_system_formats)
 }
 
-/// Puts the options.
-pub(crate) fn put_options<O: Sink>(
+/// Puts an option's number and its size.
+pub(crate) fn put_option<O: Sink>(
     pending: &mut Pending,
     out: &mut O,
-    options: &[Opt],
+    option: &Opt,
 ) -> Result<(), Failed>
-    ensures { PutsText (spec.options_text options.now) (on_way O.written O.name O.faults out.old pending.old) (on_way O.written O.name O.faults out.new pending.new) result }
+    ensures { PutsText (spec.option_line option.now) (on_way O.written O.name O.faults out.old pending.old) (on_way O.written O.name O.faults out.new pending.new) result }
 {
-    put_heading(pending, out, "options", options.len() as u128)?;
-    put_option_lines(pending, out, options)
+    let mut id_digits = Buffer::new();
+    let mut size_digits = Buffer::new();
+    let id = id_digits.format(option.id).as_bytes();
+    let size = size_digits.format(option.bytes.as_bytes().len()).as_bytes();
+    pending.put_parts(out, &[b"option ", id, b" ", size, b" bytes\n"])
 }
 
 /// Puts where the processors' data stand.
@@ -71,7 +61,16 @@ pub(crate) fn put_body<O: Sink>(
 {
     match body {
         Body::Latency => pending.put(out, b"[latency]\n"),
-        Body::Fly(parts) => put_parts(pending, out, parts.as_slice()),
+        Body::Fly(parts) => {
+            let parts = parts.as_slice().iter().enumerate();
+            put_list(
+                pending,
+                out,
+                "flyrecord",
+                parts,
+                |pending, out, (cpu, part)| put_part(pending, out, cpu, *part),
+            )
+        }
     }
 }
 
@@ -95,85 +94,18 @@ pub(crate) fn options_of(header: &Header) -> &[Opt]
     }
 }
 
-fn put_formats<O: Sink>(
-    pending: &mut Pending,
-    out: &mut O,
-    name: &[u8],
-    formats: &[ByteText],
-) -> Result<(), Failed>
-    ensures { PutsText (flat_map (stored_text name.now) formats.now) (on_way O.written O.name O.faults out.old pending.old) (on_way O.written O.name O.faults out.new pending.new) result }
-{
-    for format in formats {
-        put_text(pending, out, name, format.as_bytes())?;
-    }
-    Ok(())
-}
-
-fn put_system_lines<O: Sink>(
-    pending: &mut Pending,
-    out: &mut O,
-    systems: &[System],
-) -> Result<(), Failed>
-    ensures { PutsText (flat_map spec.system_line systems.now) (on_way O.written O.name O.faults out.old pending.old) (on_way O.written O.name O.faults out.new pending.new) result }
-{
-    for system in systems {
-        let events = system.formats.as_slice().len() as u128;
-        put_count(pending, out, system.name.as_bytes(), events)?;
-    }
-    Ok(())
-}
-
 fn put_system_formats<O: Sink>(
     pending: &mut Pending,
     out: &mut O,
-    systems: &[System],
+    system: &System,
 ) -> Result<(), Failed>
-    ensures { PutsText (flat_map spec.system_formats systems.now) (on_way O.written O.name O.faults out.old pending.old) (on_way O.written O.name O.faults out.new pending.new) result }
+    ensures { PutsText (spec.system_formats system.now) (on_way O.written O.name O.faults out.old pending.old) (on_way O.written O.name O.faults out.new pending.new) result }
 {
-    for system in systems {
-        let name = system.name.as_bytes();
-        put_formats(pending, out, name, system.formats.as_slice())?;
-    }
-    Ok(())
-}
-
-fn put_option_lines<O: Sink>(
-    pending: &mut Pending,
-    out: &mut O,
-    options: &[Opt],
-) -> Result<(), Failed>
-    ensures { PutsText (flat_map spec.option_line options.now) (on_way O.written O.name O.faults out.old pending.old) (on_way O.written O.name O.faults out.new pending.new) result }
-{
-    for option in options {
-        put_option(pending, out, option)?;
-    }
-    Ok(())
-}
-
-fn put_option<O: Sink>(pending: &mut Pending, out: &mut O, option: &Opt) -> Result<(), Failed>
-    ensures { PutsText (spec.option_line option.now) (on_way O.written O.name O.faults out.old pending.old) (on_way O.written O.name O.faults out.new pending.new) result }
-{
-    let mut id_digits = Buffer::new();
-    let mut size_digits = Buffer::new();
-    let id = id_digits.format(option.id).as_bytes();
-    let size = size_digits.format(option.bytes.as_bytes().len()).as_bytes();
-    pending.put_parts(out, &[b"option ", id, b" ", size, b" bytes\n"])
-}
-
-fn put_parts<O: Sink>(pending: &mut Pending, out: &mut O, parts: &[Part]) -> Result<(), Failed>
-    ensures { PutsText (spec.parts_text parts.now) (on_way O.written O.name O.faults out.old pending.old) (on_way O.written O.name O.faults out.new pending.new) result }
-{
-    put_heading(pending, out, "flyrecord", parts.len() as u128)?;
-    put_part_lines(pending, out, parts)
-}
-
-fn put_part_lines<O: Sink>(pending: &mut Pending, out: &mut O, parts: &[Part]) -> Result<(), Failed>
-    ensures { PutsText (flat_map spec.part_line (enumerate_from 0 parts.now)) (on_way O.written O.name O.faults out.old pending.old) (on_way O.written O.name O.faults out.new pending.new) result }
-{
-    for (cpu, part) in parts.iter().enumerate() {
-        put_part(pending, out, cpu, *part)?;
-    }
-    Ok(())
+    let name = system.name.as_bytes();
+    let formats = system.formats.as_slice();
+    put_each(pending, out, formats.iter(), |pending, out, format| {
+        put_text(pending, out, name, format.as_bytes())
+    })
 }
 
 fn put_part<O: Sink>(

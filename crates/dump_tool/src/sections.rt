@@ -5,8 +5,9 @@ ghost use Rattle.trace_outside.specs.Writing.{Gained, GainedPrefix};
 ghost use Rattle.trace_args.specs.Command.{dump_view};
 ghost use Rattle.dump_tool.specs.Dump.{dump_text, section_text};
 
+use crate::entries::{put_each, put_list};
 use crate::lines::put_text;
-use crate::lists::{options_of, put_body, put_events, put_ftrace, put_options, put_systems};
+use crate::lists::{options_of, put_body, put_events, put_option, put_system};
 use crate::summary::put_summary;
 use dat_header::Header;
 use trace_args::DumpWords;
@@ -43,12 +44,12 @@ fn put_chosen<O: Sink>(
 ) -> Result<(), Failed>
     ensures { PutsText (dump_text (dump_view words.now) header.now) (on_way O.written O.name O.faults out.old pending.old) (on_way O.written O.name O.faults out.new pending.new) result }
 {
-    for section in &Section::ALL {
-        if words.sections[section.place()] {
-            put_section(pending, out, *section, words.input, header)?;
-        }
-    }
-    Ok(())
+    let chosen = Section::ALL
+        .iter()
+        .filter(|section| words.sections[section.place()]);
+    put_each(pending, out, chosen, |pending, out, section| {
+        put_section(pending, out, *section, words.input, header)
+    })
 }
 
 fn put_section<O: Sink>(
@@ -64,13 +65,28 @@ fn put_section<O: Sink>(
         Section::Summary => put_summary(pending, out, name, header),
         Section::HeadPage => put_text(pending, out, b"header_page", header.page_text.as_bytes()),
         Section::HeadEvent => put_text(pending, out, b"header_event", header.event_text.as_bytes()),
-        Section::FtraceEvents => put_ftrace(pending, out, header.ftrace.as_slice()),
-        Section::Systems => put_systems(pending, out, header.systems.as_slice()),
+        Section::FtraceEvents => {
+            let formats = header.ftrace.as_slice().iter();
+            put_list(
+                pending,
+                out,
+                "ftrace formats",
+                formats,
+                |pending, out, format| put_text(pending, out, b"format", format.as_bytes()),
+            )
+        }
+        Section::Systems => {
+            let systems = header.systems.as_slice().iter();
+            put_list(pending, out, "systems", systems, put_system)
+        }
         Section::Events => put_events(pending, out, header.systems.as_slice()),
         Section::Kallsyms => put_text(pending, out, b"kallsyms", header.kallsyms.as_bytes()),
         Section::Printk => put_text(pending, out, b"printk formats", header.printk.as_bytes()),
         Section::CmdLines => put_text(pending, out, b"command lines", header.cmdlines.as_bytes()),
-        Section::Options => put_options(pending, out, options_of(header)),
+        Section::Options => {
+            let options = options_of(header).iter();
+            put_list(pending, out, "options", options, put_option)
+        }
         Section::Flyrecord => put_body(pending, out, &header.body),
         Section::Validate => pending.put(out, b"valid\n"),
     }

@@ -6,6 +6,7 @@ ghost use Rattle.trace_outside.specs.Pending.{PutsText, on_way};
 ghost use Rattle.dump_tool.specs.RowText.{row_text};
 ghost use Rattle.dump_tool.specs.Summary.{summary_text, order_name, body_name};
 
+use crate::entries::put_each;
 use crate::lines::{put_count, put_value};
 use crate::lists::{event_count, options_of};
 use dat_header::{Body, Header};
@@ -28,7 +29,8 @@ pub(crate) fn put_summary<O: Sink>(
 ) -> Result<(), Failed>
     ensures { PutsText (summary_text name.now header.now) (on_way O.written O.name O.faults out.old pending.old) (on_way O.written O.name O.faults out.new pending.new) result }
 {
-    put_rows(pending, out, &rows_of(name, header))
+    let rows = rows_of(name, header);
+    put_each(pending, out, rows.iter(), put_row)
 }
 
 fn rows_of<'a>(name: &'a str, header: &Header) -> [Row<'a>; 16]
@@ -70,15 +72,6 @@ fn body_name(body: &Body) -> &'static str
         Body::Latency => "latency",
         Body::Fly(_) => "flyrecord",
     }
-}
-
-fn put_rows<O: Sink>(pending: &mut Pending, out: &mut O, rows: &[Row<'_>]) -> Result<(), Failed>
-    ensures { PutsText (flat_map row_text rows.now) (on_way O.written O.name O.faults out.old pending.old) (on_way O.written O.name O.faults out.new pending.new) result }
-{
-    for row in rows {
-        put_row(pending, out, row)?;
-    }
-    Ok(())
 }
 
 fn put_row<O: Sink>(pending: &mut Pending, out: &mut O, row: &Row<'_>) -> Result<(), Failed>
