@@ -1,12 +1,17 @@
 -- Lanes that are formatted, one after another and in two groups.
-use Rattle.std.proofs.Common.{◌≡◌, ℕ, ◌+◌, ◌-◌, ◌<◌, ◌≤◌, List, ◌++◌, length, get_or, set, inl, inr, refl, sym, ap, subst, ◌∙◌, arith}
+use Rattle.std.proofs.Common.{◌≡◌, ℕ, ◌+◌, ◌-◌, ◌<◌, ◌≤◌, Bool, true, false, List, ◌++◌, length, get_or, set, take, drop, inl, inr, refl, sym, ap, subst, ◌∙◌, arith}
+use Rattle.std.specs.List.{All}
 use Rattle.std.proofs.lemmas.Bool.{cases_lt}
-use Rattle.std.proofs.lemmas.List.{get_or_append_left, get_or-append_right, get_or_default, get_or-set_same, get_or-set_other, length-append}
+use Rattle.std.proofs.lemmas.List.{get_or_append_left, get_or-append_right, get_or_default, get_or-set_same, get_or-set_other, length-append, take-append-drop}
+use Rattle.std.proofs.lemmas.List.Elements.{All-get_or}
 use Rattle.trace_base.specs.declared.layout.Layout.{Layout}
 use Rattle.subpage.specs.ItemData.{ItemData}
 use Rattle.line_holes.specs.Holes.{LineText}
 use Rattle.page_pool.specs.declared.lane.Lane.{Lane}
-use Rattle.cpu_workers.specs.Formats.{AreFormatted, IsFormatted}
+use Rattle.page_pool.specs.Moved.{KeepsUnmoved}
+use Rattle.event_cursor.specs.Standing.{IsInOrder}
+use Rattle.cpu_workers.specs.Formats.{AreFormatted, IsFormatted, IsSettled}
+use Rattle.cpu_workers.proofs.Settling.{settled_formatted}
 
 module _ (text : ℕ → ItemData → LineText) (l : Layout) where
   same : (a b x y : Lane) → a ≡ x → b ≡ y → IsFormatted text l x y → IsFormatted text l a b
@@ -28,11 +33,28 @@ module _ (text : ℕ → ItemData → LineText) (l : Layout) where
             same (get_or first k d) (get_or (set now i new) k d) (get_or now i old) new was is this
       ]
 
-  pub both : (all a b now_a now_b : List Lane) → all ≡ a ++ b → AreFormatted text l a now_a → AreFormatted text l b now_b
-      → AreFormatted text l all (now_a ++ now_b)
-  both all a b now_a now_b is front back =
+  -- a lane that is passed over is formatted as it stands
+  pub one_passed : (first now : List Lane) (i : ℕ) → i < length first
+      → ((k : ℕ) (d : Lane) → k < i → IsFormatted text l (get_or first k d) (get_or now k d))
+      → ((k : ℕ) (d : Lane) → i ≤ k → get_or now k d ≡ get_or first k d)
+      → All (IsInOrder l) first → ((d : Lane) → IsSettled text l (get_or first i d))
+      → (k : ℕ) (d : Lane) → k < i + 1 → IsFormatted text l (get_or first k d) (get_or now k d)
+  one_passed first now i inside done rest in_order settled k d before =
+      elim (cases_lt k i) as (λ _. IsFormatted text l (get_or first k d) (get_or now k d)) [
+        | inl lt ↦ done k d lt
+        | inr le ↦ let here : k ≡ i = omega (arith, before, le) in
+            let at : (lanes : List Lane) → get_or lanes k d ≡ get_or lanes i d = λ lanes. ap (λ (n : ℕ). get_or lanes n d) here in
+            same (get_or first k d) (get_or now k d) (get_or first i d) (get_or first i d) (at first) (at now ∙ rest i d (omega arith))
+            (settled_formatted text l (get_or first i d) (All-get_or (IsInOrder l) first i d inside in_order) (settled d))
+      ]
+
+  pub both : (all a b now_a now_b : List Lane) (moved moved_a moved_b : List Bool) → all ≡ a ++ b → moved ≡ moved_a ++ moved_b
+      → length moved_a ≡ length a → AreFormatted text l moved_a a now_a → AreFormatted text l moved_b b now_b
+      → AreFormatted text l moved all (now_a ++ now_b)
+  both all a b now_a now_b moved moved_a moved_b is is_moved marks front back =
       let long : length all ≡ length a + length b = ap length is ∙ length-append a b in
       let at : (i : ℕ) (d : Lane) → get_or all i d ≡ get_or (a ++ b) i d = λ i d. ap (λ (lanes : List Lane). get_or lanes i d) is in
+      let mark : (i : ℕ) → get_or moved i true ≡ get_or (moved_a ++ moved_b) i true = λ i. ap (λ (marks : List Bool). get_or marks i true) is_moved in
       record {
         count = omega (arith, long, length-append now_a now_b, front.count, back.count);
         each = λ i d inside. elim (cases_lt i (length a)) as (λ _. IsFormatted text l (get_or all i d) (get_or (now_a ++ now_b) i d)) [
@@ -42,8 +64,25 @@ module _ (text : ℕ → ItemData → LineText) (l : Layout) where
               (at i d ∙ get_or-append_right a b (length a) i d refl le) (get_or-append_right now_a now_b (length a) i d front.count le)
               (back.each (i - length a) d (omega (arith, inside, le, long)))
         ];
+        unmoved = λ i d inside unmarked. elim (cases_lt i (length a)) as (λ _. get_or (now_a ++ now_b) i d ≡ get_or all i d) [
+          | inl lt ↦ get_or_append_left now_a now_b d i (omega (arith, lt, front.count))
+              ∙ (front.unmoved i d lt (sym (mark i ∙ get_or_append_left moved_a moved_b true i (omega (arith, lt, marks))) ∙ unmarked)
+              ∙ sym (at i d ∙ get_or_append_left a b d i lt))
+          | inr le ↦ get_or-append_right now_a now_b (length a) i d front.count le
+              ∙ (back.unmoved (i - length a) d (omega (arith, inside, le, long)) (sym (mark i ∙ get_or-append_right moved_a moved_b (length a) i true marks le) ∙ unmarked)
+              ∙ sym (at i d ∙ get_or-append_right a b (length a) i d refl le))
+        ];
       }
+
+pub cut_together : {X : Type 0} (xs front back : List X) (cut : ℕ) → front ≡ take cut xs → back ≡ drop cut xs → xs ≡ front ++ back
+cut_together xs front back cut first rest = rw (first, rest) (sym (take-append-drop cut xs))
 
 pub rest_more : (first now : List Lane) (i : ℕ) (new : Lane) → ((k : ℕ) (d : Lane) → i ≤ k → get_or now k d ≡ get_or first k d)
     → (k : ℕ) (d : Lane) → i + 1 ≤ k → get_or (set now i new) k d ≡ get_or first k d
 rest_more first now i new rest k d behind = get_or-set_other now i k new d (λ e. omega (arith, e, behind)) ∙ rest k d (omega (arith, behind))
+
+pub kept_more : (moved : List Bool) (first now : List Lane) (i : ℕ) (new : Lane) → get_or moved i true ≡ true → KeepsUnmoved moved first now
+    → KeepsUnmoved moved first (set now i new)
+kept_more moved first now i new marked kept k d inside unmarked =
+    get_or-set_other now i k new d (λ (e : k ≡ i). let both : true ≡ false = sym marked ∙ (ap (λ (n : ℕ). get_or moved n true) (sym e) ∙ unmarked) in absurd cc)
+    ∙ kept k d inside unmarked

@@ -1,6 +1,6 @@
 ghost use Rattle.std.specs.Prelude.{◌≡◌, ◌-◌, ◌<◌, ◌≤◌, length, take, drop, All};
 ghost use Rattle.event_cursor.specs.Standing.{IsInOrder};
-ghost use Rattle.cpu_workers.specs.Shares.{busy_lanes, may_form, share_of};
+ghost use Rattle.cpu_workers.specs.Shares.{busy_lanes, is_busy, may_form, share_of};
 
 use event_cursor::head_key;
 use page_pool::Lane;
@@ -14,52 +14,69 @@ fn may_form(layout: &Layout, lane: &Lane) -> bool
     !lane.region.is_used_up() && head_key(lane).is_some()
 }
 
-/// How many lanes may form a line.
-pub(crate) fn busy_lanes(layout: &Layout, lanes: &[Lane]) -> usize
-    requires { All (IsInOrder layout.now) lanes.now }
-    ensures { result ≡ busy_lanes layout.now lanes.now }
+/// Whether a lane is busy: it has a mark, and may form a line.
+#[inline]
+fn is_busy(layout: &Layout, lane: &Lane, moved: bool) -> bool
+    requires { IsInOrder layout.now lane.now }
+    ensures { result ≡ is_busy layout.now (lane.now, moved) }
+{
+    moved && may_form(layout, lane)
+}
+
+/// How many lanes are busy, by their marks.
+pub(crate) fn busy_lanes(layout: &Layout, lanes: &[Lane], moved: &[bool]) -> usize
+    requires in_order { All (IsInOrder layout.now) lanes.now }
+    requires marks { length moved.now ≡ length lanes.now }
+    ensures { result ≡ busy_lanes layout.now lanes.now moved.now }
 {
     let mut busy = 0;
-    for i in 0..lanes.len() {
-        if may_form(layout, &lanes[i]) {
+    for i in 0..moved.len() {
+        if is_busy(layout, &lanes[i], moved[i]) {
             busy += 1;
         }
     }
     busy
 }
 
-/// The place behind the first so many lanes that may form a line.
-fn place_behind(layout: &Layout, lanes: &[Lane], count: usize) -> usize
+/// The place behind the first so many busy lanes.
+fn place_behind(layout: &Layout, lanes: &[Lane], moved: &[bool], count: usize) -> usize
     requires in_order { All (IsInOrder layout.now) lanes.now }
-    requires enough { count ≤ busy_lanes layout.now lanes.now }
+    requires marks { length moved.now ≡ length lanes.now }
+    requires enough { count ≤ busy_lanes layout.now lanes.now moved.now }
     ensures inside { result ≤ length lanes.now }
-    ensures count { busy_lanes layout.now (take result lanes.now) ≡ count }
+    ensures count { busy_lanes layout.now (take result lanes.now) (take result moved.now) ≡ count }
 {
     let mut left = count;
-    for i in 0..lanes.len() {
+    for i in 0..moved.len() {
         if left == 0 {
             return i;
         }
-        if may_form(layout, &lanes[i]) {
+        if is_busy(layout, &lanes[i], moved[i]) {
             left -= 1;
         }
     }
-    lanes.len()
+    moved.len()
 }
 
-/// Where lanes are cut between the first few of several workers and the others, so that each has about as many that may
-/// form a line.
-pub(crate) fn cut_between(layout: &Layout, lanes: &[Lane], workers: usize, first: usize) -> usize
+/// Where lanes are cut between the first few of several workers and the others, so that each has about as many busy ones.
+pub(crate) fn cut_between(
+    layout: &Layout,
+    lanes: &[Lane],
+    moved: &[bool],
+    workers: usize,
+    first: usize,
+) -> usize
     requires in_order { All (IsInOrder layout.now) lanes.now }
-    requires enough { workers ≤ busy_lanes layout.now lanes.now }
+    requires marks { length moved.now ≡ length lanes.now }
+    requires enough { workers ≤ busy_lanes layout.now lanes.now moved.now }
     requires first { first < workers }
     ensures inside { result ≤ length lanes.now }
-    ensures share { busy_lanes layout.now (take result lanes.now)
-        ≡ share_of (busy_lanes layout.now lanes.now) workers first }
-    ensures front { first ≤ busy_lanes layout.now (take result lanes.now) }
-    ensures back { workers - first ≤ busy_lanes layout.now (drop result lanes.now) }
+    ensures share { busy_lanes layout.now (take result lanes.now) (take result moved.now)
+        ≡ share_of (busy_lanes layout.now lanes.now moved.now) workers first }
+    ensures front { first ≤ busy_lanes layout.now (take result lanes.now) (take result moved.now) }
+    ensures back { workers - first ≤ busy_lanes layout.now (drop result lanes.now) (drop result moved.now) }
 {
-    let busy = busy_lanes(layout, lanes);
+    let busy = busy_lanes(layout, lanes, moved);
     let share = busy / workers * first + (busy % workers).min(first);
-    place_behind(layout, lanes, share)
+    place_behind(layout, lanes, moved, share)
 }

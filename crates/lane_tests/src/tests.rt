@@ -7,4 +7,5 @@ mod pools;
 mod reports;
 mod rounds;
 mod sub_pages;
+mod times;
 mod workers;

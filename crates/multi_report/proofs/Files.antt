@@ -11,7 +11,7 @@ use Rattle.page_pool.specs.Fresh.{IsFresh}
 use Rattle.subpage.specs.Cut.{Cut, earlier}
 use Rattle.page_pool.specs.declared.lane.Lane.{Lane}
 use Rattle.event_cursor.specs.Standing.{Stands}
-use Rattle.time_merge.specs.Rows.{Each, Row, coming, least_cut}
+use Rattle.time_merge.specs.Rows.{Row, coming, least_cut}
 use Rattle.time_merge.specs.LaneRows.{rows_of}
 use Rattle.time_merge.proofs.PartReads.{all_inside}
 use Rattle.time_merge.proofs.Starting.{cut_of_rows as one_cut, fresh_come, fresh_stands}
@@ -19,12 +19,8 @@ use Rattle.multi_report.specs.Order.{ShownFile, FileItem, FileCut, cut_in, key_i
 use Rattle.multi_report.specs.Merge.{row_cut, row_with, file_row}
 use Rattle.multi_report.specs.Sources.{Seen, HasRoom, IsSame, IsUsable, IsKnown, IsFreshSource, Keeps, bytes_of, due, shown_of, left_row, to_come_of}
 use Rattle.multi_report.specs.Reports.{AllReadTheirParts, AreSame}
-use Rattle.multi_report.proofs.Merging.{Fits, fits_of, mark, cut_of_rows, reached_merged}
+use Rattle.multi_report.proofs.Merging.{Fits, FitsFile, fits_of, mark, cut_of_rows, reached_merged}
 use Rattle.multi_report.proofs.FileRows.{rows_from}
-
--- all of a list that was made by a function
-pub all_at : {S : Type 0} (P : Seen → Type 0) (f : S → Seen) (xs : List S) (j : ℕ) (d : S) → j < length xs → All P (map f xs) → P (f (get_or xs j d))
-all_at P f xs j d lt h = subst P (get_or-map f xs j d (f d) lt) (All-get_or P (map f xs) j (f d) (omega (arith, length-map xs f, lt)) h)
 
 -- a file is the same as itself, and so are several
 pub same_one : (s : Seen) → IsSame s s
@@ -167,10 +163,10 @@ no_cut sources e = of_none (cut_of_files (map shown_of sources)) (sym (left_cut 
     of_none None e = refl
     of_none (Some a) e = absurd cc
 
-each_at : (P : ℕ × ShownFile → Type 0) (n : ℕ) (files : List ShownFile) (j k : ℕ) (d : ShownFile) → j < length files → k ≡ n + j → Each P (numbered_from n files) → P (k, get_or files j d)
-each_at P n [] j k d lt e h = absurd (omega arith)
-each_at P n (g ∷ files) zero k d lt e h = let same : n ≡ k = omega (arith, e) in subst (λ (m : ℕ). P (m, g)) same h.0
-each_at P n (g ∷ files) (suc j) k d lt e h = each_at P (n + 1) files j k d (omega arith) (omega (arith, e)) h.1
+numbered_at : (P : ℕ × ShownFile → Type 0) (n : ℕ) (files : List ShownFile) (j k : ℕ) (d : ShownFile) → j < length files → k ≡ n + j → All P (numbered_from n files) → P (k, get_or files j d)
+numbered_at P n [] j k d lt e h = absurd (omega arith)
+numbered_at P n (g ∷ files) zero k d lt e h = let same : n ≡ k = omega (arith, e) in subst (λ (m : ℕ). P (m, g)) same (All-head P (n, g) (numbered_from (n + 1) files) h)
+numbered_at P n (g ∷ files) (suc j) k d lt e h = numbered_at P (n + 1) files j k d (omega arith) (omega (arith, e)) (All-tail P (n, g) (numbered_from (n + 1) files) h)
 
 pub one_cut_is : (sources : List Seen) (j : ℕ) (d : Seen) (cut : Cut) → j < length sources → least_cut (rows_from 0 sources) ≡ Some (row_cut j cut)
     → least_cut (rows_of (get_or sources j d).layout (bytes_of (get_or sources j d)) (get_or sources j d).lanes) ≡ Some cut
@@ -180,7 +176,7 @@ one_cut_is sources j d cut lt least is =
     let files = map shown_of sources in
     let own : own_cut (shown_of s) ≡ Some cut = sym (one_cut s.layout (bytes_of s) s.lanes) ∙ is in
     let shown : get_or files j (shown_of d) ≡ shown_of s = get_or-map shown_of sources j d (shown_of d) lt in
-    let fits : Fits (cut_of_files files) j (own_cut (get_or files j (shown_of d))) = each_at (λ p. Fits (cut_of_files files) p.0 (own_cut p.1)) 0 files j j (shown_of d) (omega (arith, length-map sources shown_of, lt)) (omega arith) (fits_of files) in
+    let fits : Fits (cut_of_files files) j (own_cut (get_or files j (shown_of d))) = numbered_at (FitsFile (cut_of_files files)) 0 files j j (shown_of d) (omega (arith, length-map sources shown_of, lt)) (omega arith) (fits_of files) in
     by (cut_of_files files) (sym (left_cut sources) ∙ least) (subst (Fits (cut_of_files files) j) (ap own_cut shown ∙ own) fits)
   where
     by : (o : Option FileCut) → option_map mark o ≡ Some (row_cut j cut) → Fits o j (Some cut) → o ≡ Some (cut_in j cut)

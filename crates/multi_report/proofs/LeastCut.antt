@@ -1,25 +1,15 @@
 -- The least of the cuts of several files.
-use Rattle.std.proofs.Common.{◌≡◌, ℕ, zero, suc, ◌+◌, ◌<◌, ◌≤◌, Bool, true, false, ltb, eqb, ◌||◌, ◌&&◌, List, [], ◌∷◌, ◌++◌, length, map, Option, Some, None, refl, sym, ap, subst, ◌∙◌, ◌⊎◌, inl, inr, arith}
+use Rattle.std.proofs.Common.{◌≡◌, ℕ, zero, suc, ◌+◌, ◌<◌, ◌≤◌, Bool, true, false, ltb, eqb, ◌||◌, ◌&&◌, List, [], ◌∷◌, ◌++◌, length, map, get_or, Option, Some, None, refl, sym, ap, subst, ◌∙◌, ◌⊎◌, inl, inr, arith}
 use Rattle.std.specs.Prelude.{slice_index_or}
 use Rattle.std.specs.Option.{IfSome, IfNone}
 use Rattle.std.specs.List.{All, Contains, filter_map, flat_map}
 use Rattle.std.proofs.lemmas.Bool.{cases_Bool, cases_order, eqb-true, ltb-true, eq-eqb, lt-ltb, le-ltb, and_parts}
-use Rattle.std.proofs.lemmas.List.Elements.{Contains-append_left, Contains-append_right}
+use Rattle.std.proofs.lemmas.List.Elements.{All-nil, All-head, All-tail, All-append, All-map, Contains-append_left, Contains-append_right}
 use Rattle.subpage.specs.Cut.{Cut, is_before, is_earlier, IsLeast as IsLeastOne, cut_of, cuts_of}
 use Rattle.subpage.proofs.Cuts.{when_none, when_some}
-use Rattle.time_merge.specs.Rows.{Each, rank}
-use Rattle.time_merge.proofs.Choosing.{each_of_all}
+use Rattle.time_merge.specs.Rows.{rank}
 use Rattle.multi_report.specs.Order.{ShownFile, FileCut, IsLeast, all_cuts, cut_in, cut_of_files, are_together, is_sooner, numbered, own_cut, own_cut_in, sooner}
-use Rattle.multi_report.proofs.Merging.{Fits, after, after_is, fits_of, folded}
-
-all_of_each : {X : Type 0} (P : X → Type 0) (xs : List X) → Each P xs → All P xs
-all_of_each P [] h k d lt = absurd (omega (arith, lt))
-all_of_each P (x ∷ xs) h zero d lt = h.0
-all_of_each P (x ∷ xs) h (suc k) d lt = all_of_each P xs h.1 k d (omega (arith, lt))
-
-each_append : {X : Type 0} (P : X → Type 0) (xs ys : List X) → Each P xs → Each P ys → Each P (xs ++ ys)
-each_append P [] ys h g = g
-each_append P (x ∷ xs) ys h g = (h.0, each_append P xs ys h.1 g)
+use Rattle.multi_report.proofs.Merging.{Fits, FitsFile, after, after_is, fits_of, folded}
 
 contains_mapped : {X Y : Type 0} (f : X → Y) (x : X) (xs : List X) → Contains xs x → Contains (map f xs) (f x)
 contains_mapped {X = X} {Y = Y} f x xs c = at xs c.0 c.1 c.2
@@ -162,20 +152,21 @@ not_sooner_than a n w c fits not_earlier e = elim (or_parts _ _ e) [
     together (Some x) None e = absurd cc
     together (Some x) (Some y) e = ap (λ (k : ℕ). k + 1) (eqb-true x y e)
 
-none_sooner : (a : FileCut) (files : List (ℕ × ShownFile)) → Each (λ p. Fits (Some a) p.0 (own_cut p.1)) files → Each (λ c. is_sooner c a ≡ true → ⊥) (flat_map cuts_in files)
-none_sooner a [] h = tt
-none_sooner a (p ∷ files) h =
-    each_append (λ c. is_sooner c a ≡ true → ⊥) (cuts_in p) (flat_map cuts_in files) (by (own_cut p.1) refl h.0) (none_sooner a files h.1)
-  where
-    mapped : (w : Cut) (cuts : List Cut) → Fits (Some a) p.0 (Some w) → Each (λ c. is_earlier c w ≡ true → ⊥) cuts → Each (λ c. is_sooner c a ≡ true → ⊥) (map (cut_in p.0) cuts)
-    mapped w [] fits e = tt
-    mapped w (c ∷ cuts) fits e = (not_sooner_than a p.0 w c fits e.0, mapped w cuts fits e.1)
+abbrev IsNoSooner : FileCut → FileCut → Type 0
+IsNoSooner a c = is_sooner c a ≡ true → ⊥
 
-    by : (own : Option Cut) → own_cut p.1 ≡ own → Fits (Some a) p.0 (own_cut p.1) → Each (λ c. is_sooner c a ≡ true → ⊥) (cuts_in p)
-    by None is fits = subst (λ (cs : List Cut). Each (λ c. is_sooner c a ≡ true → ⊥) (map (cut_in p.0) cs)) (sym (own_none p.1 is)) tt
-    by (Some w) is fits =
-        mapped w (cuts_of p.1.layout p.1.bytes p.1.parts) (subst (Fits (Some a) p.0) is fits)
-        (each_of_all (λ c. is_earlier c w ≡ true → ⊥) (cuts_of p.1.layout p.1.bytes p.1.parts) (own_least p.1 w is).least)
+none_sooner : (a : FileCut) (files : List (ℕ × ShownFile)) → All (FitsFile (Some a)) files → All (IsNoSooner a) (flat_map cuts_in files)
+none_sooner a [] h = All-nil (IsNoSooner a)
+none_sooner a (p ∷ files) h =
+    All-append (IsNoSooner a) (cuts_in p) (flat_map cuts_in files) (by (own_cut p.1) refl (All-head (FitsFile (Some a)) p files h)) (none_sooner a files (All-tail (FitsFile (Some a)) p files h))
+  where
+    cuts : List Cut
+    cuts = cuts_of p.1.layout p.1.bytes p.1.parts
+
+    by : (own : Option Cut) → own_cut p.1 ≡ own → Fits (Some a) p.0 (own_cut p.1) → All (IsNoSooner a) (cuts_in p)
+    by None is fits = subst (λ (cs : List Cut). All (IsNoSooner a) (map (cut_in p.0) cs)) (sym (own_none p.1 is)) (All-nil (IsNoSooner a))
+    by (Some w) is fits = All-map (IsNoSooner a) (cut_in p.0) cuts (λ i d lt.
+        not_sooner_than a p.0 w (get_or cuts i d) (subst (Fits (Some a) p.0) is fits) ((own_least p.1 w is).least i d lt))
 
 pub least_is : (files : List ShownFile) → IfSome (cut_of_files files) (IsLeast (all_cuts files))
 unfolding cut_of_files
@@ -188,14 +179,14 @@ least_is files = by (cut_of_files files) refl
     by None is = tt
     by (Some a) is = record {
       one = has_contains a (numbered files) (found a is);
-      least = all_of_each (λ c. is_sooner c a ≡ true → ⊥) (all_cuts files)
-          (none_sooner a (numbered files) (subst (λ (o : Option FileCut). Each (λ p. Fits o p.0 (own_cut p.1)) (numbered files)) is (fits_of files)));
+      least = none_sooner a (numbered files) (subst (λ (o : Option FileCut). All (FitsFile o) (numbered files)) is (fits_of files));
     }
 
 pub none_cut : (files : List ShownFile) → cut_of_files files ≡ None → all_cuts files ≡ []
-none_cut files is = all_none (numbered files) (subst (λ (o : Option FileCut). Each (λ p. Fits o p.0 (own_cut p.1)) (numbered files)) is (fits_of files))
+none_cut files is = all_none (numbered files) (subst (λ (o : Option FileCut). All (FitsFile o) (numbered files)) is (fits_of files))
   where
-    all_none : (files : List (ℕ × ShownFile)) → Each (λ p. Fits None p.0 (own_cut p.1)) files → flat_map cuts_in files ≡ []
+    all_none : (files : List (ℕ × ShownFile)) → All (FitsFile None) files → flat_map cuts_in files ≡ []
     all_none [] h = refl
     all_none (p ∷ files) h =
-        ap (λ (cs : List Cut). map (cut_in p.0) cs ++ flat_map cuts_in files) (own_none p.1 h.0.none) ∙ all_none files h.1
+        ap (λ (cs : List Cut). map (cut_in p.0) cs ++ flat_map cuts_in files) (own_none p.1 (All-head (FitsFile None) p files h).none)
+        ∙ all_none files (All-tail (FitsFile None) p files h)

@@ -1,14 +1,14 @@
 -- The reached items of all files are the reached items of each, merged.
-use Rattle.std.proofs.Common.{◌≡◌, ℕ, ◌+◌, ◌<◌, ◌≤◌, Bool, true, false, ltb, leb, eqb, ◌&&◌, List, [], ◌∷◌, ◌++◌, map, Option, Some, None, refl, sym, ap, subst, ◌∙◌, ◌⊎◌, inl, inr, arith}
+use Rattle.std.proofs.Common.{◌≡◌, ℕ, ◌+◌, ◌<◌, ◌≤◌, Bool, true, false, ltb, leb, eqb, ◌&&◌, List, [], ◌∷◌, ◌++◌, map, get_or, Option, Some, None, refl, sym, ap, subst, ◌∙◌, ◌⊎◌, inl, inr, arith}
 use Rattle.std.specs.Option.{IfSome, IfNone, option_map}
-use Rattle.std.specs.List.{filter, filter_map, fold, cons_option, flat_map}
+use Rattle.std.specs.List.{All, filter, filter_map, fold, cons_option, flat_map}
 use Rattle.std.proofs.lemmas.Bool.{lt-ltb, le-ltb, le-leb, lt-leb, eq-eqb, ne_eqb, ltb-false, cases_Bool, cases_order}
-use Rattle.std.proofs.lemmas.List.Elements.{filter_agree}
+use Rattle.std.proofs.lemmas.List.Elements.{All-nil, All-cons, All-head, All-tail, filter_agree}
 use Rattle.subpage.specs.Arrangement.{Keyed, key_of, with_key, by_key, all_keyed, arranged as arranged_one}
 use Rattle.subpage.specs.Cut.{Cut, is_before, earlier, is_up_to as is_up_to_one, lists_of, reached_of}
 use Rattle.subpage.proofs.Arranging.{one_rising, by_key-rising, by_key-with_key}
 use Rattle.subpage.proofs.Filters.{filter-yes, filter-not, filter-filter, filter-append, filter-rising}
-use Rattle.time_merge.specs.Rows.{Each, Row, rank, up_to, up_to_key, least_cut, together}
+use Rattle.time_merge.specs.Rows.{Row, rank, up_to, up_to_key, least_cut, together}
 use Rattle.multi_report.specs.Order.{ShownFile, FileItem, FileCut, in_file, cut_in, key_in, file_in, numbered, numbered_from, items_of, arranged, own_cut, own_cut_in, sooner, cut_of_files, is_up_to, reached}
 use Rattle.multi_report.specs.Merge.{row_cut, file_row, merged}
 
@@ -40,9 +40,11 @@ filter_twice p q (x ∷ xs) = elim (cases_Bool (q x)) [
       ap (filter p) (filter-not q x xs b) ∙ filter_twice p q xs ∙ sym (filter-not (λ x. p x && q x) x xs both)
 ]
 
-flat_same : {X Y : Type 0} (f g : X → List Y) (xs : List X) → Each (λ x. f x ≡ g x) xs → flat_map f xs ≡ flat_map g xs
+flat_same : {X Y : Type 0} (f g : X → List Y) (xs : List X) → All (λ x. f x ≡ g x) xs → flat_map f xs ≡ flat_map g xs
 flat_same f g [] h = refl
-flat_same f g (x ∷ xs) h = ap (λ ys. ys ++ flat_map f xs) h.0 ∙ ap (λ ys. g x ++ ys) (flat_same f g xs h.1)
+flat_same f g (x ∷ xs) h =
+    ap (λ ys. ys ++ flat_map f xs) (All-head (λ y. f y ≡ g y) x xs h)
+    ∙ ap (λ ys. g x ++ ys) (flat_same f g xs (All-tail (λ y. f y ≡ g y) x xs h))
 
 -- which of two cuts of two files is the sooner
 before_true : (x : Option ℕ) (f : ℕ) (y : Option ℕ) (g : ℕ) → g < f → is_before x f y g ≡ true → rank x < rank y
@@ -81,6 +83,9 @@ pub record Fits (o : Option FileCut) (n : ℕ) (own : Option Cut) : Type 0 where
   pub none : IfNone o (own ≡ None)
   pub no_later : IfSome o (λ a. IfSome own (λ c. (rank a.cut.key < rank c.key) ⊎ ((rank a.cut.key ≡ rank c.key) × (a.file ≤ n))))
   pub same : IfSome o (λ a. n ≡ a.file → own ≡ Some a.cut)
+
+abbrev pub FitsFile : Option FileCut → ℕ × ShownFile → Type 0
+FitsFile o p = Fits o p.0 (own_cut p.1)
 
 abbrev Below : ℕ → Option FileCut → Type 0
 Below n o = IfSome o (λ a. a.file < n)
@@ -138,18 +143,18 @@ folded o files = fold sooner o (filter_map own_cut_in files)
 
 -- the least of the files' cuts fits each of them
 record FitTo (r : Option FileCut) (n : ℕ) (o : Option FileCut) (files : List ShownFile) : Type 0 where
-  here : Each (λ p. Fits r p.0 (own_cut p.1)) (numbered_from n files)
+  here : All (FitsFile r) (numbered_from n files)
   still : (m : ℕ) (own : Option Cut) → m < n → Fits o m own → Fits r m own
 
 fit_all : (n : ℕ) (o : Option FileCut) (files : List ShownFile) → Below n o → FitTo (folded o (numbered_from n files)) n o files
-fit_all n o [] b = record { here = tt; still = λ m own lt f. f }
+fit_all n o [] b = record { here = All-nil (FitsFile o); still = λ m own lt f. f }
 fit_all n o (g ∷ files) b =
     let own = own_cut g in
     let next = after o n own in
     let rest = fit_all (n + 1) next files (below_after o n own b) in
     let same : folded next (numbered_from (n + 1) files) ≡ folded o (numbered_from n (g ∷ files)) = sym (after_is o n own (filter_map own_cut_in (numbered_from (n + 1) files))) in
     subst (λ (r : Option FileCut). FitTo r n o (g ∷ files)) same (record {
-      here = (rest.still n own (omega arith) (fits_here o n own b), rest.here);
+      here = All-cons (FitsFile (folded next (numbered_from (n + 1) files))) (n, g) (numbered_from (n + 1) files) (rest.still n own (omega arith) (fits_here o n own b)) rest.here;
       still = λ m w lt f. rest.still m w (omega arith) (fits_still o n m own w lt b f);
     })
 
@@ -273,17 +278,12 @@ module _ (o : Option FileCut) (k : ℕ) where
       ∙ ap (map (in_file n)) (filter_agree (λ x. is_up_to o (in_file n x)) (λ x. up_to (option_map mark o) (key_of x) n && is_up_to_one own x) (λ x. same_reach o n own x f) here)
       ∙ sym right
 
-  each_file : (files : List (ℕ × ShownFile)) → Each (λ p. Fits o p.0 (own_cut p.1)) files
-      → Each (λ p. filter (is_up_to o) (with_key key_in k (items_of p)) ≡ filter reaches (with_key key_in k (row_items p))) files
-  each_file [] h = tt
-  each_file (p ∷ files) h = (one_file p h.0, each_file files h.1)
-
-  all_files : (files : List (ℕ × ShownFile)) → Each (λ p. Fits o p.0 (own_cut p.1)) files
+  all_files : (files : List (ℕ × ShownFile)) → All (FitsFile o) files
       → filter (is_up_to o) (with_key key_in k (flat_map items_of files)) ≡ filter reaches (with_key key_in k (flat_map row_items files))
   all_files files h =
       ap (filter (is_up_to o)) (filter_flat (λ x. eqb (key_in x) k) items_of files)
       ∙ filter_flat (is_up_to o) (λ p. with_key key_in k (items_of p)) files
-      ∙ flat_same (λ p. filter (is_up_to o) (with_key key_in k (items_of p))) (λ p. filter reaches (with_key key_in k (row_items p))) files (each_file files h)
+      ∙ flat_same (λ p. filter (is_up_to o) (with_key key_in k (items_of p))) (λ p. filter reaches (with_key key_in k (row_items p))) files (λ i d lt. one_file (get_or files i d) (h i d lt))
       ∙ sym (filter_flat reaches (λ p. with_key key_in k (row_items p)) files)
       ∙ ap (filter reaches) (sym (filter_flat (λ x. eqb (key_in x) k) row_items files))
 
@@ -294,7 +294,7 @@ pub cut_of_rows : (files : List ShownFile) → least_cut (map file_row (numbered
 unfolding cut_of_files
 cut_of_rows files = folded_rows None (numbered files)
 
-pub fits_of : (files : List ShownFile) → Each (λ p. Fits (cut_of_files files) p.0 (own_cut p.1)) (numbered files)
+pub fits_of : (files : List ShownFile) → All (FitsFile (cut_of_files files)) (numbered files)
 unfolding cut_of_files
 fits_of files = (fit_all 0 None files tt).here
 
@@ -305,7 +305,7 @@ reached_merged files =
     let ps = numbered files in
     let o = cut_of_files files in
     let test : FileItem → Bool = λ x. up_to (option_map mark o) (key_in x) (file_in x) in
-    let fits : Each (λ p. Fits o p.0 (own_cut p.1)) ps = fits_of files in
+    let fits : All (FitsFile o) ps = fits_of files in
     let all = flat_map items_of ps in
     let rows = flat_map row_items ps in
     one_rising key_in (filter (is_up_to o) (by_key key_in all)) (filter test (by_key key_in rows))

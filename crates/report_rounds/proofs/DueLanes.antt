@@ -3,6 +3,8 @@ use Rattle.std.proofs.Common.{◌≡◌, ℕ, zero, suc, ◌+◌, ◌-◌, ◌*�
 use Rattle.std.specs.Prelude.{count_by, filter, nat_le}
 use Rattle.std.specs.List.{range_with_len}
 use Rattle.std.specs.Option.{IfSome}
+use Rattle.std.specs.List.{All}
+use Rattle.std.proofs.lemmas.List.Elements.{All-head, All-tail}
 use Rattle.std.proofs.lemmas.Bool.{and_from, and_parts, cases_Bool, cases_lt, cond-true, le-leb}
 use Rattle.std.proofs.lemmas.List.{length-drop}
 use Rattle.std.proofs.lemmas.List.Sums.{length-filter, sum_by-cons}
@@ -22,7 +24,6 @@ use Rattle.event_cursor.proofs.UnreadLaws.{size_step}
 use Rattle.event_cursor.proofs.UsedItems.{held_counts}
 use Rattle.time_merge.specs.LaneRows.{parts_of}
 use Rattle.time_merge.specs.Reads.{all_reading, all_unread}
-use Rattle.time_merge.specs.Rows.{Each}
 use Rattle.round_print.specs.Prints.{CpuLine}
 use Rattle.report_rounds.specs.Due.{due_count, has_line, is_page_due, is_of, items_before, none_before, unwritten_before}
 use Rattle.report_rounds.proofs.Before.{asked_in, before_left, sound_to}
@@ -147,17 +148,17 @@ module _ (l : Layout) (len : ℕ) (some : 0 < l.page) where
       → size_from l len a.part 0 + reading l len a ≤ l.page * count_by due (range_with_len 0 (page_count l a.part)) + unread l len a
   asks_due a due each = omega (arith, all_due a.part due (asked_in a.cursor.state a.cursor.next) each, asked_unread a.cursor.state a.part a.cursor.next)
 
-  pub lanes_due : (count : ℕ × Part → ℕ) (lanes : List Lane) → Each (AsksDue count) lanes
+  pub lanes_due : (count : ℕ × Part → ℕ) (lanes : List Lane) → All (AsksDue count) lanes
       → sum_by (λ part. size_from l len part.1 0) (parts_of lanes) + all_reading l len lanes ≤ l.page * sum_by count (parts_of lanes) + all_unread l len lanes
-  lanes_due count [] each = omega arith
-  lanes_due count (a ∷ lanes) each =
+  lanes_due count [] all = omega arith
+  lanes_due count (a ∷ lanes) all =
       let part : ℕ × Part = (a.cpu, a.part) in
       let due : l.page * sum_by count (part ∷ parts_of lanes) ≡ l.page * (count part + sum_by count (parts_of lanes)) = ap (λ (n : ℕ). l.page * n) (sum_by-cons count part (parts_of lanes)) in
       omega (
         arith,
         due,
-        each.0,
-        lanes_due count lanes each.1,
+        All-head (AsksDue count) a lanes all,
+        lanes_due count lanes (All-tail (AsksDue count) a lanes all),
         sum_by-cons (λ (q : ℕ × Part). size_from l len q.1 0) part (parts_of lanes),
         sum_by-cons (reading l len) a lanes,
         sum_by-cons (unread l len) a lanes,
@@ -166,13 +167,13 @@ module _ (l : Layout) (len : ℕ) (some : 0 < l.page) where
   fresh_unread : (a : Lane) → IsFresh a.cursor → unread l len a ≡ size_from l len a.part 0
   fresh_unread a f = ap (λ (s : LaneState). size_from l len a.part (first_unread s a.cursor.next)) f.state ∙ ap (size_from l len a.part) f.next
 
-  pub fresh_all : (lanes : List Lane) → Each (λ a. IsFresh a.cursor) lanes → all_unread l len lanes ≡ sum_by (λ part. size_from l len part.1 0) (parts_of lanes)
+  pub fresh_all : (lanes : List Lane) → All (λ a. IsFresh a.cursor) lanes → all_unread l len lanes ≡ sum_by (λ part. size_from l len part.1 0) (parts_of lanes)
   fresh_all [] fresh = refl
   fresh_all (a ∷ lanes) fresh =
       omega (
         arith,
-        fresh_unread a fresh.0,
-        fresh_all lanes fresh.1,
+        fresh_unread a (All-head (λ b. IsFresh b.cursor) a lanes fresh),
+        fresh_all lanes (All-tail (λ b. IsFresh b.cursor) a lanes fresh),
         sum_by-cons (unread l len) a lanes,
         sum_by-cons (λ (q : ℕ × Part). size_from l len q.1 0) (a.cpu, a.part) (parts_of lanes),
       )

@@ -28,7 +28,6 @@ use Rattle.time_merge.specs.Reads.{all_unread}
 use Rattle.time_merge.specs.Rows.{Row}
 use Rattle.time_merge.specs.declared.ending.End.{End}
 use Rattle.time_merge.specs.declared.ending.End.TheVariants as code
-use Rattle.time_merge.proofs.Choosing.{each_of_all}
 use Rattle.time_merge.proofs.Starting.{fresh_stands}
 use Rattle.round_print.specs.Prints.{CpuLine, filled_text}
 use Rattle.report_rounds.specs.Between.{IsAtStart, IsBetween}
@@ -155,8 +154,8 @@ module _ (text : ℕ → ItemData → LineText) (l : Layout) (file : List ℕ) w
         let is : done_lines ++ left_lines text l file mid.lanes ≡ all_pieces = sym going.parted ∙ start_lines text l file first start in
         subst (λ (ps : List CpuLine). count_by p done_lines ≤ count_by p (written_pieces ps whole_text)) is (written_count done_lines (left_lines text l file mid.lanes) rest p)
 
-    each_due : All (AsksDue l len some (due_count text l file whole_lines)) load.now
-    each_due i d lt =
+    all_due : All (AsksDue l len some (due_count text l file whole_lines)) load.now
+    all_due i d lt =
         let a : Lane = get_or mid.lanes i d in
         let b : Lane = get_or load.now i d in
         let mid_lt : i < length mid.lanes = omega (arith, lt, load.long) in
@@ -184,8 +183,8 @@ module _ (text : ℕ → ItemData → LineText) (l : Layout) (file : List ℕ) w
             gained_both old mid.written new (filled_text None done_lines) rest going.gained gained,
             omega (
               arith,
-              fresh_all l len some first (each_of_all (λ (a : Lane). IsFresh a.cursor) first fresh),
-              lanes_due l len some count load.now (each_of_all (AsksDue l len some count) load.now each_due),
+              fresh_all l len some first fresh,
+              lanes_due l len some count load.now all_due,
               ap (λ (ps : List (ℕ × Part)). l.page * sum_by count ps) now_parts,
               ap (λ (ps : List (ℕ × Part)). sum_by (λ part. size_from l len part.1 0) ps) now_parts,
               less,

@@ -1,10 +1,10 @@
 -- The end at a malformed sub-buffer: where its lane is that of the horizon, nothing is to come, and its cut is the least.
-use Rattle.std.proofs.Common.{◌≡◌, ℕ, ◌+◌, ◌<◌, ◌≤◌, true, false, List, [], ◌∷◌, ◌++◌, map, Option, Some, None, refl, sym, ap, subst, ◌∙◌, arith, inl, inr}
+use Rattle.std.proofs.Common.{◌≡◌, ℕ, ◌+◌, ◌<◌, ◌≤◌, true, false, List, [], ◌∷◌, ◌++◌, get_or, map, Option, Some, None, refl, sym, ap, subst, ◌∙◌, arith, inl, inr}
 use Rattle.std.specs.Prelude.{unwrap_or}
 use Rattle.std.specs.Option.{IfSome}
 use Rattle.std.specs.List.{All, filter_map, fold, cons_option}
 use Rattle.std.proofs.lemmas.Bool.{cases_Bool, cases_lt, cases_eq, lt-ltb, le-ltb, le-leb, eq-eqb}
-use Rattle.std.proofs.lemmas.List.Elements.{All-tail}
+use Rattle.std.proofs.lemmas.List.Elements.{All-append, All-head, All-map, All-nil, All-tail, All-weaker}
 use Rattle.trace_base.specs.declared.layout.Layout.{Layout}
 use Rattle.subpage.specs.ItemData.{ItemData}
 use Rattle.subpage.specs.Arrangement.{Keyed, key_of, cpu_of, CpusRise, IsRising}
@@ -17,23 +17,22 @@ use Rattle.page_pool.specs.declared.cursor.LaneState.TheVariants.{Fresh, Held, E
 use Rattle.event_cursor.specs.Standing.{Stands}
 use Rattle.time_merge.specs.declared.horizons.Horizon.{Horizon}
 use Rattle.time_merge.specs.declared.horizons.Horizon.TheVariants as code
-use Rattle.time_merge.specs.Rows.{Each, Row, IsRow, NotBefore, rank, bound, bound_of, up_to_key, Rise, cpus, coming, least_cut}
+use Rattle.time_merge.specs.Rows.{Row, IsRow, NotBefore, rank, bound, bound_of, up_to_key, Rise, cpus, coming, least_cut}
 use Rattle.time_merge.specs.Rounds.{Waiting, row_in, rows_in}
 use Rattle.time_merge.specs.Horizons.{high_in, high_of}
 use Rattle.time_merge.specs.LaneRows.{row_of, rows_of, parts_of}
-use Rattle.time_merge.proofs.Choosing.{each_of_all}
+use Rattle.time_merge.proofs.Choosing.{all_of_map}
 use Rattle.time_merge.proofs.Known.{from_high}
 use Rattle.time_merge.proofs.LaneLaws.{is_row, cut_is}
-use Rattle.time_merge.proofs.Parting.{each_append, each_weaker}
 use Rattle.time_merge.proofs.RowLaws.{From, next_cut}
 use Rattle.time_merge.proofs.Starting.{cut_of_rows}
 use Rattle.cpu_workers.specs.Formats.{IsSorted}
 use Rattle.time_merge.specs.Horizons.{is_due}
 use Rattle.round_print.specs.Prints.{CpuLine, key_in, cpu_in, with_cpu, later_lines, later_of, line_key}
 use Rattle.report_rounds.specs.Lines.{shown_lines}
-use Rattle.report_rounds.proofs.Shown.{each_shown, shown_rises}
+use Rattle.report_rounds.proofs.Shown.{all_shown, shown_rises}
 use Rattle.report_rounds.proofs.RoundsPrinted.{after, left_after, own_lines, rising_lines, start_later}
-use Rattle.report_rounds.proofs.Horizons.{IsAround, ended_row, parts_each}
+use Rattle.report_rounds.proofs.Horizons.{IsAround, ended_row, parts_all}
 
 -- a line that is not due stands behind the horizon
 behind_horizon : (k c key cpu : ℕ) → up_to_key (Some k) c key cpu ≡ false → (k ≤ key) × (cpu ≤ c → k < key)
@@ -70,21 +69,20 @@ module _ (l : Layout) (file : List ℕ) where
   row_not_before n a Ended e s nb =
       let none : ((row_of l file a).items ≡ []) × ((row_of l file a).cut ≡ None) = ended_row l file a s e in
       record {
-        items = subst (Each (λ x. n ≤ key_of x + 1)) (sym none.0) tt;
+        items = subst (All (λ x. n ≤ key_of x + 1)) (sym none.0) (All-nil (λ x. n ≤ key_of x + 1));
         cut = subst (λ (o : Option Cut). IfSome o (λ c. n ≤ rank c.key)) (sym none.1) tt;
       }
   row_not_before n a Malformed e s nb = from_high l file a n s nb
 
 -- lines that go on
-rising_append : (m : ℕ) (xs ys : List CpuLine) → IsRising key_in xs → IsRising key_in ys → Each (λ x. key_in x ≤ m) xs → Each (λ y. m ≤ key_in y) ys → IsRising key_in (xs ++ ys)
+rising_append : (m : ℕ) (xs ys : List CpuLine) → IsRising key_in xs → IsRising key_in ys → All (λ x. key_in x ≤ m) xs → All (λ y. m ≤ key_in y) ys → IsRising key_in (xs ++ ys)
 rising_append m [] ys r s up from = s
 rising_append m (x ∷ []) [] r s up from = tt
-rising_append m (x ∷ []) (y ∷ ys) r s up from = (omega (arith, up.0, from.0), s)
-rising_append m (x ∷ z ∷ xs) ys r s up from = (r.0, rising_append m (z ∷ xs) ys r.1 s up.1 from)
+rising_append m (x ∷ []) (y ∷ ys) r s up from = (omega (arith, All-head (λ z. key_in z ≤ m) x [] up, All-head (λ z. m ≤ key_in z) y ys from), s)
+rising_append m (x ∷ z ∷ xs) ys r s up from = (r.0, rising_append m (z ∷ xs) ys r.1 s (All-tail (λ w. key_in w ≤ m) x (z ∷ xs) up) from)
 
-each_lines : (P : ℕ → Type 0) (cpu : ℕ) (lines : List Line) → Each (λ line. P line.key) lines → Each (λ x. P (key_in x)) (map (with_cpu cpu) lines)
-each_lines P cpu [] h = tt
-each_lines P cpu (line ∷ lines) h = (h.0, each_lines P cpu lines h.1)
+all_lines : (P : ℕ → Type 0) (cpu : ℕ) (lines : List Line) → All (λ line. P line.key) lines → All (λ x. P (key_in x)) (map (with_cpu cpu) lines)
+all_lines P cpu lines h = All-map (λ x. P (key_in x)) (with_cpu cpu) lines h
 
 -- the lines that are not due
 pub later_all : (P : Line → Type 0) (h : Horizon) (cpu : ℕ) (lines : List Line) → All P lines → All P (later_lines h cpu lines)
@@ -105,9 +103,9 @@ later_rises h cpu (a ∷ b ∷ lines) r = elim (cases_Bool (is_due h a.key cpu))
   | inr later ↦ rw later r
 ]
 
-kept_below : (high : Option ℕ) (n : ℕ) (lines : List Line) → Each (λ line. line.key ≤ unwrap_or high 0) lines → (high ≡ None → lines ≡ []) → rank high ≤ n → Each (λ line. line.key < n) lines
-kept_below None n lines e none le = subst (Each (λ (line : Line). line.key < n)) (sym (none refl)) tt
-kept_below (Some h) n lines e none le = each_weaker (λ (line : Line). line.key ≤ h) (λ line. line.key < n) (λ line up. omega (arith, up, le)) lines e
+kept_below : (high : Option ℕ) (n : ℕ) (lines : List Line) → All (λ line. line.key ≤ unwrap_or high 0) lines → (high ≡ None → lines ≡ []) → rank high ≤ n → All (λ line. line.key < n) lines
+kept_below None n lines e none le = subst (All (λ (line : Line). line.key < n)) (sym (none refl)) (All-nil (λ (line : Line). line.key < n))
+kept_below (Some h) n lines e none le = All-weaker (λ (line : Line). line.key ≤ h) (λ line. line.key < n) (λ line up. omega (arith, up, le)) lines e
 
 abbrev FirstFrom : ℕ → List Line → Type 0
 FirstFrom n [] = Unit {0}
@@ -120,10 +118,10 @@ later_from h n cpu on (line ∷ lines) = elim (cases_Bool (is_due h line.key cpu
   | inr later ↦ rw later (on line.key later)
 ]
 
-bound_from : (n cpu : ℕ) (lines : List Line) (more : List CpuLine) (cut : Option Cut) → FirstFrom n lines → Each (λ x. n ≤ key_in x + 1) more → IfSome cut (λ c. n ≤ rank c.key)
+bound_from : (n cpu : ℕ) (lines : List Line) (more : List CpuLine) (cut : Option Cut) → FirstFrom n lines → All (λ x. n ≤ key_in x + 1) more → IfSome cut (λ c. n ≤ rank c.key)
     → NotBefore n (bound_of key_in cpu_in (map (with_cpu cpu) lines ++ more) cut)
 bound_from n cpu (line ∷ lines) more cut first from up = first
-bound_from n cpu [] (x ∷ more) cut first from up = from.0
+bound_from n cpu [] (x ∷ more) cut first from up = All-head (λ y. n ≤ key_in y + 1) x more from
 bound_from n cpu [] [] None first from up = tt
 bound_from n cpu [] [] (Some cut) first from up = up
 
@@ -146,14 +144,13 @@ at_key k c = record {
   sooner = λ key other lt e. let far : k < key = (behind_horizon k c key other e).1 (omega (arith, lt)) in omega (arith, far);
   later = λ key other e. let far : k ≤ key = (behind_horizon k c key other e).0 in omega (arith, far);
   none = λ lane s own high.
-      let up : Each (λ line. line.key ≤ unwrap_or lane.cursor.high 0) lane.region.kept = each_of_all (λ line. line.key ≤ unwrap_or lane.cursor.high 0) lane.region.kept s.up_to in
-      let up_k : Each (λ line. line.key ≤ k) lane.region.kept = subst (λ (o : Option ℕ). Each (λ line. line.key ≤ unwrap_or o 0) lane.region.kept) high up in
+      let up_k : All (λ line. line.key ≤ k) lane.region.kept = subst (λ (o : Option ℕ). All (λ line. line.key ≤ unwrap_or o 0) lane.region.kept) high s.up_to in
       ap (λ (n : ℕ). later_lines (code.To k c) n lane.region.kept) own ∙ all_due lane.region.kept up_k;
 }
   where
-    all_due : (lines : List Line) → Each (λ line. line.key ≤ k) lines → later_lines (code.To k c) c lines ≡ []
+    all_due : (lines : List Line) → All (λ line. line.key ≤ k) lines → later_lines (code.To k c) c lines ≡ []
     all_due [] e = refl
-    all_due (line ∷ lines) e = rw (due_here k c line.key e.0) (all_due lines e.1)
+    all_due (line ∷ lines) e = rw (due_here k c line.key (All-head (λ x. x.key ≤ k) line lines e)) (all_due lines (All-tail (λ x. x.key ≤ k) line lines e))
 
 high_is : (a : Lane) (s : LaneState) (high : Option ℕ) → high_in s a.cursor.high ≡ Some high → a.cursor.high ≡ high
 high_is a Fresh high e = cc
@@ -179,32 +176,33 @@ module _ (text : ℕ → ItemData → LineText) (l : Layout) (file : List ℕ) (
       let is : IsRow key_of cpu_of row = is_row l file a s in
       let from : From key_of cpu_of (rank high) row = from_high l file a (rank high) s (omega arith) in
       let lines : List Line = later_of h a in
-      let up : Each (λ line. line.key ≤ unwrap_or high 0) lines =
-      each_of_all (λ line. line.key ≤ unwrap_or high 0) lines (later_all (λ line. line.key ≤ unwrap_or high 0) h a.cpu a.region.kept sorted.up_to) in
+      let up : All (λ line. line.key ≤ unwrap_or high 0) lines = (later_all (λ line. line.key ≤ unwrap_or high 0) h a.cpu a.region.kept sorted.up_to) in
       let none : high ≡ None → lines ≡ [] = λ e. ap (later_lines h a.cpu) (sorted.started e) in
-      let more : Each (λ y. unwrap_or high 0 ≤ key_in y) (shown_lines text row.items) =
-      each_shown text (λ x. rank high ≤ key_of x + 1) (λ y. unwrap_or high 0 ≤ key_in y) (λ x le. low high x.key le) row.items from.items in
+      let more : All (λ y. unwrap_or high 0 ≤ key_in y) (shown_lines text row.items) =
+      all_shown text (λ x. rank high ≤ key_of x + 1) (λ y. unwrap_or high 0 ≤ key_in y) (λ x le. low high x.key le) row.items from.items in
       record {
-        own = each_append (λ x. cpu_in x ≡ a.cpu) (map (with_cpu a.cpu) lines) (shown_lines text row.items) (own_lines a.cpu lines)
-            (each_shown text (λ x. cpu_of x ≡ a.cpu) (λ x. cpu_in x ≡ a.cpu) (λ x e. e) row.items is.own);
+        own = All-append (λ x. cpu_in x ≡ a.cpu) (map (with_cpu a.cpu) lines) (shown_lines text row.items) (own_lines a.cpu lines)
+            (all_shown text (λ x. cpu_of x ≡ a.cpu) (λ x. cpu_in x ≡ a.cpu) (λ x e. e) row.items is.own);
         rising = rising_append (unwrap_or high 0) (map (with_cpu a.cpu) lines) (shown_lines text row.items) (rising_lines a.cpu lines (later_rises h a.cpu a.region.kept sorted.rises))
-            (shown_rises text row.items is.rising) (each_lines (λ n. n ≤ unwrap_or high 0) a.cpu lines up) more;
+            (shown_rises text row.items is.rising) (all_lines (λ n. n ≤ unwrap_or high 0) a.cpu lines up) more;
         cut_own = is.cut_own;
         cut_last = of_cut row.cut from.cut is.cut_last lines up none;
       }
     where
-      of_cut : (o : Option Cut) → IfSome o (λ cut. rank a.cursor.high ≤ rank cut.key) → IfSome o (λ cut. Each (λ x. key_of x < rank cut.key) (row_of l file a).items)
-          → (lines : List Line) → Each (λ line. line.key ≤ unwrap_or a.cursor.high 0) lines → (a.cursor.high ≡ None → lines ≡ [])
-          → IfSome o (λ cut. Each (λ x. key_in x < rank cut.key) (map (with_cpu a.cpu) lines ++ shown_lines text (row_of l file a).items))
+      of_cut : (o : Option Cut) → IfSome o (λ cut. rank a.cursor.high ≤ rank cut.key) → IfSome o (λ cut. All (λ x. key_of x < rank cut.key) (row_of l file a).items)
+          → (lines : List Line) → All (λ line. line.key ≤ unwrap_or a.cursor.high 0) lines → (a.cursor.high ≡ None → lines ≡ [])
+          → IfSome o (λ cut. All (λ x. key_in x < rank cut.key) (map (with_cpu a.cpu) lines ++ shown_lines text (row_of l file a).items))
       of_cut None le last lines up none = tt
       of_cut (Some cut) le last lines up none =
-          each_append (λ x. key_in x < rank cut.key) (map (with_cpu a.cpu) lines) (shown_lines text (row_of l file a).items)
-          (each_lines (λ n. n < rank cut.key) a.cpu lines (kept_below a.cursor.high (rank cut.key) lines up none le))
-          (each_shown text (λ x. key_of x < rank cut.key) (λ x. key_in x < rank cut.key) (λ x e. e) (row_of l file a).items last)
+          All-append (λ x. key_in x < rank cut.key) (map (with_cpu a.cpu) lines) (shown_lines text (row_of l file a).items)
+          (all_lines (λ n. n < rank cut.key) a.cpu lines (kept_below a.cursor.high (rank cut.key) lines up none le))
+          (all_shown text (λ x. key_of x < rank cut.key) (λ x. key_in x < rank cut.key) (λ x e. e) (row_of l file a).items last)
 
-  rows_are : (lanes : List Lane) → Each (Stands l file) lanes → Each IsSorted lanes → Each (IsRow key_in cpu_in) (rows_after lanes)
-  rows_are [] s o = tt
-  rows_are (a ∷ lanes) s o = (is_row_after a s.0 o.0, rows_are lanes s.1 o.1)
+  all_after : (P : Row CpuLine → Type 0) (lanes : List Lane) → All (λ a. P (row_in (after text l file h a))) lanes → All P (rows_after lanes)
+  all_after P lanes all = All-map P row_in (map (after text l file h) lanes) (All-map (λ w. P (row_in w)) (after text l file h) lanes all)
+
+  rows_are : (lanes : List Lane) → All (Stands l file) lanes → All IsSorted lanes → All (IsRow key_in cpu_in) (rows_after lanes)
+  rows_are lanes s o = all_after (IsRow key_in cpu_in) lanes (λ i d lt. is_row_after (get_or lanes i d) (s i d lt) (o i d lt))
 
   after_not_before : (n : ℕ) (a : Lane) → Stands l file a → NotBefore n (high_of a) → ((key : ℕ) → is_due h key a.cpu ≡ false → n ≤ key + 1)
       → NotBefore n (bound key_in cpu_in (row_in (after text l file h a)))
@@ -212,7 +210,7 @@ module _ (text : ℕ → ItemData → LineText) (l : Layout) (file : List ℕ) (
       let row : Row Keyed = row_of l file a in
       let from : From key_of cpu_of n row = row_not_before l file n a a.cursor.state refl s nb in
       bound_from n a.cpu (later_of h a) (shown_lines text row.items) row.cut (later_from h n a.cpu on a.region.kept)
-      (each_shown text (λ x. n ≤ key_of x + 1) (λ x. n ≤ key_in x + 1) (λ x e. e) row.items from.items) from.cut
+      (all_shown text (λ x. n ≤ key_of x + 1) (λ x. n ≤ key_in x + 1) (λ x e. e) row.items from.items) from.cut
 
   rows_around : (front : List Lane) (lane : Lane) (back : List Lane) → rows_after (front ++ lane ∷ back) ≡ rows_after front ++ row_in (after text l file h lane) ∷ rows_after back
   rows_around [] lane back = refl
@@ -224,21 +222,26 @@ module _ (text : ℕ → ItemData → LineText) (l : Layout) (file : List ℕ) (
   rise_after (a ∷ b ∷ lanes) r = (r.0, rise_after (b ∷ lanes) r.1)
 
   module _ (high : Option ℕ) (cpu : ℕ) (at : IsHorizonAt h high cpu) where
-    all_sooner : (lanes : List Lane) → Each (Stands l file) lanes → Each (λ a. a.cpu < cpu) lanes → Each (NotBefore (rank high + 1)) (map high_of lanes) → Each (λ r. NotBefore (rank high + 1) (bound key_in cpu_in r)) (rows_after lanes)
-    all_sooner [] s below nb = tt
-    all_sooner (a ∷ lanes) s below nb = (after_not_before (rank high + 1) a s.0 nb.0 (λ key e. at.sooner key a.cpu below.0 e), all_sooner lanes s.1 below.1 nb.1)
+    abbrev IsBoundFrom : ℕ → Row CpuLine → Type 0
+    IsBoundFrom n r = NotBefore n (bound key_in cpu_in r)
 
-    all_later : (lanes : List Lane) → Each (Stands l file) lanes → Each (NotBefore (rank high)) (map high_of lanes) → Each (λ r. NotBefore (rank high) (bound key_in cpu_in r)) (rows_after lanes)
-    all_later [] s nb = tt
-    all_later (a ∷ lanes) s nb = (after_not_before (rank high) a s.0 nb.0 (λ key e. at.later key a.cpu e), all_later lanes s.1 nb.1)
+    all_sooner : (lanes : List Lane) → All (Stands l file) lanes → All (λ a. a.cpu < cpu) lanes → All (NotBefore (rank high + 1)) (map high_of lanes) → All (IsBoundFrom (rank high + 1)) (rows_after lanes)
+    all_sooner lanes s below nb = all_after (IsBoundFrom (rank high + 1)) lanes (λ i d lt.
+        let a : Lane = get_or lanes i d in
+        after_not_before (rank high + 1) a (s i d lt) (all_of_map (NotBefore (rank high + 1)) high_of lanes nb i d lt) (λ key e. at.sooner key a.cpu (below i d lt) e))
+
+    all_later : (lanes : List Lane) → All (Stands l file) lanes → All (NotBefore (rank high)) (map high_of lanes) → All (IsBoundFrom (rank high)) (rows_after lanes)
+    all_later lanes s nb = all_after (IsBoundFrom (rank high)) lanes (λ i d lt.
+        let a : Lane = get_or lanes i d in
+        after_not_before (rank high) a (s i d lt) (all_of_map (NotBefore (rank high)) high_of lanes nb i d lt) (λ key e. at.later key a.cpu e))
 
     -- the lane of the horizon stands before its malformed sub-buffer
     pub stopped : (lanes : List Lane) (i : ℕ) (front : List Lane) (lane : Lane) (back : List Lane) → IsAround lanes high cpu i front lane back → CpusRise (parts_of lanes)
-        → Each (Stands l file) (front ++ lane ∷ back) → Each IsSorted (front ++ lane ∷ back) → lane.cursor.state ≡ Malformed
+        → All (Stands l file) (front ++ lane ∷ back) → All IsSorted (front ++ lane ∷ back) → lane.cursor.state ≡ Malformed
         → (least_cut (rows_after lanes) ≡ Some (record { key = high; cpu = cpu; page = lane.cursor.next })) × (left_after text l file h lanes ≡ [])
     stopped lanes i front lane back there rise stands sorted malformed =
-        let s : Each (Stands l file) front × (Stands l file lane × Each (Stands l file) back) = parts_each (Stands l file) front lane back stands in
-        let o : Each IsSorted front × (IsSorted lane × Each IsSorted back) = parts_each IsSorted front lane back sorted in
+        let s : All (Stands l file) front × (Stands l file lane × All (Stands l file) back) = parts_all (Stands l file) front lane back stands in
+        let o : All IsSorted front × (IsSorted lane × All IsSorted back) = parts_all IsSorted front lane back sorted in
         let own_high : lane.cursor.high ≡ high = high_is lane lane.cursor.state high there.here in
         let row : Row CpuLine = row_in (after text l file h lane) in
         let none = cut_is l file lane s.1.0 malformed in
@@ -248,11 +251,11 @@ module _ (text : ℕ → ItemData → LineText) (l : Layout) (file : List ℕ) (
         ∙ ap (shown_lines text) none.0 in
         let split : rows_after lanes ≡ rows_after front ++ row ∷ rows_after back = ap rows_after there.split ∙ rows_around front lane back in
         let rises : Rise (cpus (rows_after front ++ row ∷ rows_after back)) = subst (λ (rs : List (Row CpuLine)). Rise (cpus rs)) split (rise_after lanes rise) in
-        let all_rows : Each (IsRow key_in cpu_in) (rows_after front ++ row ∷ rows_after back) = subst (Each (IsRow key_in cpu_in)) (rows_around front lane back) (rows_are (front ++ lane ∷ back) stands sorted) in
-        let sooner : Each (λ r. NotBefore (rank lane.cursor.high + 1) (bound key_in cpu_in r)) (rows_after front) =
-        subst (λ (q : Option ℕ). Each (λ r. NotBefore (rank q + 1) (bound key_in cpu_in r)) (rows_after front)) (sym own_high) (all_sooner front s.0 there.below there.sooner) in
-        let later : Each (λ r. NotBefore (rank lane.cursor.high) (bound key_in cpu_in r)) (rows_after back) =
-        subst (λ (q : Option ℕ). Each (λ r. NotBefore (rank q) (bound key_in cpu_in r)) (rows_after back)) (sym own_high) (all_later back s.1.1 there.later) in
+        let all_rows : All (IsRow key_in cpu_in) (rows_after front ++ row ∷ rows_after back) = subst (All (IsRow key_in cpu_in)) (rows_around front lane back) (rows_are (front ++ lane ∷ back) stands sorted) in
+        let sooner : All (λ r. NotBefore (rank lane.cursor.high + 1) (bound key_in cpu_in r)) (rows_after front) =
+        subst (λ (q : Option ℕ). All (λ r. NotBefore (rank q + 1) (bound key_in cpu_in r)) (rows_after front)) (sym own_high) (all_sooner front s.0 there.below there.sooner) in
+        let later : All (λ r. NotBefore (rank lane.cursor.high) (bound key_in cpu_in r)) (rows_after back) =
+        subst (λ (q : Option ℕ). All (λ r. NotBefore (rank q) (bound key_in cpu_in r)) (rows_after back)) (sym own_high) (all_later back s.1.1 there.later) in
         let law = next_cut key_in cpu_in (rows_after front) row (rows_after back) cut items none.1 rises all_rows sooner later in
         let is_cut : Some cut ≡ Some (record { key = high; cpu = cpu; page = lane.cursor.next }) =
         ap (λ (q : Option ℕ). Some (cut_made q lane.cpu lane.cursor.next)) own_high ∙ ap (λ (c : ℕ). Some (cut_made high c lane.cursor.next)) there.own in

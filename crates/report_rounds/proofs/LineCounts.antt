@@ -2,6 +2,8 @@
 use Rattle.std.proofs.Common.{◌≡◌, ℕ, zero, suc, ◌+◌, ◌<◌, max, Bool, true, false, leb, cond, List, [], ◌∷◌, ◌++◌, length, map, get_or, refl, ap, ◌∙◌, arith, inl, inr}
 use Rattle.std.specs.Prelude.{if◌then◌else◌, ◌==◌, not, count_by, unwrap_or}
 use Rattle.std.specs.List.{flat_map}
+use Rattle.std.specs.List.{All}
+use Rattle.std.proofs.lemmas.List.Elements.{All-head, All-tail}
 use Rattle.std.proofs.lemmas.Bool.{cases_Bool, eq-eqb, ne_eqb}
 use Rattle.std.proofs.lemmas.List.{length-append, length-map}
 use Rattle.std.proofs.lemmas.List.Concat.{flat_map-cons}
@@ -15,11 +17,11 @@ use Rattle.page_pool.specs.declared.lane.Lane.{Lane}
 use Rattle.event_cursor.specs.Standing.{left_of}
 use Rattle.time_merge.specs.declared.horizons.Horizon.{Horizon}
 use Rattle.time_merge.specs.LaneRows.{parts_of, row_of}
-use Rattle.time_merge.specs.Rows.{Each, Row}
+use Rattle.time_merge.specs.Rows.{Row}
 use Rattle.time_merge.specs.Horizons.{is_due}
 use Rattle.round_print.specs.Prints.{CpuLine, due_lines, due_of, key_in, later_lines, printed, with_cpu}
 use Rattle.round_print.specs.Rounds.{IsPrinted}
-use Rattle.round_print.proofs.Printing.{after_above, each_at, rise_after}
+use Rattle.round_print.proofs.Printing.{after_above, rise_after}
 use Rattle.report_rounds.specs.Due.{has_line, is_of}
 use Rattle.report_rounds.specs.Lines.{item_line, shown_lines, waiting_row}
 use Rattle.report_rounds.proofs.RoundsPrinted.{same_kept_row}
@@ -117,15 +119,15 @@ module _ (h : Horizon) (cpu : ℕ) where
 
 -- of the lines that lanes print those of one processor are those of its lane
 module _ (h : Horizon) where
-  others_count : (c : ℕ) (lanes : List Lane) → Each (λ a. c < a.cpu) lanes → count_by (is_of c) (flat_map (due_of h) lanes) ≡ 0
+  others_count : (c : ℕ) (lanes : List Lane) → All (λ a. c < a.cpu) lanes → count_by (is_of c) (flat_map (due_of h) lanes) ≡ 0
   others_count c [] above = refl
   others_count c (a ∷ lanes) above =
       omega (
         arith,
         ap (count_by (is_of c)) (flat_map-cons (due_of h) a lanes),
         count_on (is_of c) (due_of h a) (flat_map (due_of h) lanes),
-        due_count h a.cpu c false (ne_eqb a.cpu c (λ e. omega (arith, e, above.0))) a.region.kept,
-        others_count c lanes above.1,
+        due_count h a.cpu c false (ne_eqb a.cpu c (λ e. omega (arith, e, All-head (λ b. c < b.cpu) a lanes above))) a.region.kept,
+        others_count c lanes (All-tail (λ b. c < b.cpu) a lanes above),
       )
 
   own_count : (lanes : List Lane) (i : ℕ) (d : Lane) → i < length lanes → CpusRise (parts_of lanes)
@@ -142,7 +144,7 @@ module _ (h : Horizon) where
   own_count (a ∷ lanes) (suc i) d lt rise =
       let b : Lane = get_or lanes i d in
       let inside : i < length lanes = omega (arith, lt) in
-      let above : a.cpu < b.cpu = each_at (λ (x : Lane). a.cpu < x.cpu) lanes i d inside (after_above a lanes rise) in
+      let above : a.cpu < b.cpu = after_above a lanes rise i d inside in
       omega (
         arith,
         ap (count_by (is_of b.cpu)) (flat_map-cons (due_of h) a lanes),

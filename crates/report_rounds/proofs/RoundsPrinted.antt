@@ -1,8 +1,9 @@
 -- What is to come, once the lines up to a horizon are printed.
-use Rattle.std.proofs.Common.{◌≡◌, ℕ, List, [], ◌∷◌, ◌++◌, length, map, Option, Some, refl, sym, ap, ◌∙◌, inl, inr}
+use Rattle.std.proofs.Common.{◌≡◌, ℕ, List, [], ◌∷◌, ◌++◌, length, get_or, map, Option, Some, refl, sym, ap, ◌∙◌, inl, inr}
 use Rattle.std.specs.Prelude.{if◌then◌else◌}
-use Rattle.std.specs.List.{flat_map}
+use Rattle.std.specs.List.{All, flat_map}
 use Rattle.std.proofs.lemmas.Bool.{cases_Bool}
+use Rattle.std.proofs.lemmas.List.Elements.{All-map}
 use Rattle.trace_base.specs.declared.layout.Layout.{Layout}
 use Rattle.trace_base.specs.declared.part.Part.{Part}
 use Rattle.subpage.specs.ItemData.{ItemData}
@@ -15,7 +16,7 @@ use Rattle.page_pool.specs.declared.lane.Lane.{Lane}
 use Rattle.event_cursor.specs.Standing.{Stands, left_of}
 use Rattle.time_merge.specs.declared.horizons.Horizon.{Horizon}
 use Rattle.time_merge.specs.declared.horizons.Horizon.TheVariants as code
-use Rattle.time_merge.specs.Rows.{Each, Row, IsFrom, up_to_key, Rise, cpus, coming}
+use Rattle.time_merge.specs.Rows.{Row, IsFrom, up_to_key, Rise, cpus, coming}
 use Rattle.time_merge.specs.Rounds.{Waiting, IsWaiting, rows_in, due, not_due, behind}
 use Rattle.time_merge.specs.Known.{IsKnownTo}
 use Rattle.time_merge.specs.LaneRows.{row_of, parts_of}
@@ -25,7 +26,7 @@ use Rattle.round_print.specs.Prints.{CpuLine, key_in, cpu_in, with_cpu, due_line
 use Rattle.round_print.specs.Rounds.{IsPrinted, KeepsTidy}
 use Rattle.report_rounds.specs.Lines.{shown_lines, waiting_of, waiting_rows, left_lines}
 use Rattle.report_rounds.proofs.Pairs.{Related, map_on}
-use Rattle.report_rounds.proofs.Shown.{each_shown}
+use Rattle.report_rounds.proofs.Shown.{all_shown}
 
 due_same : (k c cpu : ℕ) (lines : List Line) → due key_in cpu_in k c (map (with_cpu cpu) lines) ≡ due_lines (code.To k c) cpu lines
 due_same k c cpu [] = refl
@@ -38,9 +39,8 @@ not_due_same k c cpu (line ∷ lines) = elim (cases_Bool (up_to_key (Some k) c l
   | inr later ↦ rw later refl
 ]
 
-pub own_lines : (cpu : ℕ) (lines : List Line) → Each (λ x. cpu_in x ≡ cpu) (map (with_cpu cpu) lines)
-own_lines cpu [] = tt
-own_lines cpu (line ∷ lines) = (refl, own_lines cpu lines)
+pub own_lines : (cpu : ℕ) (lines : List Line) → All (λ x. cpu_in x ≡ cpu) (map (with_cpu cpu) lines)
+own_lines cpu lines = All-map (λ x. cpu_in x ≡ cpu) (with_cpu cpu) lines (λ i d lt. refl)
 
 pub rising_lines : (cpu : ℕ) (lines : List Line) → IsRising line_key lines → IsRising key_in (map (with_cpu cpu) lines)
 rising_lines cpu [] r = tt
@@ -79,15 +79,15 @@ module _ (text : ℕ → ItemData → LineText) (l : Layout) (file : List ℕ) w
     is_waiting : (lane : Lane) → Stands l file lane → KeysRise lane → IsKnownTo l file k c lane → IsWaiting key_in cpu_in k c (waiting_of text l file lane)
     is_waiting lane s r known = record {
       own_kept = own_lines lane.cpu lane.region.kept;
-      own_more = each_shown text (λ x. cpu_of x ≡ lane.cpu) (λ x. cpu_in x ≡ lane.cpu) (λ x e. e) (row_of l file lane).items (is_row l file lane s).own;
+      own_more = all_shown text (λ x. cpu_of x ≡ lane.cpu) (λ x. cpu_in x ≡ lane.cpu) (λ x e. e) (row_of l file lane).items (is_row l file lane s).own;
       rising = rising_lines lane.cpu lane.region.kept r;
-      more = each_shown text (IsFrom key_of cpu_of k c) (IsFrom key_in cpu_in k c) (λ x f. f) (row_of l file lane).items known.more;
+      more = all_shown text (IsFrom key_of cpu_of k c) (IsFrom key_in cpu_in k c) (λ x f. f) (row_of l file lane).items known.more;
       cut = known.cut;
     }
 
-    each_waiting : (lanes : List Lane) → Each (Stands l file) lanes → Each KeysRise lanes → Each (IsKnownTo l file k c) lanes → Each (IsWaiting key_in cpu_in k c) (map (waiting_of text l file) lanes)
-    each_waiting [] s r known = tt
-    each_waiting (a ∷ lanes) s r known = (is_waiting a s.0 r.0 known.0, each_waiting lanes s.1 r.1 known.1)
+    all_waiting : (lanes : List Lane) → All (Stands l file) lanes → All KeysRise lanes → All (IsKnownTo l file k c) lanes → All (IsWaiting key_in cpu_in k c) (map (waiting_of text l file) lanes)
+    all_waiting lanes s r known =
+        All-map (IsWaiting key_in cpu_in k c) (waiting_of text l file) lanes (λ i d lt. is_waiting (get_or lanes i d) (s i d lt) (r i d lt) (known i d lt))
 
     printed_same : (lanes : List Lane) → flat_map (λ w. due key_in cpu_in k c w.kept) (map (waiting_of text l file) lanes) ≡ flat_map (due_of (code.To k c)) lanes
     printed_same [] = refl
@@ -101,12 +101,12 @@ module _ (text : ℕ → ItemData → LineText) (l : Layout) (file : List ℕ) w
         ap (λ (ps : List CpuLine). wait_made a.cpu ps (shown_lines text (row_of l file a).items) (row_of l file a).cut ∷ map (behind key_in cpu_in k c) (map (waiting_of text l file) lanes)) (not_due_same k c a.cpu a.region.kept)
         ∙ ap (λ (ws : List (Waiting CpuLine)). after (code.To k c) a ∷ ws) (behind_after lanes)
 
-    pub round_to : (lanes : List Lane) → CpusRise (parts_of lanes) → Each (Stands l file) lanes → Each KeysRise lanes → Each (IsKnownTo l file k c) lanes
+    pub round_to : (lanes : List Lane) → CpusRise (parts_of lanes) → All (Stands l file) lanes → All KeysRise lanes → All (IsKnownTo l file k c) lanes
         → left_lines text l file lanes ≡ printed (code.To k c) lanes ++ left_after (code.To k c) lanes
     unfolding left_lines printed
     round_to lanes rise stands rises known =
         let ws : List (Waiting CpuLine) = map (waiting_of text l file) lanes in
-        round key_in cpu_in k c ws (rise_waiting lanes rise) (each_waiting lanes stands rises known)
+        round key_in cpu_in k c ws (rise_waiting lanes rise) (all_waiting lanes stands rises known)
         ∙ ap (λ (ps : List CpuLine). by_key key_in ps ++ coming key_in cpu_in (rows_in (map (behind key_in cpu_in k c) ws))) (printed_same lanes)
         ∙ ap (λ (vs : List (Waiting CpuLine)). by_key key_in (flat_map (due_of (code.To k c)) lanes) ++ coming key_in cpu_in (rows_in vs)) (behind_after lanes)
 

@@ -22,13 +22,13 @@ use Rattle.event_cursor.specs.Loading.{KeepsLeft}
 use Rattle.event_cursor.specs.Standing.{IsInOrder, Stands, held_left}
 use Rattle.event_cursor.specs.Loading.{IsReadied}
 use Rattle.time_merge.specs.declared.ending.End.{End}
+use Rattle.time_merge.specs.declared.ending.End.TheVariants as ending
 use Rattle.time_merge.specs.declared.horizons.Horizon.{Horizon}
 use Rattle.time_merge.specs.declared.horizons.Horizon.TheVariants as code
 use Rattle.time_merge.specs.Horizons.{IsHorizon, IsLeastLane, high_in}
 use Rattle.time_merge.specs.LaneRows.{IsReady, IsReadyIn, parts_of, row_of}
-use Rattle.time_merge.specs.Rows.{Each, Row, coming}
+use Rattle.time_merge.specs.Rows.{Row, coming}
 use Rattle.time_merge.specs.Rounds.{row_in}
-use Rattle.time_merge.proofs.Choosing.{each_of_all}
 use Rattle.time_merge.proofs.LaneLaws.{same_row}
 use Rattle.cpu_workers.specs.Formats.{IsFormatted, IsSorted}
 use Rattle.cpu_workers.proofs.Placing.{stands_region}
@@ -37,17 +37,18 @@ use Rattle.round_print.proofs.FilledTexts.{text_in_turn}
 use Rattle.round_print.specs.Rounds.{AreRising, IsPrinted}
 use Rattle.report_rounds.specs.Between.{IsBetween, all_work, work_of}
 use Rattle.report_rounds.specs.Due.{is_of}
-use Rattle.report_rounds.specs.Ends.{EndsThere, IsOutcome, IsStop, StandsBefore}
+use Rattle.report_rounds.specs.Ends.{EndsThere, IsStop}
 use Rattle.report_rounds.specs.Lines.{waiting_of, waiting_row, waiting_rows, left_lines}
 use Rattle.report_rounds.specs.Turns.{HasPrinted, IsEnding, IsFurther, IsTurned, RoundState}
 use Rattle.report_rounds.specs.declared.ends.Outcome.{Outcome}
 use Rattle.report_rounds.specs.declared.ends.Outcome.TheVariants as round
 use Rattle.report_rounds.proofs.Between.{loaded_between, formatted_between, printed_between}
 use Rattle.report_rounds.proofs.Ending.{IsHorizonAt, at_start, at_key, cut_of_waiting, none_later, stopped}
-use Rattle.report_rounds.proofs.Horizons.{IsAround, around_least, ended_cuts, none_after, parted, place_is}
+use Rattle.report_rounds.proofs.Horizons.{IsAround, around_least, ended_cuts, none_after, parted}
+use Rattle.report_rounds.proofs.LeastPlace.{Follows}
 use Rattle.report_rounds.proofs.LineCounts.{printed_count, printed_waiting}
 use Rattle.report_rounds.proofs.LineRows.{formatted_row}
-use Rattle.report_rounds.proofs.Pairs.{Related, all_on, map_on, parts_on, related_on, sum_less, sum_on}
+use Rattle.report_rounds.proofs.Pairs.{Related, all_on, map_on, parts_on, related_on, some_lane, sum_less, sum_on}
 use Rattle.report_rounds.proofs.Progress.{work_formatted, work_less, work_loaded, work_printed}
 use Rattle.report_rounds.proofs.RoundsPrinted.{after, left_after, printed_left, same_lane, wait_with}
 
@@ -105,14 +106,14 @@ module _ (text : ℕ → ItemData → LineText) (l : Layout) (told : Option (Lis
 
     -- of the horizon's lane, where it does not stand before a malformed sub-buffer
     module _ (high : Option ℕ) (cpu : ℕ) (at : IsHorizonAt h high cpu) (least : IsLeastLane formed high cpu) (rise : CpusRise (parts_of formed)) (all : All (IsBetween text l) first)
-        (sound : All (λ lane. lane.cpu ≡ cpu → lane.cursor.state ≢ Malformed) now) where
+        (sound : (d : Lane) → (get_or now least.i d).cursor.state ≢ Malformed) where
       inside : least.i < length loaded
       inside = omega (arith, least.inside, f.long_formed)
 
       some_held : (d : Lane) (s : LaneState) → (get_or loaded least.i d).cursor.state ≡ s → 0 < length (held_left l (get_or loaded least.i d))
       some_held d s e = of_state s (subst (λ (t : LaneState). IsReadyIn t (held_left l a)) e (f.ready least.i d inside))
           (subst (λ (t : LaneState). high_in t b.cursor.high ≡ Some high) (format.keeps.state ∙ e) there.here)
-          (λ bad. sound least.i d (omega (arith, least.inside, long)) (print_i.keeps.lane.cpu ∙ there.own) (ap (λ (c : Cursor). c.state) print_i.keeps.lane.cursor ∙ format.keeps.state ∙ e ∙ bad))
+          (λ bad. sound d (ap (λ (c : Cursor). c.state) print_i.keeps.lane.cursor ∙ format.keeps.state ∙ e ∙ bad))
         where
           a : Lane
           a = get_or loaded least.i d
@@ -151,17 +152,12 @@ module _ (text : ℕ → ItemData → LineText) (l : Layout) (told : Option (Lis
           omega (arith, less, loaded_less)
 
   -- items were used up or lines were printed, unless the rounds end
-  pub now_less : (h : Horizon) (now : List Lane) (long : length now ≡ length formed) → Related (IsPrinted h) formed now → (outcome : Outcome) → IsHorizon formed h → IsOutcome now h outcome
+  pub now_less : (h : Horizon) (now : List Lane) (long : length now ≡ length formed) → Related (IsPrinted h) formed now → (outcome : Outcome) → (is : IsHorizon formed h) → Follows formed now h is outcome
       → CpusRise (parts_of first) → All (IsBetween text l) first → outcome ≡ round.GoesOn → all_work l now < all_work l first
   now_less h now long print (round.Ends end) is stop rise all goes = absurd cc
   now_less code.All now long print round.GoesOn is stop rise all goes = absurd cc
   now_less (code.Start c) now long print round.GoesOn is stop rise all goes = less_at (code.Start c) now long print None c (at_start c) is (formed_rise rise) all stop
   now_less (code.To k c) now long print round.GoesOn is stop rise all goes = less_at (code.To k c) now long print (Some k) c (at_key k c) is (formed_rise rise) all stop
-
--- a list with a place has a lane
-some_lane : (lanes : List Lane) (i : ℕ) → i < length lanes → Lane
-some_lane [] i lt = absurd (omega (arith, lt))
-some_lane (a ∷ lanes) i lt = a
 
 abbrev pub round_state : List Lane → Option ℕ → Option (List ℕ) → RoundState
 round_state lanes last written = record { lanes = lanes; last = last; written = written }
@@ -203,7 +199,7 @@ module _ (text : ℕ → ItemData → LineText) (l : Layout) (file : List ℕ) w
     module _ (h : Horizon) (is : IsHorizon formed h) (rise : CpusRise (parts_of first)) (all : All (IsBetween text l) first) where
       formed_parted : left_lines text l file first ≡ printed h formed ++ left_after text l file h formed
       formed_parted = sym formed_left
-          ∙ parted l file text h formed is (formed_rise text l (Some file) first loaded formed f rise) formed_stands (each_of_all KeysRise formed (formed_rises text l (Some file) first loaded formed f all))
+          ∙ parted l file text h formed is (formed_rise text l (Some file) first loaded formed f rise) formed_stands (formed_rises text l (Some file) first loaded formed f all)
 
       -- a write failed
       pub turned_failed : (last : Option ℕ) (old new : Option (List ℕ)) → GainedPrefix old new (filled_text last (printed h formed)) → GainedPrefix old new (filled_text last (left_lines text l file first))
@@ -256,32 +252,28 @@ module _ (text : ℕ → ItemData → LineText) (l : Layout) (file : List ℕ) w
         }
 
         -- at the malformed sub-buffer before which the horizon's lane stands
-        turned_stop : (high : Option ℕ) (cpu : ℕ) (end : End) → IsHorizonAt h high cpu → IsLeastLane formed high cpu → EndsThere now cpu end → (last : Option ℕ) (old new : Option (List ℕ))
+        turned_stop : (high : Option ℕ) (cpu : ℕ) (end : End) → IsHorizonAt h high cpu → (least : IsLeastLane formed high cpu) → ((d : Lane) → EndsThere (get_or now least.i d) end) → (last : Option ℕ) (old new : Option (List ℕ))
             → Gained old new (filled_text last (printed h formed)) → IsEnding text l file (round_state first last old) new end
         turned_stop high cpu end at least stop last old new gained =
-            let i : ℕ = stop.place in
-            let page : ℕ = stop.page in
-            let d : Lane = some_lane now i stop.inside in
+            let i : ℕ = least.i in
+            let d : Lane = some_lane formed i least.inside in
+            let lane : Lane = get_or formed i d in
             let rise_formed : CpusRise (parts_of formed) = formed_rise text l (Some file) first loaded formed f rise in
             let there = around_least formed d high cpu least rise_formed in
-            let inside : i < length formed = omega (arith, stop.inside, long) in
-            let p : IsPrinted h (get_or formed i d) (get_or now i d) = print i d inside in
-            let before : StandsBefore cpu page (get_or now i d) = stop.there d in
-            let place : i ≡ least.i = place_is formed high cpu least.i (get_or formed least.i d) there least.inside i d inside (sym p.keeps.lane.cpu ∙ before.own) in
-            let lane : Lane = get_or formed least.i d in
-            let same : get_or formed i d ≡ lane = ap (λ (n : ℕ). get_or formed n d) place in
-            let state : lane.cursor.state ≡ Malformed = ap (λ (a : Lane). a.cursor.state) (sym same) ∙ ap (λ (c : Cursor). c.state) (sym p.keeps.lane.cursor) ∙ before.state in
-            let next : lane.cursor.next ≡ page = ap (λ (a : Lane). a.cursor.next) (sym same) ∙ ap (λ (c : Cursor). c.next) (sym p.keeps.lane.cursor) ∙ before.next in
-            let each_stands : Each (Stands l file) formed = each_of_all (Stands l file) formed formed_stands in
+            let p : IsPrinted h lane (get_or now i d) = print i d least.inside in
+            let ends : EndsThere (get_or now i d) end = stop d in
+            let state : lane.cursor.state ≡ Malformed = ap (λ (c : Cursor). c.state) (sym p.keeps.lane.cursor) ∙ ends.state in
+            let told : end ≡ ending.Malformed cpu lane.cursor.next =
+            ends.told ∙ ap (λ (n : ℕ). ending.Malformed n (get_or now i d).cursor.next) (p.keeps.lane.cpu ∙ there.own)
+            ∙ ap (λ (c : Cursor). ending.Malformed cpu c.next) p.keeps.lane.cursor in
             let sorted : All IsSorted formed = All-weaker (IsBetween text l) IsSorted (λ a b. b.sorted) formed (formed_all text l (Some file) first loaded formed f all) in
-            let law = stopped text l file h high cpu at formed least.i (take least.i formed) lane (drop (least.i + 1) formed) there rise_formed
-            (subst (λ (ls : List Lane). Each (Stands l file) ls) there.split each_stands) (subst (λ (ls : List Lane). Each IsSorted ls) there.split (each_of_all IsSorted formed sorted)) state in
-            let cut : cut_of l file (parts_of first) ≡ Some (record { key = high; cpu = cpu; page = page }) =
-            ap (cut_of l file) (sym (formed_parts text l (Some file) first loaded formed f)) ∙ sym (cut_of_waiting l file (after text l file h) (λ a. refl) formed) ∙ law.0
-            ∙ ap (λ (n : ℕ). Some (cut_made high cpu n)) next in
-            subst (λ (e : End). IsEnding text l file (round_state first last old) new e) (sym stop.told) (all_printed law.1 last old new gained, (high, cut))
+            let law = stopped text l file h high cpu at formed i (take i formed) lane (drop (i + 1) formed) there rise_formed
+            (subst (All (Stands l file)) there.split formed_stands) (subst (All IsSorted) there.split sorted) state in
+            let cut : cut_of l file (parts_of first) ≡ Some (cut_made high cpu lane.cursor.next) =
+            ap (cut_of l file) (sym (formed_parts text l (Some file) first loaded formed f)) ∙ sym (cut_of_waiting l file (after text l file h) (λ a. refl) formed) ∙ law.0 in
+            subst (λ (e : End). IsEnding text l file (round_state first last old) new e) (sym told) (all_printed law.1 last old new gained, (high, cut))
 
-        turned_at : (high : Option ℕ) (cpu : ℕ) → IsHorizonAt h high cpu → IsLeastLane formed high cpu → (outcome : Outcome) → IsStop now cpu outcome → (last last_now : Option ℕ) (old new : Option (List ℕ))
+        turned_at : (high : Option ℕ) (cpu : ℕ) → IsHorizonAt h high cpu → (least : IsLeastLane formed high cpu) → (outcome : Outcome) → ((d : Lane) → IsStop (get_or now least.i d) outcome) → (last last_now : Option ℕ) (old new : Option (List ℕ))
             → Gained old new (filled_text last (printed h formed)) → last_now ≡ last_of last (printed h formed) → IsTurned text l file (round_state first last old) (round_state now last_now new) outcome
         turned_at high cpu at least round.GoesOn stop last last_now old new gained is_last = turned_further last last_now old new gained is_last
         turned_at high cpu at least (round.Ends end) stop last last_now old new gained is_last = turned_stop high cpu end at least stop last old new gained
@@ -289,14 +281,14 @@ module _ (text : ℕ → ItemData → LineText) (l : Layout) (file : List ℕ) w
   cut_none : (first loaded formed : List Lane) → IsFormed text l (Some file) first loaded formed → All (Stands l file) first → IsHorizon formed code.All → cut_of l file (parts_of first) ≡ None
   cut_none first loaded formed f stands is =
       ap (cut_of l file) (sym (formed_parts text l (Some file) first loaded formed f)) ∙ sym (cut_of_waiting l file (waiting_of text l file) (λ a. refl) formed)
-      ∙ ended_cuts l file text formed (each_of_all (Stands l file) formed (formed_stands first loaded formed f stands)) is
+      ∙ ended_cuts l file text formed (formed_stands first loaded formed f stands) is
 
   -- what a round did whose lines were all written
   pub turned_ok : (first loaded formed : List Lane) → IsFormed text l (Some file) first loaded formed → (h : Horizon) (now : List Lane) → length now ≡ length formed → Related (IsPrinted h) formed now → (outcome : Outcome)
-      → IsHorizon formed h → IsOutcome now h outcome → CpusRise (parts_of first) → All (IsBetween text l) first → All (Stands l file) first → (last last_now : Option ℕ) (old new : Option (List ℕ)) → Gained old new (filled_text last (printed h formed))
+      → (is : IsHorizon formed h) → Follows formed now h is outcome → CpusRise (parts_of first) → All (IsBetween text l) first → All (Stands l file) first → (last last_now : Option ℕ) (old new : Option (List ℕ)) → Gained old new (filled_text last (printed h formed))
       → last_now ≡ last_of last (printed h formed) → IsTurned text l file (round_state first last old) (round_state now last_now new) outcome
   turned_ok first loaded formed f code.All now long print outcome is stop rise all stands last last_now old new gained is_last =
-      let none : left_after text l file code.All formed ≡ [] = none_after l file text formed (each_of_all (Stands l file) formed (formed_stands first loaded formed f stands)) is in
+      let none : left_after text l file code.All formed ≡ [] = none_after l file text formed (formed_stands first loaded formed f stands) is in
       subst (λ (o : Outcome). IsTurned text l file (round_state first last old) (round_state now last_now new) o) (sym stop)
       (all_printed first loaded formed f stands code.All is rise all none last old new gained, cut_none first loaded formed f stands is)
   turned_ok first loaded formed f (code.Start c) now long print outcome is stop rise all stands last last_now old new gained is_last =
@@ -306,7 +298,7 @@ module _ (text : ℕ → ItemData → LineText) (l : Layout) (file : List ℕ) w
 
 module _ (text : ℕ → ItemData → LineText) (l : Layout) where
   pub turned_told : (told : Option (List ℕ)) (first loaded formed : List Lane) → IsFormed text l told first loaded formed → (h : Horizon) (now : List Lane) → length now ≡ length formed → Related (IsPrinted h) formed now
-      → (outcome : Outcome) → IsHorizon formed h → IsOutcome now h outcome → CpusRise (parts_of first) → All (IsBetween text l) first → (last last_now : Option ℕ) (old new : Option (List ℕ)) → Gained old new (filled_text last (printed h formed))
+      → (outcome : Outcome) → (is : IsHorizon formed h) → Follows formed now h is outcome → CpusRise (parts_of first) → All (IsBetween text l) first → (last last_now : Option ℕ) (old new : Option (List ℕ)) → Gained old new (filled_text last (printed h formed))
       → last_now ≡ last_of last (printed h formed) → IfSome told (λ file. All (Stands l file) first → IsTurned text l file (round_state first last old) (round_state now last_now new) outcome)
   turned_told None first loaded formed f h now long print outcome is stop rise all last last_now old new gained is_last = tt
   turned_told (Some file) first loaded formed f h now long print outcome is stop rise all last last_now old new gained is_last = λ stands.

@@ -9,6 +9,7 @@ ghost use Rattle.report_rounds.specs.Due.{ReadsDue};
 ghost use Rattle.report_rounds.specs.Reports.{IsReport};
 
 use crate::ends::Outcome;
+use crate::settle::mark_all;
 use crate::turns::turn;
 use crate::work::RoundWork;
 use cpu_workers::{Form, Workers};
@@ -23,7 +24,8 @@ use trace_outside::{File, Gate, Sink};
 ///
 /// The lanes stand before their first items and keep no line, and each region has room for any line. Lines are formed on as
 /// many threads as `workers` tells, with the same bytes for any number of them. After `Read` the lines of the first few
-/// reached items are written, after `Write` a prefix of the text. It takes no memory.
+/// reached items are written, after `Write` a prefix of the text. It takes no memory: `work` has a slot in each tree and a
+/// mark for each lane, whatever is in them, and room in which nothing waits.
 ///
 /// No more bytes are read than the parts of the processors have, and none ahead of what is written: of the lines before
 /// a sub-buffer that is read no more than a region keeps were not written yet.
@@ -43,6 +45,8 @@ pub fn report_rounds<R: Threads + Sync, F: File, L: Form, G: Gate, O: Sink>(
     requires shown { HidesNoHole (L.text form.now) }
     requires rise { CpusRise (parts_of lanes.old) }
     requires heads { length work.old.heads ≡ length lanes.old }
+    requires highs { length work.old.highs ≡ length lanes.old }
+    requires moved { length work.old.moved.items ≡ length lanes.old }
     requires empty { work.old.pending ≡ [] }
     ensures report { IfSome (F.bytes file.old) (λ bytes. IsReport (L.text form.now) layout.now bytes (parts_of lanes.old)
         (O.written out.old) (O.written out.new) result) }
@@ -55,6 +59,7 @@ pub fn report_rounds<R: Threads + Sync, F: File, L: Form, G: Gate, O: Sink>(
         (O.written out.old) (O.written out.new) (F.reads file.old) (F.reads file.new)) }
     ensures keeps { KeepsFile F.File file.old file.new }
 {
+    mark_all(work.moved.as_mut_slice());
     let mut last = None;
     loop {
         if let Outcome::Ends(end) = turn(workers, form, layout, file, lanes, work, &mut last, out) {

@@ -1,4 +1,4 @@
-ghost use Rattle.std.specs.Prelude.{◌≡◌, ◌≤◌, length, All, IfSome};
+ghost use Rattle.std.specs.Prelude.{◌≡◌, ◌≤◌, All, IfSome};
 ghost use Rattle.trace_base.specs.Layout.{IsLayout};
 ghost use Rattle.trace_outside.specs.Causes.{Rose};
 ghost use Rattle.trace_outside.specs.Keeping.{KeepsFile, KeepsSink};
@@ -7,16 +7,18 @@ ghost use Rattle.report_rounds.specs.Between.{AreBetween};
 ghost use Rattle.report_rounds.specs.Turns.{CanGoOn, HasLoaded, IsTurned};
 
 use crate::ends::{Outcome, outcome_at};
+use crate::settle::settle;
 use crate::work::RoundWork;
 use cpu_workers::{Form, Workers, format_lanes};
 use page_pool::Lane;
 use round_print::print_round;
 use std::thread::Threads;
-use time_merge::{End, horizon, make_all_ready};
+use time_merge::{End, horizon, make_moved_ready};
 use trace_base::Layout;
 use trace_outside::{File, Gate, Sink};
 
-/// One round: makes every lane ready, forms lines, and prints those up to the horizon.
+/// One round: makes the lanes ready, forms lines, and prints those up to the horizon. It looks at the lanes that have a mark
+/// alone, and behind it those have one that it printed lines of, or that are to be loaded.
 pub(crate) fn turn<R: Threads + Sync, F: File, L: Form, G: Gate, O: Sink>(
     workers: &Workers<'_, R, G>,
     form: &L,
@@ -29,9 +31,8 @@ pub(crate) fn turn<R: Threads + Sync, F: File, L: Form, G: Gate, O: Sink>(
 ) -> Outcome
     requires allowed { IsLayout layout.now }
     requires workers { (1 ≤ workers.now.count) × (workers.now.count ≤ 64) }
-    requires between { AreBetween (L.text form.now) layout.now lanes.old (length work.old.heads) work.old.pending }
-    ensures between { result ≡ Outcome.GoesOn
-        → AreBetween (L.text form.now) layout.now lanes.new (length work.new.heads) work.new.pending }
+    requires between { AreBetween (L.text form.now) layout.now lanes.old work.old }
+    ensures between { result ≡ Outcome.GoesOn → AreBetween (L.text form.now) layout.now lanes.new work.new }
     ensures goes_on { result ≡ Outcome.GoesOn
         → CanGoOn F.File layout.now file.old file.new lanes.old lanes.new }
     ensures turned { IfSome (F.bytes file.old) (λ bytes. All (Stands layout.now bytes) lanes.old
@@ -42,17 +43,26 @@ pub(crate) fn turn<R: Threads + Sync, F: File, L: Form, G: Gate, O: Sink>(
     ensures write { result ≡ Outcome.Ends End.Write → Rose (O.faults out.old) (O.faults out.new) }
     ensures loaded { HasLoaded layout.now (F.bytes file.old) (F.size file.old) lanes.old (F.reads file.old)
         (F.reads file.new) }
-    ensures heads { length work.new.heads ≡ length work.old.heads }
     ensures keeps_out { KeepsSink O.Sink out.old out.new }
     ensures keeps { KeepsFile F.File file.old file.new }
 {
-    let Ok(()) = make_all_ready(layout, file, lanes) else {
+    let Ok(()) = make_moved_ready(layout, file, lanes, work.moved.as_slice()) else {
         return Outcome::Ends(End::Read);
     };
-    format_lanes(workers, form, layout, lanes);
-    let known = horizon(lanes);
-    match print_round(&known, lanes, &mut work.heads, last, &mut work.pending, out) {
-        Ok(()) => outcome_at(known, lanes),
+    format_lanes(workers, form, layout, lanes, work.moved.as_slice());
+    settle(layout, lanes, work);
+    let least = work.highs.least();
+    let known = horizon(lanes, least);
+    match print_round(
+        &known,
+        lanes,
+        &mut work.heads,
+        work.moved.as_mut_slice(),
+        last,
+        &mut work.pending,
+        out,
+    ) {
+        Ok(()) => outcome_at(least, lanes),
         Err(_) => Outcome::Ends(End::Write),
     }
 }

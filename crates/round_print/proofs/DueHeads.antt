@@ -1,17 +1,18 @@
 -- The least of all first lines, and the least of those that are due.
-use Rattle.std.proofs.Common.{◌≡◌, ℕ, zero, suc, ◌+◌, ◌<◌, ◌≤◌, ◌⊎◌, Bool, true, false, List, [], ◌∷◌, ◌++◌, length, get_or, set, take, drop, map, Option, Some, None, refl, sym, ap, subst, ◌∙◌, arith, inl, inr}
+use Rattle.std.proofs.Common.{◌≡◌, ℕ, ◌+◌, ◌<◌, ◌≤◌, ◌⊎◌, true, false, List, [], ◌∷◌, ◌++◌, length, get_or, take, drop, map, Option, Some, None, refl, sym, ap, subst, ◌∙◌, arith, inl, inr}
+use Rattle.std.specs.List.{All}
 use Rattle.std.proofs.lemmas.Bool.{cases_Bool}
 use Rattle.std.proofs.lemmas.List.{take-map, drop-map, take_at, drop_at, drop_more, map-append, length-map, length-take-le}
+use Rattle.std.proofs.lemmas.List.Elements.{All-append, All-cons, All-map}
 use Rattle.subpage.specs.Arrangement.{CpusRise}
 use Rattle.page_pool.specs.Lines.{Line}
 use Rattle.page_pool.specs.declared.lane.Lane.{Lane}
 use Rattle.time_merge.specs.declared.horizons.Horizon.{Horizon}
 use Rattle.time_merge.specs.declared.horizons.Horizon.TheVariants as code
-use Rattle.time_merge.specs.Rows.{Each, NotBefore, rank}
+use Rattle.time_merge.specs.Rows.{NotBefore, rank}
 use Rattle.time_merge.specs.LaneRows.{parts_of}
 use Rattle.time_merge.specs.Nexts.{IsLeastOf, IsLeastAt}
-use Rattle.time_merge.proofs.Parting.{each_append}
-use Rattle.time_merge.proofs.Choosing.{around}
+use Rattle.time_merge.proofs.Choosing.{around, all_of_map}
 use Rattle.time_merge.specs.Horizons.{is_due}
 use Rattle.round_print.specs.Prints.{due_lines, first_key, first_of, head_due, head_kept}
 use Rattle.round_print.proofs.Printing.{heads, rise_after, after_above}
@@ -87,18 +88,13 @@ not_due_in h cpu (line ∷ lines) here e f = record {
     never : {x : Option ℕ} → Some x ≡ None → ⊥
     never e = cc
 
-each_map : (P Q : Option (Option ℕ) → Type 0) (f g : Lane → Option (Option ℕ)) (R : Lane → Type 0) → ((a : Lane) → R a → P (f a) → Q (g a)) → (lanes : List Lane) → Each R lanes → Each P (map f lanes) → Each Q (map g lanes)
-each_map P Q f g R step [] r h = tt
-each_map P Q f g R step (a ∷ lanes) r h = (step a r.0 h.0, each_map P Q f g R step lanes r.1 h.1)
-
-each_unit : (lanes : List Lane) → Each (λ a. Unit {0}) lanes
-each_unit [] = tt
-each_unit (a ∷ lanes) = (tt, each_unit lanes)
+weaker_map : (P Q : Option (Option ℕ) → Type 0) (f g : Lane → Option (Option ℕ)) (R : Lane → Type 0) → ((a : Lane) → R a → P (f a) → Q (g a)) → (lanes : List Lane) → All R lanes → All P (map f lanes) → All Q (map g lanes)
+weaker_map P Q f g R step lanes r h = All-map Q g lanes (λ i d lt. step (get_or lanes i d) (r i d lt) (all_of_map P f lanes h i d lt))
 
 record Around (lanes : List Lane) (i : ℕ) (lane : Lane) (here : Option ℕ) : Type 0 where
   at : Some here ≡ head_kept lane
-  sooner : Each (NotBefore (rank here + 1)) (map head_kept (take i lanes))
-  later : Each (NotBefore (rank here)) (map head_kept (drop (i + 1) lanes))
+  sooner : All (NotBefore (rank here + 1)) (map head_kept (take i lanes))
+  later : All (NotBefore (rank here)) (map head_kept (drop (i + 1) lanes))
 
 around_least : (lanes : List Lane) (i : ℕ) (lane : Lane) (here : Option ℕ) → i < length lanes → lane ≡ get_or lanes i lane → IsLeastOf (map head_kept lanes) i here → Around lanes i lane here
 around_least lanes i lane here lt at least =
@@ -110,8 +106,8 @@ around_least lanes i lane here lt at least =
     let one : (Some here ≡ f (get_or lanes i lane)) × (least.after ≡ map f back) = heads (Some here) (f (get_or lanes i lane)) least.after (map f back) (rest ∙ ap (map f) (drop_more lanes i lane lt)) in
     record {
       at = one.0 ∙ ap f (sym at);
-      sooner = subst (Each (NotBefore (rank here + 1))) before least.sooner;
-      later = subst (Each (NotBefore (rank here))) one.1 least.later;
+      sooner = subst (All (NotBefore (rank here + 1))) before least.sooner;
+      later = subst (All (NotBefore (rank here))) one.1 least.later;
     }
 
 map_around : (g : Lane → Option (Option ℕ)) (lanes : List Lane) (i : ℕ) (lane : Lane) → i < length lanes → lane ≡ get_or lanes i lane → map g lanes ≡ map g (take i lanes) ++ g lane ∷ map g (drop (i + 1) lanes)
@@ -132,8 +128,8 @@ least_due_at h lanes i lane v lt at least e =
         after = map g (drop (i + 1) lanes);
         split = map_around g lanes i lane lt at ∙ ap (λ (x : Option (Option ℕ)). map g (take i lanes) ++ x ∷ map g (drop (i + 1) lanes)) due;
         place = length-map (take i lanes) g ∙ length-take-le i lanes (omega (arith, lt));
-        sooner = each_map (NotBefore (rank here + 1)) (NotBefore (rank here + 1)) head_kept g (λ a. Unit {0}) (λ a r from. weaker_in h a.cpu (rank here + 1) a.region.kept from) (take i lanes) (each_unit (take i lanes)) sides.sooner;
-        later = each_map (NotBefore (rank here)) (NotBefore (rank here)) head_kept g (λ a. Unit {0}) (λ a r from. weaker_in h a.cpu (rank here) a.region.kept from) (drop (i + 1) lanes) (each_unit (drop (i + 1) lanes)) sides.later;
+        sooner = weaker_map (NotBefore (rank here + 1)) (NotBefore (rank here + 1)) head_kept g (λ a. Unit {0}) (λ a r from. weaker_in h a.cpu (rank here + 1) a.region.kept from) (take i lanes) (λ j e lt_j. tt) sides.sooner;
+        later = weaker_map (NotBefore (rank here)) (NotBefore (rank here)) head_kept g (λ a. Unit {0}) (λ a r from. weaker_in h a.cpu (rank here) a.region.kept from) (drop (i + 1) lanes) (λ j e lt_j. tt) sides.later;
       },
     )
 
@@ -145,14 +141,15 @@ none_due_at h lanes i lane lt at rise least e =
     let g : Lane → Option (Option ℕ) = head_due h in
     let first : FirstLater h lane.cpu here = not_due_in h lane.cpu lane.region.kept here (sym e) sides.at in
     let split : lanes ≡ take i lanes ++ lane ∷ drop (i + 1) lanes = around lanes i lane lt ∙ ap (λ (a : Lane). take i lanes ++ a ∷ drop (i + 1) lanes) (sym at) in
-    let above : Each (λ a. lane.cpu < a.cpu) (drop (i + 1) lanes) =
+    let above : All (λ a. lane.cpu < a.cpu) (drop (i + 1) lanes) =
     after_above lane (drop (i + 1) lanes) (rise_after (take i lanes) (lane ∷ drop (i + 1) lanes) (subst (λ (ls : List Lane). CpusRise (parts_of ls)) split rise)) in
     let P : Option (Option ℕ) → Type 0 = λ next. next ≡ None in
-    let front : Each P (map g (take i lanes)) = each_map (NotBefore (rank here + 1)) P head_kept g (λ a. Unit {0})
-    (λ a r from. none_in h first.key lane.cpu a.cpu (rank here + 1) a.region.kept first.not_due from (inl (omega (arith, first.is)))) (take i lanes) (each_unit (take i lanes)) sides.sooner in
-    let back : Each P (map g (drop (i + 1) lanes)) = each_map (NotBefore (rank here)) P head_kept g (λ a. lane.cpu < a.cpu)
+    let front : All P (map g (take i lanes)) = weaker_map (NotBefore (rank here + 1)) P head_kept g (λ a. Unit {0})
+    (λ a r from. none_in h first.key lane.cpu a.cpu (rank here + 1) a.region.kept first.not_due from (inl (omega (arith, first.is)))) (take i lanes) (λ j e lt_j. tt) sides.sooner in
+    let back : All P (map g (drop (i + 1) lanes)) = weaker_map (NotBefore (rank here)) P head_kept g (λ a. lane.cpu < a.cpu)
     (λ a r from. none_in h first.key lane.cpu a.cpu (rank here) a.region.kept first.not_due from (inr (omega (arith, first.is), omega (arith, r)))) (drop (i + 1) lanes) above sides.later in
-    subst (Each P) (sym (map_around g lanes i lane lt at)) (each_append P (map g (take i lanes)) (g lane ∷ map g (drop (i + 1) lanes)) front (sym e, back))
+    subst (All P) (sym (map_around g lanes i lane lt at))
+    (All-append P (map g (take i lanes)) (g lane ∷ map g (drop (i + 1) lanes)) front (All-cons P (g lane) (map g (drop (i + 1) lanes)) (sym e) back))
 
 pub none_kept : (h : Horizon) (lanes : List Lane) → IsLeastAt (map head_kept lanes) None → IsLeastAt (map (head_due h) lanes) None
-none_kept h lanes none = each_map (λ next. next ≡ None) (λ next. next ≡ None) head_kept (head_due h) (λ a. Unit {0}) (λ a r e. empty_in h a.cpu a.region.kept e) lanes (each_unit lanes) none
+none_kept h lanes none = weaker_map (λ next. next ≡ None) (λ next. next ≡ None) head_kept (head_due h) (λ a. Unit {0}) (λ a r e. empty_in h a.cpu a.region.kept e) lanes (λ j e lt_j. tt) none

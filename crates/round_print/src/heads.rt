@@ -35,8 +35,8 @@ fn head_due(horizon: &Horizon, lane: &Lane) -> Option<Option<u64>>
     }
 }
 
-/// The key of a lane's first line.
-pub(crate) fn head_kept(lane: &Lane) -> Option<Option<u64>>
+/// The key of the first line that a lane keeps, if it keeps one: what stands in the lane's slot of a tree of first lines.
+pub fn head_kept(lane: &Lane) -> Option<Option<u64>>
     ensures { result ≡ head_kept lane.now }
 {
     if lane.region.lines() == 0 {
@@ -44,16 +44,6 @@ pub(crate) fn head_kept(lane: &Lane) -> Option<Option<u64>>
     }
     let (_, key, _) = lane.region.line(0);
     Some(Some(key))
-}
-
-/// Brings a tree in step with lanes: each slot has the key of its lane's first line.
-pub(crate) fn take_heads(lanes: &[Lane], heads: &mut LeastTree)
-    requires { length heads.old ≡ length lanes.now }
-    ensures { heads.new ≡ map head_kept lanes.now }
-{
-    for i in 0..lanes.len() {
-        heads.set(i, head_kept(&lanes[i]));
-    }
 }
 
 /// The lane whose first line is due and has the least key, and the first of several such. `None` exactly where no line is

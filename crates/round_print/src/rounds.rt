@@ -1,13 +1,14 @@
-ghost use Rattle.std.specs.Prelude.{◌≡◌, ◌<◌, [], length, IfOk};
+ghost use Rattle.std.specs.Prelude.{◌≡◌, ◌<◌, [], length, map, IfOk};
 ghost use Rattle.trace_outside.specs.Causes.{HasCause};
 ghost use Rattle.trace_outside.specs.Pending.{Puts};
 ghost use Rattle.line_holes.specs.Holes.{filled_bytes, hole_time, later};
+ghost use Rattle.page_pool.specs.Moved.{KeepsUnmoved};
 ghost use Rattle.time_merge.specs.LaneRows.{parts_of};
-ghost use Rattle.round_print.specs.Prints.{filled_text, first_line, printed};
-ghost use Rattle.round_print.specs.Rounds.{ArePrinted, AreRising, Gains, IsLineDropped};
+ghost use Rattle.round_print.specs.Prints.{filled_text, first_line, head_kept, printed};
+ghost use Rattle.round_print.specs.Rounds.{ArePrinted, AreRising, Gains, IsLineDropped, KeepsMarks, MarksPrinted};
 
 use crate::filling::put_filled;
-use crate::heads::{drop_line, head_kept, least_due, take_heads};
+use crate::heads::{drop_line, head_kept, least_due};
 use least_tree::LeastTree;
 use page_pool::Lane;
 use time_merge::Horizon;
@@ -36,32 +37,39 @@ fn print_first<O: Sink>(
     Ok(())
 }
 
-/// Puts the lines that are due, by key, then processor, then position, and keeps them no longer.
+/// Puts the lines that are due, by key, then processor, then position, keeps them no longer, and marks their lanes.
 fn put_round<O: Sink>(
     horizon: &Horizon,
     lanes: &mut [Lane],
     heads: &mut LeastTree,
+    moved: &mut [bool],
     last: &mut Option<u64>,
     pending: &mut Pending,
     out: &mut O,
 ) -> Result<(), Failed>
     requires rising { AreRising lanes.old }
-    requires heads { length heads.old ≡ length lanes.old }
+    requires heads { heads.old ≡ map head_kept lanes.old }
+    requires marks { length moved.old ≡ length lanes.old }
     ensures puts { Puts (filled_text last.old (printed horizon.now lanes.old)) (O.written out.old) pending.old
         (O.written out.new) pending.new result }
     ensures printed { IfOk result (λ _. ArePrinted horizon.now last.old last.new lanes.old lanes.new) }
-    ensures heads { length heads.new ≡ length heads.old }
+    ensures heads { IfOk result (λ _. heads.new ≡ map head_kept lanes.new) }
+    ensures slots { length heads.new ≡ length heads.old }
+    ensures marks { length moved.new ≡ length moved.old }
+    ensures unmoved { IfOk result (λ _. KeepsUnmoved moved.new lanes.old lanes.new) }
+    ensures marked { IfOk result (λ _. KeepsMarks moved.old moved.new) }
+    ensures anew { IfOk result (λ _. MarksPrinted lanes.old lanes.new moved.old moved.new) }
     ensures name { O.name out.new ≡ O.name out.old }
     ensures cause { HasCause (O.faults out.old) (O.faults out.new) result }
     ensures parts { parts_of lanes.new ≡ parts_of lanes.old }
 {
-    take_heads(lanes, heads);
     while let Some(i) = least_due(horizon, lanes, heads) {
         match print_first(&mut lanes[i], last, pending, out) {
             Ok(()) => {}
             Err(failed) => return Err(failed),
         }
         heads.set(i, head_kept(&lanes[i]));
+        moved[i] = true;
     }
     Ok(())
 }
@@ -71,30 +79,39 @@ fn put_round<O: Sink>(
 /// line with a hole. A region that keeps no line any more has all its bytes free.
 ///
 /// The lines go through `pending`, in which nothing waits before or behind: all of them are written when the call returns,
-/// in pieces as large as it has room for. `heads` is a tree with a slot for each lane, whatever is in it: the next line costs
-/// a step for each doubling of their number. After `Failed` the sink has a prefix of their text, and the lanes, which are
-/// still those of their processors, keep no longer what was put: they are not to be used again.
+/// in pieces as large as it has room for. `heads` is a tree of the lanes' first lines, a slot for each lane with its
+/// `head_kept`, in step before and behind: the next line costs a step for each doubling of their number. `moved` has a mark
+/// for each lane: a lane that has none behind the call is as it was before, no mark is taken away, and only a lane of which
+/// a line was printed is marked anew. After `Failed` the sink has a prefix of the lines' text, and the lanes, which are still
+/// those of their processors, keep no longer what was put: they are not to be used again.
 pub fn print_round<O: Sink>(
     horizon: &Horizon,
     lanes: &mut [Lane],
     heads: &mut LeastTree,
+    moved: &mut [bool],
     last: &mut Option<u64>,
     pending: &mut Pending,
     out: &mut O,
 ) -> Result<(), Failed>
     requires rising { AreRising lanes.old }
-    requires heads { length heads.old ≡ length lanes.old }
+    requires heads { heads.old ≡ map head_kept lanes.old }
+    requires marks { length moved.old ≡ length lanes.old }
     requires empty { pending.old ≡ [] }
     ensures written { Gains (O.written out.old) (O.written out.new)
         (filled_text last.old (printed horizon.now lanes.old)) result }
     ensures printed { IfOk result (λ _. ArePrinted horizon.now last.old last.new lanes.old lanes.new) }
     ensures name { O.name out.new ≡ O.name out.old }
     ensures cause { HasCause (O.faults out.old) (O.faults out.new) result }
-    ensures heads { length heads.new ≡ length heads.old }
+    ensures heads { IfOk result (λ _. heads.new ≡ map head_kept lanes.new) }
+    ensures slots { length heads.new ≡ length heads.old }
+    ensures marks { length moved.new ≡ length moved.old }
+    ensures unmoved { IfOk result (λ _. KeepsUnmoved moved.new lanes.old lanes.new) }
+    ensures marked { IfOk result (λ _. KeepsMarks moved.old moved.new) }
+    ensures anew { IfOk result (λ _. MarksPrinted lanes.old lanes.new moved.old moved.new) }
     ensures empty { IfOk result (λ _. pending.new ≡ []) }
     ensures parts { parts_of lanes.new ≡ parts_of lanes.old }
 {
-    match put_round(horizon, lanes, heads, last, pending, out) {
+    match put_round(horizon, lanes, heads, moved, last, pending, out) {
         Ok(()) => pending.flush(out),
         Err(failed) => Err(failed),
     }

@@ -1,10 +1,10 @@
 -- A new file is short, so that it reads back: each item of it stands in a sub-buffer at most, and the input has room for few
 -- items.
-use Rattle.std.proofs.Common.{◌≡◌, ℕ, zero, suc, ◌+◌, ◌*◌, ◌^◌, ◌<◌, ◌≤◌, Bool, true, false, eqb, leb, max, not, if◌then◌else◌, List, [], ◌∷◌, ◌++◌, length, map, Option, Some, None, Ok, refl, ap, ◌∙◌, inl, inr, arith}
+use Rattle.std.proofs.Common.{◌≡◌, ℕ, zero, suc, ◌+◌, ◌*◌, ◌^◌, ◌<◌, ◌≤◌, Bool, true, false, eqb, leb, max, not, if◌then◌else◌, List, [], ◌∷◌, ◌++◌, length, drop, map, get_or, Option, Some, None, Ok, refl, ap, ◌∙◌, inl, inr, arith}
 use Rattle.std.specs.List.{All, filter, flat_map, range_with_len}
 use Rattle.std.proofs.lemmas.Bool.{cases_Bool, eqb-true, leb-true, leb-false}
 use Rattle.std.proofs.lemmas.List.{length-append, length-map, length-replicate}
-use Rattle.std.proofs.lemmas.List.Elements.{All-nil, All-cons, All-head, All-tail}
+use Rattle.std.proofs.lemmas.List.Elements.{All-nil, All-cons, All-head, All-tail, All-append, All-drop, All-filter, All-map}
 use Rattle.std.proofs.lemmas.Grind.{div_ceil_times}
 use Rattle.std.proofs.Math.Nat.{mul-le-mul}
 use Rattle.std.proofs.Math.Pow.{pow_mono}
@@ -27,7 +27,6 @@ use Rattle.page_write.specs.Pack.{packed_behind, packed, pack}
 use Rattle.page_write.specs.Placed.{data_of}
 use Rattle.page_write.proofs.Lifting.{pack_len}
 use Rattle.page_write.proofs.Packable.{IsBytes, list_packable}
-use Rattle.time_merge.specs.Rows.{Each}
 use Rattle.trace_args.specs.Command.{SplitData}
 use Rattle.word_values.specs.declared.moment.Moment.{Moment}
 use Rattle.word_values.specs.declared.piece.PieceUnit.{PieceUnit}
@@ -46,9 +45,9 @@ use Rattle.split_tool.specs.Rules.{rules_of}
 use Rattle.split_tool.proofs.FewItems.{Few}
 use Rattle.split_pieces.proofs.SideBySide.{len_parts}
 use Rattle.split_tool.proofs.Making.{cut_few, left_few}
-use Rattle.split_tool.proofs.Owning.{each_append, each_filter, each_piece, each_up, each_by_key}
+use Rattle.split_tool.proofs.Owning.{all_piece, all_up}
 use Rattle.split_tool.proofs.Tables.{lists_more}
-use Rattle.time_merge.proofs.Choosing.{each_drop}
+use Rattle.time_merge.proofs.Parting.{all_by_key}
 use Rattle.split_passes.proofs.PieceLaws.{filter_few}
 
 abbrev Told : Layout → Keyed → Type 0
@@ -118,15 +117,11 @@ data_most l [] allowed a = omega arith
 data_most l (xs ∷ lists) allowed a =
     grind (arith, length-append (pack l xs) (flat_map (pack l) lists), pack_most l xs allowed (All-head (All (IsPackable l)) xs lists a), data_most l lists allowed (All-tail (All (IsPackable l)) xs lists a))
 
-all_items : (P : ItemData → Type 0) (xs : List Keyed) → Each (λ x. P x.item) xs → All P (map (λ x. x.item) xs)
-all_items P [] a = All-nil P
-all_items P (x ∷ xs) a = All-cons P x.item (map (λ x. x.item) xs) a.0 (all_items P xs a.1)
-
-owned_told : (l : Layout) (from n : ℕ) (xs : List Keyed) → Each (Told l) xs → All (All (IsPackable l)) (map (λ cpu. items_of_cpu cpu xs) (range_with_len from n))
+owned_told : (l : Layout) (from n : ℕ) (xs : List Keyed) → All (Told l) xs → All (All (IsPackable l)) (map (λ cpu. items_of_cpu cpu xs) (range_with_len from n))
 owned_told l from zero xs a = All-nil (All (IsPackable l))
 owned_told l from (suc n) xs a =
     All-cons (All (IsPackable l)) (items_of_cpu from xs) (map (λ cpu. items_of_cpu cpu xs) (range_with_len (from + 1) n))
-    (all_items (IsPackable l) (with_key cpu_of from xs) (each_filter (Told l) (λ x. eqb x.cpu from) xs a)) (owned_told l (from + 1) n xs a)
+    (All-map (IsPackable l) (λ (x : Keyed). x.item) (with_key cpu_of from xs) (All-filter (λ x. eqb x.cpu from) (Told l) xs a)) (owned_told l (from + 1) n xs a)
 
 lists_long : (cpus : ℕ) (xs : List Keyed) → length (lists_of cpus xs) ≡ cpus
 lists_long cpus xs = length-map (range_with_len 0 cpus) (λ cpu. items_of_cpu cpu xs) ∙ length-range_with_len 0 cpus
@@ -140,7 +135,7 @@ front_most header allowed =
     let long = length (header_text header (blank header.cpus)) in
     omega (arith, (div_ceil_times long header.page (page_some header.page allowed.page)).1, page_most header.page allowed.page)
 
-text_most : (header : Header) (xs : List Keyed) (n : ℕ) → IsHeader header → Each (Told header.layout) xs → length xs ≤ n
+text_most : (header : Header) (xs : List Keyed) (n : ℕ) → IsHeader header → All (Told header.layout) xs → length xs ≤ n
     → length (file_text header (lists_of header.cpus xs)) ≤ length (header_text header (blank header.cpus)) + 65536 + n * 262144
 unfolding file_text
 text_most header xs n allowed told few =
@@ -164,94 +159,97 @@ text_most header xs n allowed told few =
 
 record Fits (l : Layout) (most : ℕ) (xs : List Keyed) : Type 0 where
   few : Few (length xs) most
-  told : Each (Told l) xs
+  told : All (Told l) xs
 
 module _ (P : Keyed → Type 0) where
-  each_next : (unit : PieceUnit) (lists : List (List Keyed)) → Each (Each P) lists → Each P (next_file unit lists)
-  each_next unit [] a = tt
-  each_next unit (xs ∷ lists) a = each_append P (piece unit xs) (next_file unit lists) (each_piece P unit xs a.0) (each_next unit lists a.1)
+  all_next : (unit : PieceUnit) (lists : List (List Keyed)) → All (All P) lists → All P (next_file unit lists)
+  all_next unit [] a = All-nil P
+  all_next unit (xs ∷ lists) a =
+      All-append P (piece unit xs) (next_file unit lists) (all_piece P unit xs (All-head (All P) xs lists a)) (all_next unit lists (All-tail (All P) xs lists a))
 
-  each_behind : (unit : PieceUnit) (lists : List (List Keyed)) → Each (Each P) lists → Each (Each P) (behind_file unit lists)
-  each_behind unit [] a = tt
-  each_behind unit (xs ∷ lists) a = (each_drop P (length (piece unit xs)) xs a.0, each_behind unit lists a.1)
+  all_behind : (unit : PieceUnit) (lists : List (List Keyed)) → All (All P) lists → All (All P) (behind_file unit lists)
+  all_behind unit [] a = a
+  all_behind unit (xs ∷ lists) a =
+      let size = length (piece unit xs) in
+      All-cons (All P) (drop size xs) (behind_file unit lists) (All-drop P size xs (All-head (All P) xs lists a)) (all_behind unit lists (All-tail (All P) xs lists a))
 
-  each_start : (start : Option Moment) (xs : List Keyed) → Each P xs → Each P (from_start start xs)
-  each_start None xs a = a
-  each_start (Some m) xs a = each_filter P (λ x. not (is_before m x.key)) xs a
+  all_start : (start : Option Moment) (xs : List Keyed) → All P xs → All P (from_start start xs)
+  all_start None xs a = a
+  all_start (Some m) xs a = All-filter (λ x. not (is_before m x.key)) P xs a
 
-  each_left : (rules : Rules) (lists : List (List Keyed)) → Each (Each P) lists → Each (Each P) (map (left_in rules) lists)
-  each_left rules [] a = tt
-  each_left rules (xs ∷ lists) a = (each_up P rules.stop (from_start rules.start xs) (each_start rules.start xs a.0), each_left rules lists a.1)
+  all_left : (rules : Rules) (lists : List (List Keyed)) → All (All P) lists → All (All P) (map (left_in rules) lists)
+  all_left rules lists a = All-map (All P) (left_in rules) lists (λ i d lt.
+      let xs = get_or lists i d in
+      all_up P rules.stop (from_start rules.start xs) (all_start rules.start xs (a i d lt)))
 
-each_when : (Q : List Keyed → Type 0) (all : List Keyed) (more : List (List Keyed)) → Each Q more → Each Q (files_when all more)
-each_when Q [] more a = tt
-each_when Q (x ∷ xs) more a = a
+all_when : (Q : List Keyed → Type 0) (all : List Keyed) (more : List (List Keyed)) → All Q more → All Q (files_when all more)
+all_when Q [] more a = All-nil Q
+all_when Q (x ∷ xs) more a = a
 
-next_fits : (l : Layout) (most : ℕ) (unit : PieceUnit) (lists : List (List Keyed)) → Each (Each (Told l)) lists → Few (length (joined_lists lists)) most → Fits l most (next_file unit lists)
-next_fits l most unit lists told few = record { few = omega (arith, len_parts unit lists, few); told = each_next (Told l) unit lists told }
+next_fits : (l : Layout) (most : ℕ) (unit : PieceUnit) (lists : List (List Keyed)) → All (All (Told l)) lists → Few (length (joined_lists lists)) most → Fits l most (next_file unit lists)
+next_fits l most unit lists told few = record { few = omega (arith, len_parts unit lists, few); told = all_next (Told l) unit lists told }
 
-within_fit : (l : Layout) (most : ℕ) (unit : PieceUnit) (n : ℕ) (lists : List (List Keyed)) → Each (Each (Told l)) lists → Few (length (joined_lists lists)) most → Each (Fits l most) (files_within unit n lists)
-within_fit l most unit zero lists told few = tt
+within_fit : (l : Layout) (most : ℕ) (unit : PieceUnit) (n : ℕ) (lists : List (List Keyed)) → All (All (Told l)) lists → Few (length (joined_lists lists)) most → All (Fits l most) (files_within unit n lists)
+within_fit l most unit zero lists told few = All-nil (Fits l most)
 within_fit l most unit (suc n) lists told few =
     let behind = behind_file unit lists in
-    each_when (Fits l most) (joined_lists lists) (next_file unit lists ∷ files_within unit n behind)
-    (next_fits l most unit lists told few, within_fit l most unit n behind (each_behind (Told l) unit lists told) (omega (arith, len_parts unit lists, few)))
+    all_when (Fits l most) (joined_lists lists) (next_file unit lists ∷ files_within unit n behind)
+    (All-cons (Fits l most) (next_file unit lists) (files_within unit n behind) (next_fits l most unit lists told few)
+    (within_fit l most unit n behind (all_behind (Told l) unit lists told) (omega (arith, len_parts unit lists, few))))
 
-files_fit : (l : Layout) (most : ℕ) (rules : Rules) (lists : List (List Keyed)) → Each (Each (Told l)) lists → Few (length (joined_lists lists)) most → Each (Fits l most) (files rules lists)
+files_fit : (l : Layout) (most : ℕ) (rules : Rules) (lists : List (List Keyed)) → All (All (Told l)) lists → Few (length (joined_lists lists)) most → All (Fits l most) (files rules lists)
 files_fit l most rules lists told few =
     let left = map (left_in rules) lists in
-    let left_told = each_left (Told l) rules lists told in
+    let left_told = all_left (Told l) rules lists told in
     let fewer : Few (length (joined_lists left)) most = omega (arith, left_few rules lists, few) in
     let behind = behind_file rules.unit left in
-    let more : Each (Fits l most) (files_left rules.unit behind) =
-    within_fit l most rules.unit (length (joined_lists behind)) behind (each_behind (Told l) rules.unit left left_told) (omega (arith, len_parts rules.unit left, fewer)) in
-    (next_fits l most rules.unit left left_told fewer, by_repeat rules.repeat (files_left rules.unit behind) more)
+    let more : All (Fits l most) (files_left rules.unit behind) =
+    within_fit l most rules.unit (length (joined_lists behind)) behind (all_behind (Told l) rules.unit left left_told) (omega (arith, len_parts rules.unit left, fewer)) in
+    All-cons (Fits l most) _ _ (next_fits l most rules.unit left left_told fewer) (by_repeat rules.repeat (files_left rules.unit behind) more)
   where
-    by_repeat : (b : Bool) (more : List (List Keyed)) → Each (Fits l most) more → Each (Fits l most) (if b then more else [])
+    by_repeat : (b : Bool) (more : List (List Keyed)) → All (Fits l most) more → All (Fits l most) (if b then more else [])
     by_repeat true more a = a
-    by_repeat false more a = tt
+    by_repeat false more a = All-nil (Fits l most)
 
 -- WHAT THE INPUT TELLS
 
-keyed_told : (l : Layout) (cpu high : ℕ) (xs : List ItemData) → All (IsPackable l) xs → Each (Told l) (keyed_from cpu high xs)
-keyed_told l cpu high [] a = tt
-keyed_told l cpu high (x ∷ xs) a = (All-head (IsPackable l) x xs a, keyed_told l cpu (max high (item_time x)) xs (All-tail (IsPackable l) x xs a))
+keyed_told : (l : Layout) (cpu high : ℕ) (xs : List ItemData) → All (IsPackable l) xs → All (Told l) (keyed_from cpu high xs)
+keyed_told l cpu high [] a = All-nil (Told l)
+keyed_told l cpu high (x ∷ xs) a = All-cons (Told l) _ _ (All-head (IsPackable l) x xs a) (keyed_told l cpu (max high (item_time x)) xs (All-tail (IsPackable l) x xs a))
 
-own_told : (l : Layout) (file : List ℕ) (part : ℕ × Part) → IsLayout l → IsBytes file → Each (Told l) (own_list l file part)
+own_told : (l : Layout) (file : List ℕ) (part : ℕ × Part) → IsLayout l → IsBytes file → All (Told l) (own_list l file part)
 own_told l file part allowed bytes = keyed_told l part.0 0 (list_of l file part.1) (list_packable l file part.1 allowed bytes)
 
-all_told : (l : Layout) (file : List ℕ) (parts : List (ℕ × Part)) → IsLayout l → IsBytes file → Each (Told l) (all_keyed (lists_in l file parts))
-all_told l file [] allowed bytes = tt
+all_told : (l : Layout) (file : List ℕ) (parts : List (ℕ × Part)) → IsLayout l → IsBytes file → All (Told l) (all_keyed (lists_in l file parts))
+all_told l file [] allowed bytes = All-nil (Told l)
 all_told l file (p ∷ parts) allowed bytes =
-    each_append (Told l) (own_list l file p) (all_keyed (lists_in l file parts)) (own_told l file p allowed bytes) (all_told l file parts allowed bytes)
+    All-append (Told l) (own_list l file p) (all_keyed (lists_in l file parts)) (own_told l file p allowed bytes) (all_told l file parts allowed bytes)
 
-reached_told : (l : Layout) (file : List ℕ) (parts : List (ℕ × Part)) → IsLayout l → IsBytes file → Each (Told l) (reached_of l file parts)
+reached_told : (l : Layout) (file : List ℕ) (parts : List (ℕ × Part)) → IsLayout l → IsBytes file → All (Told l) (reached_of l file parts)
 unfolding reached_of arranged
 reached_told l file parts allowed bytes =
     let all = all_keyed (lists_in l file parts) in
-    each_filter (Told l) (is_up_to (cut_of l file parts)) (by_key key_of all) (each_by_key (Told l) all (all_told l file parts allowed bytes))
+    All-filter (is_up_to (cut_of l file parts)) (Told l) (by_key key_of all) (all_by_key key_of (Told l) all (all_told l file parts allowed bytes))
 
-cut_told : (l : Layout) (file : List ℕ) (rules : Rules) (parts : List (ℕ × Part)) → IsLayout l → IsBytes file → Each (Each (Told l)) (lists_to_cut rules l file parts)
+cut_told : (l : Layout) (file : List ℕ) (rules : Rules) (parts : List (ℕ × Part)) → IsLayout l → IsBytes file → All (All (Told l)) (lists_to_cut rules l file parts)
 cut_told l file rules parts allowed bytes = by_apart (is_apart rules)
   where
-    owns_told : (ps : List (ℕ × Part)) → Each (Each (Told l)) (map (own_list l file) ps)
-    owns_told [] = tt
-    owns_told (p ∷ ps) = (own_told l file p allowed bytes, owns_told ps)
-
-    by_apart : (b : Bool) → Each (Each (Told l)) (if b then map (own_list l file) parts else reached_of l file parts ∷ [])
-    by_apart true = owns_told parts
-    by_apart false = (reached_told l file parts allowed bytes, tt)
+    by_apart : (b : Bool) → All (All (Told l)) (if b then map (own_list l file) parts else reached_of l file parts ∷ [])
+    by_apart true = All-map (All (Told l)) (own_list l file) parts (λ i d lt. own_told l file (get_or parts i d) allowed bytes)
+    by_apart false = All-cons (All (Told l)) (reached_of l file parts) [] (reached_told l file parts allowed bytes) (All-nil (All (Told l)))
 
 -- ALL NEW FILES
 
 named_back : (header : Header) (base : List ℕ) (number most : ℕ) (lists : List (List Keyed)) → IsHeader header → length (header_text header (blank header.cpus)) ≤ 2 ^ 41 → most ≤ 1024 * 2 ^ 39
-    → Each (Fits header.layout most) lists → ReadBack header lists (files_from header base number lists)
+    → All (Fits header.layout most) lists → ReadBack header lists (files_from header base number lists)
 named_back header base number most [] allowed text few fit = tt
 named_back header base number most (xs ∷ lists) allowed text few fit =
-    let items : length xs ≤ 70367670452223 = omega (arith, fit.0.few, few) in
-    let short : length (file_text header (lists_of header.cpus xs)) < 2 ^ 64 = omega (arith, text_most header xs 70367670452223 allowed fit.0.told items, text) in (
-      reads_back_all header (lists_of header.cpus xs) allowed (lists_long header.cpus xs) (owned_told header.layout 0 header.cpus xs fit.0.told) short,
-      named_back header base (number + 1) most lists allowed text few fit.1,
+    let Fitting : List Keyed → Type 0 = Fits header.layout most in
+    let here : Fitting xs = All-head Fitting xs lists fit in
+    let items : length xs ≤ 70367670452223 = omega (arith, here.few, few) in
+    let short : length (file_text header (lists_of header.cpus xs)) < 2 ^ 64 = omega (arith, text_most header xs 70367670452223 allowed here.told items, text) in (
+      reads_back_all header (lists_of header.cpus xs) allowed (lists_long header.cpus xs) (owned_told header.layout 0 header.cpus xs here.told) short,
+      named_back header base (number + 1) most lists allowed text few (All-tail Fitting xs lists fit),
     )
 
 are_bytes : (bytes : List ℕ) → AreBytes bytes → IsBytes bytes

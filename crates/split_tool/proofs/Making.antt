@@ -26,7 +26,6 @@ use Rattle.page_pool.specs.declared.lane.Lane.{Lane}
 use Rattle.page_write.specs.Placed.{data_of}
 use Rattle.event_cursor.specs.Standing.{IsInOrder, Stands}
 use Rattle.event_cursor.specs.declared.places.Place.{Place}
-use Rattle.time_merge.specs.Rows.{Each}
 use Rattle.time_merge.specs.LaneRows.{parts_of}
 use Rattle.time_merge.proofs.Starting.{fresh_stands}
 use Rattle.time_merge.specs.declared.ending.End.{End}
@@ -57,8 +56,9 @@ use Rattle.new_files.specs.Stored.{NewFile, FilesStored}
 use Rattle.split_tool.proofs.Beginning.{started_lists, started_bad}
 use Rattle.split_tool.proofs.FewItems.{Few, few_keyed, few_reached}
 use Rattle.split_tool.proofs.FileAfterFile.{goes_on, ends as no_files, fewer_left, some_length}
-use Rattle.split_tool.proofs.Owning.{above, each_as}
+use Rattle.split_tool.proofs.Owning.{IsAfter, above}
 use Rattle.split_tool.proofs.Preparing.{left_still, first_cpu, other_parts}
+use Rattle.split_tool.proofs.Tables.{IsBelow, IsFrom}
 use Rattle.split_tool.proofs.Storing.{Stages, stages_none, stages_more, all_stored, some_stored, first_stored, unmade_since}
 use Rattle.split_passes.proofs.PieceLaws.{filter_few}
 use Rattle.split_passes.proofs.Running.{rises_tail}
@@ -116,22 +116,19 @@ cut_few l file rules parts allowed = by_apart (is_apart rules)
     by_apart true = let e : length (joined_lists (map (own_list l file) parts)) ≡ length (all_keyed (lists_in l file parts)) = ap length (own_joined l file parts) in omega (arith, e, few_keyed l file parts allowed)
     by_apart false = omega (arith, length-append (reached_of l file parts) [], few_reached l file parts allowed)
 
-lanes_few : (n k : ℕ) (lanes : List Lane) → CpusRise (parts_of lanes) → Each (λ (a : Lane). k ≤ a.cpu) lanes → All (λ (a : Lane). a.cpu < k + n) lanes → length lanes ≤ n
+lanes_few : (n k : ℕ) (lanes : List Lane) → CpusRise (parts_of lanes) → All (IsFrom k) lanes → All (IsBelow (k + n)) lanes → length lanes ≤ n
 lanes_few n k [] rise least most = omega arith
-lanes_few zero k (a ∷ lanes) rise least most = let lt : a.cpu < k + 0 = All-head (λ (x : Lane). x.cpu < k + 0) a lanes most in absurd (omega (arith, lt, least.0))
+lanes_few zero k (a ∷ lanes) rise least most = absurd (omega (arith, All-head (IsBelow (k + 0)) a lanes most, All-head (IsFrom k) a lanes least))
 lanes_few (suc n) k (a ∷ lanes) rise least most =
-    let lt : a.cpu < k + suc n = All-head (λ (x : Lane). x.cpu < k + suc n) a lanes most in
-    let later : Each (λ (x : Lane). k + 1 ≤ x.cpu) lanes = each_as (λ (x : Lane). a.cpu < x.cpu) (λ (x : Lane). k + 1 ≤ x.cpu) (λ x h. omega (arith, h, least.0)) lanes (above a lanes rise) in
-    let more : All (λ (x : Lane). x.cpu < k + 1 + n) lanes = All-weaker (λ (x : Lane). x.cpu < k + suc n) (λ (x : Lane). x.cpu < k + 1 + n) (λ x h. omega (arith, h)) lanes (All-tail (λ (x : Lane). x.cpu < k + suc n) a lanes most) in
+    let lt : a.cpu < k + suc n = All-head (IsBelow (k + suc n)) a lanes most in
+    let least_here : k ≤ a.cpu = All-head (IsFrom k) a lanes least in
+    let later : All (IsFrom (k + 1)) lanes = All-weaker (IsAfter a.cpu) (IsFrom (k + 1)) (λ x h. omega (arith, h, least_here)) lanes (above a lanes rise) in
+    let more : All (IsBelow (k + 1 + n)) lanes = All-weaker (IsBelow (k + suc n)) (IsBelow (k + 1 + n)) (λ x h. omega (arith, h)) lanes (All-tail (IsBelow (k + suc n)) a lanes most) in
     omega (arith, lanes_few n (k + 1) lanes (rises_tail a lanes rise) later more)
 
 pub few_lanes : (cpus : ℕ) (lanes : List Lane) → CpusRise (parts_of lanes) → All (λ (a : Lane). a.cpu < cpus) lanes → length lanes ≤ cpus
 few_lanes cpus lanes rise below =
-    lanes_few cpus 0 lanes rise (each_zero lanes) (All-weaker (λ (a : Lane). a.cpu < cpus) (λ (a : Lane). a.cpu < 0 + cpus) (λ a lt. omega (arith, lt)) lanes below)
-  where
-    each_zero : (rows : List Lane) → Each (λ (a : Lane). 0 ≤ a.cpu) rows
-    each_zero [] = tt
-    each_zero (a ∷ rows) = (omega arith, each_zero rows)
+    lanes_few cpus 0 lanes rise (λ i d lt. omega arith) (λ i d lt. omega (arith, below i d lt))
 
 -- FILE AFTER FILE
 

@@ -11,7 +11,7 @@ use Rattle.subpage.specs.Arrangement.{Keyed, CpusRise}
 use Rattle.subpage.specs.Cut.{Cut, cut_of}
 use Rattle.page_pool.specs.declared.lane.Lane.{Lane}
 use Rattle.event_cursor.specs.Standing.{Stands, left_of}
-use Rattle.time_merge.specs.Rows.{Row, Each, least_cut}
+use Rattle.time_merge.specs.Rows.{Row, least_cut}
 use Rattle.time_merge.specs.LaneRows.{parts_of, row_of, rows_of, to_come}
 use Rattle.time_merge.proofs.Starting.{cut_of_rows}
 use Rattle.word_values.specs.declared.moment.Moment.{Moment}
@@ -30,9 +30,8 @@ use Rattle.split_tool.specs.declared.lists.Ends.{Ends}
 use Rattle.split_tool.specs.Lists.{come_of, left_in_rows, bad_in_rows, lists_left, bad_left}
 use Rattle.split_tool.specs.Measured.{is_full, bad_of_end, PieceTaken, ListMeasured, taken_of, FileMeasured}
 use Rattle.split_tool.proofs.Beginning.{single, place_of, one_bad}
-use Rattle.split_tool.proofs.Owning.{each_at, own_apart}
-use Rattle.split_tool.proofs.OneByOne.{all_mid, still_mid, one_of, one_in_mid, first_more, put_more, put_others, Trios, trios_push, trio_at, trio_some, each_from}
-use Rattle.time_merge.proofs.Choosing.{each_take, each_drop}
+use Rattle.split_tool.proofs.Owning.{own_apart}
+use Rattle.split_tool.proofs.OneByOne.{all_mid, still_mid, one_of, one_in_mid, first_more, put_more, put_others, Trios, trios_push, trio_at, trio_some}
 
 -- ONE LIST
 
@@ -359,8 +358,8 @@ pub clear_mid : (l : Layout) (file : List ℕ) (rules : Rules) (i : ℕ) (first 
     → Tallied l (mid_of i (i + 1 - i) now) [] (mid_of i (i + 1 - i) tallies)
 clear_mid l file rules i first now tallies0 tallies ends lt long none s = λ j d e lt2.
     let Clear : Tally → Type 0 = λ t. IsTally l t [] in
-    let all : Each Clear (mid_of i (i + 1 - i) tallies) = subst (λ (ts : List Tally). Each Clear (take (i + 1 - i) ts)) (sym s.still) (each_take Clear (i + 1 - i) (drop i tallies0) (each_drop Clear i tallies0 (each_from Clear tallies0 none))) in
-    each_at Clear (mid_of i (i + 1 - i) tallies) j e (omega (arith, lt2, one_in_mid i now lt, one_in_mid i tallies (omega (arith, lt, long)))) all
+    let all : All Clear (mid_of i (i + 1 - i) tallies) = subst (λ (ts : List Tally). All Clear (take (i + 1 - i) ts)) (sym s.still) (all_mid Clear i (i + 1 - i) tallies0 none) in
+    all j e (omega (arith, lt2, one_in_mid i now lt, one_in_mid i tallies (omega (arith, lt, long))))
 
 pub still_stand : (l : Layout) (file : List ℕ) (rules : Rules) (i : ℕ) (first now : List Lane) (tallies0 tallies : List Tally) (ends : Ends) → All (Stands l file) first → MeasuredTo l file rules i first now tallies0 tallies ends
     → All (Stands l file) (mid_of i (i + 1 - i) now)

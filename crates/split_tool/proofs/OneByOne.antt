@@ -6,7 +6,6 @@ use Rattle.std.proofs.lemmas.List.Elements.{All-append, All-take, All-drop}
 use Rattle.std.proofs.lemmas.Slice.{take-put_mid, drop-put_mid}
 use Rattle.std.proofs.Math.Seq.{take-add}
 use borrow.Rule.Slice.PartMut.{mid_of, post_of, put_mid, put_same, mid_len}
-use Rattle.time_merge.specs.Rows.{Each}
 
 pub map_put : {X Y : Type 0} (f : X → Y) (i k : ℕ) (xs ys : List X) → map f ys ≡ map f (mid_of i k xs) → map f (put_mid i k xs ys) ≡ map f xs
 map_put {X} {Y} f i k xs ys e =
@@ -97,9 +96,3 @@ trio_some P (a ∷ xs) [] zs i d e ps lt = absurd ps
 trio_some P (a ∷ xs) (b ∷ ys) [] i d e ps lt = absurd ps
 trio_some P (a ∷ xs) (b ∷ ys) (c ∷ zs) zero d e ps lt = (c, ps.0)
 trio_some P (a ∷ xs) (b ∷ ys) (c ∷ zs) (suc i) d e ps lt = trio_some P xs ys zs i d e ps.1 (omega (arith, lt))
-
--- EACH OF A PART
-
-pub each_from : {X : Type 0} (P : X → Type 0) (xs : List X) → ((i : ℕ) (d : X) → i < length xs → P (get_or xs i d)) → Each P xs
-each_from P [] f = tt
-each_from P (x ∷ xs) f = (f 0 x (omega arith), each_from P xs (λ i d lt. f (suc i) d (omega (arith, lt))))

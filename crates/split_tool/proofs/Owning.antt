@@ -1,19 +1,21 @@
 -- Whose items a file takes.
-use Rattle.std.proofs.Common.{◌≡◌, ℕ, zero, suc, ◌+◌, ◌<◌, Bool, true, false, eqb, leb, max, nat_lt, not, if◌then◌else◌, List, [], ◌∷◌, ◌++◌, length, get_or, map, Option, Some, None, refl, sym, ap, ◌∙◌, append-nil, inl, inr, arith}
-use Rattle.std.specs.List.{filter, take_while}
+use Rattle.std.proofs.Common.{◌≡◌, ℕ, zero, suc, ◌+◌, ◌<◌, Bool, true, false, eqb, nat_lt, not, if◌then◌else◌, List, [], ◌∷◌, ◌++◌, length, get_or, map, Option, Some, None, refl, sym, ap, ◌∙◌, append-nil, inl, inr, arith}
+use Rattle.std.specs.List.{All, take_while}
 use Rattle.std.proofs.lemmas.Bool.{cases_Bool, ne_eqb}
 use Rattle.std.proofs.lemmas.List.{map-append}
-use Rattle.std.proofs.lemmas.List.Elements.{filter-append}
+use Rattle.std.proofs.lemmas.List.Elements.{All-nil, All-cons, All-head, All-tail, All-append, All-filter, All-map, All-weaker, filter-append}
 use Rattle.trace_base.specs.declared.layout.Layout.{Layout}
-use Rattle.subpage.specs.ItemData.{ItemData, item_time}
-use Rattle.subpage.specs.Arrangement.{Keyed, CpusRise, keyed_from, key_of, cpu_of, with_key, by_key, put}
+use Rattle.subpage.specs.ItemData.{ItemData}
+use Rattle.subpage.specs.Arrangement.{Keyed, CpusRise, key_of, cpu_of, with_key, by_key}
 use Rattle.page_pool.specs.declared.lane.Lane.{Lane}
 use Rattle.event_cursor.specs.Standing.{left_of}
-use Rattle.time_merge.specs.Rows.{Row, Each, together, up_to, least_cut}
+use Rattle.time_merge.specs.Rows.{Row, together, up_to, least_cut}
 use Rattle.time_merge.specs.LaneRows.{parts_of, row_of, rows_of}
+use Rattle.time_merge.proofs.LaneLaws.{keyed_own}
+use Rattle.time_merge.proofs.Parting.{all_by_key}
 use Rattle.word_values.specs.declared.moment.Moment.{Moment}
 use Rattle.word_values.specs.declared.piece.PieceUnit.{PieceUnit}
-use Rattle.word_values.specs.declared.piece.PieceUnit.TheVariants.{All, Nanos, Events}
+use Rattle.word_values.specs.declared.piece.PieceUnit.TheVariants as code
 use Rattle.split_pieces.specs.declared.rules.Rules.{Rules}
 use Rattle.split_pieces.specs.Moments.{is_past}
 use Rattle.split_pieces.specs.Cuts.{items_of_cpu, is_apart}
@@ -22,82 +24,56 @@ use Rattle.split_pieces.proofs.Cutting.{front_no, front_yes}
 use Rattle.split_tool.specs.Lists.{groups, come_of, left_in_rows, lists_left}
 use Rattle.split_passes.proofs.Running.{rises_tail}
 
-module _ {X : Type 0} (P : X → Type 0) where
-  pub each_append : (xs ys : List X) → Each P xs → Each P ys → Each P (xs ++ ys)
-  each_append [] ys a b = b
-  each_append (x ∷ xs) ys a b = (a.0, each_append xs ys a.1 b)
-
-  pub each_filter : (p : X → Bool) (xs : List X) → Each P xs → Each P (filter p xs)
-  each_filter p [] a = tt
-  each_filter p (x ∷ xs) a = elim (cases_Bool (p x)) [
-    | inl b ↦ rw b (a.0, each_filter p xs a.1)
-    | inr b ↦ rw b (each_filter p xs a.1)
-  ]
-
-  pub each_as : (Q : X → Type 0) → ((x : X) → P x → Q x) → (xs : List X) → Each P xs → Each Q xs
-  each_as Q f [] a = tt
-  each_as Q f (x ∷ xs) a = (f x a.0, each_as Q f xs a.1)
-
 module _ (P : Keyed → Type 0) where
-  each_front : (p : Keyed → Bool) (xs : List Keyed) → Each P xs → Each P (take_while p xs)
-  each_front p [] a = tt
-  each_front p (x ∷ xs) a = elim (cases_Bool (p x)) [
-    | inl b ↦ rw (front_yes p x xs b) (a.0, each_front p xs a.1)
-    | inr b ↦ rw (front_no p x xs b) tt
+  all_front : (p : Keyed → Bool) (xs : List Keyed) → All P xs → All P (take_while p xs)
+  all_front p [] a = a
+  all_front p (x ∷ xs) a = elim (cases_Bool (p x)) [
+    | inl b ↦ rw (front_yes p x xs b) (All-cons P x (take_while p xs) (All-head P x xs a) (all_front p xs (All-tail P x xs a)))
+    | inr b ↦ rw (front_no p x xs b) (All-nil P)
   ]
 
-  each_events : (n : ℕ) (xs : List Keyed) → Each P xs → Each P (up_to_event n xs)
-  each_events zero xs a = tt
-  each_events (suc n) [] a = tt
-  each_events (suc n) (x ∷ xs) a = (a.0, each_events (if is_event x then n else suc n) xs a.1)
+  all_events : (n : ℕ) (xs : List Keyed) → All P xs → All P (up_to_event n xs)
+  all_events zero xs a = All-nil P
+  all_events (suc n) [] a = a
+  all_events (suc n) (x ∷ xs) a =
+      let more : ℕ = if is_event x then n else suc n in
+      All-cons P x (up_to_event more xs) (All-head P x xs a) (all_events more xs (All-tail P x xs a))
 
-  pub each_piece : (unit : PieceUnit) (xs : List Keyed) → Each P xs → Each P (piece unit xs)
-  each_piece All xs a = a
-  each_piece (Nanos n) [] a = tt
-  each_piece (Nanos n) (x ∷ xs) a = each_front (λ y. nat_lt y.key (x.key + n)) (x ∷ xs) a
-  each_piece (Events n) xs a = each_events n xs a
+  pub all_piece : (unit : PieceUnit) (xs : List Keyed) → All P xs → All P (piece unit xs)
+  all_piece code.All xs a = a
+  all_piece (code.Nanos n) [] a = a
+  all_piece (code.Nanos n) (x ∷ xs) a = all_front (λ y. nat_lt y.key (x.key + n)) (x ∷ xs) a
+  all_piece (code.Events n) xs a = all_events n xs a
 
-  pub each_up : (stop : Option Moment) (xs : List Keyed) → Each P xs → Each P (up_to_end stop xs)
-  each_up None xs a = a
-  each_up (Some m) xs a = each_front (λ x. not (is_past m x.key)) xs a
+  pub all_up : (stop : Option Moment) (xs : List Keyed) → All P xs → All P (up_to_end stop xs)
+  all_up None xs a = a
+  all_up (Some m) xs a = all_front (λ x. not (is_past m x.key)) xs a
 
-  each_put : (x : Keyed) (xs : List Keyed) → P x → Each P xs → Each P (put key_of x xs)
-  each_put x [] p a = (p, tt)
-  each_put x (y ∷ ys) p a = elim (cases_Bool (leb x.key y.key)) [
-    | inl b ↦ rw b (p, a)
-    | inr b ↦ rw b (a.0, each_put x ys p a.1)
-  ]
+  abbrev pub RowAll : Row Keyed → Type 0
+  RowAll row = All P row.items
 
-  pub each_by_key : (xs : List Keyed) → Each P xs → Each P (by_key key_of xs)
-  each_by_key [] a = tt
-  each_by_key (x ∷ xs) a = each_put x (by_key key_of xs) a.0 (each_by_key xs a.1)
+  all_together : (rows : List (Row Keyed)) → All RowAll rows → All P (together rows)
+  all_together [] a = All-nil P
+  all_together (row ∷ rows) a = All-append P row.items (together rows) (All-head RowAll row rows a) (all_together rows (All-tail RowAll row rows a))
 
-  each_together : (rows : List (Row Keyed)) → Each (λ row. Each P row.items) rows → Each P (together rows)
-  each_together [] a = tt
-  each_together (row ∷ rows) a = each_append P row.items (together rows) a.0 (each_together rows a.1)
+  all_come : (rows : List (Row Keyed)) → All RowAll rows → All P (come_of rows)
+  all_come rows a = All-filter (λ x. up_to (least_cut rows) (key_of x) (cpu_of x)) P (by_key key_of (together rows)) (all_by_key key_of P (together rows) (all_together rows a))
 
-  pub each_come : (rows : List (Row Keyed)) → Each (λ row. Each P row.items) rows → Each P (come_of rows)
-  each_come rows a = each_filter P (λ x. up_to (least_cut rows) (key_of x) (cpu_of x)) (by_key key_of (together rows)) (each_by_key (together rows) (each_together rows a))
+  all_next : (unit : PieceUnit) (stop : Option Moment) (gs : List (List (Row Keyed))) → All (All RowAll) gs → All P (next_file unit (map (left_in_rows stop) gs))
+  all_next unit stop [] a = All-nil P
+  all_next unit stop (rows ∷ gs) a =
+      All-append P (piece unit (left_in_rows stop rows)) (next_file unit (map (left_in_rows stop) gs))
+      (all_piece unit (left_in_rows stop rows) (all_up stop (come_of rows) (all_come rows (All-head (All RowAll) rows gs a))))
+      (all_next unit stop gs (All-tail (All RowAll) rows gs a))
 
-  each_next : (unit : PieceUnit) (stop : Option Moment) (gs : List (List (Row Keyed))) → Each (λ rows. Each (λ row. Each P row.items) rows) gs → Each P (next_file unit (map (left_in_rows stop) gs))
-  each_next unit stop [] a = tt
-  each_next unit stop (rows ∷ gs) a =
-      each_append P (piece unit (left_in_rows stop rows)) (next_file unit (map (left_in_rows stop) gs))
-      (each_piece unit (left_in_rows stop rows) (each_up stop (come_of rows) (each_come rows a.0))) (each_next unit stop gs a.1)
+all_single : {X : Type 0} (Q : X → Type 0) (xs : List X) → All Q xs → All (All Q) (map (λ x. x ∷ []) xs)
+all_single Q xs a = All-map (All Q) (λ x. x ∷ []) xs (λ i d lt. All-cons Q (get_or xs i d) [] (a i d lt) (All-nil Q))
 
-each_single : {X : Type 0} (Q : X → Type 0) (xs : List X) → Each Q xs → Each (λ ys. Each Q ys) (map (λ x. x ∷ []) xs)
-each_single Q [] a = tt
-each_single Q (x ∷ xs) a = ((a.0, tt), each_single Q xs a.1)
-
-each_group : {X : Type 0} (Q : X → Type 0) (b : Bool) (xs : List X) → Each Q xs → Each (λ ys. Each Q ys) (if b then map (λ x. x ∷ []) xs else xs ∷ [])
-each_group Q true xs a = each_single Q xs a
-each_group Q false xs a = (a, tt)
+all_group : {X : Type 0} (Q : X → Type 0) (b : Bool) (xs : List X) → All Q xs → All (All Q) (if b then map (λ x. x ∷ []) xs else xs ∷ [])
+all_group Q true xs a = all_single Q xs a
+all_group Q false xs a = All-cons (All Q) xs [] a (All-nil (All Q))
 
 -- A PROCESSOR'S OWN
-
-each_keyed : (cpu high : ℕ) (xs : List ItemData) → Each (λ x. x.cpu ≡ cpu) (keyed_from cpu high xs)
-each_keyed cpu high [] = tt
-each_keyed cpu high (x ∷ xs) = (refl, each_keyed cpu (max high (item_time x)) xs)
 
 abbrev pub IsNot : ℕ → Keyed → Type 0
 IsNot c x = x.cpu ≡ c → ⊥
@@ -105,43 +81,42 @@ IsNot c x = x.cpu ≡ c → ⊥
 abbrev pub IsNotLane : ℕ → Lane → Type 0
 IsNotLane c a = a.cpu ≡ c → ⊥
 
-rows_not : (l : Layout) (file : List ℕ) (c : ℕ) (lanes : List Lane) → Each (IsNotLane c) lanes → Each (λ row. Each (IsNot c) row.items) (rows_of l file lanes)
-rows_not l file c [] a = tt
-rows_not l file c (x ∷ lanes) a =
-    (each_as (λ y. y.cpu ≡ x.cpu) (IsNot c) (λ y e f. a.0 (sym e ∙ f)) (row_of l file x).items (each_keyed x.cpu _ (left_of l file x)), rows_not l file c lanes a.1)
+-- its number is greater
+abbrev pub IsAfter : ℕ → Lane → Type 0
+IsAfter c a = c < a.cpu
 
-none_with : (c : ℕ) (xs : List Keyed) → Each (IsNot c) xs → with_key cpu_of c xs ≡ []
+abbrev IsOf : ℕ → Keyed → Type 0
+IsOf c x = x.cpu ≡ c
+
+rows_not : (l : Layout) (file : List ℕ) (c : ℕ) (lanes : List Lane) → All (IsNotLane c) lanes → All (RowAll (IsNot c)) (rows_of l file lanes)
+rows_not l file c lanes a = All-map (RowAll (IsNot c)) (row_of l file) lanes (λ i d lt.
+    let x : Lane = get_or lanes i d in
+    All-weaker (IsOf x.cpu) (IsNot c) (λ y e f. a i d lt (sym e ∙ f)) (row_of l file x).items (keyed_own x.cpu _ (left_of l file x)))
+
+none_with : (c : ℕ) (xs : List Keyed) → All (IsNot c) xs → with_key cpu_of c xs ≡ []
 none_with c [] a = refl
-none_with c (x ∷ xs) a = let b : eqb x.cpu c ≡ false = ne_eqb x.cpu c a.0 in rw b (none_with c xs a.1)
+none_with c (x ∷ xs) a = let b : eqb x.cpu c ≡ false = ne_eqb x.cpu c (All-head (IsNot c) x xs a) in rw b (none_with c xs (All-tail (IsNot c) x xs a))
 
-pub none_own : (c : ℕ) (xs : List Keyed) → Each (IsNot c) xs → items_of_cpu c xs ≡ []
+pub none_own : (c : ℕ) (xs : List Keyed) → All (IsNot c) xs → items_of_cpu c xs ≡ []
 none_own c xs a = ap (map (λ (x : Keyed). x.item)) (none_with c xs a)
 
 pub own_append : (c : ℕ) (xs ys : List Keyed) → items_of_cpu c (xs ++ ys) ≡ items_of_cpu c xs ++ items_of_cpu c ys
 own_append c xs ys = ap (map (λ (x : Keyed). x.item)) (filter-append (λ (y : Keyed). eqb y.cpu c) xs ys) ∙ map-append (λ (x : Keyed). x.item) (with_key cpu_of c xs) (with_key cpu_of c ys)
 
 -- a file takes no items of other processors
-pub none_else : (l : Layout) (file : List ℕ) (rules : Rules) (lanes : List Lane) (c : ℕ) → Each (IsNotLane c) lanes → items_of_cpu c (next_file rules.unit (lists_left l file rules lanes)) ≡ []
+pub none_else : (l : Layout) (file : List ℕ) (rules : Rules) (lanes : List Lane) (c : ℕ) → All (IsNotLane c) lanes → items_of_cpu c (next_file rules.unit (lists_left l file rules lanes)) ≡ []
 none_else l file rules lanes c a =
     let rows = rows_of l file lanes in
-    none_own c _ (each_next (IsNot c) rules.unit rules.stop (groups rules rows) (each_group (λ (row : Row Keyed). Each (IsNot c) row.items) (is_apart rules) rows (rows_not l file c lanes a)))
+    none_own c _ (all_next (IsNot c) rules.unit rules.stop (groups rules rows) (all_group (RowAll (IsNot c)) (is_apart rules) rows (rows_not l file c lanes a)))
 
 -- WHERE EACH LANE IS A LIST
 
-later_not : (a : Lane) (lanes : List Lane) → CpusRise (parts_of (a ∷ lanes)) → Each (IsNotLane a.cpu) lanes × Each (λ b. a.cpu < b.cpu) lanes
-later_not a [] r = (tt, tt)
-later_not a (b ∷ lanes) r =
-    let more = later_not b lanes r.1 in
-    let above : Each (λ (x : Lane). a.cpu < x.cpu) lanes = each_as (λ (x : Lane). b.cpu < x.cpu) (λ (x : Lane). a.cpu < x.cpu) (λ x lt. omega (arith, lt, r.0)) lanes more.1 in
-    ((λ e. omega (arith, e, r.0), each_as (λ (x : Lane). a.cpu < x.cpu) (IsNotLane a.cpu) (λ x lt e. omega (arith, lt, e)) lanes above), (r.0, above))
+pub above : (a : Lane) (lanes : List Lane) → CpusRise (parts_of (a ∷ lanes)) → All (IsAfter a.cpu) lanes
+above a [] r = All-nil (IsAfter a.cpu)
+above a (b ∷ lanes) r = All-cons (IsAfter a.cpu) b lanes r.0 (All-weaker (IsAfter b.cpu) (IsAfter a.cpu) (λ x lt. omega (arith, lt, r.0)) lanes (above b lanes r.1))
 
-pub above : (a : Lane) (lanes : List Lane) → CpusRise (parts_of (a ∷ lanes)) → Each (λ b. a.cpu < b.cpu) lanes
-above a lanes r = (later_not a lanes r).1
-
-pub each_at : {X : Type 0} (P : X → Type 0) (xs : List X) (i : ℕ) (d : X) → i < length xs → Each P xs → P (get_or xs i d)
-each_at P [] i d lt a = absurd (omega (arith, lt))
-each_at P (x ∷ xs) zero d lt a = a.0
-each_at P (x ∷ xs) (suc i) d lt a = each_at P xs i d (omega (arith, lt)) a.1
+later_not : (a : Lane) (lanes : List Lane) → CpusRise (parts_of (a ∷ lanes)) → All (IsNotLane a.cpu) lanes
+later_not a lanes r = All-weaker (IsAfter a.cpu) (IsNotLane a.cpu) (λ x lt e. omega (arith, lt, e)) lanes (above a lanes r)
 
 abbrev single : Row Keyed → List (Row Keyed)
 single row = row ∷ []
@@ -149,10 +124,12 @@ single row = row ∷ []
 abbrev own_piece : Layout → List ℕ → PieceUnit → Option Moment → Lane → List Keyed
 own_piece l file unit stop a = piece unit (left_in_rows stop (row_of l file a ∷ []))
 
-mine_of : (l : Layout) (file : List ℕ) (unit : PieceUnit) (stop : Option Moment) (a : Lane) → Each (λ x. x.cpu ≡ a.cpu) (own_piece l file unit stop a)
+mine_of : (l : Layout) (file : List ℕ) (unit : PieceUnit) (stop : Option Moment) (a : Lane) → All (IsOf a.cpu) (own_piece l file unit stop a)
 mine_of l file unit stop a =
-    let P : Keyed → Type 0 = λ x. x.cpu ≡ a.cpu in
-    each_piece P unit (left_in_rows stop (row_of l file a ∷ [])) (each_up P stop (come_of (row_of l file a ∷ [])) (each_come P (row_of l file a ∷ []) (each_keyed a.cpu _ (left_of l file a), tt)))
+    let P : Keyed → Type 0 = IsOf a.cpu in
+    let row = row_of l file a in
+    let own : All (RowAll P) (row ∷ []) = All-cons (RowAll P) row [] (keyed_own a.cpu _ (left_of l file a)) (All-nil (RowAll P)) in
+    all_piece P unit (left_in_rows stop (row ∷ [])) (all_up P stop (come_of (row ∷ [])) (all_come P (row ∷ []) own))
 
 pub own_apart : (l : Layout) (file : List ℕ) (unit : PieceUnit) (stop : Option Moment) (lanes : List Lane) (i : ℕ) (d : Lane) → CpusRise (parts_of lanes) → i < length lanes
     → items_of_cpu (get_or lanes i d).cpu (next_file unit (map (left_in_rows stop) (map single (rows_of l file lanes)))) ≡ items_of_cpu (get_or lanes i d).cpu (own_piece l file unit stop (get_or lanes i d))
@@ -161,14 +138,14 @@ own_apart l file unit stop (a ∷ lanes) zero d rise lt =
     let here = own_piece l file unit stop a in
     let rows = rows_of l file lanes in
     let more = next_file unit (map (left_in_rows stop) (map single rows)) in
-    let none : items_of_cpu a.cpu more ≡ [] = none_own a.cpu more (each_next (IsNot a.cpu) unit stop (map single rows) (each_single (λ (row : Row Keyed). Each (IsNot a.cpu) row.items) rows (rows_not l file a.cpu lanes (later_not a lanes rise).0))) in
+    let none : items_of_cpu a.cpu more ≡ [] = none_own a.cpu more (all_next (IsNot a.cpu) unit stop (map single rows) (all_single (RowAll (IsNot a.cpu)) rows (rows_not l file a.cpu lanes (later_not a lanes rise)))) in
     own_append a.cpu here more ∙ ap (λ (xs : List ItemData). items_of_cpu a.cpu here ++ xs) none ∙ append-nil (items_of_cpu a.cpu here)
 own_apart l file unit stop (a ∷ lanes) (suc i) d rise lt =
     let here = own_piece l file unit stop a in
     let rows = rows_of l file lanes in
     let more = next_file unit (map (left_in_rows stop) (map single rows)) in
     let c = (get_or lanes i d).cpu in
-    let higher : a.cpu < c = each_at (λ (b : Lane). a.cpu < b.cpu) lanes i d (omega (arith, lt)) (later_not a lanes rise).1 in
-    let none : items_of_cpu c here ≡ [] = none_own c here (each_as (λ (x : Keyed). x.cpu ≡ a.cpu) (IsNot c) (λ x e f. omega (arith, e, f, higher)) here (mine_of l file unit stop a)) in
+    let higher : a.cpu < c = above a lanes rise i d (omega (arith, lt)) in
+    let none : items_of_cpu c here ≡ [] = none_own c here (All-weaker (IsOf a.cpu) (IsNot c) (λ x e f. omega (arith, e, f, higher)) here (mine_of l file unit stop a)) in
     own_append c here more ∙ ap (λ (xs : List ItemData). xs ++ items_of_cpu c more) none
     ∙ own_apart l file unit stop lanes i d (rises_tail a lanes rise) (omega (arith, lt))

@@ -1,9 +1,9 @@
 -- A file between its two passes.
-use Rattle.std.proofs.Common.{◌≡◌, ℕ, ◌+◌, ◌%◌, ◌^◌, ◌<◌, ◌≤◌, List, [], ◌∷◌, ◌++◌, length, get_or, map, Option, Some, None, refl, sym, ap, subst, ◌∙◌, arith}
+use Rattle.std.proofs.Common.{◌≡◌, ℕ, ◌%◌, ◌^◌, ◌<◌, List, [], ◌∷◌, ◌++◌, length, get_or, map, Option, Some, None, refl, sym, ap, subst, ◌∙◌, arith}
 use Rattle.std.specs.Option.{IfSome}
 use Rattle.std.specs.List.{All, filter_map, slice_get}
 use Rattle.std.proofs.lemmas.List.{length-append, length-map, get_or-map}
-use Rattle.std.proofs.lemmas.List.Elements.{All-get_or, All-head, All-tail}
+use Rattle.std.proofs.lemmas.List.Elements.{All-get_or}
 use Rattle.trace_base.specs.declared.layout.Layout.{Layout}
 use Rattle.trace_base.specs.declared.part.Part.{Part}
 use Rattle.trace_base.specs.Layout.{IsLayout}
@@ -22,7 +22,7 @@ use Rattle.event_cursor.specs.Standing.{IsInOrder, Stands, left_of}
 use Rattle.event_cursor.specs.Places.{IsPlace, place_in, left_behind}
 use Rattle.event_cursor.specs.declared.places.Place.{Place}
 use Rattle.event_cursor.proofs.Returning.{is_place, left_is_behind}
-use Rattle.time_merge.specs.Rows.{Row, Each}
+use Rattle.time_merge.specs.Rows.{Row}
 use Rattle.time_merge.specs.LaneRows.{parts_of, rows_of, IsReady}
 use Rattle.time_merge.specs.declared.ending.End.{End}
 use Rattle.time_merge.specs.declared.ending.End.TheVariants as code
@@ -102,14 +102,10 @@ abbrev pub other_parts : List (ℕ × Part) → List (ℕ × Part)
 other_parts [] = []
 other_parts (p ∷ parts) = parts
 
-other_lanes : (c : ℕ) (now first : List Lane) → parts_of now ≡ parts_of first → Each (IsNotLane c) now → Each (IsNotLane c) first
-other_lanes c [] [] e a = tt
-other_lanes c [] (b ∷ first) e a = absurd cc
-other_lanes c (b ∷ now) [] e a = absurd cc
-other_lanes c (b ∷ now) (f ∷ first) e a =
-    let cpu : b.cpu ≡ f.cpu = ap first_cpu e in
-    let more : parts_of now ≡ parts_of first = ap other_parts e in
-    ((λ same. a.0 (cpu ∙ same)), other_lanes c now first more a.1)
+other_lanes : (c : ℕ) (now first : List Lane) → parts_of now ≡ parts_of first → All (IsNotLane c) now → All (IsNotLane c) first
+other_lanes c now first e a i d lt is =
+    let inside : i < length now = omega (arith, lt, same_length now first e) in
+    a i d inside (same_cpu now first i d inside lt e ∙ is)
 
 counted : (l : Layout) (file : List ℕ) (rules : Rules) (first now : List Lane) (tallies : List Tally) → parts_of now ≡ parts_of first → Tallied l first (taken_of l file rules first) tallies → FewEach first (taken_of l file rules first)
     → AreCounted l now tallies (taken_of l file rules first)
@@ -150,20 +146,10 @@ left_still l file rules first first1 now now1 ends same same1 stands f = record 
   bad = λ again. same_bad l file rules now1 now same1 ∙ f.bad again ∙ same_bad l file rules first1 first same;
 }
 
-cpus_below : (n : ℕ) (lanes : List Lane) → All (λ (a : Lane). a.cpu < n) lanes → Each (λ (a : Lane). a.cpu < 0 + n) lanes
-cpus_below n [] a = tt
-cpus_below n (x ∷ lanes) a =
-    let lt : x.cpu < n = All-head (λ (y : Lane). y.cpu < n) x lanes a in
-    (omega (arith, lt), cpus_below n lanes (All-tail (λ (y : Lane). y.cpu < n) x lanes a))
-
-cpus_from : (lanes : List Lane) → Each (λ (a : Lane). 0 ≤ a.cpu) lanes
-cpus_from [] = tt
-cpus_from (x ∷ lanes) = (omega arith, cpus_from lanes)
-
 data_all : (l : Layout) (file : List ℕ) (rules : Rules) (lanes : List Lane) (cpus : ℕ) → CpusRise (parts_of lanes) → All (λ (a : Lane). a.cpu < cpus) lanes
     → data_of l (owns lanes (taken_of l file rules lanes)) ≡ data_of l (lists_of cpus (taken_of l file rules lanes))
 unfolding data_of
-data_all l file rules lanes cpus rise below = same_data l (taken_of l file rules lanes) cpus 0 lanes rise (cpus_from lanes) (cpus_below cpus lanes below) (λ c le others. none_else l file rules lanes c others)
+data_all l file rules lanes cpus rise below = same_data l (taken_of l file rules lanes) cpus 0 lanes rise (λ i d lt. omega arith) (λ i d lt. omega (arith, below i d lt)) (λ c le others. none_else l file rules lanes c others)
 
 pub prepared : (header : Header) (file : List ℕ) (rules : Rules) (first ready now : List Lane) (fronts : List Place) (tallies : List Tally) (table0 table : List Part) (at : ℕ) (ends : Ends)
     → IsHeader header → CpusRise (parts_of first) → All (λ (a : Lane). a.cpu < header.cpus) first → rows_of header.layout file ready ≡ rows_of header.layout file first → parts_of ready ≡ parts_of first → parts_of now ≡ parts_of ready

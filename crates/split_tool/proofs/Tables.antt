@@ -1,8 +1,9 @@
 -- The parts of a new file, processor after processor.
 use Rattle.std.proofs.Common.{◌≡◌, ℕ, zero, suc, ◌+◌, ◌-◌, ◌*◌, ◌%◌, ◌^◌, ◌<◌, ◌≤◌, eqb, List, [], ◌∷◌, ◌++◌, length, get_or, set, take, map, refl, sym, ap, subst, ◌∙◌, inl, inr, arith}
-use Rattle.std.specs.List.{flat_map, range_with_len}
+use Rattle.std.specs.List.{All, flat_map, range_with_len}
 use Rattle.std.proofs.lemmas.Bool.{cases_Bool, cases_lt, eqb-true, eqb-false}
 use Rattle.std.proofs.lemmas.List.{take_all}
+use Rattle.std.proofs.lemmas.List.Elements.{All-nil, All-cons, All-head, All-tail, All-weaker}
 use Rattle.std.proofs.lemmas.List.FromFn.{map-range_with_len_more}
 use Rattle.trace_base.specs.declared.layout.Layout.{Layout}
 use Rattle.trace_base.specs.declared.part.Part.{Part}
@@ -12,7 +13,6 @@ use Rattle.page_pool.specs.declared.lane.Lane.{Lane}
 use Rattle.page_write.specs.PageBytes.{page_of}
 use Rattle.page_write.specs.Pack.{packed, pack}
 use Rattle.page_write.specs.Placed.{parts_from}
-use Rattle.time_merge.specs.Rows.{Each}
 use Rattle.time_merge.specs.LaneRows.{parts_of}
 use Rattle.split_pieces.specs.Cuts.{items_of_cpu}
 use Rattle.split_passes.specs.AllAgain.{owns}
@@ -20,8 +20,7 @@ use Rattle.split_passes.specs.Tallies.{IsTally}
 use Rattle.split_passes.specs.declared.tally.Tally.{Tally}
 use Rattle.dat_header.specs.Tables.{in_table}
 use Rattle.split_tool.specs.Counted.{lists_of, AreCounted}
-use Rattle.split_tool.proofs.Owning.{IsNotLane, each_as, each_at, above}
-use Rattle.split_tool.proofs.OneByOne.{each_from}
+use Rattle.split_tool.proofs.Owning.{IsAfter, IsNotLane, above}
 use Rattle.split_passes.proofs.Running.{rises_tail}
 
 -- SIZES
@@ -116,33 +115,39 @@ pub pack_nil : (l : Layout) → pack l [] ≡ []
 unfolding pack
 pack_nil l = ap (flat_map (page_of l)) (packed_nil l)
 
+abbrev pub IsFrom : ℕ → Lane → Type 0
+IsFrom k a = k ≤ a.cpu
+
+abbrev pub IsBelow : ℕ → Lane → Type 0
+IsBelow n a = a.cpu < n
+
 -- the lanes' own items are those of all processors
-pub same_data : (l : Layout) (xs : List Keyed) (n k : ℕ) (lanes : List Lane) → CpusRise (parts_of lanes) → Each (λ a. k ≤ a.cpu) lanes → Each (λ a. a.cpu < k + n) lanes
-    → ((c : ℕ) → k ≤ c → Each (IsNotLane c) lanes → items_of_cpu c xs ≡ [])
+pub same_data : (l : Layout) (xs : List Keyed) (n k : ℕ) (lanes : List Lane) → CpusRise (parts_of lanes) → All (IsFrom k) lanes → All (IsBelow (k + n)) lanes
+    → ((c : ℕ) → k ≤ c → All (IsNotLane c) lanes → items_of_cpu c xs ≡ [])
     → flat_map (pack l) (owns lanes xs) ≡ flat_map (pack l) (map (λ c. items_of_cpu c xs) (range_with_len k n))
 same_data l xs zero k [] rise least most none = refl
-same_data l xs zero k (a ∷ lanes) rise least most none = absurd (omega (arith, least.0, most.0))
+same_data l xs zero k (a ∷ lanes) rise least most none = absurd (omega (arith, All-head (IsFrom k) a lanes least, All-head (IsBelow (k + 0)) a lanes most))
 same_data l xs (suc n) k [] rise least most none =
     let more = flat_map (pack l) (map (λ c. items_of_cpu c xs) (range_with_len (k + 1) n)) in
-    let here : pack l (items_of_cpu k xs) ≡ [] = ap (pack l) (none k (omega arith) tt) ∙ pack_nil l in
-    same_data l xs n (k + 1) [] tt tt tt (λ c le a. none c (omega (arith, le)) a) ∙ ap (λ (bytes : List ℕ). bytes ++ more) (sym here)
+    let here : pack l (items_of_cpu k xs) ≡ [] = ap (pack l) (none k (omega arith) (All-nil (IsNotLane k))) ∙ pack_nil l in
+    same_data l xs n (k + 1) [] tt (All-nil (IsFrom (k + 1))) (All-nil (IsBelow (k + 1 + n))) (λ c le a. none c (omega (arith, le)) a) ∙ ap (λ (bytes : List ℕ). bytes ++ more) (sym here)
 same_data l xs (suc n) k (a ∷ lanes) rise least most none = elim (cases_Bool (eqb a.cpu k)) [
   | inl b ↦
       let same : a.cpu ≡ k = eqb-true a.cpu k b in
-      let higher = above a lanes rise in
       ap (λ (c : ℕ). pack l (items_of_cpu c xs) ++ flat_map (pack l) (owns lanes xs)) same
       ∙ ap (λ (bytes : List ℕ). pack l (items_of_cpu k xs) ++ bytes) (same_data l xs n (k + 1) lanes (rises_tail a lanes rise)
-      (each_as (λ (x : Lane). a.cpu < x.cpu) (λ (x : Lane). k + 1 ≤ x.cpu) (λ x lt. omega (arith, lt, same)) lanes higher)
-      (each_as (λ (x : Lane). x.cpu < k + suc n) (λ (x : Lane). x.cpu < k + 1 + n) (λ x lt. omega (arith, lt)) lanes most.1)
-      (λ c le others. none c (omega (arith, le)) ((λ e. omega (arith, e, same, le)), others)))
+      (All-weaker (IsAfter a.cpu) (IsFrom (k + 1)) (λ x lt. omega (arith, lt, same)) lanes (above a lanes rise))
+      (All-weaker (IsBelow (k + suc n)) (IsBelow (k + 1 + n)) (λ x lt. omega (arith, lt)) lanes (All-tail (IsBelow (k + suc n)) a lanes most))
+      (λ c le others. none c (omega (arith, le)) (All-cons (IsNotLane c) a lanes (λ e. omega (arith, e, same, le)) others)))
   | inr b ↦
       let other : a.cpu ≡ k → ⊥ = eqb-false a.cpu k b in
-      let higher : Each (λ (x : Lane). a.cpu < x.cpu) lanes = above a lanes rise in
-      let later : Each (λ (x : Lane). k + 1 ≤ x.cpu) lanes = each_as (λ (x : Lane). a.cpu < x.cpu) (λ (x : Lane). k + 1 ≤ x.cpu) (λ x lt. omega (arith, lt, least.0)) lanes higher in
-      let here : pack l (items_of_cpu k xs) ≡ [] = ap (pack l) (none k (omega arith) (other, each_as (λ (x : Lane). k + 1 ≤ x.cpu) (IsNotLane k) (λ x le e. omega (arith, le, e)) lanes later)) ∙ pack_nil l in
+      let least_here : IsFrom k a = All-head (IsFrom k) a lanes least in
+      let later : All (IsFrom (k + 1)) (a ∷ lanes) =
+      All-cons (IsFrom (k + 1)) a lanes (omega (arith, least_here, other)) (All-weaker (IsAfter a.cpu) (IsFrom (k + 1)) (λ x lt. omega (arith, lt, least_here)) lanes (above a lanes rise)) in
+      let here : pack l (items_of_cpu k xs) ≡ [] = ap (pack l) (none k (omega arith) (All-weaker (IsFrom (k + 1)) (IsNotLane k) (λ x le e. omega (arith, le, e)) (a ∷ lanes) later)) ∙ pack_nil l in
       let more = flat_map (pack l) (map (λ c. items_of_cpu c xs) (range_with_len (k + 1) n)) in
-      same_data l xs n (k + 1) (a ∷ lanes) rise (omega (arith, least.0, other), later)
-      (omega (arith, most.0), each_as (λ (x : Lane). x.cpu < k + suc n) (λ (x : Lane). x.cpu < k + 1 + n) (λ x lt. omega (arith, lt)) lanes most.1)
+      same_data l xs n (k + 1) (a ∷ lanes) rise later
+      (All-weaker (IsBelow (k + suc n)) (IsBelow (k + 1 + n)) (λ x lt. omega (arith, lt)) (a ∷ lanes) most)
       (λ c le others. none c (omega (arith, le)) others)
       ∙ ap (λ (bytes : List ℕ). bytes ++ more) (sym here)
 ]
@@ -157,7 +162,7 @@ default_free (x ∷ xs) (suc i) d e lt = default_free xs i d e (omega (arith, lt
 pub rise_at : (lanes : List Lane) (i j : ℕ) (d : Lane) → CpusRise (parts_of lanes) → i < j → j < length lanes → (get_or lanes i d).cpu < (get_or lanes j d).cpu
 rise_at [] i j d rise lt inside = absurd (omega (arith, inside))
 rise_at (a ∷ lanes) i zero d rise lt inside = absurd (omega (arith, lt))
-rise_at (a ∷ lanes) zero (suc j) d rise lt inside = each_at (λ (b : Lane). a.cpu < b.cpu) lanes j d (omega (arith, inside)) (above a lanes rise)
+rise_at (a ∷ lanes) zero (suc j) d rise lt inside = above a lanes rise j d (omega (arith, inside))
 rise_at (a ∷ lanes) (suc i) (suc j) d rise lt inside = rise_at lanes i j d (rises_tail a lanes rise) (omega (arith, lt)) (omega (arith, inside))
 
 -- no lane is this processor's
@@ -185,11 +190,11 @@ before_lane lanes next cpu here before j d lt = elim (cases_Bool (eqb j next)) [
 ]
 
 no_lane : (lanes : List Lane) (next cpu : ℕ) → ((j : ℕ) (d : Lane) → j < next → (get_or lanes j d).cpu < cpu) → ((j : ℕ) (d : Lane) → next ≤ j → j < length lanes → cpu + 1 ≤ (get_or lanes j d).cpu)
-    → Each (IsNotLane cpu) lanes
-no_lane lanes next cpu before behind = each_from (IsNotLane cpu) lanes (λ j d lt same. elim (cases_lt j next) [
+    → All (IsNotLane cpu) lanes
+no_lane lanes next cpu before behind j d lt same = elim (cases_lt j next) [
   | inl less ↦ omega (arith, before j d less, same)
   | inr le ↦ omega (arith, behind j d le lt, same)
-])
+]
 
 pub filled_empty : (l : Layout) (at cpu next : ℕ) (lanes : List Lane) (tallies : List Tally) (xs : List Keyed) (place : ℕ) (table : List Part) → cpu < length table → CpusRise (parts_of lanes)
     → (next < length lanes → (d : Lane) → (get_or lanes next d).cpu ≡ cpu → ⊥) → ((j : ℕ) (d : Lane) → j < next → (get_or lanes j d).cpu < cpu) → ((j : ℕ) (d : Lane) → next ≤ j → j < length lanes → cpu ≤ (get_or lanes j d).cpu)

@@ -7,6 +7,7 @@ use Rattle.trace_base.specs.declared.part.Part.{Part}
 use Rattle.trace_outside.specs.declared.counts.Counts.{Counts}
 use Rattle.trace_outside.specs.Causes.{Rose, raised}
 use Rattle.trace_outside.specs.Names.{NamedFiles}
+use Rattle.trace_outside.specs.Seen.{FolderSeen}
 use Rattle.trace_outside.specs.Writing.{Gained}
 use Rattle.dat_header.specs.declared.header.Header.{Header}
 use Rattle.subpage.specs.ItemData.{ItemData}
@@ -79,11 +80,6 @@ pub record FilePlan : Type 0 where
 pub record Made (plan : FilePlan) (file : List ℕ) (first now : List Lane) (old new : Option NamedFiles) (ends : Ends) : Type 0 where
   pub left : FileLeft plan.header.layout file plan.rules first now ends
   pub stored : IfSome old (λ files. new ≡ Some (insert files plan.name (next_text plan.header file plan.rules first)))
-
--- what a folder shows
-pub record FolderSeen : Type 0 where
-  pub files : Option NamedFiles
-  pub counts : Counts
 
 -- Over a file with these bytes: a file was finished; after a fault of reading the folder is as it was, and after one of writing
 -- the name is unless finishing it failed.

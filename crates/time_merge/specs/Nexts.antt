@@ -1,5 +1,5 @@
 -- Which lane is next.
-use Rattle.std.specs.Prelude.{◌≡◌, ◌≢◌, ℕ, ◌<◌, List, [], ◌∷◌, length, slice_set, slice_index_or, Option, Some, None}
+use Rattle.std.specs.Prelude.{◌≡◌, ◌≢◌, ℕ, ◌<◌, All, List, [], ◌∷◌, length, slice_set, slice_index_or, Option, Some, None}
 pub use Rattle.least_tree.specs.Least.{IsLeastOf, IsLeastAt}
 use Rattle.trace_base.specs.declared.layout.Layout.{Layout}
 use Rattle.subpage.specs.Arrangement.{Keyed}
@@ -10,11 +10,11 @@ use Rattle.event_cursor.specs.Keys.{first_of}
 use Rattle.event_cursor.specs.Standing.{held_left, keyed_held}
 use Rattle.time_merge.specs.declared.next_lanes.Next.{Next}
 use Rattle.time_merge.specs.declared.next_lanes.Next.TheVariants as code
-use Rattle.time_merge.specs.Rows.{Each, least_cut}
+use Rattle.time_merge.specs.Rows.{least_cut}
 use Rattle.time_merge.specs.LaneRows.{IsReady, next_of, rows_of, to_come}
 
 abbrev pub IsBest : List (Option (Option ℕ)) → Option (ℕ × Option ℕ) → Type 0
-IsBest nexts None = Each (λ next. next ≡ None) nexts
+IsBest nexts None = All (λ next. next ≡ None) nexts
 IsBest nexts (Some best) = IsLeastOf nexts best.0 best.1
 
 -- Lane i holds the next of the reached items that are left: it is the lane's first, and once it is used the others are left.

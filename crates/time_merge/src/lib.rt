@@ -4,6 +4,10 @@
 //! is one list, `to_come` in `specs/LaneRows.antt`: [`next_lane_by`] tells its first item, by a tree of what comes next of
 //! each lane, and whoever steps that lane has its rest. [`next_lane`] tells the same by a look at every lane: it is the
 //! plain call beside the fast one. Over fresh lanes the list is that of the reached items ([`laws`]).
+//!
+//! Whoever takes many items at once makes the lanes ready, all of them ([`make_all_ready`]) or, where a mark tells which
+//! ones moved, those alone ([`make_moved_ready`]; [`wants_load`] tells which lanes are to have a mark), and asks for the
+//! [`horizon`] up to which their items are known, by a tree of the lanes' greatest times ([`high_of`]).
 #![tactic(auto)]
 
 mod best;
@@ -18,9 +22,9 @@ mod setting;
 
 pub use best::better;
 pub use ending::End;
-pub use highs::horizon;
+pub use highs::{high_of, horizon};
 pub use horizons::Horizon;
 pub use in_step::next_lane_by;
 pub use next_lanes::{Next, next_lane};
-pub use ready::make_all_ready;
+pub use ready::{make_all_ready, make_moved_ready, wants_load};
 pub use setting::set_lanes;

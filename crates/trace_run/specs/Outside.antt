@@ -1,13 +1,8 @@
 -- What is seen of the outside at one moment: a folder, and the output beside it.
 use Rattle.std.specs.Prelude.{Option, ℕ, List}
-use Rattle.trace_outside.specs.declared.counts.Counts.{Counts}
 use Rattle.trace_outside.specs.declared.outside.Folder as folder_trait
 use Rattle.trace_outside.specs.declared.outside.Sink as sink_trait
-use Rattle.trace_outside.specs.Names.{NamedFiles}
-
-pub record FolderSeen : Type 0 where
-  pub files : Option NamedFiles
-  pub counts : Counts
+pub use Rattle.trace_outside.specs.Seen.{FolderSeen, folder_seen}
 
 pub record SinkSeen : Type 0 where
   pub written : Option (List ℕ)
@@ -16,9 +11,6 @@ pub record SinkSeen : Type 0 where
 pub record Outside : Type 0 where
   pub folder : FolderSeen
   pub out : SinkSeen
-
-abbrev pub folder_seen : {F In Out : Type 0} → folder_trait.Ghosts F In Out → F → FolderSeen
-folder_seen f folder = record { files = f.files folder; counts = f.counts folder }
 
 abbrev pub sink_seen : {O : Type 0} → sink_trait.Ghosts O → O → SinkSeen
 sink_seen o out = record { written = o.written out; faults = o.faults out }

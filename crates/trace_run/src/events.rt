@@ -53,9 +53,11 @@ pub(crate) fn print_lines<R: Threads + Sync, I: File, O: Sink, G: Gate>(
     let alloc = resources.alloc;
     let header = plan.header;
     let count = shown.parts.len() as u32;
-    let (Ok(mut pool), Ok(heads), Ok(mut pending)) = (
+    let (Ok(mut pool), Ok(heads), Ok(highs), Ok(moved), Ok(mut pending)) = (
         Pool::new(alloc, count, header.layout.page, LINES_ROOM),
         LeastTree::new(alloc, count),
+        LeastTree::new(alloc, count),
+        vec![in alloc; true; shown.parts.len()],
         Pending::new(alloc),
     ) else {
         return None;
@@ -72,7 +74,12 @@ pub(crate) fn print_lines<R: Threads + Sync, I: File, O: Sink, G: Gate>(
         count: plan.words.workers,
         gate: resources.gate,
     };
-    let mut work = RoundWork { heads, pending };
+    let mut work = RoundWork {
+        heads,
+        highs,
+        moved,
+        pending,
+    };
     Some(report_rounds(&workers, shown.form, layout, file, lanes, &mut work, out))
 }
 

@@ -29,34 +29,9 @@ fn file_bytes(alloc: Global) -> Result<Vec<u8>, AllocError> {
     Ok(bytes)
 }
 
-const A: Item<'static> = Item::Event {
-    time: 10,
-    payload: b"\x0a\0\0\0\0\0\0\0",
-};
-
-const B: Item<'static> = Item::Event {
-    time: 30,
-    payload: b"\x1e\0\0\0\0\0\0\0",
-};
-
 const LOSS: Item<'static> = Item::Loss {
     time: 25,
     count: Some(7),
-};
-
-const C: Item<'static> = Item::Event {
-    time: 28,
-    payload: b"\x1c\0\0\0\0\0\0\0",
-};
-
-const D: Item<'static> = Item::Event {
-    time: 40,
-    payload: b"\x28\0\0\0\0\0\0\0",
-};
-
-const E: Item<'static> = Item::Event {
-    time: 60,
-    payload: b"\x3c\0\0\0\0\0\0\0",
 };
 
 fn set_part(layout: &Layout, lane: &mut Lane, part: Part)
@@ -109,18 +84,22 @@ fn ready<F: File>(layout: &Layout, file: &mut F, lane: &mut Lane) -> Result<Load
     load(layout, file, lane)
 }
 
+fn event(time: u64, payload: &'static [u8]) -> Item<'static> {
+    Item::Event { time, payload }
+}
+
 // The item of a letter, with its key in the file: `a` to `e` are those of the first three sub-buffers, `l` and `m` the first
 // two of the third where nothing was before it, `f` that of the last one.
 fn keyed(letter: u8) -> (u64, Item<'static>) {
     match letter {
-        b'a' => (10, A),
-        b'b' => (30, B),
+        b'a' => (10, event(10, b"\x0a\0\0\0\0\0\0\0")),
+        b'b' => (30, event(30, b"\x1e\0\0\0\0\0\0\0")),
         b'c' => (30, LOSS),
-        b'd' => (30, C),
-        b'e' => (40, D),
+        b'd' => (30, event(28, b"\x1c\0\0\0\0\0\0\0")),
+        b'e' => (40, event(40, b"\x28\0\0\0\0\0\0\0")),
         b'l' => (25, LOSS),
-        b'm' => (28, C),
-        _ => (60, E),
+        b'm' => (28, event(28, b"\x1c\0\0\0\0\0\0\0")),
+        _ => (60, event(60, b"\x3c\0\0\0\0\0\0\0")),
     }
 }
 

@@ -1,5 +1,6 @@
 //! Reports of processors in memory: their order, their ends, and what is written before a fault.
 
+mod entries;
 mod marks;
 mod pages;
 
@@ -15,7 +16,7 @@ use std::test::Fail;
 use std::thread::Threads;
 use time_merge::End;
 use trace_base::ByteText;
-use trace_outside::{File, MemFile, MemSink, NoGate, Pending, Sink};
+use trace_outside::{File, Gate, MemFile, MemSink, NoGate, Pending, Sink};
 use trace_samples::layout;
 
 // Reports processors from number 3 on, each with so many of the file's sub-buffers, in regions of `room` bytes. `None`:
@@ -23,6 +24,20 @@ use trace_samples::layout;
 fn report<R: Threads + Sync, F: File, O: Sink>(
     rt: &R,
     alloc: Global,
+    counts: &[u32],
+    room: u32,
+    workers: u32,
+    file: &mut F,
+    out: &mut O,
+) -> Result<Option<End>, AllocError> {
+    report_behind(rt, alloc, &NoGate, counts, room, workers, file, out)
+}
+
+// The same with lanes that pass this gate.
+fn report_behind<R: Threads + Sync, G: Gate, F: File, O: Sink>(
+    rt: &R,
+    alloc: Global,
+    gate: &G,
     counts: &[u32],
     room: u32,
     workers: u32,
@@ -38,12 +53,14 @@ fn report<R: Threads + Sync, F: File, O: Sink>(
     open_lanes(&layout, lanes, counts, room);
     let mut work = RoundWork {
         heads: LeastTree::new(alloc, counts.len() as u32)?,
+        highs: LeastTree::new(alloc, counts.len() as u32)?,
+        moved: vec![in alloc; false; counts.len()]?,
         pending: Pending::new(alloc)?,
     };
     let workers = Workers {
         rt,
         count: workers,
-        gate: &NoGate,
+        gate,
     };
     Ok(Some(report_rounds(&workers, &Marks, &layout, file, lanes, &mut work, out)))
 }

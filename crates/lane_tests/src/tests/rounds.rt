@@ -1,13 +1,13 @@
 //! Rounds over the lines of two processors: a round by its horizon in `HORIZONS`, and rounds that fail in `WRITES`.
 
-ghost use Rattle.std.specs.Prelude.{◌≡◌, ◌≤◌, [], IfSome, length};
-ghost use Rattle.round_print.specs.Prints.{KeysRise, KeysUpTo};
+ghost use Rattle.std.specs.Prelude.{◌≡◌, ◌≤◌, [], IfSome, length, map};
+ghost use Rattle.round_print.specs.Prints.{KeysRise, KeysUpTo, head_kept};
 ghost use Rattle.round_print.specs.Rounds.{AreRising};
 
 use Horizon::{All, Start, To};
 use least_tree::LeastTree;
 use page_pool::{Lane, Pool};
-use round_print::print_round;
+use round_print::{head_kept, print_round};
 use std::alloc::{AllocError, Global};
 use std::test::Fail;
 use time_merge::Horizon;
@@ -91,6 +91,16 @@ fn fill(lanes: &mut [Lane], lines: &Lines)
     fill_lane(&mut lanes[1], 7, lines[1]);
 }
 
+// Brings a tree in step with the lanes.
+fn take_heads(lanes: &[Lane], heads: &mut LeastTree)
+    requires { length heads.old ≡ length lanes.now }
+    ensures { heads.new ≡ map head_kept lanes.now }
+{
+    for i in 0..lanes.len() {
+        heads.set(i, head_kept(&lanes[i]));
+    }
+}
+
 fn kept(lanes: &[Lane]) -> (u32, u32)
     requires two { length lanes.now ≡ 2 }
 {
@@ -101,16 +111,18 @@ fn print_rounds<O: Sink>(
     horizons: &[Horizon],
     lanes: &mut [Lane],
     heads: &mut LeastTree,
+    moved: &mut [bool],
     last: &mut Option<u64>,
     pending: &mut Pending,
     out: &mut O,
 ) -> Result<(), Failed>
     requires rising { AreRising lanes.old }
-    requires heads { length heads.old ≡ length lanes.old }
+    requires heads { heads.old ≡ map head_kept lanes.old }
+    requires marks { length moved.old ≡ length lanes.old }
     requires empty { pending.old ≡ [] }
 {
     for horizon in horizons {
-        match print_round(horizon, lanes, heads, last, pending, out) {
+        match print_round(horizon, lanes, heads, moved, last, pending, out) {
             Ok(()) => {}
             Err(failed) => return Err(failed),
         }
@@ -118,23 +130,44 @@ fn print_rounds<O: Sink>(
     Ok(())
 }
 
-// Prints rounds over lanes with these lines. The last time behind them, and how many lines the lanes then keep, where no write
-// failed.
+/// What rounds leave: the last time, how many lines each lane keeps, and which lanes have a mark.
+#[derive(Clone, Copy, Debug, PartialEq, Eq)]
+struct Left {
+    last: Option<u64>,
+    lines: (u32, u32),
+    moved: (bool, bool),
+}
+
+// Prints rounds over lanes with these lines and no mark. What they leave, where no write failed.
 fn prints(
     alloc: Global,
     lines: &Lines,
     rounds: &[Horizon],
     last: Option<u64>,
     out: &mut MemSink,
-) -> Result<Option<(Option<u64>, (u32, u32))>, AllocError> {
+) -> Result<Option<Left>, AllocError> {
     let mut pool = Pool::new(alloc, 2, 4096, 16)?;
     let lanes = pool.lanes();
     fill(lanes, lines);
     let mut heads = LeastTree::new(alloc, 2)?;
+    take_heads(lanes, &mut heads);
+    let mut moved = [false; 2];
     let mut pending = Pending::new(alloc)?;
     let mut time = last;
-    match print_rounds(rounds, lanes, &mut heads, &mut time, &mut pending, out) {
-        Ok(()) => Ok(Some((time, kept(lanes)))),
+    match print_rounds(
+        rounds,
+        lanes,
+        &mut heads,
+        &mut moved,
+        &mut time,
+        &mut pending,
+        out,
+    ) {
+        Ok(()) => Ok(Some(Left {
+            last: time,
+            lines: kept(lanes),
+            moved: (moved[0], moved[1]),
+        })),
         Err(Failed) => Ok(None),
     }
 }
@@ -186,7 +219,16 @@ fn is_printed(alloc: Global, round: &Round) -> Result<bool, AllocError> {
     let (lines, horizon, last, text, now, left) = *round;
     let mut out = MemSink::new(alloc);
     let ended = prints(alloc, &lines, &[horizon], last, &mut out)?;
-    Ok(ended == Some((now, left)) && out.bytes() == text.as_bytes())
+    // A lane has a mark where it keeps fewer lines.
+    let wanted = Left {
+        last: now,
+        lines: left,
+        moved: (
+            u64::from(left.0) < lines[0].len() as u64,
+            u64::from(left.1) < lines[1].len() as u64,
+        ),
+    };
+    Ok(ended == Some(wanted) && out.bytes() == text.as_bytes())
 }
 
 #[test]

@@ -6,10 +6,10 @@ ghost use Rattle.std.specs.Prelude.{◌≡◌, ◌+◌, ◌<◌, ◌%◌, ◌==�
 ghost use Rattle.trace_base.specs.Layout.{IsLayout};
 ghost use Rattle.line_holes.specs.Holes.{line_text};
 ghost use Rattle.subpage.specs.ItemData.{item_time};
-ghost use Rattle.subpage.specs.ItemView.{item_view};
 ghost use Rattle.page_pool.specs.Fresh.{IsNew};
 ghost use Rattle.event_cursor.specs.Standing.{IsInOrder};
 
+use super::times::time_of;
 use cpu_workers::{Form, Workers, format_lanes};
 use event_cursor::load;
 use page_pool::{Lane, LaneState, Pool};
@@ -24,15 +24,6 @@ use trace_samples::{Page, layout, put_pages};
 
 // A line of none, one or two letters, by the item's time.
 struct Letters;
-
-fn time_of(item: &Item<'_>) -> u64
-    ensures { result ≡ item_time (item_view item.now) }
-{
-    match item {
-        Item::Event { time, .. } => *time,
-        Item::Loss { time, .. } => *time,
-    }
-}
 
 fn letters_of(time: u64) -> &'static [u8]
     ensures text { result.now
@@ -131,7 +122,7 @@ fn formats<R: Threads + Sync>(
         count: workers,
         gate: &NoGate,
     };
-    format_lanes(&workers, &Letters, &layout, lanes);
+    format_lanes(&workers, &Letters, &layout, lanes, &[true; 3]);
     Ok(have(lanes, first, second))
 }
 

@@ -171,45 +171,23 @@ fn pass_piece<F: File, O: Sink>(
     })
 }
 
-// The next piece, as it is packed.
-fn put_piece<F: File>(
-    alloc: Global,
-    layout: &Layout,
-    file: &mut F,
-    lanes: &mut [Lane],
-    words: &str,
+// The items of a piece as it is packed.
+fn put_packed(
     text: &mut String,
-) -> Result<PieceEnd, Fail>
+    layout: &Layout,
+    packed: &[u8],
+    passed: &Passed,
+) -> Result<(), Fail>
     requires allowed { IsLayout layout.now }
     requires page { layout.now.page ≡ 4096 }
-    requires two { length lanes.old ≡ 2 }
-    requires in_order { All (IsInOrder layout.now) lanes.old }
-    requires rise { CpusRise (parts_of lanes.old) }
-    ensures in_order { All (IsInOrder layout.now) lanes.new }
-    ensures parts { parts_of lanes.new ≡ parts_of lanes.old }
 {
-    let mut nexts = LeastTree::new(alloc, 2)?;
-    let mut out = MemSink::new(alloc);
-    let passed = pass_piece(
-        layout,
-        file,
-        lanes,
-        unit_of(words),
-        stop_of(words),
-        &mut nexts,
-        &mut out,
-    );
-    let Ok(passed) = passed else {
-        text.push_str("unread")?;
-        return Ok(Done);
-    };
-    let rest = put_sub_buffers(text, layout, out.bytes(), passed.pages[0])?;
+    let rest = put_sub_buffers(text, layout, packed, passed.pages[0])?;
     let rest = put_sub_buffers(text, layout, rest, passed.pages[1])?;
     if passed.packed != End::Done || !rest.is_empty() {
         text.push_str("?")?;
     }
     text.push_str("/")?;
-    Ok(passed.end)
+    Ok(())
 }
 
 // All pieces, one behind the other.
@@ -227,10 +205,18 @@ fn put_pieces<F: File>(
     requires in_order { All (IsInOrder layout.now) lanes.old }
     requires rise { CpusRise (parts_of lanes.old) }
 {
+    let unit = unit_of(words);
+    let stop = stop_of(words);
     for _ in 0..8 {
-        let end = put_piece(alloc, layout, file, lanes, words, text)?;
-        if end != Full {
-            return Ok(end);
+        let mut nexts = LeastTree::new(alloc, 2)?;
+        let mut out = MemSink::new(alloc);
+        let Ok(passed) = pass_piece(layout, file, lanes, unit, stop, &mut nexts, &mut out) else {
+            text.push_str("unread")?;
+            return Ok(Done);
+        };
+        put_packed(text, layout, out.bytes(), &passed)?;
+        if passed.end != Full {
+            return Ok(passed.end);
         }
     }
     Ok(Full)

@@ -11,4 +11,4 @@ abbrev pub decreases-format_both : goal.decreases-format_both
 decreases-format_both g l = 4 * (l.first + l.others) - 1
 
 abbrev pub decreases-format_shared : goal.decreases-format_shared
-decreases-format_shared g l = 4 * l.workers
+decreases-format_shared g l = 4 * l.count

@@ -1,4 +1,5 @@
 use Rattle.std.proofs.Common.{◌≡◌, ◌<◌, ◌≤◌, ℕ, length, slice_index_or}
+use Rattle.page_pool.specs.Moved.{KeepsUnmoved}
 use Rattle.page_pool.specs.declared.lane.Lane.{Lane}
 use Rattle.cpu_workers.specs.Formats.{IsFormatted}
 use Rattle.cpu_workers.proofs.workers.format_in_turn.Given as goal
@@ -8,4 +9,5 @@ invariant-loop-i g l = record {
   count : length l.lanes ≡ length l.fn.lanes;
   done : (k : ℕ) (d : Lane) → k < l.i → IsFormatted (g.L.Form.text l.form) l.layout (slice_index_or l.fn.lanes k d) (slice_index_or l.lanes k d);
   rest : (k : ℕ) (d : Lane) → l.i ≤ k → slice_index_or l.lanes k d ≡ slice_index_or l.fn.lanes k d;
+  kept : KeepsUnmoved l.moved l.fn.lanes l.lanes;
 }

@@ -3,8 +3,8 @@
 ghost use Rattle.std.specs.Prelude.{◌≡◌, ◌+◌, ◌%◌, ◌==◌, if◌then◌else◌, [], ◌∷◌, None, take};
 ghost use Rattle.line_holes.specs.Holes.{line_text};
 ghost use Rattle.subpage.specs.ItemData.{item_time};
-ghost use Rattle.subpage.specs.ItemView.{item_view};
 
+use crate::tests::times::time_of;
 use cpu_workers::Form;
 use subpage::Item;
 use trace_base::Tail;
@@ -24,15 +24,6 @@ pub(super) fn len_of(time: u64) -> u32
     ensures { result ≡ (if time % 10 == 7 then 0 else 2) }
 {
     if time % 10 == 7 { 0 } else { 2 }
-}
-
-fn time_of(item: &Item<'_>) -> u64
-    ensures { result ≡ item_time (item_view item.now) }
-{
-    match item {
-        Item::Event { time, .. } => *time,
-        Item::Loss { time, .. } => *time,
-    }
 }
 
 impl Form for Marks {

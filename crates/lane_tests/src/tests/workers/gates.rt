@@ -42,11 +42,16 @@ impl Gate for Meeting {
     }
 }
 
-/// Six lanes with these sub-buffers are formatted. The entries, and whether so many were inside at once.
+/// No lane is formatted again.
+const NONE: [bool; 6] = [false; 6];
+
+/// Six lanes with these sub-buffers are formatted, and those with a mark are so once more. The entries, and whether so many
+/// were inside at once.
 fn entries<R: Threads + Sync>(
     rt: &R,
     alloc: Global,
     pages: &[Page<'_>],
+    again: &[bool; 6],
     workers: u32,
     wanted: u64,
     turns: u32,
@@ -71,7 +76,8 @@ fn entries<R: Threads + Sync>(
         count: workers,
         gate: &gate,
     };
-    format_lanes(&workers, &Letters, &layout, lanes);
+    format_lanes(&workers, &Letters, &layout, lanes, &[true; 6]);
+    format_lanes(&workers, &Letters, &layout, lanes, again);
     Ok((gate.entries.load(SeqCst), gate.met.load(SeqCst) == 1))
 }
 
@@ -89,7 +95,7 @@ fn each_lane_enters_once_and_no_more_at_once_than_workers(rt: HostRuntime) -> Re
         (3, 4, short, false),
         (64, 5, long, true),
     ] {
-        let (entries, found) = entries(&rt, rt.alloc(), &pages, workers, wanted, turns)?;
+        let (entries, found) = entries(&rt, rt.alloc(), &pages, &NONE, workers, wanted, turns)?;
         assert!(rt;
             entries == 0x11_1011 && found == met,
             "{workers} workers, {wanted} inside"
@@ -107,8 +113,26 @@ fn two_lanes_with_items_enter_at_once(rt: HostRuntime) -> Result<(), Fail> {
         ([none, none, none, one, one, none], 0x1_1000),
         ([one, none, none, none, none, one], 0x10_0001),
     ] {
-        let (entries, met) = entries(&rt, rt.alloc(), &pages, 2, 2, 1_000_000_000)?;
+        let (entries, met) = entries(&rt, rt.alloc(), &pages, &NONE, 2, 2, 1_000_000_000)?;
         assert!(rt; entries == wanted && met, "{entries} entries");
+    }
+    Ok(())
+}
+
+// The second time only lanes with a mark enter.
+#[test]
+fn lanes_without_a_mark_do_not_enter(rt: HostRuntime) -> Result<(), Fail> {
+    let pages = [Of(&[4]); 6];
+    for (again, wanted) in [
+        (NONE, 0x11_1111),
+        ([true, false, false, true, false, false], 0x11_2112),
+        ([false, true, true, false, false, true], 0x21_1221),
+        ([true; 6], 0x22_2222),
+    ] {
+        for workers in [1, 2, 64] {
+            let (entries, _) = entries(&rt, rt.alloc(), &pages, &again, workers, 1, 0)?;
+            assert!(rt; entries == wanted, "{workers} workers, {entries} entries");
+        }
     }
     Ok(())
 }

@@ -1,27 +1,34 @@
-use Rattle.std.proofs.Common.{◌∙◌, refl, arith}
+use Rattle.std.proofs.Common.{◌≡◌, ◌∙◌, ℕ, true, length, replicate, refl, ap, arith}
+use Rattle.std.proofs.lemmas.List.{length-replicate, with_items_is}
 use Rattle.trace_outside.proofs.Keeping.{file_kept, file_still, sink_kept, sink_still}
 use Rattle.report_rounds.proofs.DueReads.{due_told}
 use Rattle.report_rounds.proofs.Reading.{less_further, reads_all, reads_ended, reads_further}
 use Rattle.report_rounds.proofs.Reporting.{first_state, going_ended, going_on, going_start}
+use Rattle.report_rounds.proofs.Settling.{look_at_all}
 use Rattle.report_rounds.proofs.Starting.{start_between}
 use Rattle.report_rounds.proofs.Turning.{round_state}
 use Rattle.report_rounds.proofs.reports.report_rounds.Goals as goal
 
 pub loop-end-init : goal.loop-end-init
-loop-end-init g c = record {
-  between = record {
-    each = start_between (g.L.Form.text c.args.form.now) c.args.layout.now c.args.lanes.now c.requires.start c.requires.room;
-    rise = c.requires.rise;
-    slots = c.requires.heads;
-    empty = c.requires.empty;
-  };
-  parts = refl;
-  going = going_start (g.L.Form.text c.args.form.now) c.args.layout.now (g.F.File.bytes c.args.file.now) c.args.lanes.now (g.O.Sink.written c.args.out.now) c.requires.start;
-  reads = omega arith;
-  unread = omega arith;
-  keeps = file_still _ _;
-  keeps_out = sink_still _ _;
-}
+loop-end-init g c =
+    let slots : length c.as_mut_slice.result.now ≡ length c.args.lanes.now = ap length c.as_mut_slice.ensures.value ∙ c.requires.moved in
+    let marks : c.mark_all.new.moved ≡ replicate (length c.args.lanes.now) true = c.mark_all.ensures ∙ ap (λ (n : ℕ). replicate n true) slots in
+    let is = with_items_is c.args.work.now.moved c.mark_all.new.moved (ap length c.mark_all.ensures ∙ length-replicate (length c.as_mut_slice.result.now) true ∙ c.as_mut_slice.ensures.len) ∙ marks in
+    record {
+      between = record {
+        each = start_between (g.L.Form.text c.args.form.now) c.args.layout.now c.args.lanes.now c.requires.start c.requires.room;
+        rise = c.requires.rise;
+        slots = record { heads = c.requires.heads; highs = c.requires.highs; marks = ap length is ∙ length-replicate (length c.args.lanes.now) true };
+        unmoved = look_at_all (g.L.Form.text c.args.form.now) c.args.layout.now c.args.lanes.now _ is;
+        empty = c.requires.empty;
+      };
+      parts = refl;
+      going = going_start (g.L.Form.text c.args.form.now) c.args.layout.now (g.F.File.bytes c.args.file.now) c.args.lanes.now (g.O.Sink.written c.args.out.now) c.requires.start;
+      reads = omega arith;
+      unread = omega arith;
+      keeps = file_still _ _;
+      keeps_out = sink_still _ _;
+    }
 
 pub loop-end-preserved : goal.loop-end-preserved
 loop-end-preserved g c =

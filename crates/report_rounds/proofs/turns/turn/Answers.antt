@@ -1,113 +1,120 @@
-use Rattle.std.proofs.Common.{◌-◌, ◌≤◌, ℕ, subst, sym, arith}
+use Rattle.std.proofs.Common.{◌≡◌, ◌-◌, ◌<◌, ◌≤◌, ℕ, Bool, List, Option, length, ap, subst, sym, ◌∙◌}
+use Rattle.std.specs.Option.{IfSome}
+use Rattle.std.proofs.lemmas.List.{length-map, with_items_is}
 use Rattle.trace_outside.specs.Causes.{raised}
+use Rattle.time_merge.specs.Horizons.{high_of}
+use Rattle.time_merge.specs.Nexts.{IsLeastAt}
 use Rattle.time_merge.specs.Reads.{all_unread}
+use Rattle.round_print.specs.Prints.{head_kept}
+use Rattle.round_print.specs.Rounds.{KeepsMarks}
+use Rattle.report_rounds.proofs.LeastPlace.{follows, outcome_sound}
 use Rattle.report_rounds.proofs.Reading.{unread_turned}
+use Rattle.report_rounds.proofs.Settling.{need_no_look}
 use Rattle.report_rounds.proofs.Turning.{IsFormed, formed_rising, now_all, now_less, now_parts, turned_told, failed_told}
 use Rattle.report_rounds.proofs.turns.turn.Goals as goal
 
-pub print_round-requires-clause-heads : goal.print_round-requires-clause-heads
-print_round-requires-clause-heads g c = omega (arith, c.requires.between.slots, c.make_all_ready.auto.lanes, c.format_lanes.ensures.count)
-
 pub print_round-requires-clause-rising : goal.print_round-requires-clause-rising
 print_round-requires-clause-rising g c =
-    let f : IsFormed (g.L.Form.text c.args.form.now) c.args.layout.now (g.F.File.bytes c.args.file.now) c.args.lanes.now c.make_all_ready.new.lanes c.format_lanes.new.lanes = record {
-      long_loaded = c.make_all_ready.auto.lanes;
+    let f : IsFormed (g.L.Form.text c.args.form.now) c.args.layout.now (g.F.File.bytes c.args.file.now) c.args.lanes.now c.make_moved_ready.new.lanes c.format_lanes.new.lanes = record {
+      long_loaded = c.make_moved_ready.auto.lanes;
       long_formed = c.format_lanes.ensures.count;
-      in_order = c.in-Ok.ensures.loads.in_order;
-      load = c.in-Ok.ensures.each;
-      ready = c.in-Ok.ensures.ready;
+      in_order = c.in-Ok.ensures.makes_ready.loads.in_order;
+      load = c.in-Ok.ensures.makes_ready.each;
+      ready = c.in-Ok.ensures.makes_ready.ready;
       format = c.format_lanes.ensures.each;
     } in
-    formed_rising (g.L.Form.text c.args.form.now) c.args.layout.now (g.F.File.bytes c.args.file.now) c.args.lanes.now c.make_all_ready.new.lanes c.format_lanes.new.lanes f c.requires.between.rise c.requires.between.each
+    formed_rising (g.L.Form.text c.args.form.now) c.args.layout.now (g.F.File.bytes c.args.file.now) c.args.lanes.now c.make_moved_ready.new.lanes c.format_lanes.new.lanes f c.requires.between.rise c.requires.between.each
 
 pub returns-in-Ok-print_round-clause-between : goal.returns-in-Ok-print_round-clause-between
 returns-in-Ok-print_round-clause-between g c = λ goes.
-    let f : IsFormed (g.L.Form.text c.args.form.now) c.args.layout.now (g.F.File.bytes c.args.file.now) c.args.lanes.now c.make_all_ready.new.lanes c.format_lanes.new.lanes = record {
-      long_loaded = c.make_all_ready.auto.lanes;
+    let f : IsFormed (g.L.Form.text c.args.form.now) c.args.layout.now (g.F.File.bytes c.args.file.now) c.args.lanes.now c.make_moved_ready.new.lanes c.format_lanes.new.lanes = record {
+      long_loaded = c.make_moved_ready.auto.lanes;
       long_formed = c.format_lanes.ensures.count;
-      in_order = c.in-Ok.ensures.loads.in_order;
-      load = c.in-Ok.ensures.each;
-      ready = c.in-Ok.ensures.ready;
+      in_order = c.in-Ok.ensures.makes_ready.loads.in_order;
+      load = c.in-Ok.ensures.makes_ready.each;
+      ready = c.in-Ok.ensures.makes_ready.ready;
       format = c.format_lanes.ensures.each;
     } in
+    let now = c.print_round.new.lanes in
+    let moved = c.print_round.new.moved in
+    let done = c.in-Ok-print_round.ensures in
+    let long = c.print_round.auto.lanes in
+    let marks : length moved ≡ c.settle.new.work.moved.len = done.marks ∙ c.as_mut_slice.ensures.len in
+    let is = with_items_is c.settle.new.work.moved moved marks in
     record {
-      each = now_all (g.L.Form.text c.args.form.now) c.args.layout.now (g.F.File.bytes c.args.file.now) c.args.lanes.now c.make_all_ready.new.lanes c.format_lanes.new.lanes f c.horizon-known.result c.print_round.new.lanes c.print_round.auto.lanes c.in-Ok-print_round.ensures.printed.lanes c.requires.between.each;
-      rise = c.in-Ok-print_round.ensures.printed.rising.cpus;
-      slots = omega (arith, c.requires.between.slots, c.make_all_ready.auto.lanes, c.format_lanes.ensures.count, c.print_round.auto.lanes, c.print_round.ensures.heads);
-      empty = c.in-Ok-print_round.ensures.empty;
+      each = now_all (g.L.Form.text c.args.form.now) c.args.layout.now (g.F.File.bytes c.args.file.now) c.args.lanes.now c.make_moved_ready.new.lanes c.format_lanes.new.lanes f c.horizon-known.result now long done.printed.lanes c.requires.between.each;
+      rise = done.printed.rising.cpus;
+      slots = record {
+        heads = ap length done.heads ∙ length-map now head_kept;
+        highs = ap length c.settle.ensures.highs ∙ length-map c.format_lanes.new.lanes high_of ∙ sym long;
+        marks = ap length is ∙ done.marks ∙ ap length c.as_mut_slice.ensures.value ∙ c.settle.ensures.marks ∙ sym long;
+      };
+      unmoved = need_no_look (g.L.Form.text c.args.form.now) c.args.layout.now c.settle.new.work.moved.items moved c.format_lanes.new.lanes now long done.unmoved
+          (subst (λ (marks : List Bool). KeepsMarks marks moved) c.as_mut_slice.ensures.value done.marked)
+          _ is done.heads c.settle.ensures.highs (λ i d lt. (c.settle.ensures.marked i d lt).0) c.format_lanes.ensures.settled;
+      empty = done.empty;
     }
 
 pub returns-in-Ok-print_round-clause-goes_on : goal.returns-in-Ok-print_round-clause-goes_on
 returns-in-Ok-print_round-clause-goes_on g c = λ goes.
-    let f : IsFormed (g.L.Form.text c.args.form.now) c.args.layout.now (g.F.File.bytes c.args.file.now) c.args.lanes.now c.make_all_ready.new.lanes c.format_lanes.new.lanes = record {
-      long_loaded = c.make_all_ready.auto.lanes;
+    let f : IsFormed (g.L.Form.text c.args.form.now) c.args.layout.now (g.F.File.bytes c.args.file.now) c.args.lanes.now c.make_moved_ready.new.lanes c.format_lanes.new.lanes = record {
+      long_loaded = c.make_moved_ready.auto.lanes;
       long_formed = c.format_lanes.ensures.count;
-      in_order = c.in-Ok.ensures.loads.in_order;
-      load = c.in-Ok.ensures.each;
-      ready = c.in-Ok.ensures.ready;
+      in_order = c.in-Ok.ensures.makes_ready.loads.in_order;
+      load = c.in-Ok.ensures.makes_ready.each;
+      ready = c.in-Ok.ensures.makes_ready.ready;
       format = c.format_lanes.ensures.each;
     } in
+    let follow = follows c.format_lanes.new.lanes c.print_round.new.lanes c.horizon-known.result c.horizon-known.ensures c.least-least.result
+    (subst (λ (keys : List (Option (Option ℕ))). IsLeastAt keys c.least-least.result) c.settle.ensures.highs c.least-least.ensures.least) c.outcome_at.result c.outcome_at.ensures in
     let all : ℕ = all_unread c.args.layout.now (g.F.File.size c.args.file.now) c.args.lanes.now in
-    let still = unread_turned c.args.layout.now (g.F.File.size c.args.file.now) (g.L.Form.text c.args.form.now) c.horizon-known.result c.make_all_ready.new.lanes c.format_lanes.new.lanes c.print_round.new.lanes
+    let still = unread_turned c.args.layout.now (g.F.File.size c.args.file.now) (g.L.Form.text c.args.form.now) c.horizon-known.result c.make_moved_ready.new.lanes c.format_lanes.new.lanes c.print_round.new.lanes
     c.format_lanes.ensures.count c.print_round.auto.lanes c.format_lanes.ensures.each c.in-Ok-print_round.ensures.printed.lanes in
     record {
-      parts = now_parts (g.L.Form.text c.args.form.now) c.args.layout.now (g.F.File.bytes c.args.file.now) c.args.lanes.now c.make_all_ready.new.lanes c.format_lanes.new.lanes f c.horizon-known.result c.print_round.new.lanes c.print_round.auto.lanes c.in-Ok-print_round.ensures.printed.lanes;
-      less = now_less (g.L.Form.text c.args.form.now) c.args.layout.now (g.F.File.bytes c.args.file.now) c.args.lanes.now c.make_all_ready.new.lanes c.format_lanes.new.lanes f c.horizon-known.result c.print_round.new.lanes c.print_round.auto.lanes c.in-Ok-print_round.ensures.printed.lanes c.outcome_at.result c.horizon-known.ensures c.outcome_at.ensures c.requires.between.rise c.requires.between.each goes;
-      reads = subst (λ (n : ℕ). g.F.File.reads c.make_all_ready.new.file ≤ raised (g.F.File.reads c.args.file.now) (all - n)) (sym still) c.in-Ok.ensures.reads_done;
-      unread = subst (λ (n : ℕ). n ≤ all) (sym still) c.in-Ok.ensures.loads.unread;
+      parts = now_parts (g.L.Form.text c.args.form.now) c.args.layout.now (g.F.File.bytes c.args.file.now) c.args.lanes.now c.make_moved_ready.new.lanes c.format_lanes.new.lanes f c.horizon-known.result c.print_round.new.lanes c.print_round.auto.lanes c.in-Ok-print_round.ensures.printed.lanes;
+      less = now_less (g.L.Form.text c.args.form.now) c.args.layout.now (g.F.File.bytes c.args.file.now) c.args.lanes.now c.make_moved_ready.new.lanes c.format_lanes.new.lanes f c.horizon-known.result c.print_round.new.lanes c.print_round.auto.lanes c.in-Ok-print_round.ensures.printed.lanes c.outcome_at.result c.horizon-known.ensures follow c.requires.between.rise c.requires.between.each goes;
+      reads = subst (λ (n : ℕ). g.F.File.reads c.make_moved_ready.new.file ≤ raised (g.F.File.reads c.args.file.now) (all - n)) (sym still) c.in-Ok.ensures.makes_ready.reads_done;
+      unread = subst (λ (n : ℕ). n ≤ all) (sym still) c.in-Ok.ensures.makes_ready.loads.unread;
     }
 
 pub returns-in-Ok-print_round-clause-turned : goal.returns-in-Ok-print_round-clause-turned
 returns-in-Ok-print_round-clause-turned g c =
-    let f : IsFormed (g.L.Form.text c.args.form.now) c.args.layout.now (g.F.File.bytes c.args.file.now) c.args.lanes.now c.make_all_ready.new.lanes c.format_lanes.new.lanes = record {
-      long_loaded = c.make_all_ready.auto.lanes;
+    let f : IsFormed (g.L.Form.text c.args.form.now) c.args.layout.now (g.F.File.bytes c.args.file.now) c.args.lanes.now c.make_moved_ready.new.lanes c.format_lanes.new.lanes = record {
+      long_loaded = c.make_moved_ready.auto.lanes;
       long_formed = c.format_lanes.ensures.count;
-      in_order = c.in-Ok.ensures.loads.in_order;
-      load = c.in-Ok.ensures.each;
-      ready = c.in-Ok.ensures.ready;
+      in_order = c.in-Ok.ensures.makes_ready.loads.in_order;
+      load = c.in-Ok.ensures.makes_ready.each;
+      ready = c.in-Ok.ensures.makes_ready.ready;
       format = c.format_lanes.ensures.each;
     } in
-    turned_told (g.L.Form.text c.args.form.now) c.args.layout.now (g.F.File.bytes c.args.file.now) c.args.lanes.now c.make_all_ready.new.lanes c.format_lanes.new.lanes f c.horizon-known.result c.print_round.new.lanes c.print_round.auto.lanes c.in-Ok-print_round.ensures.printed.lanes c.outcome_at.result c.horizon-known.ensures c.outcome_at.ensures c.requires.between.rise c.requires.between.each c.args.last.now c.print_round.new.last _ _ c.in-Ok-print_round.ensures.written c.in-Ok-print_round.ensures.printed.last
+    let follow = follows c.format_lanes.new.lanes c.print_round.new.lanes c.horizon-known.result c.horizon-known.ensures c.least-least.result
+    (subst (λ (keys : List (Option (Option ℕ))). IsLeastAt keys c.least-least.result) c.settle.ensures.highs c.least-least.ensures.least) c.outcome_at.result c.outcome_at.ensures in
+    turned_told (g.L.Form.text c.args.form.now) c.args.layout.now (g.F.File.bytes c.args.file.now) c.args.lanes.now c.make_moved_ready.new.lanes c.format_lanes.new.lanes f c.horizon-known.result c.print_round.new.lanes c.print_round.auto.lanes c.in-Ok-print_round.ensures.printed.lanes c.outcome_at.result c.horizon-known.ensures follow c.requires.between.rise c.requires.between.each c.args.last.now c.print_round.new.last _ _ c.in-Ok-print_round.ensures.written c.in-Ok-print_round.ensures.printed.last
+
+pub returns-in-Ok-print_round-clause-read : goal.returns-in-Ok-print_round-clause-read
+returns-in-Ok-print_round-clause-read g c = λ end.
+    let slots : length c.settle.new.work.highs ≡ length c.print_round.new.lanes =
+    ap length c.settle.ensures.highs ∙ length-map c.format_lanes.new.lanes high_of ∙ sym c.print_round.auto.lanes in
+    let inside = subst (λ (n : ℕ). IfSome c.least-least.result (λ i. i < n)) slots c.least-least.ensures.inside in
+    let sound = outcome_sound c.print_round.new.lanes c.least-least.result c.outcome_at.result inside c.outcome_at.ensures in
+    absurd (sound.0 end)
+
+pub returns-in-Ok-print_round-clause-write : goal.returns-in-Ok-print_round-clause-write
+returns-in-Ok-print_round-clause-write g c = λ end.
+    let slots : length c.settle.new.work.highs ≡ length c.print_round.new.lanes =
+    ap length c.settle.ensures.highs ∙ length-map c.format_lanes.new.lanes high_of ∙ sym c.print_round.auto.lanes in
+    let inside = subst (λ (n : ℕ). IfSome c.least-least.result (λ i. i < n)) slots c.least-least.ensures.inside in
+    let sound = outcome_sound c.print_round.new.lanes c.least-least.result c.outcome_at.result inside c.outcome_at.ensures in
+    absurd (sound.1 end)
 
 pub returns-in-Err-clause-turned : goal.returns-in-Err-clause-turned
 returns-in-Err-clause-turned g c =
-    let f : IsFormed (g.L.Form.text c.args.form.now) c.args.layout.now (g.F.File.bytes c.args.file.now) c.args.lanes.now c.make_all_ready.new.lanes c.format_lanes.new.lanes = record {
-      long_loaded = c.make_all_ready.auto.lanes;
+    let f : IsFormed (g.L.Form.text c.args.form.now) c.args.layout.now (g.F.File.bytes c.args.file.now) c.args.lanes.now c.make_moved_ready.new.lanes c.format_lanes.new.lanes = record {
+      long_loaded = c.make_moved_ready.auto.lanes;
       long_formed = c.format_lanes.ensures.count;
-      in_order = c.in-Ok.ensures.loads.in_order;
-      load = c.in-Ok.ensures.each;
-      ready = c.in-Ok.ensures.ready;
+      in_order = c.in-Ok.ensures.makes_ready.loads.in_order;
+      load = c.in-Ok.ensures.makes_ready.each;
+      ready = c.in-Ok.ensures.makes_ready.ready;
       format = c.format_lanes.ensures.each;
     } in
-    failed_told (g.L.Form.text c.args.form.now) c.args.layout.now (g.F.File.bytes c.args.file.now) c.args.lanes.now c.make_all_ready.new.lanes c.format_lanes.new.lanes f c.horizon-known.result c.horizon-known.ensures c.requires.between.rise c.requires.between.each c.args.last.now _ _ c.in-Err.ensures.written
-
--- what was read, whatever became of the round
-pub returns-in_default-clause-loaded : goal.returns-in_default-clause-loaded
-returns-in_default-clause-loaded g c = record {
-  now = c.make_all_ready.new.lanes;
-  long = c.make_all_ready.auto.lanes;
-  in_order = c.make_all_ready.ensures.loads.in_order;
-  each = c.make_all_ready.ensures.each;
-  less = c.make_all_ready.ensures.loads.unread;
-  reads = c.make_all_ready.ensures.loads.reads;
-}
-
-pub returns-in-Ok-print_round-clause-loaded : goal.returns-in-Ok-print_round-clause-loaded
-returns-in-Ok-print_round-clause-loaded g c = record {
-  now = c.make_all_ready.new.lanes;
-  long = c.make_all_ready.auto.lanes;
-  in_order = c.make_all_ready.ensures.loads.in_order;
-  each = c.make_all_ready.ensures.each;
-  less = c.make_all_ready.ensures.loads.unread;
-  reads = c.make_all_ready.ensures.loads.reads;
-}
-
-pub returns-in-Err-clause-loaded : goal.returns-in-Err-clause-loaded
-returns-in-Err-clause-loaded g c = record {
-  now = c.make_all_ready.new.lanes;
-  long = c.make_all_ready.auto.lanes;
-  in_order = c.make_all_ready.ensures.loads.in_order;
-  each = c.make_all_ready.ensures.each;
-  less = c.make_all_ready.ensures.loads.unread;
-  reads = c.make_all_ready.ensures.loads.reads;
-}
+    failed_told (g.L.Form.text c.args.form.now) c.args.layout.now (g.F.File.bytes c.args.file.now) c.args.lanes.now c.make_moved_ready.new.lanes c.format_lanes.new.lanes f c.horizon-known.result c.horizon-known.ensures c.requires.between.rise c.requires.between.each c.args.last.now _ _ c.in-Err.ensures.written

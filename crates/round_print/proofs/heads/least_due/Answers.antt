@@ -1,7 +1,7 @@
-use Rattle.std.proofs.Common.{◌≡◌, ℕ, List, Option, Some, None, length, map, sym, ap, subst, ◌∙◌, arith}
+use Rattle.std.proofs.Common.{ℕ, List, Option, Some, None, length, ap, subst, arith}
 use Rattle.std.proofs.lemmas.List.{length-map}
 use Rattle.time_merge.specs.Nexts.{IsLeastAt}
-use Rattle.round_print.specs.Prints.{head_due, head_kept}
+use Rattle.round_print.specs.Prints.{head_kept}
 use Rattle.round_print.proofs.DueHeads.{least_due_at, none_due_at, none_kept}
 use Rattle.round_print.proofs.heads.least_due.Goals as goal
 

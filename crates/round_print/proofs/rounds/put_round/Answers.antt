@@ -1,5 +1,5 @@
-use Rattle.std.proofs.Common.{◌≡◌, ℕ, List, [], ◌++◌, get_or, set, map, length, Option, refl, sym, ap, subst, ◌∙◌, append_assoc, arith}
-use Rattle.std.proofs.lemmas.List.{append-nil, length-map, length-set, map-set, get_or-set_same}
+use Rattle.std.proofs.Common.{◌≡◌, ◌<◌, ℕ, List, [], ◌++◌, get_or, length, inl, refl, sym, ap, subst, ◌∙◌, append_assoc, arith}
+use Rattle.std.proofs.lemmas.List.{append-nil, length-set, get_or-set_same}
 use Rattle.trace_outside.specs.Pending.{Holds}
 use Rattle.trace_outside.specs.Writing.{GainedPrefix}
 use Rattle.trace_outside.proofs.PendingLemmas.{prefix_longer}
@@ -11,6 +11,7 @@ use Rattle.round_print.specs.Prints.{CpuLine, filled, head_kept, last_of, printe
 use Rattle.round_print.specs.Rounds.{IsLineDropped}
 use Rattle.round_print.proofs.Printing.{print_none}
 use Rattle.round_print.proofs.PrintSteps.{IsStep, some_kept, is_step, printing_on, printed_all, dropped_at, text_on, last_on, starts_with, cut_text}
+use Rattle.round_print.proofs.MovedLanes.{heads_on, unmoved_on, marked_on, anew_on, no_more_on, one_fewer}
 use Rattle.round_print.proofs.rounds.put_round.Goals as goal
 
 pub loop-i-init : goal.loop-i-init
@@ -29,8 +30,12 @@ loop-i-init g c = record {
   later = omega arith;
   parts = refl;
   rising = c.requires.rising;
-  heads = c.take_heads.ensures;
-  slots = ap length c.take_heads.ensures ∙ length-map c.args.lanes.now head_kept ∙ sym c.requires.heads;
+  heads = c.requires.heads;
+  slots = refl;
+  unmoved = λ i d lt unmarked. refl;
+  marked = λ i unmarked. unmarked;
+  anew = λ i d lt unmarked. inl unmarked;
+  fewer = λ i d lt. omega arith;
   lanes = λ i d lt. record {
     later = refl;
     keeps = record { lane = lane_still printing (get_or c.args.lanes.now i d); room = refl; tidy = λ t. t; few = λ f. f };
@@ -56,6 +61,9 @@ loop-i-preserved g c =
     let line : List ℕ = filled_bytes c.loop-i.last (first_line (get_or c.loop-i.lanes c.in-Some.i c.index-lanes-i.result).region.kept) in
     let key : c.head_kept.result ≡ head_kept c.print_first.new.lane =
     c.head_kept.ensures ∙ ap head_kept (get_or-set_same c.loop-i.lanes c.in-Some.i c.print_first.new.lane c.index-lanes-i-in-Some.result c.in-Some.ensures.inside) in
+    let some = some_kept c.args.horizon.now c.loop-i.lanes c.in-Some.i c.index-lanes-i.result c.in-Some.ensures.inside c.index-lanes-i.is c.in-Some.ensures.least in
+    let shorter : length c.print_first.new.lane.region.kept < length (get_or c.loop-i.lanes c.in-Some.i c.index-lanes-i.result).region.kept =
+    one_fewer c.loop-i.lanes c.in-Some.i c.index-lanes-i.result c.print_first.new.lane c.index-lanes-i.is dropped some in
     record {
       text = (
         done ++ line,
@@ -71,9 +79,12 @@ loop-i-preserved g c =
       later = omega (arith, c.in-Ok.ensures.cause.later, c.loop-i.invariant.later);
       parts = set_parts c.loop-i.lanes c.in-Some.i c.index-lanes-i.result c.print_first.new.lane c.in-Some.ensures.inside c.in-Ok.ensures.cpu c.in-Ok.ensures.part ∙ c.loop-i.invariant.parts;
       rising = record { cpus = step.rise; keys = step.rises };
-      heads = c.set.ensures ∙ ap (set c.loop-i.heads c.in-Some.i) key ∙ ap (λ (keys : List (Option (Option ℕ))). set keys c.in-Some.i (head_kept c.print_first.new.lane)) c.loop-i.invariant.heads
-          ∙ sym (map-set head_kept c.loop-i.lanes c.in-Some.i c.print_first.new.lane);
+      heads = heads_on c.loop-i.heads c.set.new.self c.loop-i.lanes c.in-Some.i c.print_first.new.lane c.head_kept.result c.set.ensures key c.loop-i.invariant.heads;
       slots = ap length c.set.ensures ∙ length-set c.loop-i.heads c.in-Some.i c.head_kept.result ∙ c.loop-i.invariant.slots;
+      unmoved = unmoved_on c.loop-i.moved c.args.lanes.now c.loop-i.lanes c.in-Some.i c.print_first.new.lane c.loop-i.invariant.unmoved;
+      marked = marked_on c.args.moved.now c.loop-i.moved c.in-Some.i c.loop-i.invariant.marked;
+      anew = anew_on c.args.moved.now c.loop-i.moved c.args.lanes.now c.loop-i.lanes c.in-Some.i c.index-lanes-i.result c.print_first.new.lane c.in-Some.ensures.inside shorter c.loop-i.invariant.fewer c.loop-i.invariant.anew;
+      fewer = no_more_on c.args.lanes.now c.loop-i.lanes c.in-Some.i c.index-lanes-i.result c.print_first.new.lane c.in-Some.ensures.inside shorter c.loop-i.invariant.fewer;
       lanes = printing_on c.args.horizon.now c.args.lanes.now c.loop-i.lanes c.in-Some.i c.index-lanes-i.result c.print_first.new.lane c.in-Some.ensures.inside c.index-lanes-i.is step dropped c.loop-i.auto.lanes c.loop-i.invariant.lanes;
     }
 

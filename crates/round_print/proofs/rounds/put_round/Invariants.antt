@@ -2,9 +2,11 @@ use Rattle.std.proofs.Common.{◌≡◌, ℕ, ◌<◌, ◌≤◌, List, ◌++◌
 use Rattle.std.specs.Prelude.{slice_index_or}
 use Rattle.trace_outside.specs.Pending.{Holds}
 use Rattle.page_pool.specs.declared.lane.Lane.{Lane}
+use Rattle.page_pool.specs.Moved.{KeepsUnmoved}
 use Rattle.time_merge.specs.LaneRows.{parts_of}
 use Rattle.round_print.specs.Prints.{filled, head_kept, last_of, printed, text_of}
-use Rattle.round_print.specs.Rounds.{AreRising, IsPrinting}
+use Rattle.round_print.specs.Rounds.{AreRising, IsPrinting, KeepsMarks, MarksPrinted}
+use Rattle.round_print.proofs.MovedLanes.{KeepNoMore}
 use Rattle.round_print.proofs.rounds.put_round.Given as goal
 
 abbrev pub invariant-loop-i : goal.invariant-loop-i
@@ -17,6 +19,10 @@ invariant-loop-i g l = record {
   rising : AreRising l.lanes;
   heads : l.heads ≡ map head_kept l.lanes;
   slots : length l.heads ≡ length l.fn.heads;
+  unmoved : KeepsUnmoved l.moved l.fn.lanes l.lanes;
+  marked : KeepsMarks l.fn.moved l.moved;
+  anew : MarksPrinted l.fn.lanes l.lanes l.fn.moved l.moved;
+  fewer : KeepNoMore l.fn.lanes l.lanes;
   lanes : (i : ℕ) → (d : Lane) → i < length l.fn.lanes → IsPrinting l.horizon (slice_index_or l.fn.lanes i d) (slice_index_or l.lanes i d);
 }
 

@@ -21,11 +21,11 @@ report_rounds-requires-sync-L g c κs live = record { shared = lines_sync.shared
 
 pub report_rounds-requires-clause-start : goal.report_rounds-requires-clause-start
 report_rounds-requires-clause-start g c κs live =
-    unused_start c.args.plan.now.header.now.layout _ _ (c.set_lanes.ensures.unused _ _ (new_unused _ _ _ _ c.lanes-lanes.ensures.value c.in-Ok-Ok-Ok.ensures.lanes))
+    unused_start c.args.plan.now.header.now.layout _ _ (c.set_lanes.ensures.unused _ _ (new_unused _ _ _ _ c.lanes-lanes.ensures.value c.in-Ok-Ok-Ok-Ok-Ok.ensures.lanes))
 
 pub report_rounds-requires-clause-room : goal.report_rounds-requires-clause-room
 report_rounds-requires-clause-room g c κs live =
-    unused_room c.args.shown.now.form.now.context _ _ _ (c.set_lanes.ensures.unused _ _ (new_unused _ _ _ _ c.lanes-lanes.ensures.value c.in-Ok-Ok-Ok.ensures.lanes)) (omega arith)
+    unused_room c.args.shown.now.form.now.context _ _ _ (c.set_lanes.ensures.unused _ _ (new_unused _ _ _ _ c.lanes-lanes.ensures.value c.in-Ok-Ok-Ok-Ok-Ok.ensures.lanes)) (omega arith)
 
 pub report_rounds-requires-clause-shown : goal.report_rounds-requires-clause-shown
 report_rounds-requires-clause-shown g c κs live = λ cpu item none. no_hole c.args.shown.now.form.now.context cpu item none

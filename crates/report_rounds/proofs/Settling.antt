@@ -1,0 +1,134 @@
+-- Lanes without a mark, while those that moved are loaded, formatted, looked at and printed.
+use Rattle.std.proofs.Common.{◌≡◌, ℕ, ◌+◌, ◌<◌, ◌≤◌, Bool, true, false, List, length, get_or, set, map, replicate, Option, None, sym, ap, subst, ◌∙◌, arith, inl, inr, get_or-set_same, get_or-set_other}
+use Rattle.std.proofs.lemmas.Bool.{cases_eq}
+use Rattle.std.proofs.lemmas.List.{ext_get_or, get_or-map, get_or-replicate, get_or_default, length-map}
+use Rattle.std.specs.List.{All}
+use Rattle.trace_base.specs.declared.layout.Layout.{Layout}
+use Rattle.subpage.specs.ItemData.{ItemData}
+use Rattle.line_holes.specs.Holes.{LineText}
+use Rattle.page_pool.specs.Moved.{AllUnmoved, KeepsUnmoved}
+use Rattle.page_pool.specs.declared.lane.Lane.{Lane}
+use Rattle.time_merge.specs.Horizons.{high_of}
+use Rattle.time_merge.specs.LaneRows.{IsReady}
+use Rattle.cpu_workers.specs.Formats.{IsSettled}
+use Rattle.round_print.specs.Prints.{head_kept}
+use Rattle.round_print.specs.Rounds.{KeepsMarks}
+use Rattle.report_rounds.specs.Between.{NeedNoLook, SlotsTell}
+use Rattle.report_rounds.specs.declared.work.RoundWork.{RoundWork}
+use Rattle.report_rounds.proofs.Pairs.{some_lane}
+
+-- every lane has a mark at first
+pub look_at_all : (text : ℕ → ItemData → LineText) (l : Layout) (lanes : List Lane) (work : RoundWork) → work.moved.items ≡ replicate (length lanes) true → NeedNoLook text l lanes work
+look_at_all text l lanes work is = record {
+  ready = λ i d lt unmarked. absurd (marked i lt unmarked);
+  settled = λ i d lt unmarked. absurd (marked i lt unmarked);
+  heads = λ i d lt unmarked. absurd (marked i lt unmarked);
+  highs = λ i d lt unmarked. absurd (marked i lt unmarked);
+}
+  where
+    marked : (i : ℕ) → i < length lanes → get_or work.moved.items i true ≡ false → ⊥
+    marked i lt unmarked = cc (get_or-replicate (length lanes) i true true lt, ap (λ (marks : List Bool). get_or marks i true) is, unmarked)
+
+-- what holds of lanes that stay as they are holds on
+module _ (moved : List Bool) (before now : List Lane) (long : length now ≡ length before) (keeps : KeepsUnmoved moved before now) where
+  pub unmoved_on : (P : Lane → Type 0) → AllUnmoved P moved before → AllUnmoved P moved now
+  unmoved_on P all i d lt unmarked =
+      let inside : i < length before = omega (arith, lt, long) in
+      subst P (sym (keeps i d inside unmarked)) (all i d inside unmarked)
+
+  pub told_on : (f : Lane → Option (Option ℕ)) (slots : List (Option (Option ℕ))) → SlotsTell f moved slots before → SlotsTell f moved slots now
+  told_on f slots tell i d lt unmarked =
+      let inside : i < length before = omega (arith, lt, long) in
+      tell i d inside unmarked ∙ ap f (sym (keeps i d inside unmarked))
+
+-- a tree that has all lanes as they are tells of those without a mark
+pub told_all : (f : Lane → Option (Option ℕ)) (moved : List Bool) (slots : List (Option (Option ℕ))) (lanes : List Lane) → slots ≡ map f lanes → SlotsTell f moved slots lanes
+told_all f moved slots lanes is i d lt unmarked = ap (λ (keys : List (Option (Option ℕ))). get_or keys i None) is ∙ get_or-map f lanes i d None lt
+
+-- a round was printed: the lanes that have no mark behind it had none before, and are as they were
+module _ (text : ℕ → ItemData → LineText) (l : Layout) (marks moved : List Bool) (formed now : List Lane) (long : length now ≡ length formed) (keeps : KeepsUnmoved moved formed now) (still : KeepsMarks marks moved) where
+  pub need_no_look : (work : RoundWork) → work.moved.items ≡ moved → work.heads ≡ map head_kept now → work.highs ≡ map high_of formed → AllUnmoved (IsReady l) marks formed → All (IsSettled text l) formed
+      → NeedNoLook text l now work
+  need_no_look work is heads highs ready settled = record {
+    ready = unmoved_on work.moved.items formed now long kept (IsReady l) (λ i d lt unmarked. ready i d lt (still i (unmarked_in i unmarked)));
+    settled = unmoved_on work.moved.items formed now long kept (IsSettled text l) (λ i d lt unmarked. settled i d lt);
+    heads = told_all head_kept work.moved.items work.heads now heads;
+    highs = told_on work.moved.items formed now long kept high_of work.highs (told_all high_of work.moved.items work.highs formed highs);
+  }
+    where
+      unmarked_in : (i : ℕ) → get_or work.moved.items i true ≡ false → get_or moved i true ≡ false
+      unmarked_in i unmarked = ap (λ (ms : List Bool). get_or ms i true) (sym is) ∙ unmarked
+
+      kept : KeepsUnmoved work.moved.items formed now
+      kept i d lt unmarked = keeps i d lt (unmarked_in i unmarked)
+
+-- The slots of the first few lanes, and of those without a mark, tell what the lanes do.
+abbrev pub TellsSoFar : (Lane → Option (Option ℕ)) → List Bool → List (Option (Option ℕ)) → List Lane → ℕ → Type 0
+TellsSoFar f moved slots lanes count =
+    (i : ℕ) → (d : Lane) → i < length lanes → (count ≤ i → get_or moved i true ≡ false) → get_or slots i None ≡ f (get_or lanes i d)
+
+module _ (f : Lane → Option (Option ℕ)) (moved : List Bool) (slots : List (Option (Option ℕ))) (lanes : List Lane) where
+  pub tells_first : SlotsTell f moved slots lanes → TellsSoFar f moved slots lanes 0
+  tells_first tell i d lt unmarked = tell i d lt (unmarked (omega arith))
+
+  pub tells_last : length slots ≡ length lanes → TellsSoFar f moved slots lanes (length lanes) → slots ≡ map f lanes
+  tells_last long tell =
+      ext_get_or None slots (map f lanes) (long ∙ sym (length-map lanes f)) (λ i lt.
+      let inside : i < length lanes = omega (arith, lt, long) in
+      let d : Lane = some_lane lanes i inside in
+      tell i d inside (λ le. absurd (omega (arith, le, inside))) ∙ sym (get_or-map f lanes i d None inside))
+
+  module _ (count : ℕ) (tell : TellsSoFar f moved slots lanes count) where
+    -- a lane without a mark is passed over
+    pub tells_passed : get_or moved count true ≡ false → TellsSoFar f moved slots lanes (count + 1)
+    tells_passed here i d lt unmarked = tell i d lt (λ le. elim (cases_eq i count) as (λ _. get_or moved i true ≡ false) [
+      | inl same ↦ ap (λ (k : ℕ). get_or moved k true) same ∙ here
+      | inr other ↦ let behind : count + 1 ≤ i = grind (arith, le, other) in unmarked behind
+    ])
+
+    -- a lane is looked at
+    pub tells_more : (e : Lane) (mark : Bool) (key : Option (Option ℕ)) (now : List (Option (Option ℕ))) → count < length slots → key ≡ f (get_or lanes count e) → now ≡ set slots count key
+        → TellsSoFar f (set moved count mark) now lanes (count + 1)
+    tells_more e mark key now inside own is i d lt unmarked = elim (cases_eq i count) as (λ _. get_or now i None ≡ f (get_or lanes i d)) [
+      | inl same ↦
+          at ∙ ap (λ (k : ℕ). get_or (set slots count key) k None) same ∙ get_or-set_same slots count key None inside ∙ own
+          ∙ ap f (get_or_default lanes count e d (subst (λ (k : ℕ). k < length lanes) same lt)) ∙ ap (λ (k : ℕ). f (get_or lanes k d)) (sym same)
+      | inr other ↦
+          at ∙ get_or-set_other slots count i key None other
+          ∙ tell i d lt (λ le. sym (get_or-set_other moved count i mark true other) ∙ (let behind : count + 1 ≤ i = grind (arith, le, other) in unmarked behind))
+    ]
+      where
+        at : get_or now i None ≡ get_or (set slots count key) i None
+        at = ap (λ (keys : List (Option (Option ℕ))). get_or keys i None) is
+
+-- Of the first few lanes those that are ready have no mark.
+abbrev pub ReadyUnmarked : (Lane → Type 0) → List Bool → List Lane → ℕ → Type 0
+ReadyUnmarked R moved lanes count = (i : ℕ) → (d : Lane) → i < length lanes → i < count → R (get_or lanes i d) → get_or moved i true ≡ false
+
+pub unmarked_more : (R : Lane → Type 0) (moved : List Bool) (lanes : List Lane) (count : ℕ) (e : Lane) (mark : Bool) → count < length moved → (R (get_or lanes count e) → mark ≡ false)
+    → ReadyUnmarked R moved lanes count → ReadyUnmarked R (set moved count mark) lanes (count + 1)
+unmarked_more R moved lanes count e mark inside unmarked all i d lt before ready = elim (cases_eq i count) as (λ _. get_or (set moved count mark) i true ≡ false) [
+  | inl same ↦
+      let within : count < length lanes = subst (λ (k : ℕ). k < length lanes) same lt in
+      let here : R (get_or lanes count e) = subst R (ap (λ (k : ℕ). get_or lanes k d) same ∙ get_or_default lanes count d e within) ready in
+      ap (λ (k : ℕ). get_or (set moved count mark) k true) same ∙ get_or-set_same moved count mark true inside ∙ unmarked here
+  | inr other ↦ get_or-set_other moved count i mark true other ∙ (let sooner : i < count = grind (arith, before, other) in all i d lt sooner ready)
+]
+
+-- a lane without a mark is passed over
+pub unmarked_passed : (R : Lane → Type 0) (moved : List Bool) (lanes : List Lane) (count : ℕ) → get_or moved count true ≡ false → ReadyUnmarked R moved lanes count → ReadyUnmarked R moved lanes (count + 1)
+unmarked_passed R moved lanes count here all i d lt before ready = elim (cases_eq i count) as (λ _. get_or moved i true ≡ false) [
+  | inl same ↦ ap (λ (k : ℕ). get_or moved k true) same ∙ here
+  | inr other ↦ let sooner : i < count = grind (arith, before, other) in all i d lt sooner ready
+]
+
+-- a lane that was looked at has no mark where it is ready
+pub ready_more : (R : Lane → Type 0) (moved : List Bool) (lanes : List Lane) (count : ℕ) (e : Lane) (mark : Bool) → count < length moved → (mark ≡ false → R (get_or lanes count e))
+    → AllUnmoved R moved lanes → AllUnmoved R (set moved count mark) lanes
+ready_more R moved lanes count e mark inside ready all i d lt unmarked = elim (cases_eq i count) as (λ _. R (get_or lanes i d)) [
+  | inl same ↦
+      let is : mark ≡ false = sym (ap (λ (k : ℕ). get_or (set moved count mark) k true) same ∙ get_or-set_same moved count mark true inside) ∙ unmarked in
+      let within : count < length lanes = subst (λ (k : ℕ). k < length lanes) same lt in
+      subst R (get_or_default lanes count e d within ∙ ap (λ (k : ℕ). get_or lanes k d) (sym same)) (ready is)
+  | inr other ↦ all i d lt (sym (get_or-set_other moved count i mark true other) ∙ unmarked)
+]

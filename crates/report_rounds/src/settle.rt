@@ -1,0 +1,46 @@
+// Trees and marks, once the lanes that moved are formatted.
+
+ghost use Rattle.std.specs.Prelude.{◌≡◌, All, true, length, map, replicate};
+ghost use Rattle.page_pool.specs.Moved.{AllUnmoved};
+ghost use Rattle.event_cursor.specs.Standing.{IsInOrder};
+ghost use Rattle.time_merge.specs.Horizons.{high_of};
+ghost use Rattle.time_merge.specs.LaneRows.{IsReady};
+ghost use Rattle.round_print.specs.Prints.{head_kept};
+ghost use Rattle.report_rounds.specs.Between.{AreMarkedUnready, HasSlots, SlotsTell};
+
+use crate::work::RoundWork;
+use page_pool::Lane;
+use round_print::head_kept;
+use time_merge::{high_of, wants_load};
+use trace_base::Layout;
+
+/// Marks every lane.
+pub(crate) fn mark_all(moved: &mut [bool])
+    ensures { moved.new ≡ replicate (length moved.old) true }
+{
+    moved.fill(true);
+}
+
+/// Brings both trees in step with the lanes, by a look at those that have a mark. Of these only the ones that are to be
+/// loaded keep it.
+pub(crate) fn settle(layout: &Layout, lanes: &[Lane], work: &mut RoundWork)
+    requires in_order { All (IsInOrder layout.now) lanes.now }
+    requires slots { HasSlots lanes.now work.old }
+    requires ready { AllUnmoved (IsReady layout.now) work.old.moved.items lanes.now }
+    requires heads { SlotsTell head_kept work.old.moved.items work.old.heads lanes.now }
+    requires highs { SlotsTell high_of work.old.moved.items work.old.highs lanes.now }
+    ensures heads { work.new.heads ≡ map head_kept lanes.now }
+    ensures highs { work.new.highs ≡ map high_of lanes.now }
+    ensures marks { length work.new.moved.items ≡ length lanes.now }
+    ensures marked { AreMarkedUnready layout.now work.new.moved.items lanes.now }
+    ensures pending { work.new.pending ≡ work.old.pending }
+{
+    for i in 0..lanes.len() {
+        if work.moved[i] {
+            let lane = &lanes[i];
+            work.heads.set(i, head_kept(lane));
+            work.highs.set(i, high_of(lane));
+            work.moved[i] = wants_load(layout, lane);
+        }
+    }
+}
