@@ -1,16 +1,16 @@
 -- The reading that is computed is the one that is said.
-use Rattle.std.proofs.Common.{◌≡◌, ℕ, zero, suc, ◌+◌, ◌-◌, ◌≤◌, Bool, true, false, ◌||◌, List, [], ◌∷◌, ◌++◌, length, take, drop, Option, Some, None, Result, Ok, Err, refl, ap, sym, ◌∙◌, subst, arith, ◌⊎◌, inl, inr, if◌then◌else◌}
+use Rattle.std.proofs.Common.{◌≡◌, ℕ, zero, suc, ◌+◌, ◌-◌, ◌≤◌, Bool, false, ◌||◌, List, [], ◌∷◌, ◌++◌, length, take, drop, Option, Some, None, Result, Ok, Err, refl, ap, sym, ◌∙◌, subst, arith, inl, inr}
 use Rattle.std.proofs.lemmas.Bool.{cases_Bool}
 use Rattle.std.proofs.lemmas.List.{length-drop, take-append-drop}
 use Rattle.filter_lang.specs.PlainToken.{PlainToken}
 use Rattle.filter_lang.specs.Filter.{FilterData}
 use Rattle.filter_lang.specs.ConditionReading.{Outcome, found, refused}
 use Rattle.filter_lang.specs.FilterReading.{filter_in}
-use Rattle.filter_lang.specs.Grammar.{IsFilter, RefusedBefore}
+use Rattle.filter_lang.specs.Grammar.{RefusedBefore}
 use Rattle.byte_classes.specs.Bytes.{is_blank}
 use Rattle.filter_lang.specs.Lexing.{Cut, token_in, is_colon}
-use Rattle.filter_lang.specs.Texts.{Lexeme, lexeme, AreLexemes, ended, blank, fault, token, tokens_in, IsFilterText, RefusedText, no_token}
-use Rattle.filter_lang.specs.Reading.{Lexed, lexed, behind_token, lex, from_first, read_tokens, reading}
+use Rattle.filter_lang.specs.Texts.{Lexeme, AreLexemes, ended, blank, fault, token, tokens_in, IsFilterText, RefusedText, no_token}
+use Rattle.filter_lang.specs.Reading.{Lexed, behind_token, lex, from_first, read_tokens, reading}
 use Rattle.filter_lang.proofs.Filters.{filter_derived, filter_refused}
 use Rattle.filter_lang.proofs.LexedPlaces.{by_place}
 use Rattle.filter_lang.proofs.LexLaws.{text_not_both, text_one_place, text_one_filter}

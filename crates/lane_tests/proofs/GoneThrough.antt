@@ -1,19 +1,17 @@
 -- Lanes that are gone through, one item after another.
-use Rattle.std.proofs.Common.{◌≡◌, ℕ, ◌+◌, ◌<◌, ◌≤◌, List, [], ◌∷◌, ◌++◌, length, get_or, set, map, Option, Some, None, sum_by, refl, sym, ap, subst, ◌∙◌, append_assoc, arith}
+use Rattle.std.proofs.Common.{◌≡◌, ℕ, ◌<◌, List, [], ◌∷◌, ◌++◌, length, get_or, set, map, Option, Some, None, refl, sym, ap, subst, ◌∙◌, append_assoc}
 use Rattle.std.specs.Option.{IfSome, option_map}
 use Rattle.std.specs.List.{All}
 use Rattle.std.proofs.lemmas.List.{append-nil}
-use Rattle.std.proofs.lemmas.List.Sums.{sum_by-set}
 use Rattle.std.proofs.lemmas.List.Elements.{All-set, All-get_or, All-weaker}
 use Rattle.trace_base.specs.declared.layout.Layout.{Layout}
-use Rattle.trace_base.specs.declared.part.Part.{Part}
 use Rattle.subpage.specs.Arrangement.{Keyed, key_of, cpu_of}
 use Rattle.subpage.specs.Cut.{cut_of, reached_of}
 use Rattle.page_pool.specs.Fresh.{IsFresh}
 use Rattle.page_pool.specs.declared.lane.Lane.{Lane}
 use Rattle.event_cursor.specs.Stepping.{IsStepped}
 use Rattle.event_cursor.specs.Keys.{first_of}
-use Rattle.event_cursor.specs.Standing.{keyed_held, most_left, Stands}
+use Rattle.event_cursor.specs.Standing.{keyed_held, Stands}
 use Rattle.event_cursor.proofs.Standing.{stands_stepped}
 use Rattle.time_merge.specs.declared.next_lanes.Next.{Next}
 use Rattle.time_merge.specs.declared.next_lanes.Next.TheVariants as code
@@ -21,7 +19,6 @@ use Rattle.time_merge.specs.Rows.{coming, least_cut}
 use Rattle.time_merge.specs.LaneRows.{parts_of, rows_of, to_come}
 use Rattle.time_merge.specs.Nexts.{IsNextLane, IsNext}
 use Rattle.lane_tests.specs.Through.{IsThrough}
-use Rattle.time_merge.proofs.Readying.{same_map}
 use Rattle.time_merge.proofs.Starting.{fresh_stands, fresh_come, cut_of_rows}
 
 -- the keys so far, followed by those that are to come, are all

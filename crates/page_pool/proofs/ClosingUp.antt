@@ -1,5 +1,5 @@
 -- Kept lines that are moved to the front, with their marks.
-use Rattle.std.proofs.Common.{◌≡◌, ℕ, zero, ◌+◌, ◌-◌, ◌<◌, ◌≤◌, List, [], ◌∷◌, ◌++◌, length, take, drop, get_or, set, map, None, refl, sym, ap, subst, ◌∙◌, length-drop, arith}
+use Rattle.std.proofs.Common.{◌≡◌, ℕ, ◌+◌, ◌-◌, ◌<◌, ◌≤◌, List, [], ◌∷◌, ◌++◌, length, take, drop, get_or, set, map, None, refl, sym, ap, subst, ◌∙◌, length-drop, arith}
 use Rattle.std.proofs.lemmas.List.{length-take, take_more_set, take_more, map-append, drop-drop, get_or-drop}
 use Rattle.line_holes.specs.Holes.{line_text}
 use Rattle.page_pool.specs.declared.region.LineMark.{LineMark}

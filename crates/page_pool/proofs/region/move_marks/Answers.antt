@@ -1,4 +1,4 @@
-use Rattle.std.proofs.Common.{rules, refl, arith, ◌≡◌, ◌+◌, ◌<◌, ◌≤◌, length, map, take, drop, subst, ◌∙◌}
+use Rattle.std.proofs.Common.{rules, arith, ◌+◌, ◌<◌, ◌∙◌}
 use Rattle.std.proofs.lemmas.List.{length-set, get_or-set_other}
 use Rattle.page_pool.specs.Lines.{earlier}
 use Rattle.page_pool.proofs.ClosingUp.{moved_more, no_mark}

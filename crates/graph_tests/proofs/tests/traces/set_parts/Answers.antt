@@ -1,4 +1,4 @@
-use Rattle.std.proofs.Common.{◌≡◌, ℕ, List, arith, refl, subst, sym}
+use Rattle.std.proofs.Common.{ℕ, List, arith, refl, subst, sym}
 use Rattle.trace_base.specs.declared.part.Part.{Part}
 use Rattle.subpage.specs.Arrangement.{CpusRise}
 use Rattle.time_merge.proofs.UnusedLanes.{new_unused, unused_fresh, unused_in_order}
