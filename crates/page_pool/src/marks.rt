@@ -1,0 +1,23 @@
+ghost use Rattle.std.specs.Prelude.{◌≤◌, length};
+ghost use Rattle.page_pool.specs.Moved.{IsNextMark};
+
+/// So many places are asked at once whether one of them has a mark.
+const GROUP: usize = 16;
+
+/// The first place from `from` on that has a mark. Where few have one, it costs an instruction or two a place.
+pub fn next_marked(moved: &[bool], from: usize) -> Option<usize>
+    requires { from ≤ length moved.now }
+    ensures { IsNextMark moved.now from result }
+{
+    let mut at = from;
+    while GROUP <= moved.len() - at && !moved[at..at + GROUP].contains(&true) {
+        at += GROUP;
+    }
+    while at < moved.len() {
+        if moved[at] {
+            return Some(at);
+        }
+        at += 1;
+    }
+    None
+}
