@@ -15,7 +15,9 @@ use Rattle.time_merge.specs.Nexts.{IsLeastOf, IsLeastAt}
 use Rattle.time_merge.proofs.Choosing.{around, all_of_map}
 use Rattle.time_merge.specs.Horizons.{is_due}
 use Rattle.round_print.specs.Prints.{due_lines, first_key, first_of, head_due, head_kept}
-use Rattle.round_print.proofs.Printing.{heads, rise_after, after_above}
+use Rattle.time_merge.proofs.LaneLaws.{after_above}
+use Rattle.time_merge.proofs.Choosing.{heads}
+use Rattle.round_print.proofs.Printing.{rise_after}
 
 -- what stands behind a line that is not due is not due
 later_due : (h : Horizon) (k c key cpu : ℕ) → is_due h k c ≡ false → (k < key) ⊎ ((k ≤ key) × (c ≤ cpu)) → is_due h key cpu ≡ false

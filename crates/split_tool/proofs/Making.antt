@@ -27,6 +27,7 @@ use Rattle.page_write.specs.Placed.{data_of}
 use Rattle.event_cursor.specs.Standing.{IsInOrder, Stands}
 use Rattle.event_cursor.specs.declared.places.Place.{Place}
 use Rattle.time_merge.specs.LaneRows.{parts_of}
+use Rattle.time_merge.proofs.LaneLaws.{after_above}
 use Rattle.time_merge.proofs.Starting.{fresh_stands}
 use Rattle.time_merge.specs.declared.ending.End.{End}
 use Rattle.time_merge.specs.declared.ending.End.TheVariants as code
@@ -56,7 +57,7 @@ use Rattle.new_files.specs.Stored.{NewFile, FilesStored}
 use Rattle.split_tool.proofs.Beginning.{started_lists, started_bad}
 use Rattle.split_tool.proofs.FewItems.{Few, few_keyed, few_reached}
 use Rattle.split_tool.proofs.FileAfterFile.{goes_on, ends as no_files, fewer_left, some_length}
-use Rattle.split_tool.proofs.Owning.{IsAfter, above}
+use Rattle.split_tool.proofs.Owning.{IsAfter}
 use Rattle.split_tool.proofs.Preparing.{left_still, first_cpu, other_parts}
 use Rattle.split_tool.proofs.Tables.{IsBelow, IsFrom}
 use Rattle.split_tool.proofs.Storing.{Stages, stages_none, stages_more, all_stored, some_stored, first_stored, unmade_since}
@@ -122,7 +123,7 @@ lanes_few zero k (a ∷ lanes) rise least most = absurd (omega (arith, All-head 
 lanes_few (suc n) k (a ∷ lanes) rise least most =
     let lt : a.cpu < k + suc n = All-head (IsBelow (k + suc n)) a lanes most in
     let least_here : k ≤ a.cpu = All-head (IsFrom k) a lanes least in
-    let later : All (IsFrom (k + 1)) lanes = All-weaker (IsAfter a.cpu) (IsFrom (k + 1)) (λ x h. omega (arith, h, least_here)) lanes (above a lanes rise) in
+    let later : All (IsFrom (k + 1)) lanes = All-weaker (IsAfter a.cpu) (IsFrom (k + 1)) (λ x h. omega (arith, h, least_here)) lanes (after_above a lanes rise) in
     let more : All (IsBelow (k + 1 + n)) lanes = All-weaker (IsBelow (k + suc n)) (IsBelow (k + 1 + n)) (λ x h. omega (arith, h)) lanes (All-tail (IsBelow (k + suc n)) a lanes most) in
     omega (arith, lanes_few n (k + 1) lanes (rises_tail a lanes rise) later more)
 

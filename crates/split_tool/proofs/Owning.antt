@@ -11,7 +11,7 @@ use Rattle.page_pool.specs.declared.lane.Lane.{Lane}
 use Rattle.event_cursor.specs.Standing.{left_of}
 use Rattle.time_merge.specs.Rows.{Row, together, up_to, least_cut}
 use Rattle.time_merge.specs.LaneRows.{parts_of, row_of, rows_of}
-use Rattle.time_merge.proofs.LaneLaws.{keyed_own}
+use Rattle.time_merge.proofs.LaneLaws.{after_above, keyed_own}
 use Rattle.time_merge.proofs.Parting.{all_by_key}
 use Rattle.word_values.specs.declared.moment.Moment.{Moment}
 use Rattle.word_values.specs.declared.piece.PieceUnit.{PieceUnit}
@@ -111,12 +111,8 @@ none_else l file rules lanes c a =
 
 -- WHERE EACH LANE IS A LIST
 
-pub above : (a : Lane) (lanes : List Lane) → CpusRise (parts_of (a ∷ lanes)) → All (IsAfter a.cpu) lanes
-above a [] r = All-nil (IsAfter a.cpu)
-above a (b ∷ lanes) r = All-cons (IsAfter a.cpu) b lanes r.0 (All-weaker (IsAfter b.cpu) (IsAfter a.cpu) (λ x lt. omega (arith, lt, r.0)) lanes (above b lanes r.1))
-
 later_not : (a : Lane) (lanes : List Lane) → CpusRise (parts_of (a ∷ lanes)) → All (IsNotLane a.cpu) lanes
-later_not a lanes r = All-weaker (IsAfter a.cpu) (IsNotLane a.cpu) (λ x lt e. omega (arith, lt, e)) lanes (above a lanes r)
+later_not a lanes r = All-weaker (IsAfter a.cpu) (IsNotLane a.cpu) (λ x lt e. omega (arith, lt, e)) lanes (after_above a lanes r)
 
 abbrev single : Row Keyed → List (Row Keyed)
 single row = row ∷ []
@@ -145,7 +141,7 @@ own_apart l file unit stop (a ∷ lanes) (suc i) d rise lt =
     let rows = rows_of l file lanes in
     let more = next_file unit (map (left_in_rows stop) (map single rows)) in
     let c = (get_or lanes i d).cpu in
-    let higher : a.cpu < c = above a lanes rise i d (omega (arith, lt)) in
+    let higher : a.cpu < c = after_above a lanes rise i d (omega (arith, lt)) in
     let none : items_of_cpu c here ≡ [] = none_own c here (All-weaker (IsOf a.cpu) (IsNot c) (λ x e f. omega (arith, e, f, higher)) here (mine_of l file unit stop a)) in
     own_append c here more ∙ ap (λ (xs : List ItemData). xs ++ items_of_cpu c more) none
     ∙ own_apart l file unit stop lanes i d (rises_tail a lanes rise) (omega (arith, lt))

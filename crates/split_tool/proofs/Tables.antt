@@ -14,13 +14,14 @@ use Rattle.page_write.specs.PageBytes.{page_of}
 use Rattle.page_write.specs.Pack.{packed, pack}
 use Rattle.page_write.specs.Placed.{parts_from}
 use Rattle.time_merge.specs.LaneRows.{parts_of}
+use Rattle.time_merge.proofs.LaneLaws.{after_above}
 use Rattle.split_pieces.specs.Cuts.{items_of_cpu}
 use Rattle.split_passes.specs.AllAgain.{owns}
 use Rattle.split_passes.specs.Tallies.{IsTally}
 use Rattle.split_passes.specs.declared.tally.Tally.{Tally}
 use Rattle.dat_header.specs.Tables.{in_table}
 use Rattle.split_tool.specs.Counted.{lists_of, AreCounted}
-use Rattle.split_tool.proofs.Owning.{IsAfter, IsNotLane, above}
+use Rattle.split_tool.proofs.Owning.{IsAfter, IsNotLane}
 use Rattle.split_passes.proofs.Running.{rises_tail}
 
 -- SIZES
@@ -136,14 +137,14 @@ same_data l xs (suc n) k (a ∷ lanes) rise least most none = elim (cases_Bool (
       let same : a.cpu ≡ k = eqb-true a.cpu k b in
       ap (λ (c : ℕ). pack l (items_of_cpu c xs) ++ flat_map (pack l) (owns lanes xs)) same
       ∙ ap (λ (bytes : List ℕ). pack l (items_of_cpu k xs) ++ bytes) (same_data l xs n (k + 1) lanes (rises_tail a lanes rise)
-      (All-weaker (IsAfter a.cpu) (IsFrom (k + 1)) (λ x lt. omega (arith, lt, same)) lanes (above a lanes rise))
+      (All-weaker (IsAfter a.cpu) (IsFrom (k + 1)) (λ x lt. omega (arith, lt, same)) lanes (after_above a lanes rise))
       (All-weaker (IsBelow (k + suc n)) (IsBelow (k + 1 + n)) (λ x lt. omega (arith, lt)) lanes (All-tail (IsBelow (k + suc n)) a lanes most))
       (λ c le others. none c (omega (arith, le)) (All-cons (IsNotLane c) a lanes (λ e. omega (arith, e, same, le)) others)))
   | inr b ↦
       let other : a.cpu ≡ k → ⊥ = eqb-false a.cpu k b in
       let least_here : IsFrom k a = All-head (IsFrom k) a lanes least in
       let later : All (IsFrom (k + 1)) (a ∷ lanes) =
-      All-cons (IsFrom (k + 1)) a lanes (omega (arith, least_here, other)) (All-weaker (IsAfter a.cpu) (IsFrom (k + 1)) (λ x lt. omega (arith, lt, least_here)) lanes (above a lanes rise)) in
+      All-cons (IsFrom (k + 1)) a lanes (omega (arith, least_here, other)) (All-weaker (IsAfter a.cpu) (IsFrom (k + 1)) (λ x lt. omega (arith, lt, least_here)) lanes (after_above a lanes rise)) in
       let here : pack l (items_of_cpu k xs) ≡ [] = ap (pack l) (none k (omega arith) (All-weaker (IsFrom (k + 1)) (IsNotLane k) (λ x le e. omega (arith, le, e)) (a ∷ lanes) later)) ∙ pack_nil l in
       let more = flat_map (pack l) (map (λ c. items_of_cpu c xs) (range_with_len (k + 1) n)) in
       same_data l xs n (k + 1) (a ∷ lanes) rise later
@@ -162,7 +163,7 @@ default_free (x ∷ xs) (suc i) d e lt = default_free xs i d e (omega (arith, lt
 pub rise_at : (lanes : List Lane) (i j : ℕ) (d : Lane) → CpusRise (parts_of lanes) → i < j → j < length lanes → (get_or lanes i d).cpu < (get_or lanes j d).cpu
 rise_at [] i j d rise lt inside = absurd (omega (arith, inside))
 rise_at (a ∷ lanes) i zero d rise lt inside = absurd (omega (arith, lt))
-rise_at (a ∷ lanes) zero (suc j) d rise lt inside = above a lanes rise j d (omega (arith, inside))
+rise_at (a ∷ lanes) zero (suc j) d rise lt inside = after_above a lanes rise j d (omega (arith, inside))
 rise_at (a ∷ lanes) (suc i) (suc j) d rise lt inside = rise_at lanes i j d (rises_tail a lanes rise) (omega (arith, lt)) (omega (arith, inside))
 
 -- no lane is this processor's

@@ -1,5 +1,5 @@
 -- Lanes that are made ready, one after another.
-use Rattle.std.proofs.Common.{◌≡◌, ℕ, ◌+◌, ◌-◌, ◌<◌, ◌≤◌, List, length, get_or, set, sum_by, refl, sym, ap, subst, ◌∙◌, inl, inr, arith, get_or-set_same, get_or-set_other}
+use Rattle.std.proofs.Common.{◌≡◌, ℕ, ◌+◌, ◌-◌, ◌<◌, ◌≤◌, Bool, List, length, get_or, set, sum_by, refl, sym, ap, subst, ◌∙◌, inl, inr, arith, get_or-set_same, get_or-set_other}
 use Rattle.std.specs.Option.{IfSome}
 use Rattle.std.specs.List.{All, AllWithin}
 use Rattle.std.proofs.lemmas.Bool.{cases_eq}
@@ -12,6 +12,8 @@ use Rattle.trace_outside.specs.Causes.{raised}
 use Rattle.trace_outside.specs.Keeping.{KeepsFile}
 use Rattle.trace_outside.proofs.Keeping.{file_kept, file_still}
 use Rattle.page_pool.specs.declared.lane.Lane.{Lane}
+use Rattle.page_pool.specs.Moved.{AllUnmoved, IsFirstMark, NoneMarked}
+use Rattle.page_pool.proofs.Passing.{passing}
 use Rattle.event_cursor.specs.Standing.{IsInOrder, Stands, most_left}
 use Rattle.event_cursor.specs.Loading.{IsReadied, LoadsLane}
 use Rattle.event_cursor.proofs.Told.{told_all}
@@ -152,3 +154,17 @@ module _ {F : Type 0} (f : file.Ghosts F) (l : Layout) (start : F) (first : List
             unread = done.loads.unread;
             keeps = done.loads.keeps;
           }
+
+  module _ (now : F) (lanes : List Lane) (moved : List Bool) (from : ℕ) (marks : length moved ≡ length first) (unmoved : AllUnmoved (IsReady l) moved first) (so_far : ReadySoFar f l start now first lanes from) where
+    -- lanes without a mark, which are ready, are passed over
+    up_to : (at : ℕ) → from ≤ at → at ≤ length moved → NoneMarked moved from at → ReadySoFar f l start now first lanes at
+    up_to at behind inside none =
+        passing (λ n. ReadySoFar f l start now first lanes n) moved from at behind none
+        (λ j more less unmarked before. one_passed now lanes j before (λ d. unmoved j d (omega (arith, less, inside, marks)) unmarked)) so_far
+
+    pub up_to_mark : (at : ℕ) → IsFirstMark moved from at → ReadySoFar f l start now first lanes at
+    up_to_mark at mark = up_to at mark.behind (omega (arith, mark.inside)) mark.none
+
+    pub up_to_end : from ≤ length moved → NoneMarked moved from (length moved) → ReadySoFar f l start now first lanes (length lanes)
+    up_to_end within none =
+        subst (λ (n : ℕ). ReadySoFar f l start now first lanes n) (marks ∙ sym (same_length lanes first so_far.parts)) (up_to (length moved) within (omega arith) none)

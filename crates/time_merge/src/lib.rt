@@ -20,7 +20,6 @@ mod next_lanes;
 mod ready;
 mod setting;
 
-pub use best::better;
 pub use ending::End;
 pub use highs::{high_of, horizon};
 pub use horizons::Horizon;

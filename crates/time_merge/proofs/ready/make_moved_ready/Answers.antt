@@ -1,28 +1,34 @@
-use Rattle.std.proofs.Common.{rules, ◌<◌, true, false, length, arith, ◌∙◌}
-use Rattle.std.proofs.lemmas.List.{get_or_default}
+use Rattle.std.proofs.Common.{rules, ◌<◌, length, arith}
 use Rattle.trace_outside.proofs.Gains.{on_err}
-use Rattle.time_merge.proofs.MakingReady.{one_loaded, one_passed, one_ready}
-use Rattle.time_merge.proofs.ready.make_moved_ready.Goals.{then-moved-i+in_ok-make_ready, else-moved-i}
+use Rattle.time_merge.proofs.Advancing.{same_length}
+use Rattle.time_merge.proofs.MakingReady.{all_loaded, one_loaded, one_ready, up_to_end, up_to_mark}
 use Rattle.time_merge.proofs.ready.make_moved_ready.Goals as goal
 
 pub loop-i-preserved : goal.loop-i-preserved
 loop-i-preserved g c =
-    let inside : c.loop-i.i < length c.loop-i.lanes = search rules in
-    elim c.if-moved-i.branch [
-      | then-moved-i+in_ok-make_ready w ↦
-          rw (w.file-is, w.lanes-is) (one_ready g.F.File c.args.layout.now c.args.file.now c.args.lanes.now c.loop-i.file c.loop-i.lanes c.loop-i.i c.loop-i.invariant w.make_ready.new.file w.index-lanes-i.result w.make_ready.new.lane inside
-          w.in_ok-make_ready.ensures.loads w.in_ok-make_ready.ensures.kept w.in_ok-make_ready.ensures.ready)
-      | else-moved-i w ↦
-          let within : c.loop-i.i < length c.args.moved.now = omega (arith, c.requires.marks, c.loop-i-test.true) in
-          let unmarked = get_or_default c.args.moved.now c.loop-i.i true false within ∙ w.if-moved-i.false in
-          rw (w.file-is, w.lanes-is) (one_passed g.F.File c.args.layout.now c.args.file.now c.args.lanes.now c.loop-i.file c.loop-i.lanes c.loop-i.i c.loop-i.invariant
-          (λ d. c.requires.unmoved c.loop-i.i d c.loop-i-test.true unmarked))
-    ]
+    let first = c.args.lanes.now in
+    let now = c.loop-i.lanes in
+    let i = c.in-Some.i in
+    let mark = c.in-Some.ensures in
+    let before = c.loop-i.invariant.so_far in
+    let inside : i < length now = omega (arith, mark.inside, c.requires.marks, same_length now first before.parts) in
+    let here = up_to_mark g.F.File c.args.layout.now c.args.file.now first c.loop-i.file now c.args.moved.now c.loop-i.from c.requires.marks c.requires.unmoved before i mark in
+    record {
+      within = omega (arith, mark.inside);
+      so_far = one_ready g.F.File c.args.layout.now c.args.file.now first c.loop-i.file now i here c.make_ready.new.file c.index-lanes-i.result c.make_ready.new.lane inside
+          c.in_ok-make_ready.ensures.loads c.in_ok-make_ready.ensures.kept c.in_ok-make_ready.ensures.ready;
+    }
 
 pub returns-in_err-make_ready-clause-makes_ready : goal.returns-in_err-make_ready-clause-makes_ready
 returns-in_err-make_ready-clause-makes_ready g c =
-    let inside : c.loop-i.i < length c.loop-i.lanes = search rules in
-    let done = one_loaded g.F.File c.args.layout.now c.args.file.now c.args.lanes.now c.loop-i.file c.loop-i.lanes c.loop-i.i c.loop-i.invariant c.make_ready.new.file c.index-lanes-i.result c.make_ready.new.lane inside
+    let first = c.args.lanes.now in
+    let now = c.loop-i.lanes in
+    let i = c.in-Some.i in
+    let mark = c.in-Some.ensures in
+    let before = c.loop-i.invariant.so_far in
+    let inside : i < length now = omega (arith, mark.inside, c.requires.marks, same_length now first before.parts) in
+    let here = up_to_mark g.F.File c.args.layout.now c.args.file.now first c.loop-i.file now c.args.moved.now c.loop-i.from c.requires.marks c.requires.unmoved before i mark in
+    let done = one_loaded g.F.File c.args.layout.now c.args.file.now first c.loop-i.file now i here c.make_ready.new.file c.index-lanes-i.result c.make_ready.new.lane inside
     c.make_ready.ensures.loads c.make_ready.ensures.kept in
     record {
       loads = done.loads;
@@ -31,4 +37,19 @@ returns-in_err-make_ready-clause-makes_ready g c =
       cause = search rules;
       reads_done = search rules;
       stops = on_err c.from_residual.result done.stopped;
+    }
+
+pub returns-clause-makes_ready : goal.returns-clause-makes_ready
+returns-clause-makes_ready g c =
+    let first = c.args.lanes.now in
+    let now = c.loop-i.lanes in
+    let before = c.loop-i.invariant in
+    let done = up_to_end g.F.File c.args.layout.now c.args.file.now first c.loop-i.file now c.args.moved.now c.loop-i.from c.requires.marks c.requires.unmoved before.so_far before.within c.in_default.ensures in
+    record {
+      loads = all_loaded g.F.File c.args.layout.now c.args.file.now first c.loop-i.file now done;
+      ready = λ j d less. done.ready j d (omega arith) less;
+      each = done.each;
+      cause = search rules;
+      reads_done = done.reads;
+      stops = search rules;
     }
