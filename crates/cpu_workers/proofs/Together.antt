@@ -8,9 +8,10 @@ use Rattle.trace_base.specs.declared.layout.Layout.{Layout}
 use Rattle.subpage.specs.ItemData.{ItemData}
 use Rattle.line_holes.specs.Holes.{LineText}
 use Rattle.page_pool.specs.declared.lane.Lane.{Lane}
-use Rattle.page_pool.specs.Moved.{KeepsUnmoved}
+use Rattle.page_pool.specs.Moved.{KeepsUnmoved, NoneMarked}
+use Rattle.page_pool.proofs.Passing.{passing}
 use Rattle.event_cursor.specs.Standing.{IsInOrder}
-use Rattle.cpu_workers.specs.Formats.{AreFormatted, IsFormatted, IsSettled}
+use Rattle.cpu_workers.specs.Formats.{AreFormatted, AreMarked, IsFormatted, IsSettled}
 use Rattle.cpu_workers.proofs.Settling.{settled_formatted}
 
 module _ (text : ℕ → ItemData → LineText) (l : Layout) where
@@ -34,7 +35,7 @@ module _ (text : ℕ → ItemData → LineText) (l : Layout) where
       ]
 
   -- a lane that is passed over is formatted as it stands
-  pub one_passed : (first now : List Lane) (i : ℕ) → i < length first
+  one_passed : (first now : List Lane) (i : ℕ) → i < length first
       → ((k : ℕ) (d : Lane) → k < i → IsFormatted text l (get_or first k d) (get_or now k d))
       → ((k : ℕ) (d : Lane) → i ≤ k → get_or now k d ≡ get_or first k d)
       → All (IsInOrder l) first → ((d : Lane) → IsSettled text l (get_or first i d))
@@ -47,6 +48,19 @@ module _ (text : ℕ → ItemData → LineText) (l : Layout) where
             same (get_or first k d) (get_or now k d) (get_or first i d) (get_or first i d) (at first) (at now ∙ rest i d (omega arith))
             (settled_formatted text l (get_or first i d) (All-get_or (IsInOrder l) first i d inside in_order) (settled d))
       ]
+
+  -- lanes that are passed over are formatted as they stand
+  pub all_passed : (first now : List Lane) (moved : List Bool) (from to : ℕ) → AreMarked text l moved first → from ≤ to → to ≤ length moved
+      → NoneMarked moved from to
+      → ((k : ℕ) (d : Lane) → k < from → IsFormatted text l (get_or first k d) (get_or now k d))
+      → ((k : ℕ) (d : Lane) → from ≤ k → get_or now k d ≡ get_or first k d)
+      → (k : ℕ) (d : Lane) → k < to → IsFormatted text l (get_or first k d) (get_or now k d)
+  all_passed first now moved from to marked behind within none done rest =
+      passing (λ j. (k : ℕ) (d : Lane) → k < j → IsFormatted text l (get_or first k d) (get_or now k d)) moved from to behind none
+      (λ j more inside unmarked before.
+      let there : j < length first = omega (arith, inside, within, marked.marks) in
+      one_passed first now j there before (λ k d later. rest k d (omega (arith, more, later))) marked.in_order (λ d. marked.unmoved j d there unmarked))
+      done
 
   pub both : (all a b now_a now_b : List Lane) (moved moved_a moved_b : List Bool) → all ≡ a ++ b → moved ≡ moved_a ++ moved_b
       → length moved_a ≡ length a → AreFormatted text l moved_a a now_a → AreFormatted text l moved_b b now_b

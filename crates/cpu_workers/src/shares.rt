@@ -1,9 +1,9 @@
 ghost use Rattle.std.specs.Prelude.{◌≡◌, ◌-◌, ◌<◌, ◌≤◌, length, take, drop, All};
 ghost use Rattle.event_cursor.specs.Standing.{IsInOrder};
-ghost use Rattle.cpu_workers.specs.Shares.{busy_lanes, is_busy, may_form, share_of};
+ghost use Rattle.cpu_workers.specs.Shares.{busy_lanes, may_form, share_of};
 
 use event_cursor::head_key;
-use page_pool::Lane;
+use page_pool::{Lane, next_marked};
 use trace_base::Layout;
 
 /// Whether a lane may form a line: it holds an item, and its region takes lines.
@@ -14,15 +14,6 @@ fn may_form(layout: &Layout, lane: &Lane) -> bool
     !lane.region.is_used_up() && head_key(lane).is_some()
 }
 
-/// Whether a lane is busy: it has a mark, and may form a line.
-#[inline]
-fn is_busy(layout: &Layout, lane: &Lane, moved: bool) -> bool
-    requires { IsInOrder layout.now lane.now }
-    ensures { result ≡ is_busy layout.now (lane.now, moved) }
-{
-    moved && may_form(layout, lane)
-}
-
 /// How many lanes are busy, by their marks.
 pub(crate) fn busy_lanes(layout: &Layout, lanes: &[Lane], moved: &[bool]) -> usize
     requires in_order { All (IsInOrder layout.now) lanes.now }
@@ -30,10 +21,12 @@ pub(crate) fn busy_lanes(layout: &Layout, lanes: &[Lane], moved: &[bool]) -> usi
     ensures { result ≡ busy_lanes layout.now lanes.now moved.now }
 {
     let mut busy = 0;
-    for i in 0..moved.len() {
-        if is_busy(layout, &lanes[i], moved[i]) {
+    let mut from = 0;
+    while let Some(i) = next_marked(moved, from) {
+        if may_form(layout, &lanes[i]) {
             busy += 1;
         }
+        from = i + 1;
     }
     busy
 }
@@ -47,15 +40,17 @@ fn place_behind(layout: &Layout, lanes: &[Lane], moved: &[bool], count: usize) -
     ensures count { busy_lanes layout.now (take result lanes.now) (take result moved.now) ≡ count }
 {
     let mut left = count;
-    for i in 0..moved.len() {
-        if left == 0 {
-            return i;
-        }
-        if is_busy(layout, &lanes[i], moved[i]) {
+    let mut from = 0;
+    while left > 0 {
+        let Some(i) = next_marked(moved, from) else {
+            break;
+        };
+        if may_form(layout, &lanes[i]) {
             left -= 1;
         }
+        from = i + 1;
     }
-    moved.len()
+    from
 }
 
 /// Where lanes are cut between the first few of several workers and the others, so that each has about as many busy ones.
