@@ -19,9 +19,10 @@ use Rattle.time_merge.specs.declared.horizons.Horizon.{Horizon}
 use Rattle.time_merge.specs.LaneRows.{parts_of, row_of}
 use Rattle.time_merge.specs.Rows.{Row}
 use Rattle.time_merge.specs.Horizons.{is_due}
+use Rattle.time_merge.proofs.LaneLaws.{after_above}
 use Rattle.round_print.specs.Prints.{CpuLine, due_lines, due_of, key_in, later_lines, printed, with_cpu}
 use Rattle.round_print.specs.Rounds.{IsPrinted}
-use Rattle.round_print.proofs.Printing.{after_above, rise_after}
+use Rattle.round_print.proofs.Printing.{rise_after}
 use Rattle.report_rounds.specs.Due.{has_line, is_of}
 use Rattle.report_rounds.specs.Lines.{item_line, shown_lines, waiting_row}
 use Rattle.report_rounds.proofs.RoundsPrinted.{same_kept_row}

@@ -6,8 +6,9 @@ use Rattle.std.specs.List.{All}
 use Rattle.trace_base.specs.declared.layout.Layout.{Layout}
 use Rattle.subpage.specs.ItemData.{ItemData}
 use Rattle.line_holes.specs.Holes.{LineText}
-use Rattle.page_pool.specs.Moved.{AllUnmoved, KeepsUnmoved}
+use Rattle.page_pool.specs.Moved.{AllUnmoved, KeepsUnmoved, NoneMarked}
 use Rattle.page_pool.specs.declared.lane.Lane.{Lane}
+use Rattle.page_pool.proofs.Passing.{passing}
 use Rattle.time_merge.specs.Horizons.{high_of}
 use Rattle.time_merge.specs.LaneRows.{IsReady}
 use Rattle.cpu_workers.specs.Formats.{IsSettled}
@@ -101,6 +102,10 @@ module _ (f : Lane → Option (Option ℕ)) (moved : List Bool) (slots : List (O
         at : get_or now i None ≡ get_or (set slots count key) i None
         at = ap (λ (keys : List (Option (Option ℕ))). get_or keys i None) is
 
+  -- lanes without a mark are passed over
+  pub tells_along : (from to : ℕ) → from ≤ to → NoneMarked moved from to → TellsSoFar f moved slots lanes from → TellsSoFar f moved slots lanes to
+  tells_along from to behind none = passing (TellsSoFar f moved slots lanes) moved from to behind none (λ j later inside here tell. tells_passed j tell here)
+
 -- Of the first few lanes those that are ready have no mark.
 abbrev pub ReadyUnmarked : (Lane → Type 0) → List Bool → List Lane → ℕ → Type 0
 ReadyUnmarked R moved lanes count = (i : ℕ) → (d : Lane) → i < length lanes → i < count → R (get_or lanes i d) → get_or moved i true ≡ false
@@ -121,6 +126,11 @@ unmarked_passed R moved lanes count here all i d lt before ready = elim (cases_e
   | inl same ↦ ap (λ (k : ℕ). get_or moved k true) same ∙ here
   | inr other ↦ let sooner : i < count = grind (arith, before, other) in all i d lt sooner ready
 ]
+
+-- lanes without a mark are passed over
+pub unmarked_along : (R : Lane → Type 0) (moved : List Bool) (lanes : List Lane) (from to : ℕ) → from ≤ to → NoneMarked moved from to → ReadyUnmarked R moved lanes from → ReadyUnmarked R moved lanes to
+unmarked_along R moved lanes from to behind none =
+    passing (ReadyUnmarked R moved lanes) moved from to behind none (λ j later inside here all. unmarked_passed R moved lanes j here all)
 
 -- a lane that was looked at has no mark where it is ready
 pub ready_more : (R : Lane → Type 0) (moved : List Bool) (lanes : List Lane) (count : ℕ) (e : Lane) (mark : Bool) → count < length moved → (mark ≡ false → R (get_or lanes count e))

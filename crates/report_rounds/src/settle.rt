@@ -9,7 +9,7 @@ ghost use Rattle.round_print.specs.Prints.{head_kept};
 ghost use Rattle.report_rounds.specs.Between.{AreMarkedUnready, HasSlots, SlotsTell};
 
 use crate::work::RoundWork;
-use page_pool::Lane;
+use page_pool::{Lane, next_marked};
 use round_print::head_kept;
 use time_merge::{high_of, wants_load};
 use trace_base::Layout;
@@ -35,12 +35,12 @@ pub(crate) fn settle(layout: &Layout, lanes: &[Lane], work: &mut RoundWork)
     ensures marked { AreMarkedUnready layout.now work.new.moved.items lanes.now }
     ensures pending { work.new.pending ≡ work.old.pending }
 {
-    for i in 0..lanes.len() {
-        if work.moved[i] {
-            let lane = &lanes[i];
-            work.heads.set(i, head_kept(lane));
-            work.highs.set(i, high_of(lane));
-            work.moved[i] = wants_load(layout, lane);
-        }
+    let mut from = 0;
+    while let Some(i) = next_marked(work.moved.as_slice(), from) {
+        let lane = &lanes[i];
+        work.heads.set(i, head_kept(lane));
+        work.highs.set(i, high_of(lane));
+        work.moved[i] = wants_load(layout, lane);
+        from = i + 1;
     }
 }

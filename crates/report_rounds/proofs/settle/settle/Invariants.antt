@@ -1,4 +1,4 @@
-use Rattle.std.proofs.Common.{◌≡◌}
+use Rattle.std.proofs.Common.{◌≡◌, ◌≤◌, ◌-◌, length}
 use Rattle.page_pool.specs.Moved.{AllUnmoved}
 use Rattle.time_merge.specs.Horizons.{high_of}
 use Rattle.time_merge.specs.LaneRows.{IsReady}
@@ -9,10 +9,14 @@ use Rattle.report_rounds.proofs.settle.settle.Given as goal
 
 abbrev pub invariant-loop-i : goal.invariant-loop-i
 invariant-loop-i l = record {
+  within : l.from ≤ length l.work.moved.items;
   slots : HasSlots l.lanes l.work;
   ready : AllUnmoved (IsReady l.layout) l.work.moved.items l.lanes;
-  unmarked : ReadyUnmarked (IsReady l.layout) l.work.moved.items l.lanes l.i;
-  heads : TellsSoFar head_kept l.work.moved.items l.work.heads l.lanes l.i;
-  highs : TellsSoFar high_of l.work.moved.items l.work.highs l.lanes l.i;
+  unmarked : ReadyUnmarked (IsReady l.layout) l.work.moved.items l.lanes l.from;
+  heads : TellsSoFar head_kept l.work.moved.items l.work.heads l.lanes l.from;
+  highs : TellsSoFar high_of l.work.moved.items l.work.highs l.lanes l.from;
   pending : l.work.pending ≡ l.fn.work.pending;
 }
+
+abbrev pub decreases-loop-i : goal.decreases-loop-i
+decreases-loop-i l = length l.work.moved.items - l.from
