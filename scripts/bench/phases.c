@@ -1,21 +1,6 @@
-#!/usr/bin/env python3
-"""Where the time of a report with workers goes.
+/* Notes of each thread of a program when it is asked for, begins and ends, and how long its maker waits for it, and writes what it comes
+   to into the file that the environment's PHASES names. With APART each thread is put on a processor of its own. */
 
-  worker_phases.py PROGRAM TRACE [TURNS]
-
-PROGRAM reports TRACE with 1, 2 and 4 workers in turn, TURNS times, 9 where none is given, once with each new thread where the system
-puts it and once with each on a processor of its own. A small library before pthread_create notes when each thread is asked for, begins
-and ends, and how long its maker waits for it. A line has the least time of a report in milliseconds and, of that turn, the threads that
-were started, how long one takes to begin (microseconds), the milliseconds in which several threads could work and those in which one
-did alone, and the threads' processor time. It wants a C compiler (`cc`), and the machine should be idle, with four processors at least.
-"""
-import os
-import subprocess
-import sys
-import tempfile
-import time
-
-LIBRARY = r"""
 #define _GNU_SOURCE
 #include <dlfcn.h>
 #include <pthread.h>
@@ -119,36 +104,3 @@ void _exit(int status) {
     syscall(SYS_exit_group, status);
     __builtin_unreachable();
 }
-"""
-
-
-def turn(command, environment, noted):
-    begun = time.monotonic()
-    subprocess.run(command, stdout=subprocess.DEVNULL, env=environment, check=True)
-    took = (time.monotonic() - begun) * 1e3
-    with open(noted) as file:
-        return took, [float(word) for word in file.read().split()]
-
-
-def main():
-    program, trace = sys.argv[1:3]
-    turns = int(sys.argv[3]) if len(sys.argv) > 3 else 9
-    with tempfile.TemporaryDirectory() as folder:
-        source, library, noted = f"{folder}/phases.c", f"{folder}/phases.so", f"{folder}/noted"
-        with open(source, "w") as file:
-            file.write(LIBRARY)
-        subprocess.run(["cc", "-O2", "-shared", "-fPIC", source, "-o", library, "-ldl"], check=True)
-        print("workers           whole   threads   to begin   shared    alone   threads' own")
-        for apart in ({}, {"APART": "1"}):
-            least = {}
-            for _ in range(turns):
-                for workers in (1, 2, 4):
-                    command = [program, "report", "--workers", str(workers), "-i", trace]
-                    found = turn(command, {"LD_PRELOAD": library, "PHASES": noted, **apart}, noted)
-                    least[workers] = min(found, least.get(workers, found))
-            for workers, (took, (count, wait, shared, used)) in least.items():
-                name = f"{workers}{', each apart' if apart else ''}"
-                print(f"{name:15} {took:7.1f} {count:9.0f} {wait:10.0f} {shared:8.1f} {took - shared:8.1f} {used:14.1f}")
-
-
-main()

@@ -1,7 +1,7 @@
 #!/bin/bash
 # Runs PROGRAM where the system refuses something, and tells what it did not answer as it must.
 #
-#     scripts/real_faults.sh PROGRAM [TRACE]
+#     scripts/checks/real_faults.sh PROGRAM [TRACE]
 #
 # TRACE is a recording whose report is longer than 200,000 bytes; without one it is samples/sched.dat. Each case below says what
 # must come of it: the status, the message, and what stands afterwards. New files stand whole or not at all under their names,
@@ -9,7 +9,7 @@
 # named and passed over. It ends with 0 where all was as it must be, and else with 1.
 
 program=$(realpath "$1")
-trace=$(realpath "${2:-$(dirname "$0")/../samples/sched.dat}")
+trace=$(realpath "${2:-$(dirname "$0")/../../samples/sched.dat}")
 room=$(mktemp -d)
 # A part of this script that a signal ends must not clear the room away.
 trap '[ $BASHPID != $$ ] || rm -rf "$room"' EXIT
@@ -91,7 +91,7 @@ begins "a closed pipe"
 status_is 5 "${PIPESTATUS[0]}"
 says "trace-cmd: write failed"
 
-begins "a pipe that is closed behind the first line"
+begins "a pipe that is closed after the first line"
 "$program" report trace.dat 2>err | head -n 1 >out
 status_is 5 "${PIPESTATUS[0]}"
 says "trace-cmd: write failed"
@@ -118,7 +118,8 @@ mkdir new/p.2
 status_is 5 $?
 says "trace-cmd: write failed"
 cmp -s new/p.1 clean/p.1 || wrong "p.1 is not whole"
-[ "$(ls new)" = "$(printf 'p.1\np.2')" ] || wrong "the folder has $(ls new | tr '\n' ' ')"
+found=$(cd new && echo *)
+[ "$found" = "p.1 p.2" ] || wrong "the folder has $found"
 
 if [ "$(id -u)" = 0 ]; then
     as_nobody="setpriv --reuid=65534 --regid=65534 --clear-groups"
@@ -145,16 +146,16 @@ else
     echo "passed over: no permission (another user cannot run $program)"
 fi
 
-# The program waits in a write to the pipe while the file is cut.
+# The program waits in a write to the pipe while the file is cut: the first byte comes with the first 64 KiB, which fill the pipe.
 begins "a file that shrinks while it is read"
 cp trace.dat shrinks.dat
 mkfifo slow
 "$program" report shrinks.dat >slow 2>err &
 runs=$!
 exec 3<slow
-sleep 1
+IFS= read -r -n 1 first <&3
 truncate -s 20000 shrinks.dat
-cat <&3 >out
+{ printf '%s' "$first" && cat <&3; } >out
 exec 3<&-
 wait $runs
 status_is 4 $?
@@ -163,38 +164,50 @@ begins_whole
 [ -s out ] || wrong "no output"
 rm -f slow
 
+# moves_the_folder: the folder of a split goes away while it is at work; it may have ended before that, on a busy machine.
+moves_the_folder() {
+    rm -rf new
+    mkdir new
+    "$program" split -i trace.dat -e 1 -r -o new/p 2>err &
+    runs=$!
+    while [ ! -e new/p.3 ] && kill -0 $runs 2>/dev/null; do :; done
+    mv new gone
+    wait $runs
+    status=$?
+    mv gone new
+    [ $status != 0 ]
+}
 begins "a folder that goes away during a split"
-"$program" split -i trace.dat -e 1 -r -o new/p 2>err &
-runs=$!
-while [ ! -e new/p.3 ] && kill -0 $runs 2>/dev/null; do :; done
-mv new gone
-wait $runs
-status_is 5 $?
+moves_the_folder || moves_the_folder || moves_the_folder
+status_is 5 $status
 says "trace-cmd: write failed"
-mv gone new
 [ "$(find new -name '*.part' | wc -l)" -le 1 ] || wrong "more than one part stays"
 for file in new/p.?; do
     "$program" dump --validate "$file" >out 2>err
     status_is 0 $?
 done
 
-for kibibytes in 3000; do
-    begins "a limit of $kibibytes KiB of memory"
-    (ulimit -v $kibibytes && exec "$program" report trace.dat) >out 2>err
-    status_is 6 $?
-    says "trace-cmd: out of memory"
-    [ ! -s out ] || wrong "an output"
-    (ulimit -v $kibibytes && exec "$program" split -i trace.dat -o new/p) 2>err
-    status_is 6 $?
-    only_whole 0
-    [ -z "$(ls new)" ] || wrong "new files"
+# The least limit under which the program starts, and only misses its file.
+limit=1500
+until (ulimit -v $limit && exec "$program" report missing.dat) >/dev/null 2>&1; [ $? = 4 ] || [ $limit -gt 20000 ]; do
+    limit=$((limit + 100))
 done
+
+begins "a limit of $limit KiB of memory"
+(ulimit -v $limit && exec "$program" report trace.dat) >out 2>err
+status_is 6 $?
+says "trace-cmd: out of memory"
+[ ! -s out ] || wrong "an output"
+(ulimit -v $limit && exec "$program" split -i trace.dat -o new/p) 2>err
+status_is 6 $?
+only_whole 0
+[ -z "$(ls new)" ] || wrong "new files"
 
 # A size of four billion in front of a short text takes no memory.
 begins "a limit of memory, and a text that the file does not have"
 head -c 67 <(printf '\x17\x08\x44tracing6\0\0\x08\0\x10\0\0header_page\0\0\0\0\0\0\0\0\0header_event\0\0\0\0\0\0\0\0\0\0\0\0\0\0\0\0\0') >large.dat
 printf '\xff\xff\xff\xff1 T a\n' >>large.dat
-(ulimit -v 4000 && exec "$program" report large.dat) >out 2>err
+(ulimit -v $((limit + 1000)) && exec "$program" report large.dat) >out 2>err
 status_is 2 $?
 says "trace-cmd: large.dat: file ends early at byte 77"
 
@@ -207,7 +220,7 @@ only_whole 0
 (ulimit -f 100 && trap '' XFSZ && exec "$program" report trace.dat) >out 2>err
 status_is 5 $?
 cmp -s -n "$(stat -c %s out)" out whole || wrong "the output is not the beginning of the report"
-(ulimit -f 100 && exec "$program" split -i trace.dat -e 50 -r -o new/p) 2>err
+{ (ulimit -f 100 && exec "$program" split -i trace.dat -e 50 -r -o new/p) 2>err; } 2>/dev/null
 status_is 153 $?
 only_whole 1
 

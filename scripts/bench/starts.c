@@ -1,17 +1,5 @@
-#!/usr/bin/env python3
-"""What threads can give on this machine, by a small C program: rounds of so much work each, shared out to threads that are started and
-joined anew in each round, as report's workers are.
+/* Rounds of so much work each, shared out to threads that are started and joined anew in each round. */
 
-  thread_starts.py
-
-Each line has the work of a round, and the times of two and of four threads as ratios to that of one, the least of three turns. It wants
-a C compiler (`cc`), and the machine should be idle, with four processors at least.
-"""
-import os
-import subprocess
-import tempfile
-
-PROGRAM = r"""
 #include <pthread.h>
 #include <stdint.h>
 #include <stdio.h>
@@ -62,11 +50,3 @@ int main(void) {
     }
     return 0;
 }
-"""
-
-with tempfile.TemporaryDirectory() as folder:
-    source, program = os.path.join(folder, "starts.c"), os.path.join(folder, "starts")
-    with open(source, "w") as file:
-        file.write(PROGRAM)
-    subprocess.run(["cc", "-O2", "-pthread", source, "-o", program], check=True)
-    subprocess.run([program], check=True)
