@@ -20,6 +20,7 @@ It prints a line for each that is not so, and ends with 0 where there is none, e
 
 from __future__ import annotations
 
+import argparse
 import re
 import sys
 from dataclasses import dataclass, field
@@ -350,10 +351,9 @@ def check(top: Path) -> bool:
 
 
 def main() -> None:
-    if len(sys.argv) > 2 or "-h" in sys.argv or "--help" in sys.argv:
-        sys.exit(__doc__)
-    top = Path(sys.argv[1]) if len(sys.argv) == 2 else Path(__file__).parent.parent
-    sys.exit(0 if check(top.resolve()) else 1)
+    parser = argparse.ArgumentParser(description=__doc__, formatter_class=argparse.RawDescriptionHelpFormatter)
+    parser.add_argument("folder", nargs="?", type=Path, default=Path(__file__).parent.parent, metavar="FOLDER")
+    sys.exit(0 if check(parser.parse_args().folder.resolve()) else 1)
 
 
 if __name__ == "__main__":

@@ -18,6 +18,7 @@ import argparse
 import random
 import re
 import struct
+import sys
 from pathlib import Path
 from typing import Callable, Iterable, Sequence
 
@@ -89,12 +90,16 @@ def span_of(page: bytes) -> int | None:
     if DATA_AT + commit > len(page) or any(record.kind == STAMP for record in records_of(page)):
         return None
     times = [event.time for event in events_of(page)]
-    return times[-1] - struct.unpack_from("<Q", page)[0] if times else None
+    return times[-1] - begin_of(page) if times else None
+
+
+def begin_of(page: bytes) -> int:
+    return int.from_bytes(page[:8], "little")
 
 
 def sub_buffers_with_spans(trace: Trace) -> list[tuple[bytes, int]]:
     """The recording's sub-buffers with events, each with how long they take, in the order of their times."""
-    pages = sorted((page for lane in trace.sub_buffers() for page in lane), key=lambda page: struct.unpack_from("<Q", page)[0])
+    pages = sorted((page for lane in trace.sub_buffers() for page in lane), key=begin_of)
     return [(page, span) for page, span in ((page, span_of(page)) for page in pages) if span is not None]
 
 
@@ -135,6 +140,8 @@ def deal_to_files(source: Path, base: str, files: int, processors: int) -> None:
     files of two and of four files of one have the same lines in the same order, but for the columns of names and processors.
     """
     trace = read_plain_trace(source)
+    if len(trace.parts) != 1:
+        sys.exit(f"{source}: more than one processor")
     (events,) = trace.events()
     lanes = [packed(events[turn :: files * processors]) for turn in range(files * processors)]
     for number in range(files):

@@ -6,7 +6,7 @@
 KERNEL is a kernel of x86-64 that has what SCRIPT uses (for calls CONFIG_FUNCTION_GRAPH_TRACER); none of its modules is needed. Debian's has
 all: `apt-get download linux-image-6.1.0-56-amd64`, `dpkg -x` of that, and in it `boot/vmlinuz-6.1.0-56-amd64`. SCRIPT is run by busybox's
 shell in an empty folder of the machine, with busybox and trace-cmd in its PATH and tracefs mounted; `samples/graph.sh` is one. What it leaves
-in the folder is put into DIRECTORY, and what it says goes to this script's output. QEMU_WORDs are qemu's own, and stand behind those that are
+in the folder is put into DIRECTORY, and what it says goes to this script's output. QEMU_WORDs are qemu's own, and stand after those that are
 given here. `apt-get install qemu-system-x86 busybox-static cpio trace-cmd` brings what is needed (trace-cmd 3.1.6 was tried).
 
     echo 'trace-cmd record --file-version 6 -e sched -o sched.dat sleep 1' > sched.sh
@@ -15,8 +15,10 @@ given here. `apt-get install qemu-system-x86 busybox-static cpio trace-cmd` brin
 The machine is emulated without help of the processor: on a busy host it takes some 15 seconds up to SCRIPT, and files come back at 200 KB a second.
 """
 
+from __future__ import annotations
+
+import argparse
 import gzip
-import os
 import re
 import shutil
 import subprocess
@@ -42,7 +44,7 @@ poweroff -f
 MACHINE = "-display none -vga none -nic none -monitor none -no-reboot -m 1G -smp 2 -append".split() + ["console=ttyS0 quiet panic=-1"]
 
 
-def initramfs(script):
+def initramfs(script: Path) -> bytes:
     """The machine's first files, packed: busybox, trace-cmd with what it is linked with, the script, and what runs it."""
     with tempfile.TemporaryDirectory() as name:
         root = Path(name)
@@ -64,19 +66,21 @@ def initramfs(script):
         return gzip.compress(packed.stdout, 1)
 
 
-def main():
-    if len(sys.argv) < 4:
-        sys.exit(__doc__)
-    kernel, script, directory, more = sys.argv[1], sys.argv[2], sys.argv[3], sys.argv[4:]
+def main() -> None:
+    parser = argparse.ArgumentParser(description=__doc__, formatter_class=argparse.RawDescriptionHelpFormatter)
+    for name in ("kernel", "script", "directory"):
+        parser.add_argument(name, type=Path, metavar=name.upper())
+    parser.add_argument("more", nargs=argparse.REMAINDER, metavar="QEMU_WORD")
+    given = parser.parse_args()
     with tempfile.TemporaryDirectory() as name:
         packed, brought = Path(name, "initramfs"), Path(name, "brought.tar")
-        packed.write_bytes(initramfs(script))
-        words = ["qemu-system-x86_64", *MACHINE, "-kernel", kernel, "-initrd", packed, "-serial", "stdio", "-serial", f"file:{brought}"]
-        subprocess.run([*words, *more], stdin=subprocess.DEVNULL, check=True)
+        packed.write_bytes(initramfs(given.script))
+        machine = [*MACHINE, "-kernel", str(given.kernel), "-initrd", str(packed), "-serial", "stdio", "-serial", f"file:{brought}"]
+        subprocess.run(["qemu-system-x86_64", *machine, *given.more], stdin=subprocess.DEVNULL, check=True)
         if brought.stat().st_size == 0:
             sys.exit("the machine gave no files back")
-        os.makedirs(directory, exist_ok=True)
-        subprocess.run(["tar", "-xf", brought, "-C", directory], check=True)
+        given.directory.mkdir(parents=True, exist_ok=True)
+        subprocess.run(["tar", "-xf", brought, "-C", given.directory], check=True)
 
 
 if __name__ == "__main__":

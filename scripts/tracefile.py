@@ -11,7 +11,7 @@ import struct
 import sys
 from dataclasses import dataclass
 from pathlib import Path
-from typing import Iterable, Iterator, Mapping, NamedTuple, Sequence
+from typing import Iterable, Iterator, Literal, Mapping, NamedTuple, Sequence
 
 MAGIC = b"\x17\x08\x44tracing6\0"
 OPTIONS, FLYRECORD = b"options  \0", b"flyrecord\0"
@@ -43,7 +43,7 @@ class Reader:
 
     def __init__(self, file: bytes):
         self.file, self.at = file, 0
-        self.order = "little"
+        self.order: Literal["little", "big"] = "little"
 
     def word(self, word: bytes) -> None:
         if not self.stands(word):
@@ -195,7 +195,7 @@ def text(width: int, content: bytes) -> bytes:
 
 def header(
     ftrace: Sequence[bytes] = (),
-    systems: Mapping[bytes, Sequence[bytes]] = {},
+    systems: Mapping[bytes, Sequence[bytes]] | None = None,
     symbols: bytes = b"",
     printk: bytes = b"",
     tasks: bytes = b"",
@@ -207,8 +207,8 @@ def header(
         return u32(len(texts)) + b"".join(text(8, it) for it in texts)
 
     head = MAGIC + b"\0\x08" + u32(page) + b"header_page\0" + text(8, b"") + b"header_event\0" + text(8, b"")
-    head += formats(ftrace) + u32(len(systems))
-    head += b"".join(name + b"\0" + formats(texts) for name, texts in systems.items())
+    named = (systems or {}).items()
+    head += formats(ftrace) + u32(len(named)) + b"".join(name + b"\0" + formats(texts) for name, texts in named)
     return head + text(4, symbols) + text(4, printk) + text(8, tasks)
 
 
@@ -282,7 +282,7 @@ class Packer:
         self.begin(None)
 
     def begin(self, start: int | None, flags: int = 0, count: bytes = b"") -> None:
-        self.start, self.last, self.data, self.flags, self.count = start, start, b"", flags, count
+        self.start, self.last, self.data, self.flags, self.count = start, start or 0, b"", flags, count
 
     def close(self) -> None:
         if self.start is not None:

@@ -174,12 +174,13 @@ class Run(NamedTuple):
 
 
 def run(program: str, words: list[str], folder: str) -> tuple[int | str, float]:
-    before, status = resource.getrusage(resource.RUSAGE_CHILDREN), "timeout"
-    quiet = {"stdin": subprocess.DEVNULL, "stdout": subprocess.DEVNULL, "stderr": subprocess.DEVNULL}
+    status: int | str
+    none = subprocess.DEVNULL
+    before = resource.getrusage(resource.RUSAGE_CHILDREN)
     try:
-        status = subprocess.run([program, *words], cwd=folder, timeout=120, **quiet).returncode
+        status = subprocess.run([program, *words], cwd=folder, timeout=120, stdin=none, stdout=none, stderr=none).returncode
     except subprocess.TimeoutExpired:
-        pass
+        status = "timeout"
     after = resource.getrusage(resource.RUSAGE_CHILDREN)
     return status, after.ru_utime + after.ru_stime - before.ru_utime - before.ru_stime
 
@@ -196,6 +197,8 @@ def main() -> None:
     parser.add_argument("program", metavar="PROGRAM")
     parser.add_argument("cases", nargs="*", metavar="CASE", help=", ".join(CASES))
     given = parser.parse_args()
+    if unknown := set(given.cases) - set(CASES):
+        parser.error(f"no case is named {', '.join(sorted(unknown))}")
     marked = 0
     for name in given.cases or CASES:
         small, large = (tried(os.path.abspath(given.program), CASES[name], parts) for parts in (CASES[name].parts, 4 * CASES[name].parts))

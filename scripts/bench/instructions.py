@@ -27,7 +27,7 @@ from tracefile import read_plain_trace  # noqa: E402
 
 SAMPLE = Path(__file__).resolve().parent.parent.parent / "samples/sched.dat"
 FEW, MORE = 1000, 3000
-ONE_KIND = [("switch", []), ("function", []), ("graph", ["--calls"])]
+ONE_KIND: list[tuple[str, list[str]]] = [("switch", []), ("function", []), ("graph", ["--calls"])]
 
 
 class Tool(NamedTuple):

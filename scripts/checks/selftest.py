@@ -18,7 +18,7 @@ MASK = 2**64 - 1
 CPUS = 4
 NAMES = ((1, "A"), (2, "B"), (4, "C"))
 ROWS = [(7, 0), (7, 1), (0, 1000), (1, 999), (2**64 - 1, 5000), (7, 200_000)]
-WORKERS = ([], ["--workers", "3"])
+WORKERS: list[list[str]] = [[], ["--workers", "3"]]
 
 
 class Drawn(NamedTuple):

@@ -54,6 +54,8 @@ def known(ours: Named | None, theirs: Named | None) -> str | None:
 
 
 def compare(program: str, recordings: list[str]) -> bool:
+    if len(recordings) < 2:
+        sys.exit("name two recordings or more")
     inputs = [word for path in recordings for word in ("-i", path)]
     ours = named_items(printed(program, "report", *inputs), {path.encode(): Path(path).name for path in recordings})
     theirs = named_items(printed(ORIGINAL, "report", "-N", *inputs), {Path(path).name.encode(): Path(path).name for path in recordings})

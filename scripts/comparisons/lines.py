@@ -116,7 +116,7 @@ def differences(ours: Sequence[bytes], theirs: Sequence[bytes]) -> Differences:
     """Two reports' items beside each other; what one has too many is a difference."""
     found = Differences()
     for number, (our, their) in enumerate(zip_longest(ours, theirs)):
-        found.see(f"item {number}", our, their, our and their and kind(our, their))
+        found.see(f"item {number}", our, their, kind(our, their) if our and their else None)
     return found
 
 

@@ -25,7 +25,7 @@ from comparisons.lines import ORIGINAL, failure, is_latency, recordings, run
 
 DETAILS = ""
 Lines = list[bytes]
-SPLITS = [
+SPLITS: list[list[str]] = [
     [],
     ["-e", "500", "-r"],
     ["-m", "100", "-r"],

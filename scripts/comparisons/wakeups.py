@@ -120,7 +120,7 @@ def section(report: bytes) -> tuple[int, list[Pair], list[Figure]]:
         if pair := PAIR.match(line):
             pairs.append(Pair(pair["cpu"], thousandths(pair["time"]), int(pair["pid"]), thousandths(pair["latency"])))
         elif figure := FIGURE.match(line):
-            ends.append(Figure(figure[1], thousandths(figure[2]), figure[3] and thousandths(figure[3])))
+            ends.append(Figure(figure[1], thousandths(figure[2]), thousandths(figure[3]) if figure[3] else None))
         else:
             ends.append(Figure(line, 0, None))
     return int(head.split(b"=")[1]), pairs, ends
