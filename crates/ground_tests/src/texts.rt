@@ -1,3 +1,4 @@
+use std::alloc::{AllocError, Global};
 use std::test::Fail;
 use trace_base::{
     ByteText, Field, FieldKind, FieldPlace, ListOf, Order, Words, field_named, micros, put_u16,
@@ -46,22 +47,31 @@ fn texts_and_lists(rt: HostRuntime) -> Result<(), Fail> {
     Ok(())
 }
 
-#[test]
-fn many_words(rt: HostRuntime) -> Result<(), Fail> {
-    let alloc = rt.alloc();
-    let mut long = String::new(alloc);
+fn put_long(text: &mut String) -> Result<(), AllocError> {
     for _ in 0..100_000 {
-        long.push_str("n")?;
+        text.push_str("n")?;
     }
-    let mut words = Words::new(alloc);
-    assert!(rt; words.is_empty());
+    Ok(())
+}
+
+fn push_many(words: &mut Words, last: &str) -> Result<(), AllocError> {
     words.push("")?;
     for _ in 0..3_000 {
         words.push("report")?;
     }
-    words.push(long.as_str())?;
-    assert!(rt; words.len() == 3_002);
-    assert!(rt; words.word(3_000) == "report" && words.word(3_001) == long.as_str());
+    words.push(last)
+}
+
+#[test]
+fn many_words(rt: HostRuntime) -> Result<(), Fail> {
+    let mut long = String::new(rt.alloc());
+    put_long(&mut long)?;
+    let mut words = Words::new(rt.alloc());
+    assert!(rt; words.is_empty());
+    push_many(&mut words, long.as_str())?;
+    assert!(rt;
+        words.len() == 3_002 && words.word(3_000) == "report" && words.word(3_001) == long.as_str()
+    );
     Ok(())
 }
 
@@ -90,10 +100,8 @@ fn bytes_and_times_as_they_are_printed(rt: HostRuntime) {
     assert!(rt; micros(1_499) == 1 && micros(1_500) == 2);
 }
 
-#[test]
-fn fields_are_copied_and_found(rt: HostRuntime) -> Result<(), Fail> {
-    let alloc = rt.alloc();
-    let field = Field {
+fn relative_text(alloc: Global) -> Result<Field, AllocError> {
+    Ok(Field {
         name: ByteText::copy(alloc, b"comm")?,
         offset: 8,
         size: 16,
@@ -101,10 +109,21 @@ fn fields_are_copied_and_found(rt: HostRuntime) -> Result<(), Fail> {
         kind: FieldKind::Text,
         place: FieldPlace::RelLoc,
         element: 1,
-    };
-    let fields = vec![in alloc; field.copy(alloc)?]?;
-    let found = field_named(b"comm", &fields).ok_or("a field is found")?;
-    assert!(rt; found.name.as_bytes() == b"comm".as_slice() && found.place == FieldPlace::RelLoc);
-    assert!(rt; field_named(b"com", &fields).is_none());
+    })
+}
+
+// Whether the first field of this name has it, and lies where the field above does.
+fn is_found(name: &[u8], fields: &[Field]) -> bool {
+    match field_named(name, fields) {
+        Some(field) => field.name.as_bytes() == name && field.place == FieldPlace::RelLoc,
+        None => false,
+    }
+}
+
+#[test]
+fn fields_are_copied_and_found(rt: HostRuntime) -> Result<(), Fail> {
+    let field = relative_text(rt.alloc())?;
+    let fields = vec![in rt.alloc(); field.copy(rt.alloc())?]?;
+    assert!(rt; is_found(b"comm", &fields) && field_named(b"com", &fields).is_none());
     Ok(())
 }

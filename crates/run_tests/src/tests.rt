@@ -14,9 +14,9 @@ mod sub_buffers;
 mod waits;
 
 use dat_header::OpenFault;
-use known::{FUNCTION, SWITCH, Task, carry, put_entry, put_exit, put_function, put_switch};
-use sample_runs::run_words;
-use std::alloc::Global;
+use known::{FUNCTION, SWITCH, Task, carry, put_depth, put_switch};
+use sample_runs::{Ran, run_words};
+use std::alloc::{AllocError, Global};
 use std::process::Abort;
 use std::test::Fail;
 use std::thread::Threads;
@@ -505,69 +505,73 @@ const NUMBERS: &[(Status, u8)] = &[
     (Status::NoMemory, 6),
 ];
 
+fn put_words(file: &mut Vec<u8>, words: &[u32]) -> Result<(), AllocError> {
+    for word in words {
+        file.extend_from_slice(&word.to_le_bytes())?;
+    }
+    Ok(())
+}
+
+// Words of eight bytes.
+fn put_longs(file: &mut Vec<u8>, longs: &[u64]) -> Result<(), AllocError> {
+    for long in longs {
+        file.extend_from_slice(&long.to_le_bytes())?;
+    }
+    Ok(())
+}
+
 // A record's first word: its delta, and its length in words or what stands for it.
-fn put_head(file: &mut Vec<u8>, delta: u32, kind: u32) -> Result<(), Fail> {
-    file.extend_from_slice(&(delta.wrapping_mul(32) | kind).to_le_bytes())?;
-    Ok(())
+fn head(delta: u32, kind: u32) -> u32 {
+    delta.wrapping_mul(32) | kind
 }
 
-// The fields that every event begins with.
-fn put_common(file: &mut Vec<u8>, id: u16, flags: u8, depth: u8, pid: u32) -> Result<(), Fail> {
-    file.extend_from_slice(&id.to_le_bytes())?;
-    file.extend_from_slice(&[flags, depth])?;
-    file.extend_from_slice(&pid.to_le_bytes())?;
-    Ok(())
+// The word that every event begins with, before its pid.
+fn common(id: u16, flags: u8, depth: u8) -> u32 {
+    u32::from_le_bytes([id.to_le_bytes()[0], id.to_le_bytes()[1], flags, depth])
 }
 
-fn put_record(file: &mut Vec<u8>, record: &Record) -> Result<(), Fail> {
+// An event that fills a sub-buffer.
+fn put_large(file: &mut Vec<u8>, id: u16, pid: u32) -> Result<(), AllocError> {
+    let end = file.len().saturating_add(4080);
+    put_words(file, &[head(0, 0), 4076, common(id, 0, 0), pid])?;
+    file.resize(end, 0)
+}
+
+fn put_record(file: &mut Vec<u8>, record: &Record) -> Result<(), AllocError> {
     match record {
         Record::Event(delta, id, pid, flags, depth) => {
-            put_head(file, *delta, 2)?;
-            put_common(file, *id, *flags, *depth, *pid)
+            put_words(file, &[head(*delta, 2), common(*id, *flags, *depth), *pid])
         }
-        Record::Short(delta, id) => {
-            put_head(file, *delta, 1)?;
-            put_head(file, 0, u32::from(*id))
-        }
-        Record::Large(id, pid) => {
-            let end = file.len().saturating_add(4080);
-            put_head(file, 0, 0)?;
-            file.extend_from_slice(&4076u32.to_le_bytes())?;
-            put_common(file, *id, 0, 0, *pid)?;
-            file.resize(end, 0)?;
-            Ok(())
-        }
+        Record::Short(delta, id) => put_words(file, &[head(*delta, 1), u32::from(*id)]),
+        Record::Large(id, pid) => put_large(file, *id, *pid),
         Record::Switch(delta, pid, from, state, to) => {
-            put_head(file, *delta, 16)?;
-            put_common(file, SWITCH, 0, 0, *pid)?;
+            put_words(file, &[head(*delta, 16), common(SWITCH, 0, 0), *pid])?;
             put_switch(file, from, *state, to)
         }
         Record::Function(delta, pid, ip, parent) => {
-            put_head(file, *delta, 6)?;
-            put_common(file, FUNCTION, 0, 0, *pid)?;
-            put_function(file, *ip, *parent)
+            put_words(file, &[head(*delta, 6), common(FUNCTION, 0, 0), *pid])?;
+            put_longs(file, &[*ip, *parent])
         }
         Record::OfTask(delta, id, task) => {
-            put_head(file, *delta, 3)?;
-            put_common(file, *id, 0, 0, 5)?;
-            file.extend_from_slice(&task.to_le_bytes())?;
-            Ok(())
+            put_words(file, &[head(*delta, 3), common(*id, 0, 0), 5, *task])
         }
         Record::Enter(delta, func, depth) => {
-            put_head(file, *delta, 5)?;
-            put_common(file, 11, 0, 0, 7)?;
-            put_entry(file, *func, *depth)
+            put_words(file, &[head(*delta, 5), common(11, 0, 0), 7])?;
+            put_depth(file, &[*func], *depth)
         }
         Record::Leave(delta, func, depth, from, to) => {
-            put_head(file, *delta, 9)?;
-            put_common(file, 10, 0, 0, 7)?;
-            put_exit(file, *func, *depth, *from, *to)
+            put_words(file, &[head(*delta, 9), common(10, 0, 0), 7])?;
+            put_depth(file, &[*func, *from, *to], *depth)
         }
-        Record::Stamp(time) => {
-            put_head(file, *time, 31)?;
-            put_head(file, 0, 0)
-        }
+        Record::Stamp(time) => put_words(file, &[head(*time, 31), 0]),
     }
+}
+
+fn put_records(file: &mut Vec<u8>, records: &[Record]) -> Result<(), AllocError> {
+    for record in records {
+        put_record(file, record)?;
+    }
+    Ok(())
 }
 
 // A sub-buffer's time, its commit field, and its records.
@@ -577,30 +581,49 @@ fn put_data(
     time: u64,
     flags: u64,
     records: &[Record],
-) -> Result<(), Fail> {
+) -> Result<(), AllocError> {
     let mut data = Vec::new(alloc);
-    for record in records {
-        put_record(&mut data, record)?;
+    put_records(&mut data, records)?;
+    put_longs(file, &[time, data.len() as u64 | flags])?;
+    file.extend_from_slice(&data)
+}
+
+fn put_filled(alloc: Global, file: &mut Vec<u8>, page: &Page) -> Result<(), AllocError> {
+    match page {
+        Page::Empty => Ok(()),
+        Page::Of(time, records) => put_data(alloc, file, *time, 0, records),
+        Page::Lossy(time, None, records) => put_data(alloc, file, *time, 1 << 31, records),
+        Page::Lossy(time, Some(count), records) => {
+            put_data(alloc, file, *time, 3 << 30, records)?;
+            put_longs(file, &[*count])
+        }
+        Page::Malformed => put_longs(file, &[0, 5000]),
     }
-    file.extend_from_slice(&time.to_le_bytes())?;
-    file.extend_from_slice(&(data.len() as u64 | flags).to_le_bytes())?;
-    file.extend_from_slice(&data)?;
+}
+
+fn put_pages(alloc: Global, file: &mut Vec<u8>, pages: &[Page]) -> Result<(), AllocError> {
+    for page in pages {
+        let end = file.len().saturating_add(PAGE);
+        put_filled(alloc, file, page)?;
+        file.resize(end, 0)?;
+    }
     Ok(())
 }
 
-fn put_page(alloc: Global, file: &mut Vec<u8>, page: &Page) -> Result<(), Fail> {
-    let end = file.len().saturating_add(PAGE);
-    match page {
-        Page::Empty => {}
-        Page::Of(time, records) => put_data(alloc, file, *time, 0, records)?,
-        Page::Lossy(time, None, records) => put_data(alloc, file, *time, 1 << 31, records)?,
-        Page::Lossy(time, Some(count), records) => {
-            put_data(alloc, file, *time, 3 << 30, records)?;
-            file.extend_from_slice(&count.to_le_bytes())?;
-        }
-        Page::Malformed => put_data(alloc, file, 0, 5000, &[])?,
+fn add_processor(alloc: Global, trace: &mut TraceFile, pages: &[Page]) -> Result<(), AllocError> {
+    let mut bytes = Vec::new(alloc);
+    put_pages(alloc, &mut bytes, pages)?;
+    trace.add_processor(&bytes)
+}
+
+fn add_processors(
+    alloc: Global,
+    trace: &mut TraceFile,
+    processors: &[&[Page]],
+) -> Result<(), AllocError> {
+    for pages in processors {
+        add_processor(alloc, trace, pages)?;
     }
-    file.resize(end, 0)?;
     Ok(())
 }
 
@@ -608,66 +631,86 @@ fn with_processors(
     alloc: Global,
     carried: &Carried,
     processors: &[&[Page]],
-) -> Result<Vec<u8>, Fail> {
+) -> Result<Vec<u8>, AllocError> {
     let mut trace = TraceFile::new(alloc);
     carry(alloc, &mut trace, carried)?;
-    for pages in processors {
-        let mut bytes = Vec::new(alloc);
-        for page in *pages {
-            put_page(alloc, &mut bytes, page)?;
-        }
-        trace.add_processor(&bytes)?;
-    }
-    Ok(trace.bytes(alloc)?)
+    add_processors(alloc, &mut trace, processors)?;
+    trace.bytes(alloc)
+}
+
+// A file of one processor with this header_page text, and this sub-buffer.
+fn with_one(alloc: Global, page_text: &[u8], bytes: &[u8]) -> Result<Vec<u8>, AllocError> {
+    let mut trace = TraceFile::new(alloc);
+    trace.page_text.extend_from_slice(page_text)?;
+    trace.add_processor(bytes)?;
+    trace.bytes(alloc)
 }
 
 // The header of one processor with this header_page text, whose table has this part, up to the length of a sub-buffer.
-fn with_part(alloc: Global, page_text: &[u8], offset: u64, size: u64) -> Result<Vec<u8>, Fail> {
-    let mut trace = TraceFile::new(alloc);
-    trace.page_text.extend_from_slice(page_text)?;
-    trace.add_processor(&[])?;
-    let mut file = trace.bytes(alloc)?;
+fn with_part(
+    alloc: Global,
+    page_text: &[u8],
+    offset: u64,
+    size: u64,
+) -> Result<Vec<u8>, AllocError> {
+    let mut file = with_one(alloc, page_text, &[])?;
     file.truncate(page_text.len().saturating_add(97));
-    file.extend_from_slice(&offset.to_le_bytes())?;
-    file.extend_from_slice(&size.to_le_bytes())?;
+    put_longs(&mut file, &[offset, size])?;
     file.resize(PAGE, 0)?;
     Ok(file)
 }
 
-fn put_apart(alloc: Global, folder: &mut MemFolder, count: usize) -> Result<(), Fail> {
-    let mut trace = TraceFile::new(alloc);
-    trace.add_processor(ONE_EVENT)?;
-    let whole = trace.bytes(alloc)?;
+fn put_apart(alloc: Global, folder: &mut MemFolder, count: usize) -> Result<(), AllocError> {
+    let whole = with_one(alloc, b"", ONE_EVENT)?;
     let (header, pages) = whole.split_at_checked(PAGE).unwrap_or((&[], &[]));
     folder.put("p.dat", &header[..count.min(header.len())])?;
     folder.put("c0", pages)?;
-    folder.put("c1", &[0; 100])?;
-    Ok(())
+    folder.put("c1", &[0; 100])
 }
 
-fn words_of(alloc: Global, all: &[&str]) -> Result<Words, Fail> {
-    let mut words = Words::new(alloc);
+fn push_words(words: &mut Words, all: &[&str]) -> Result<(), AllocError> {
     for word in all {
         words.push(word)?;
     }
+    Ok(())
+}
+
+fn words_of(alloc: Global, all: &[&str]) -> Result<Words, AllocError> {
+    let mut words = Words::new(alloc);
+    push_words(&mut words, all)?;
     Ok(words)
 }
 
-fn folder_of(alloc: Global, file: &Input) -> Result<MemFolder, Fail> {
-    let mut folder = MemFolder::new(alloc);
+fn put_trace(
+    alloc: Global,
+    folder: &mut MemFolder,
+    carried: &Carried,
+    processors: &[&[Page]],
+) -> Result<(), AllocError> {
+    let bytes = with_processors(alloc, carried, processors)?;
+    folder.put("trace.dat", &bytes)
+}
+
+fn put_input(alloc: Global, folder: &mut MemFolder, file: &Input) -> Result<(), AllocError> {
     match file {
-        Input::Missing => {}
-        Input::Bytes(bytes) => folder.put("trace.dat", bytes)?,
-        Input::Processors(carried, processors) => {
-            let bytes = with_processors(alloc, carried, processors)?;
-            folder.put("trace.dat", &bytes)?;
-        }
+        Input::Missing => Ok(()),
+        Input::Bytes(bytes) => folder.put("trace.dat", bytes),
+        Input::Processors(carried, processors) => put_trace(alloc, folder, carried, processors),
         Input::PartAt(offset, size) => {
-            folder.put("trace.dat", &with_part(alloc, b"", *offset, *size)?)?;
+            folder.put("trace.dat", &with_part(alloc, b"", *offset, *size)?)
         }
-        Input::Apart(count) => put_apart(alloc, &mut folder, *count)?,
+        Input::Apart(count) => put_apart(alloc, folder, *count),
     }
+}
+
+fn folder_of(alloc: Global, file: &Input) -> Result<MemFolder, AllocError> {
+    let mut folder = MemFolder::new(alloc);
+    put_input(alloc, &mut folder, file)?;
     Ok(folder)
+}
+
+fn has_ended(ran: &Ran, (status, out, err): (Status, &str, &str)) -> bool {
+    ran.status == status && ran.out.bytes() == out.as_bytes() && ran.err.bytes() == err.as_bytes()
 }
 
 // Runs words without a gate. They end so, and write this.
@@ -678,9 +721,25 @@ fn ends_as<R: Alloc<A = Global> + Abort + Threads + Sync, F: Folder>(
     expected: (Status, &str, &str),
 ) {
     let ran = run_words(rt, words, folder, &NoGate);
-    assert_eq!(rt; ran.status, expected.0);
-    assert_eq!(rt; ran.out.bytes(), expected.1.as_bytes());
-    assert_eq!(rt; ran.err.bytes(), expected.2.as_bytes());
+    assert!(rt;
+        has_ended(&ran, expected),
+        "{:?}\n{}{}",
+        expected.0,
+        expected.1,
+        expected.2
+    );
+}
+
+// The same of these words.
+fn ends_of<R: Alloc<A = Global> + Abort + Threads + Sync, F: Folder>(
+    rt: &R,
+    all: &[&str],
+    folder: &mut F,
+    expected: (Status, &str, &str),
+) -> Result<(), AllocError> {
+    let words = words_of(rt.alloc(), all)?;
+    ends_as(rt, &words, folder, expected);
+    Ok(())
 }
 
 // Runs a row's words with these behind them.
@@ -688,13 +747,10 @@ fn runs_with<R: Alloc<A = Global> + Abort + Threads + Sync>(
     rt: &R,
     row: &Row,
     more: &[&str],
-) -> Result<(), Fail> {
-    let alloc = rt.alloc();
-    let mut words = words_of(alloc, row.words)?;
-    for word in more {
-        words.push(word)?;
-    }
-    let mut folder = folder_of(alloc, &row.file)?;
+) -> Result<(), AllocError> {
+    let mut words = words_of(rt.alloc(), row.words)?;
+    push_words(&mut words, more)?;
+    let mut folder = folder_of(rt.alloc(), &row.file)?;
     ends_as(rt, &words, &mut folder, (row.status, row.out, row.err));
     Ok(())
 }
@@ -717,14 +773,10 @@ fn is_made<R: Alloc<A = Global> + Abort + Threads + Sync>(
     name: &str,
     size: usize,
     report: (Status, &str, &str),
-) -> Result<(), Fail> {
-    assert!(rt;
-        folder.get(name).is_some_and(|bytes| bytes.len() == size),
-        "{name}"
-    );
-    let words = words_of(rt.alloc(), &["report", "-t", name])?;
-    ends_as(rt, &words, folder, report);
-    Ok(())
+) -> Result<(), AllocError> {
+    let len = folder.get(name).map(|bytes| bytes.len());
+    assert!(rt; len == Some(size), "{name}");
+    ends_of(rt, &["report", "-t", name], folder, report)
 }
 
 // There is no file of this name.
@@ -732,12 +784,15 @@ fn is_absent<R: Alloc<A = Global> + Abort + Threads + Sync>(
     rt: &R,
     folder: &mut MemFolder,
     name: &str,
-) -> Result<(), Fail> {
+) -> Result<(), AllocError> {
     assert!(rt; folder.get(name).is_none(), "{name}");
-    let words = words_of(rt.alloc(), &["report", name])?;
     let err = format!(in rt.alloc(); "trace-cmd: {name}: read failed\n")?;
-    ends_as(rt, &words, folder, (Status::ReadFault, "", err.as_str()));
-    Ok(())
+    ends_of(
+        rt,
+        &["report", name],
+        folder,
+        (Status::ReadFault, "", err.as_str()),
+    )
 }
 
 // Whether the row is a report that goes through its file.
@@ -747,13 +802,22 @@ fn is_report(row: &Row) -> bool {
         && matches!(row.status, Status::Done | Status::Malformed { .. })
 }
 
+// Runs a row on one thread, on three and on sixty-four.
+fn runs_on_threads<R: Alloc<A = Global> + Abort + Threads + Sync>(
+    rt: &R,
+    row: &Row,
+) -> Result<(), AllocError> {
+    for workers in ["1", "3", "64"] {
+        runs_with(rt, row, &["--workers", workers])?;
+    }
+    Ok(())
+}
+
 #[test]
 fn reports_on_any_number_of_threads(rt: HostRuntime) -> Result<(), Fail> {
     for row in ROWS {
         if is_report(row) {
-            for workers in ["1", "3", "64"] {
-                runs_with(&rt, row, &["--workers", workers])?;
-            }
+            runs_on_threads(&rt, row)?;
         }
     }
     Ok(())
@@ -767,6 +831,6 @@ fn whole_runs(rt: HostRuntime) -> Result<(), Fail> {
 #[test]
 fn numbers_of_statuses(rt: HostRuntime) {
     for (status, number) in NUMBERS {
-        assert_eq!(rt; status.number(), *number);
+        assert!(rt; status.number() == *number, "{number}");
     }
 }

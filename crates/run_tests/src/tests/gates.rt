@@ -2,9 +2,11 @@
 
 use super::{TWO_AT_ONCE, folder_of, words_of};
 use sample_runs::run_words;
+use std::alloc::{AllocError, Global};
 use std::sync::atomic::AtomicU64;
 use std::sync::atomic::Ordering::SeqCst;
 use std::test::Fail;
+use std::thread::Threads;
 use trace_outside::{Gate, MemFolder};
 use trace_run::Status;
 
@@ -20,18 +22,24 @@ impl Gate for Counter {
     }
 }
 
+fn passes<R: Alloc<A = Global> + Threads + Sync>(
+    rt: &R,
+    workers: &str,
+) -> Result<bool, AllocError> {
+    let words = words_of(rt.alloc(), &["selftest", "7", "2000", "--workers", workers])?;
+    let gate = Counter {
+        passed: AtomicU64::new(0),
+    };
+    let mut folder = MemFolder::new(rt.alloc());
+    let ran = run_words(rt, &words, &mut folder, &gate);
+    Ok(ran.status == Status::Done && gate.passed.load(SeqCst) >= 4)
+}
+
 // Each of the four processors has sub-buffers, so that its lane passes at least once.
 #[test]
 fn each_lane_passes_the_gate(rt: HostRuntime) -> Result<(), Fail> {
     for workers in ["1", "3", "64"] {
-        let words = words_of(rt.alloc(), &["selftest", "7", "2000", "--workers", workers])?;
-        let gate = Counter {
-            passed: AtomicU64::new(0),
-        };
-        let mut folder = MemFolder::new(rt.alloc());
-        let ran = run_words(&rt, &words, &mut folder, &gate);
-        assert_eq!(rt; ran.status, Status::Done);
-        assert!(rt; gate.passed.load(SeqCst) >= 4, "{workers}");
+        assert!(rt; passes(&rt, workers)?, "{workers}");
     }
     Ok(())
 }
@@ -64,15 +72,13 @@ impl Gate for Pair {
 // One thread would wait in lane 0 to the end.
 #[test]
 fn two_lanes_are_formatted_at_once(rt: HostRuntime) -> Result<(), Fail> {
-    let alloc = rt.alloc();
-    let words = words_of(alloc, &["report", "--workers", "2"])?;
+    let words = words_of(rt.alloc(), &["report", "--workers", "2"])?;
     let gate = Pair {
         entered: AtomicU64::new(0),
         alone: AtomicU64::new(0),
     };
-    let mut folder = folder_of(alloc, &TWO_AT_ONCE)?;
+    let mut folder = folder_of(rt.alloc(), &TWO_AT_ONCE)?;
     let ran = run_words(&rt, &words, &mut folder, &gate);
-    assert_eq!(rt; ran.status, Status::Done);
-    assert_eq!(rt; gate.alone.load(SeqCst), 0);
+    assert!(rt; ran.status == Status::Done && gate.alone.load(SeqCst) == 0);
     Ok(())
 }

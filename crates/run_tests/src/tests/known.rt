@@ -1,8 +1,7 @@
 // The texts that files carry, and the payloads of their events.
 
-use super::Carried;
+use super::{Carried, put_longs, put_words};
 use std::alloc::{AllocError, Global};
-use std::test::Fail;
 use trace_samples::{FUNCTION_FORMAT, SWITCH_FORMAT, SYMBOLS, TASKS, TraceFile};
 
 /// The ids of a function and of a switch.
@@ -23,13 +22,24 @@ struct FormatText {
 }
 
 impl FormatText {
-    fn text(&self, alloc: Global) -> Result<Vec<u8>, AllocError> {
-        let mut text = Vec::new(alloc);
+    fn put(&self, text: &mut Vec<u8>) -> Result<(), AllocError> {
         for piece in [self.head, COMMON_FIELDS, self.fields, self.print] {
             text.extend_from_slice(piece.as_bytes())?;
         }
-        Ok(text)
+        Ok(())
     }
+}
+
+fn add_ftrace(alloc: Global, trace: &mut TraceFile, format: &FormatText) -> Result<(), AllocError> {
+    let mut text = Vec::new(alloc);
+    format.put(&mut text)?;
+    trace.add_ftrace(&text)
+}
+
+fn add_sched(alloc: Global, trace: &mut TraceFile, format: &FormatText) -> Result<(), AllocError> {
+    let mut text = Vec::new(alloc);
+    format.put(&mut text)?;
+    trace.add_sched(&text)
 }
 
 const COMMON_FIELDS: &str = "\tfield:unsigned short common_type;\toffset:0;\tsize:2;\tsigned:0;
@@ -111,16 +121,16 @@ pub(super) fn carry(
             trace.command_lines.extend_from_slice(TASKS)
         }
         Carried::Wide => {
-            trace.add_ftrace(&WIDE_TEXT.text(alloc)?)?;
-            trace.add_ftrace(&WIDEST_TEXT.text(alloc)?)
+            add_ftrace(alloc, trace, &WIDE_TEXT)?;
+            add_ftrace(alloc, trace, &WIDEST_TEXT)
         }
         Carried::Woken => {
-            trace.add_sched(&WOKEN_TEXT.text(alloc)?)?;
-            trace.add_sched(&NEXT_TEXT.text(alloc)?)
+            add_sched(alloc, trace, &WOKEN_TEXT)?;
+            add_sched(alloc, trace, &NEXT_TEXT)
         }
         Carried::Graph => {
-            trace.add_ftrace(&EXIT_TEXT.text(alloc)?)?;
-            trace.add_ftrace(&ENTRY_TEXT.text(alloc)?)?;
+            add_ftrace(alloc, trace, &EXIT_TEXT)?;
+            add_ftrace(alloc, trace, &ENTRY_TEXT)?;
             trace
                 .kallsyms
                 .extend_from_slice(b"1000 T outer\n2000 T inner\n")?;
@@ -129,42 +139,17 @@ pub(super) fn carry(
     }
 }
 
-/// An entry into a function at this depth.
-pub(super) fn put_entry(file: &mut Vec<u8>, func: u64, depth: u32) -> Result<(), Fail> {
-    file.extend_from_slice(&func.to_le_bytes())?;
-    file.extend_from_slice(&depth.to_le_bytes())?;
-    Ok(())
+/// Words of eight bytes, and the depth of a call behind them.
+pub(super) fn put_depth(file: &mut Vec<u8>, longs: &[u64], depth: u32) -> Result<(), AllocError> {
+    put_longs(file, longs)?;
+    put_words(file, &[depth])
 }
 
-/// An exit from it, with when its call began and ended.
-pub(super) fn put_exit(
-    file: &mut Vec<u8>,
-    func: u64,
-    depth: u32,
-    from: u64,
-    to: u64,
-) -> Result<(), Fail> {
-    for number in [func, from, to] {
-        file.extend_from_slice(&number.to_le_bytes())?;
-    }
-    file.extend_from_slice(&depth.to_le_bytes())?;
-    Ok(())
-}
-
-/// A function that was called from another.
-pub(super) fn put_function(file: &mut Vec<u8>, ip: u64, parent: u64) -> Result<(), Fail> {
-    file.extend_from_slice(&ip.to_le_bytes())?;
-    file.extend_from_slice(&parent.to_le_bytes())?;
-    Ok(())
-}
-
-fn put_task(file: &mut Vec<u8>, task: &Task) -> Result<(), Fail> {
+fn put_task(file: &mut Vec<u8>, task: &Task) -> Result<(), AllocError> {
     let end = file.len().saturating_add(16);
     file.extend_from_slice(task.0.as_bytes())?;
     file.resize(end, 0)?;
-    file.extend_from_slice(&task.1.to_le_bytes())?;
-    file.extend_from_slice(&task.2.to_le_bytes())?;
-    Ok(())
+    put_words(file, &[task.1, task.2])
 }
 
 /// A switch from one task, in this state, to another.
@@ -173,8 +158,8 @@ pub(super) fn put_switch(
     from: &Task,
     state: u64,
     to: &Task,
-) -> Result<(), Fail> {
+) -> Result<(), AllocError> {
     put_task(file, from)?;
-    file.extend_from_slice(&state.to_le_bytes())?;
+    put_longs(file, &[state])?;
     put_task(file, to)
 }

@@ -1,8 +1,8 @@
 // Restores of a file that was taken apart, whose new files are reported.
 
-use super::{Input, ends_as, folder_of, is_absent, is_made, words_of};
+use super::{Input, ends_of, folder_of, is_absent, is_made};
 use dat_header::OpenFault;
-use std::alloc::Global;
+use std::alloc::{AllocError, Global};
 use std::process::Abort;
 use std::test::Fail;
 use std::thread::Threads;
@@ -81,11 +81,9 @@ const ROWS: &[Row] = &[
 fn restores_as<R: Alloc<A = Global> + Abort + Threads + Sync>(
     rt: &R,
     row: &Row,
-) -> Result<(), Fail> {
-    let alloc = rt.alloc();
-    let words = words_of(alloc, row.words)?;
-    let mut folder = folder_of(alloc, &row.file)?;
-    ends_as(rt, &words, &mut folder, (row.status, "", row.err));
+) -> Result<(), AllocError> {
+    let mut folder = folder_of(rt.alloc(), &row.file)?;
+    ends_of(rt, row.words, &mut folder, (row.status, "", row.err))?;
     match row.made {
         Some((size, report)) => is_made(rt, &mut folder, "out.dat", size, report),
         None => is_absent(rt, &mut folder, "out.dat"),

@@ -1,9 +1,9 @@
 // Reports of many events and of long lines, on any number of threads.
 
 use super::known::carry;
-use super::{Carried, PAGE, put_common, put_head, words_of};
+use super::{Carried, PAGE, common, head, put_longs, put_words, words_of};
 use sample_runs::{folder_of, run_words};
-use std::alloc::Global;
+use std::alloc::{AllocError, Global};
 use std::process::Abort;
 use std::test::Fail;
 use std::thread::Threads;
@@ -28,30 +28,53 @@ const WIDEST: u16 = 8;
 const UNKNOWN: u16 = 58;
 
 // Each event of a processor has the task of the number behind its own.
-fn put_events(file: &mut Vec<u8>, cpu: u32, events: &Events) -> Result<(), Fail> {
-    let end = file.len().saturating_add(PAGE);
-    file.extend_from_slice(&events.time.to_le_bytes())?;
-    file.extend_from_slice(&u64::from(events.count).wrapping_mul(12).to_le_bytes())?;
+fn put_records(file: &mut Vec<u8>, cpu: u32, events: &Events) -> Result<(), AllocError> {
     for i in 0..events.count {
-        put_head(file, if i == 0 { 0 } else { events.step }, 2)?;
-        put_common(file, events.id, 0, 0, cpu.wrapping_add(1))?;
+        let delta = if i == 0 { 0 } else { events.step };
+        put_words(
+            file,
+            &[head(delta, 2), common(events.id, 0, 0), cpu.wrapping_add(1)],
+        )?;
     }
-    file.resize(end, 0)?;
+    Ok(())
+}
+
+fn put_events(file: &mut Vec<u8>, cpu: u32, events: &Events) -> Result<(), AllocError> {
+    let end = file.len().saturating_add(PAGE);
+    put_longs(
+        file,
+        &[events.time, u64::from(events.count).wrapping_mul(12)],
+    )?;
+    put_records(file, cpu, events)?;
+    file.resize(end, 0)
+}
+
+fn add_events(
+    alloc: Global,
+    trace: &mut TraceFile,
+    cpu: u32,
+    events: &Events,
+) -> Result<(), AllocError> {
+    let mut bytes = Vec::new(alloc);
+    put_events(&mut bytes, cpu, events)?;
+    trace.add_processor(&bytes)
+}
+
+fn add_all(alloc: Global, trace: &mut TraceFile, processors: &[Events]) -> Result<(), AllocError> {
+    let mut cpu = 0_u32;
+    for events in processors {
+        add_events(alloc, trace, cpu, events)?;
+        cpu = cpu.wrapping_add(1);
+    }
     Ok(())
 }
 
 // A file with such a sub-buffer of each processor.
-fn file_of(alloc: Global, processors: &[Events]) -> Result<Vec<u8>, Fail> {
+fn file_of(alloc: Global, processors: &[Events]) -> Result<Vec<u8>, AllocError> {
     let mut trace = TraceFile::new(alloc);
     carry(alloc, &mut trace, &Carried::Wide)?;
-    let mut cpu = 0_u32;
-    for events in processors {
-        let mut bytes = Vec::new(alloc);
-        put_events(&mut bytes, cpu, events)?;
-        trace.add_processor(&bytes)?;
-        cpu = cpu.wrapping_add(1);
-    }
-    Ok(trace.bytes(alloc)?)
+    add_all(alloc, &mut trace, processors)?;
+    trace.bytes(alloc)
 }
 
 // The line of an event of a processor, with all digits of its time.
@@ -61,11 +84,10 @@ fn put_line(
     cpu: u32,
     time: u64,
     rest: &str,
-) -> Result<(), Fail> {
+) -> Result<(), AllocError> {
     let pid = cpu.wrapping_add(1);
     let line = format!(in alloc; "           <...>-{pid:<5} [{cpu:03}]     0.{time:09}: {rest}\n")?;
-    text.extend_from_slice(line.as_bytes())?;
-    Ok(())
+    text.extend_from_slice(line.as_bytes())
 }
 
 // The report of this file is this text on so many threads.
@@ -74,14 +96,14 @@ fn reports_on<R: Alloc<A = Global> + Abort + Threads + Sync>(
     workers: &str,
     file: &[u8],
     text: &[u8],
-) -> Result<(), Fail> {
-    let alloc = rt.alloc();
-    let mut folder = folder_of(alloc, file)?;
-    let words = words_of(alloc, &["report", "-t", "--workers", workers])?;
+) -> Result<(), AllocError> {
+    let mut folder = folder_of(rt.alloc(), file)?;
+    let words = words_of(rt.alloc(), &["report", "-t", "--workers", workers])?;
     let ran = run_words(rt, &words, &mut folder, &NoGate);
-    assert_eq!(rt; ran.status, Status::Done);
-    assert!(rt; ran.out.bytes() == text, "{workers}");
-    assert!(rt; ran.err.bytes().is_empty(), "{workers}");
+    assert!(rt;
+        ran.status == Status::Done && ran.out.bytes() == text && ran.err.bytes().is_empty(),
+        "{workers}"
+    );
     Ok(())
 }
 
@@ -90,7 +112,7 @@ fn reports<R: Alloc<A = Global> + Abort + Threads + Sync>(
     rt: &R,
     file: &[u8],
     text: &[u8],
-) -> Result<(), Fail> {
+) -> Result<(), AllocError> {
     for workers in ["1", "3", "64"] {
         reports_on(rt, workers, file, text)?;
     }
@@ -99,89 +121,105 @@ fn reports<R: Alloc<A = Global> + Abort + Threads + Sync>(
 
 #[test]
 fn many_events_of_one_processor_against_two_of_another(rt: HostRuntime) -> Result<(), Fail> {
-    let alloc = rt.alloc();
-    let text = many_events_report(alloc)?;
-    reports(&rt, &many_events(alloc)?, text.as_bytes())
+    let text = many_events_report(rt.alloc())?;
+    let file = many_events(rt.alloc())?;
+    reports(&rt, &file, text.as_bytes())?;
+    Ok(())
+}
+
+const WIDE_EVENTS: [Events; 2] = [
+    Events {
+        time: 10,
+        count: 6,
+        step: 10,
+        id: WIDE,
+    },
+    Events {
+        time: 15,
+        count: 4,
+        step: 15,
+        id: UNKNOWN,
+    },
+];
+
+/// The processors of the lines, and their times.
+const WIDE_LINES: [(u32, u64); 10] = [
+    (0, 10),
+    (1, 15),
+    (0, 20),
+    (0, 30),
+    (1, 30),
+    (0, 40),
+    (1, 45),
+    (0, 50),
+    (0, 60),
+    (1, 60),
+];
+
+fn put_wide_lines(alloc: Global, text: &mut Vec<u8>, wide: &str) -> Result<(), AllocError> {
+    text.extend_from_slice(b"cpus=2\n")?;
+    for (cpu, time) in WIDE_LINES {
+        let rest = if cpu == 0 { wide } else { "[UNKNOWN EVENT 58]" };
+        put_line(alloc, text, cpu, time, rest)?;
+    }
+    Ok(())
 }
 
 #[test]
 fn a_region_is_full_before_its_sub_buffer_ends(rt: HostRuntime) -> Result<(), Fail> {
-    let alloc = rt.alloc();
-    let processors = [
-        Events {
-            time: 10,
-            count: 6,
-            step: 10,
-            id: WIDE,
-        },
-        Events {
-            time: 15,
-            count: 4,
-            step: 15,
-            id: UNKNOWN,
-        },
-    ];
-    let mut text = b"cpus=2\n".to_vec(alloc)?;
-    for (cpu, time) in [
-        (0, 10),
-        (1, 15),
-        (0, 20),
-        (0, 30),
-        (1, 30),
-        (0, 40),
-        (1, 45),
-        (0, 50),
-        (0, 60),
-        (1, 60),
-    ] {
-        if cpu == 0 {
-            let rest = format!(in alloc; "wide:                 {:>30000}", 1)?;
-            put_line(alloc, &mut text, cpu, time, rest.as_str())?;
-        } else {
-            put_line(alloc, &mut text, cpu, time, "[UNKNOWN EVENT 58]")?;
-        }
-    }
-    reports(&rt, &file_of(alloc, &processors)?, &text)
+    let wide = format!(in rt.alloc(); "wide:                 {:>30000}", 1)?;
+    let mut text = Vec::new(rt.alloc());
+    put_wide_lines(rt.alloc(), &mut text, wide.as_str())?;
+    let file = file_of(rt.alloc(), &WIDE_EVENTS)?;
+    reports(&rt, &file, &text)?;
+    Ok(())
 }
 
 // The longest line: 65,533 bytes of its text, an ellipsis, and the newline.
-fn put_longest(alloc: Global, text: &mut Vec<u8>, cpu: u32, time: u64) -> Result<(), Fail> {
+fn put_longest(alloc: Global, text: &mut Vec<u8>, cpu: u32, time: u64) -> Result<(), AllocError> {
     let end = text.len().saturating_add(65_533);
     put_line(alloc, text, cpu, time, "widest:               ")?;
     text.pop();
     text.resize(end, b' ')?;
-    text.extend_from_slice(b"...\n")?;
-    Ok(())
+    text.extend_from_slice(b"...\n")
 }
 
-fn widest_events(time: u64) -> Events {
+const WIDEST_EVENTS: [Events; 2] = [
     Events {
-        time,
+        time: 10,
         count: 3,
         step: 10,
         id: WIDEST,
+    },
+    Events {
+        time: 15,
+        count: 3,
+        step: 10,
+        id: WIDEST,
+    },
+];
+
+const WIDEST_LINES: [(u32, u64); 6] = [(0, 10), (1, 15), (0, 20), (1, 25), (0, 30), (1, 35)];
+
+fn put_widest_lines(alloc: Global, text: &mut Vec<u8>) -> Result<(), AllocError> {
+    text.extend_from_slice(b"cpus=2\n")?;
+    for (cpu, time) in WIDEST_LINES {
+        put_longest(alloc, text, cpu, time)?;
     }
+    Ok(())
 }
 
 #[test]
 fn lines_that_fill_their_regions(rt: HostRuntime) -> Result<(), Fail> {
-    let alloc = rt.alloc();
-    let processors = [widest_events(10), widest_events(15)];
-    let mut text = b"cpus=2\n".to_vec(alloc)?;
-    for (cpu, time) in [(0, 10), (1, 15), (0, 20), (1, 25), (0, 30), (1, 35)] {
-        put_longest(alloc, &mut text, cpu, time)?;
-    }
-    reports(&rt, &file_of(alloc, &processors)?, &text)
+    let mut text = Vec::new(rt.alloc());
+    put_widest_lines(rt.alloc(), &mut text)?;
+    let file = file_of(rt.alloc(), &WIDEST_EVENTS)?;
+    reports(&rt, &file, &text)?;
+    Ok(())
 }
 
-// Whether the report of an event on each of 1,024 processors, the last one's first, is in the order of their times.
-fn all_processors<R: Alloc<A = Global> + Abort + Threads + Sync>(
-    rt: &R,
-    workers: &str,
-) -> Result<(), Fail> {
-    let alloc = rt.alloc();
-    let mut processors = Vec::new(alloc);
-    let mut text = b"cpus=1024\n".to_vec(alloc)?;
+// An event on each of 1,024 processors, the last one's first.
+fn push_processors(processors: &mut Vec<Events>) -> Result<(), AllocError> {
     for i in 0..1024_u32 {
         processors.push(Events {
             time: u64::from(5000 - i),
@@ -189,29 +227,55 @@ fn all_processors<R: Alloc<A = Global> + Abort + Threads + Sync>(
             step: 0,
             id: UNKNOWN,
         })?;
-        let cpu = 1023 - i;
+    }
+    Ok(())
+}
+
+fn put_all_lines(alloc: Global, text: &mut Vec<u8>) -> Result<(), AllocError> {
+    text.extend_from_slice(b"cpus=1024\n")?;
+    for i in 0..1024_u32 {
         put_line(
             alloc,
-            &mut text,
-            cpu,
+            text,
+            1023 - i,
             u64::from(3977 + i),
             "[UNKNOWN EVENT 58]",
         )?;
     }
-    reports_on(rt, workers, &file_of(alloc, &processors)?, &text)
+    Ok(())
+}
+
+fn file_of_all(alloc: Global) -> Result<Vec<u8>, AllocError> {
+    let mut processors = Vec::new(alloc);
+    push_processors(&mut processors)?;
+    file_of(alloc, &processors)
+}
+
+// The report of an event on each of 1,024 processors is in the order of their times.
+fn all_processors<R: Alloc<A = Global> + Abort + Threads + Sync>(
+    rt: &R,
+    workers: &str,
+) -> Result<(), AllocError> {
+    let file = file_of_all(rt.alloc())?;
+    let mut text = Vec::new(rt.alloc());
+    put_all_lines(rt.alloc(), &mut text)?;
+    reports_on(rt, workers, &file, &text)
 }
 
 #[test]
 fn all_processors_on_one_thread(rt: HostRuntime) -> Result<(), Fail> {
-    all_processors(&rt, "1")
+    all_processors(&rt, "1")?;
+    Ok(())
 }
 
 #[test]
 fn all_processors_on_three_threads(rt: HostRuntime) -> Result<(), Fail> {
-    all_processors(&rt, "3")
+    all_processors(&rt, "3")?;
+    Ok(())
 }
 
 #[test]
 fn all_processors_on_sixty_four_threads(rt: HostRuntime) -> Result<(), Fail> {
-    all_processors(&rt, "64")
+    all_processors(&rt, "64")?;
+    Ok(())
 }

@@ -2,13 +2,14 @@
 
 use super::{
     BEFORE_A_SECOND, Carried, Input, LATENCY, MALFORMED_FIRST, MALFORMED_LATER, ONE, Page, Record,
-    ends_as, folder_of, is_absent, is_made, words_of,
+    ends_of, folder_of, is_absent, is_made,
 };
 use dat_header::OpenFault;
-use std::alloc::Global;
+use std::alloc::{AllocError, Global};
 use std::process::Abort;
 use std::test::Fail;
 use std::thread::Threads;
+use trace_outside::MemFolder;
 use trace_run::Status;
 
 struct Row {
@@ -241,14 +242,24 @@ const ROWS: &[Row] = &[
     },
 ];
 
-fn splits_as<R: Alloc<A = Global> + Abort + Threads + Sync>(rt: &R, row: &Row) -> Result<(), Fail> {
-    let alloc = rt.alloc();
-    let words = words_of(alloc, row.words)?;
-    let mut folder = folder_of(alloc, &row.file)?;
-    ends_as(rt, &words, &mut folder, (row.status, "", row.err));
-    for (name, size, report) in row.files {
-        is_made(rt, &mut folder, name, *size, (Status::Done, report, ""))?;
+fn are_made<R: Alloc<A = Global> + Abort + Threads + Sync>(
+    rt: &R,
+    folder: &mut MemFolder,
+    files: &[(&str, usize, &str)],
+) -> Result<(), AllocError> {
+    for (name, size, report) in files {
+        is_made(rt, folder, name, *size, (Status::Done, report, ""))?;
     }
+    Ok(())
+}
+
+fn splits_as<R: Alloc<A = Global> + Abort + Threads + Sync>(
+    rt: &R,
+    row: &Row,
+) -> Result<(), AllocError> {
+    let mut folder = folder_of(rt.alloc(), &row.file)?;
+    ends_of(rt, row.words, &mut folder, (row.status, "", row.err))?;
+    are_made(rt, &mut folder, row.files)?;
     is_absent(rt, &mut folder, row.absent)
 }
 

@@ -1,6 +1,6 @@
 // Runs over files whose sub-buffers have several pages.
 
-use super::{ends_as, is_made, put_common, put_head, with_part, words_of};
+use super::{common, ends_of, head, is_made, put_longs, put_words, with_part};
 use dat_header::OpenFault;
 use std::alloc::{AllocError, Global};
 use std::process::Abort;
@@ -80,14 +80,17 @@ const ROWS: &[Row] = &[
 
 const BAD_SIZE: &str = "trace-cmd: trace.dat: bad header_page at byte 38\n";
 
-fn put_sub_buffer(file: &mut Vec<u8>, size: usize, seconds: u64) -> Result<(), Fail> {
+fn put_sub_buffer(file: &mut Vec<u8>, size: usize, seconds: u64) -> Result<(), AllocError> {
     let end = file.len().saturating_add(size);
-    file.extend_from_slice(&seconds.wrapping_mul(1_000_000_000).to_le_bytes())?;
-    file.extend_from_slice(&5_008u64.to_le_bytes())?;
-    put_head(file, 0, 0)?;
-    file.extend_from_slice(&5_004u32.to_le_bytes())?;
-    put_common(file, 58, 0, 0, 7)?;
-    file.resize(end, 0)?;
+    put_longs(file, &[seconds.wrapping_mul(1_000_000_000), 5_008])?;
+    put_words(file, &[head(0, 0), 5_004, common(58, 0, 0), 7])?;
+    file.resize(end, 0)
+}
+
+fn put_sub_buffers(file: &mut Vec<u8>, size: usize, count: u64) -> Result<(), AllocError> {
+    for index in 0..count {
+        put_sub_buffer(file, size, index.wrapping_add(1))?;
+    }
     Ok(())
 }
 
@@ -100,26 +103,26 @@ fn header_page(alloc: Global, data: u32) -> Result<String, AllocError> {
     )
 }
 
-/// A folder that has the file under the name trace.dat.
-fn folder_of(alloc: Global, trace: &Trace) -> Result<MemFolder, Fail> {
+fn file_of(alloc: Global, trace: &Trace) -> Result<Vec<u8>, AllocError> {
     let Trace(data, count, table_size) = *trace;
     let text = header_page(alloc, data)?;
     let mut file = with_part(alloc, text.as_bytes(), 4_096, table_size)?;
-    for index in 0..count {
-        let size = (data as usize).saturating_add(16);
-        put_sub_buffer(&mut file, size, index.wrapping_add(1))?;
-    }
-    let mut folder = MemFolder::new(alloc);
-    folder.put("trace.dat", &file)?;
-    Ok(folder)
+    put_sub_buffers(&mut file, (data as usize).saturating_add(16), count)?;
+    Ok(file)
 }
 
-fn runs_as<R: Alloc<A = Global> + Abort + Threads + Sync>(rt: &R, row: &Row) -> Result<(), Fail> {
-    let alloc = rt.alloc();
-    let words = words_of(alloc, row.words)?;
-    let mut folder = folder_of(alloc, &row.trace)?;
-    ends_as(rt, &words, &mut folder, (row.status, row.out, row.err));
-    Ok(())
+/// A folder that has the file under the name trace.dat.
+fn folder_of(alloc: Global, trace: &Trace) -> Result<MemFolder, AllocError> {
+    let file = file_of(alloc, trace)?;
+    sample_runs::folder_of(alloc, &file)
+}
+
+fn runs_as<R: Alloc<A = Global> + Abort + Threads + Sync>(
+    rt: &R,
+    row: &Row,
+) -> Result<(), AllocError> {
+    let mut folder = folder_of(rt.alloc(), &row.trace)?;
+    ends_of(rt, row.words, &mut folder, (row.status, row.out, row.err))
 }
 
 #[test]
@@ -150,24 +153,35 @@ fn is_file<R: Alloc<A = Global> + Abort + Threads + Sync>(
     rt: &R,
     folder: &mut MemFolder,
     expected: &(&str, usize, &str, &str),
-) -> Result<(), Fail> {
-    let alloc = rt.alloc();
+) -> Result<(), AllocError> {
     let (name, size, table, report) = *expected;
-    let words = words_of(alloc, &["dump", "--flyrecord", name])?;
-    ends_as(rt, &words, folder, (Status::Done, table, ""));
+    ends_of(
+        rt,
+        &["dump", "--flyrecord", name],
+        folder,
+        (Status::Done, table, ""),
+    )?;
     is_made(rt, folder, name, size, (Status::Done, report, ""))
 }
+
+fn are_files<R: Alloc<A = Global> + Abort + Threads + Sync>(
+    rt: &R,
+    folder: &mut MemFolder,
+) -> Result<(), AllocError> {
+    for file in FILES {
+        is_file(rt, folder, file)?;
+    }
+    Ok(())
+}
+
+const SPLIT: &[&str] = &["split", "-e", "1", "-r", "-o", "part"];
 
 /// New files begin their data with a page, and have the input's sub-buffers.
 #[test]
 fn a_split_keeps_the_size_of_sub_buffers(rt: HostRuntime) -> Result<(), Fail> {
-    let alloc = rt.alloc();
-    let mut folder = folder_of(alloc, &Trace(65_520, 2, 131_072))?;
-    let words = words_of(alloc, &["split", "-e", "1", "-r", "-o", "part"])?;
-    ends_as(&rt, &words, &mut folder, (Status::Done, "", ""));
-    for file in FILES {
-        is_file(&rt, &mut folder, file)?;
-    }
+    let mut folder = folder_of(rt.alloc(), &Trace(65_520, 2, 131_072))?;
+    ends_of(&rt, SPLIT, &mut folder, (Status::Done, "", ""))?;
+    are_files(&rt, &mut folder)?;
     Ok(())
 }
 
@@ -179,24 +193,30 @@ const RESTORED: (&str, usize, &str, &str) = (
     "cpus=2\n           <...>-7     [000]     1.000000000: [UNKNOWN EVENT 58]\n           <...>-7     [001]     2.000000000: [UNKNOWN EVENT 58]\n",
 );
 
-fn put_data(alloc: Global, folder: &mut MemFolder, name: &str, seconds: u64) -> Result<(), Fail> {
+fn put_data(
+    alloc: Global,
+    folder: &mut MemFolder,
+    name: &str,
+    seconds: u64,
+) -> Result<(), AllocError> {
     let mut data = Vec::new(alloc);
     put_sub_buffer(&mut data, 65_536, seconds)?;
-    folder.put(name, &data)?;
-    Ok(())
+    folder.put(name, &data)
 }
+
+fn put_both(alloc: Global, folder: &mut MemFolder) -> Result<(), AllocError> {
+    put_data(alloc, folder, "c0", 1)?;
+    put_data(alloc, folder, "c1", 2)
+}
+
+const RESTORE: &[&str] = &["restore", "-i", "trace.dat", "-o", "whole", "c0", "c1"];
 
 /// Restored data begin with a page too.
 #[test]
 fn a_restore_keeps_the_size_of_sub_buffers(rt: HostRuntime) -> Result<(), Fail> {
-    let alloc = rt.alloc();
-    let mut folder = folder_of(alloc, &Trace(65_520, 0, 0))?;
-    put_data(alloc, &mut folder, "c0", 1)?;
-    put_data(alloc, &mut folder, "c1", 2)?;
-    let words = words_of(
-        alloc,
-        &["restore", "-i", "trace.dat", "-o", "whole", "c0", "c1"],
-    )?;
-    ends_as(&rt, &words, &mut folder, (Status::Done, "", ""));
-    is_file(&rt, &mut folder, &RESTORED)
+    let mut folder = folder_of(rt.alloc(), &Trace(65_520, 0, 0))?;
+    put_both(rt.alloc(), &mut folder)?;
+    ends_of(&rt, RESTORE, &mut folder, (Status::Done, "", ""))?;
+    is_file(&rt, &mut folder, &RESTORED)?;
+    Ok(())
 }
