@@ -68,8 +68,8 @@ def main() -> None:
         except NoCompiler as error:
             sys.exit(f"no C compiler: {error}")
         print("workers           whole   threads   to begin   shared    alone   threads' own")
-        for apart in ({}, {"APART": "1"}):
-            environment = {"LD_PRELOAD": str(library), "PHASES": str(noted), **apart}
+        for apart in ("", "1"):
+            environment = {"LD_PRELOAD": str(library), "PHASES": str(noted), **({"APART": apart} if apart else {})}
             for workers, it in least_turns(os.path.abspath(given.program), given.trace, given.turns, environment, noted).items():
                 name = f"{workers}{', each apart' if apart else ''}"
                 print(f"{name:15} {it.took:7.1f} {it.threads:9.0f} {it.begins:10.0f} {it.shared:8.1f} {it.took - it.shared:8.1f} {it.used:14.1f}")

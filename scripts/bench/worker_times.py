@@ -62,7 +62,7 @@ def main() -> None:
     with tempfile.TemporaryDirectory() as folder:
         for name, trace in traces(Path(folder)):
             runs = [[seconds(program, trace, workers) for workers in WORKERS] for _ in range(given.turns)]
-            one, *others = map(min, zip(*runs))
+            one, *others = (min(times) for times in zip(*runs))
             print(f"{name:16} {one:8.3f} s" + "".join(f"{other / one:8.2f}" for other in others), flush=True)
 
 

@@ -188,7 +188,7 @@ def check(program: str) -> bool:
         try:
             compile_c(Path(__file__).with_name("refuse.c"), folder / LIBRARY, "-shared", "-fPIC", needs_headers=False)
         except NoCompiler as error:
-            raise Skipped(f"a C compiler: {error}") from None
+            raise Skipped(f"there is no C compiler: {error}") from None
         for words in LINES:
             ends, agrees = refuse_each(program, folder, words)
             all_ends += ends
