@@ -7,7 +7,8 @@ FOLDER is the top of the repository, this one where none is given. Of README.md 
 samples/ it is checked that
 
 - a call (`crate::call`, `crate::Type::method`) is one that its crate exports;
-- a clause (`crate::call`, clause `name`) is one of that call's contract;
+- a clause (`crate::call`, clause `name`) is one of that call's contract, and what stands in brackets after it (`field`, `Record.field`)
+  a field of a definition;
 - a law (law `name`, law `name` of `crate`) is a call that its crate exports;
 - a file (`crates/NAME/src/lib.rt`, `Ran.antt`, `Cut.antt` of `subpage`) and a link's target stand on disk, and an anchor is a heading;
 - an edit of a row (| `crate` | `edit` | ..) stands in its crate's must-fail/, and the clause of that row is there;
@@ -145,6 +146,15 @@ class Repository:
         edits = [file.stem for file in self.top.glob("crates/*/must-fail/*.edit")]
         return found | set(edits) | {word for file in files if file.is_file() and file.name != Path(__file__).name for word in WORD.findall(file.read_text())}
 
+    @cached_property
+    def records(self) -> dict[str, set[str]]:
+        """The fields of each record of the definitions."""
+        found: dict[str, set[str]] = {}
+        for file in self.top.glob("crates/*/specs/**/*.antt"):
+            for record in re.finditer(r"^pub record (\w+).*\n((?:[ \t]+.*\n|\n)*)", file.read_text() + "\n", re.M):
+                found.setdefault(record[1], set()).update(re.findall(r"^\s+(?:pub )?(\w+) :", record[2], re.M))
+        return found
+
     def documents(self) -> list[Path]:
         found = [*self.top.glob("*.md"), *self.top.glob("docs/*.md"), *self.top.glob("samples/*.md")]
         return sorted(found)
@@ -215,9 +225,12 @@ class Document:
             joins = re.fullmatch(r"\s*(?:,|and|, and)\s*", between) is not None
             role = "clause" if re.search(r"\bclauses?\s*$", between) or joins and before == "clause" else None
             role = "law" if re.search(r"\blaws?\s*$", between) or joins and before == "law" and "::" not in text else role
+            role = "field" if before == "clause" and re.fullmatch(r"\s*\(", between) or joins and before == "field" else role
             place = at + span.start()
             if role == "clause" and NAME.fullmatch(text):
                 self.check_clause(place, text, cited)
+            elif role == "field" and NAME.fullmatch(text) and not text.endswith(".antt"):
+                self.check_field(place, text)
             elif role == "law":
                 laws = laws + [text] if before == "law" else [text]
                 if not re.match(r"[^`|;.(]*\bof\s+`", block[span.end() :].split("`", 2)[0] + "`"):
@@ -265,6 +278,14 @@ class Document:
             called = cited[0].name if cited else "that call"
             self.wrong(at, f"no clause {name} of {called}")
 
+    def check_field(self, at: int, text: str) -> None:
+        records = self.repository.records
+        record, _, name = text.rpartition(".")
+        if record and record not in records:
+            self.wrong(at, f"no record {record} in the definitions")
+        elif name not in (records[record] if record else set().union(*records.values())):
+            self.wrong(at, f"no field {text} in the definitions")
+
     def check_law(self, at: int, name: str, crate: str | None) -> None:
         if crate is not None and crate not in self.repository.crates:
             self.wrong(at, f"no crate {crate}, of law {name}")
@@ -275,6 +296,9 @@ class Document:
 
     def check_name(self, at: int, text: str) -> None:
         """A name that is written as names of code are: with a low line, or with a capital inside."""
+        record, _, name = text.partition(".")
+        if name and record in self.repository.records and not text.endswith(".antt"):
+            self.check_field(at, text)
         for word in text.split("."):
             is_of_code = "_" in word.strip("_") or re.search(r"[a-z][A-Z]", word)
             if is_of_code and word not in self.repository.words and not word.startswith(OUTSIDE):
