@@ -1,4 +1,4 @@
-use format_parse::{FormatTable, parse_format};
+use format_parse::{EventFormat, FormatTable, parse_format};
 use std::alloc::{AllocError, Global};
 use std::process::Abort;
 use std::test::Fail;
@@ -74,152 +74,227 @@ ID: -1
 ID: 1|~name: a
  ID: 1|~|";
 
-/// The field that the declaration in front of the mark, of the size behind it, declares.
-fn shape_of(alloc: Global, declared: &str) -> Result<String, Fail> {
-    let (declaration, size) = declared.split_once(';').unwrap_or((declared, ""));
-    let text = format!(in alloc;
-        "name: e\nID: 7\n\tfield:{declaration};\toffset:8;\tsize:{size};\tsigned:0;"
-    )?;
-    match parse_format(alloc, b"system", text.as_bytes())? {
-        Some(format) => Ok(shown(alloc, format.fields.as_slice().first())?),
-        None => Ok(String::new(alloc)),
+/// The kind, the place and the size of an element of the first field, if any.
+fn put_shape(text: &mut String, field: Option<&Field>) -> Result<(), AllocError> {
+    match field {
+        Some(field) => write!(text, "{:?} {:?} {}", field.kind, field.place, field.element),
+        None => Ok(()),
     }
 }
 
-fn shown(alloc: Global, field: Option<&Field>) -> Result<String, AllocError> {
-    match field {
-        Some(field) => format!(in alloc; "{:?} {:?} {}", field.kind, field.place, field.element),
-        None => Ok(String::new(alloc)),
+fn put_shape_of(alloc: Global, text: &mut String, format: &[u8]) -> Result<(), AllocError> {
+    match parse_format(alloc, b"system", format)? {
+        Some(format) => put_shape(text, format.fields.as_slice().first()),
+        None => Ok(()),
     }
+}
+
+/// A format with the declaration in front of the mark, of the size behind it.
+fn put_format(text: &mut String, declared: &str) -> Result<(), AllocError> {
+    let (declaration, size) = declared.split_once(';').unwrap_or((declared, ""));
+    write!(
+        text,
+        "name: e\nID: 7\n\tfield:{declaration};\toffset:8;\tsize:{size};\tsigned:0;"
+    )
+}
+
+fn is_shape(rt: &impl Abort, alloc: Global, row: &str) -> Result<(), AllocError> {
+    let (declared, shape) = row.split_once('|').unwrap_or((row, ""));
+    let mut format = String::new(alloc);
+    put_format(&mut format, declared)?;
+    let mut text = String::new(alloc);
+    put_shape_of(alloc, &mut text, format.as_bytes())?;
+    assert!(rt; text.as_str() == shape, "{row}");
+    Ok(())
 }
 
 #[test]
 fn a_field_is_of_a_kind_by_its_declaration_and_size(rt: HostRuntime) -> Result<(), Fail> {
     for row in FIELDS.lines() {
-        let (declared, shape) = row.split_once('|').unwrap_or((row, ""));
-        assert_eq!(rt; shape_of(rt.alloc(), declared)?.as_str(), shape, "{row}");
+        is_shape(&rt, rt.alloc(), row)?;
     }
     Ok(())
 }
 
+/// The number and the count of fields of a format.
+fn put_numbers(alloc: Global, told: &mut Vec<u8>, format: &EventFormat) -> Result<(), AllocError> {
+    let count = format.fields.as_slice().len();
+    let numbers = format!(in alloc; " {} {count}", format.id)?;
+    told.extend_from_slice(numbers.as_bytes())
+}
+
 /// The name, the number and the count of fields of a format, and its print fmt behind them.
-fn told(alloc: Global, text: &str) -> Result<Vec<u8>, AllocError> {
-    let mut told = Vec::new(alloc);
-    if let Some(format) = parse_format(alloc, b"system", text.as_bytes())? {
-        told.extend_from_slice(format.name.as_bytes())?;
-        let count = format.fields.as_slice().len();
-        let numbers = format!(in alloc; " {} {count}", format.id)?;
-        told.extend_from_slice(numbers.as_bytes())?;
-        told.extend_from_slice(format.print.as_bytes())?;
+fn put_told(alloc: Global, told: &mut Vec<u8>, format: &EventFormat) -> Result<(), AllocError> {
+    told.extend_from_slice(format.name.as_bytes())?;
+    put_numbers(alloc, told, format)?;
+    told.extend_from_slice(format.print.as_bytes())
+}
+
+fn put_told_of(alloc: Global, told: &mut Vec<u8>, text: &str) -> Result<(), AllocError> {
+    match parse_format(alloc, b"system", text.as_bytes())? {
+        Some(format) => put_told(alloc, told, &format),
+        None => Ok(()),
     }
-    Ok(told)
+}
+
+fn is_told(rt: &impl Abort, alloc: Global, row: &str) -> Result<(), AllocError> {
+    let (text, expected) = row.split_once('|').unwrap_or((row, ""));
+    let mut told = Vec::new(alloc);
+    put_told_of(alloc, &mut told, text)?;
+    assert!(rt; told.as_slice() == expected.as_bytes(), "{row}");
+    Ok(())
 }
 
 #[test]
 fn a_format_text_needs_a_name_and_a_number(rt: HostRuntime) -> Result<(), Fail> {
     for row in TEXTS.split('~') {
-        let (text, expected) = row.split_once('|').unwrap_or((row, ""));
-        assert_eq!(rt;
-            told(rt.alloc(), text)?.as_slice(),
-            expected.as_bytes(),
-            "{row}"
-        );
+        is_told(&rt, rt.alloc(), row)?;
     }
     Ok(())
 }
 
-fn texts(alloc: Global, all: &[&[u8]]) -> Result<Vec<ByteText>, AllocError> {
-    let mut texts = Vec::new(alloc);
+fn push_texts(alloc: Global, texts: &mut Vec<ByteText>, all: &[&[u8]]) -> Result<(), AllocError> {
     for text in all {
         texts.push(ByteText::copy(alloc, text)?)?;
     }
-    Ok(texts)
+    Ok(())
 }
 
-/// The systems, names and numbers of a table's formats, one a line.
-fn listed(alloc: Global, table: &FormatTable) -> Result<Vec<u8>, AllocError> {
-    let mut list = Vec::new(alloc);
+/// The table with the formats of these texts behind its own.
+fn with_texts(
+    alloc: Global,
+    table: FormatTable,
+    system: &[u8],
+    all: &[&[u8]],
+) -> Result<FormatTable, AllocError> {
+    let mut texts = Vec::new(alloc);
+    push_texts(alloc, &mut texts, all)?;
+    table.with_texts(alloc, system, &texts)
+}
+
+/// The system, the name and the number of a format, on a line.
+fn put_line(alloc: Global, list: &mut Vec<u8>, format: &EventFormat) -> Result<(), AllocError> {
+    list.extend_from_slice(format.system.as_bytes())?;
+    list.push(b'/')?;
+    list.extend_from_slice(format.name.as_bytes())?;
+    list.extend_from_slice(format!(in alloc; " {}\n", format.id)?.as_bytes())
+}
+
+fn put_listed(alloc: Global, list: &mut Vec<u8>, table: &FormatTable) -> Result<(), AllocError> {
     for i in 0..table.len() {
         if let Some(format) = table.get(i) {
-            list.extend_from_slice(format.system.as_bytes())?;
-            list.push(b'/')?;
-            list.extend_from_slice(format.name.as_bytes())?;
-            list.extend_from_slice(format!(in alloc; " {}\n", format.id)?.as_bytes())?;
+            put_line(alloc, list, format)?;
         }
     }
-    Ok(list)
+    Ok(())
+}
+
+const FTRACE: [&[u8]; 1] = [b"name: function\nID: 1"];
+
+const SCHED: [&[u8]; 4] = [
+    b"name: a\nID: 9",
+    b"unread",
+    b"name: b\nID: 1",
+    b"name: a\nID: 2",
+];
+
+const LISTED: &[u8] = b"ftrace/function 1\nsched/a 9\nsched/a 2\nlate/c 3\n";
+
+/// Whether a format was added to a table.
+fn adds(alloc: Global, table: &mut FormatTable, text: &[u8]) -> Result<bool, AllocError> {
+    match parse_format(alloc, b"late", text)? {
+        Some(format) => table.add(format),
+        None => Ok(false),
+    }
+}
+
+fn is_listed(rt: &impl Abort, alloc: Global, table: &FormatTable) -> Result<(), AllocError> {
+    let mut list = Vec::new(alloc);
+    put_listed(alloc, &mut list, table)?;
+    assert!(rt; list.as_slice() == LISTED && table.get(4).is_none());
+    Ok(())
+}
+
+/// The places of numbers and of names in the table.
+fn has_places(table: &FormatTable) -> bool {
+    let numbers = [
+        table.by_id(1),
+        table.by_id(9),
+        table.by_id(3),
+        table.by_id(4),
+    ];
+    let names = [
+        table.by_name(b"a"),
+        table.by_name(b"b"),
+        table.by_name(b"c"),
+    ];
+    numbers == [Some(0), Some(1), Some(3), None] && names == [Some(1), None, Some(3)]
 }
 
 #[test]
 fn a_table_keeps_the_first_format_of_a_number(rt: HostRuntime) -> Result<(), Fail> {
-    let alloc = rt.alloc();
-    let ftrace = texts(alloc, &[b"name: function\nID: 1"])?;
-    let sched = texts(
-        alloc,
-        &[
-            b"name: a\nID: 9",
-            b"unread",
-            b"name: b\nID: 1",
-            b"name: a\nID: 2",
-        ],
-    )?;
-    let table = FormatTable::new(alloc).with_texts(alloc, b"ftrace", &ftrace)?;
-    let mut table = table.with_texts(alloc, b"sched", &sched)?;
-    for (text, added) in [
-        (b"name: c\nID: 2".as_slice(), false),
-        (b"name: c\nID: 3", true),
-    ] {
-        if let Some(format) = parse_format(alloc, b"late", text)? {
-            assert_eq!(rt; table.add(format)?, added);
-        }
-    }
-    let expected = b"ftrace/function 1\nsched/a 9\nsched/a 2\nlate/c 3\n".as_slice();
-    assert_eq!(rt; listed(alloc, &table)?.as_slice(), expected);
-    assert!(rt; table.get(4).is_none());
-    for (id, place) in [(1, Some(0)), (9, Some(1)), (3, Some(3)), (4, None)] {
-        assert_eq!(rt; table.by_id(id), place);
-    }
-    for (name, place) in [(b"a".as_slice(), Some(1)), (b"b", None), (b"c", Some(3))] {
-        assert_eq!(rt; table.by_name(name), place);
-    }
+    let table = with_texts(rt.alloc(), FormatTable::new(rt.alloc()), b"ftrace", &FTRACE)?;
+    let mut table = with_texts(rt.alloc(), table, b"sched", &SCHED)?;
+    let second = adds(rt.alloc(), &mut table, b"name: c\nID: 2")?;
+    let third = adds(rt.alloc(), &mut table, b"name: c\nID: 3")?;
+    assert!(rt; !second && third && has_places(&table));
+    is_listed(&rt, rt.alloc(), &table)?;
     Ok(())
 }
 
 /// So many format texts, numbered from 0.
-fn many(alloc: Global, count: u32) -> Result<Vec<ByteText>, AllocError> {
-    let mut texts = Vec::new(alloc);
+fn push_many(alloc: Global, texts: &mut Vec<ByteText>, count: u32) -> Result<(), AllocError> {
     for id in 0..count {
-        texts.push(ByteText::copy(
-            alloc,
-            format!(in alloc; "name: e{id}\nID: {id}")?.as_bytes(),
-        )?)?;
+        let text = format!(in alloc; "name: e{id}\nID: {id}")?;
+        texts.push(ByteText::copy(alloc, text.as_bytes())?)?;
     }
-    Ok(texts)
+    Ok(())
+}
+
+fn many(alloc: Global, count: u32) -> Result<FormatTable, AllocError> {
+    let mut texts = Vec::new(alloc);
+    push_many(alloc, &mut texts, count)?;
+    FormatTable::new(alloc).with_texts(alloc, b"s", &texts)
 }
 
 /// A format text with so many fields.
-fn wide(alloc: Global, count: u32) -> Result<Vec<u8>, AllocError> {
-    let mut text = Vec::from_slice(alloc, b"name: wide\nID: 9000\n")?;
+fn put_wide(text: &mut String, count: u32) -> Result<(), AllocError> {
+    text.push_str("name: wide\nID: 9000\n")?;
     for i in 0..count {
-        let line = format!(in alloc; "field:int a{i};offset:{i};size:4;signed:0;\n")?;
-        text.extend_from_slice(line.as_bytes())?;
+        write!(text, "field:int a{i};offset:{i};size:4;signed:0;\n")?;
     }
-    Ok(text)
+    Ok(())
+}
+
+/// Whether the format has a long text, and so many fields, the last of which stands at its number.
+fn is_wide(format: Option<&EventFormat>, count: u32) -> bool {
+    match format {
+        Some(format) => {
+            let fields = format.fields.as_slice();
+            format.text.as_bytes().len() > 100_000
+                && fields.len() == count as usize
+                && fields.last().map(|field| field.offset) == Some(count.saturating_sub(1))
+        }
+        None => false,
+    }
 }
 
 #[test]
-fn many_formats_and_fields_are_read(rt: HostRuntime) -> Result<(), Fail> {
-    let alloc = rt.alloc();
-    let table = FormatTable::new(alloc).with_texts(alloc, b"s", &many(alloc, 3_000)?)?;
-    assert_eq!(rt; table.len(), 3_000);
-    assert_eq!(rt; table.by_id(2_999), Some(2_999));
-    assert_eq!(rt; table.by_name(b"e1025"), Some(1_025));
-    let Some(format) = parse_format(alloc, b"s", &wide(alloc, 3_000)?)? else {
-        return Err(Fail::from("a format"));
-    };
-    assert!(rt; format.text.as_bytes().len() > 100_000);
-    let fields = format.fields.as_slice();
-    assert_eq!(rt; fields.len(), 3_000);
-    assert_eq!(rt; fields.last().map(|field| field.offset), Some(2_999));
+fn many_formats_are_read(rt: HostRuntime) -> Result<(), Fail> {
+    let table = many(rt.alloc(), 3_000)?;
+    assert!(rt;
+        table.len() == 3_000
+            && table.by_id(2_999) == Some(2_999)
+            && table.by_name(b"e1025") == Some(1_025)
+    );
+    Ok(())
+}
+
+#[test]
+fn many_fields_are_read(rt: HostRuntime) -> Result<(), Fail> {
+    let mut text = String::new(rt.alloc());
+    put_wide(&mut text, 3_000)?;
+    let format = parse_format(rt.alloc(), b"s", text.as_bytes())?;
+    assert!(rt; is_wide(format.as_ref(), 3_000));
     Ok(())
 }

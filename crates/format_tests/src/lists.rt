@@ -6,7 +6,7 @@ use std::alloc::{AllocError, Global};
 use std::test::Fail;
 use symbols::Symbols;
 use trace_base::ByteText;
-use trace_outside::{MemSink, Pending};
+use trace_outside::{Failed, MemSink, Pending};
 
 const KALLSYMS: &[u8] = b"ffffffff81000100 t do_idle\nffffffff81000000 T schedule\n";
 
@@ -20,34 +20,43 @@ const NAMES: &[u8] =
 
 fn formats(alloc: Global) -> Result<FormatTable, AllocError> {
     let ftrace = [ByteText::copy(alloc, b"name: function\nID: 1\n")?];
-    let sched = [ByteText::copy(alloc, b"name: sched_switch\nID: 316")?];
     let formats = FormatTable::new(alloc).with_texts(alloc, b"ftrace", &ftrace)?;
+    let sched = [ByteText::copy(alloc, b"name: sched_switch\nID: 316")?];
     formats.with_texts(alloc, b"sched", &sched)
 }
 
-fn events_of(alloc: Global, formats: &FormatTable) -> Result<Vec<u8>, Fail> {
-    let mut pending = Pending::new(alloc)?;
-    let mut sink = MemSink::new(alloc);
-    put_event_names(&mut pending, &mut sink, formats)?;
-    put_event_formats(&mut pending, &mut sink, formats)?;
-    pending.flush(&mut sink)?;
-    Ok(sink.bytes().to_vec(alloc)?)
+fn put_events(
+    pending: &mut Pending,
+    out: &mut MemSink,
+    formats: &FormatTable,
+) -> Result<(), Failed> {
+    put_event_names(pending, out, formats)?;
+    put_event_formats(pending, out, formats)?;
+    pending.flush(out)
 }
 
-fn names_of(alloc: Global, symbols: &Symbols) -> Result<Vec<u8>, Fail> {
-    let mut pending = Pending::new(alloc)?;
-    let mut sink = MemSink::new(alloc);
-    put_symbols(&mut pending, &mut sink, symbols)?;
-    put_printk_formats(&mut pending, &mut sink, symbols)?;
-    pending.flush(&mut sink)?;
-    Ok(sink.bytes().to_vec(alloc)?)
+fn put_names(pending: &mut Pending, out: &mut MemSink, symbols: &Symbols) -> Result<(), Failed> {
+    put_symbols(pending, out, symbols)?;
+    put_printk_formats(pending, out, symbols)?;
+    pending.flush(out)
 }
 
 #[test]
-fn the_lists_of_a_file(rt: HostRuntime) -> Result<(), Fail> {
-    let alloc = rt.alloc();
-    assert_eq!(rt; events_of(alloc, &formats(alloc)?)?.as_slice(), EVENTS);
-    let symbols = Symbols::read(alloc, KALLSYMS, PRINTK, b"")?;
-    assert_eq!(rt; names_of(alloc, &symbols)?.as_slice(), NAMES);
+fn the_events_of_a_file(rt: HostRuntime) -> Result<(), Fail> {
+    let formats = formats(rt.alloc())?;
+    let mut pending = Pending::new(rt.alloc())?;
+    let mut out = MemSink::new(rt.alloc());
+    let is_put = put_events(&mut pending, &mut out, &formats).is_ok();
+    assert!(rt; is_put && out.bytes() == EVENTS);
+    Ok(())
+}
+
+#[test]
+fn the_names_of_a_file(rt: HostRuntime) -> Result<(), Fail> {
+    let symbols = Symbols::read(rt.alloc(), KALLSYMS, PRINTK, b"")?;
+    let mut pending = Pending::new(rt.alloc())?;
+    let mut out = MemSink::new(rt.alloc());
+    let is_put = put_names(&mut pending, &mut out, &symbols).is_ok();
+    assert!(rt; is_put && out.bytes() == NAMES);
     Ok(())
 }
