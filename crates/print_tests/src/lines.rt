@@ -84,19 +84,33 @@ fn context_of(
 }
 
 /// Texts of formats, with a `#` before all but the first.
-fn texts(alloc: Global, formats: &str) -> Result<Vec<ByteText>, AllocError> {
-    let mut texts = Vec::new(alloc);
+fn push_texts(alloc: Global, texts: &mut Vec<ByteText>, formats: &str) -> Result<(), AllocError> {
     for text in formats.split('#') {
         texts.push(ByteText::copy(alloc, text.as_bytes())?)?;
     }
-    Ok(texts)
+    Ok(())
+}
+
+/// The table with the formats of these texts behind its own.
+fn with_texts(
+    alloc: Global,
+    table: FormatTable,
+    system: &[u8],
+    formats: &str,
+) -> Result<FormatTable, AllocError> {
+    let mut texts = Vec::new(alloc);
+    push_texts(alloc, &mut texts, formats)?;
+    table.with_texts(alloc, system, &texts)
+}
+
+fn five_formats(alloc: Global) -> Result<FormatTable, AllocError> {
+    let table = with_texts(alloc, FormatTable::new(alloc), b"ftrace", FUNCTION)?;
+    with_texts(alloc, table, b"events", EVENT_FORMATS)
 }
 
 /// A context of five formats.
 fn context(alloc: Global, filters: Vec<FilterUse>, letters: &str) -> Result<Context, AllocError> {
-    let formats = FormatTable::new(alloc)
-        .with_texts(alloc, b"ftrace", &texts(alloc, FUNCTION)?)?
-        .with_texts(alloc, b"events", &texts(alloc, EVENT_FORMATS)?)?;
+    let formats = five_formats(alloc)?;
     context_of(alloc, formats, "kworker/0:1", filters, letters)
 }
 
@@ -208,15 +222,19 @@ fn losses_and_newlines_are_shown(rt: HostRuntime) -> Result<(), Fail> {
     Ok(())
 }
 
-/// An event of which 70 bytes stand before the text: 43 of columns, 22 of the name's, and `text=`.
-fn lettered(alloc: Global, letters: usize, last: &str) -> Result<Vec<u8>, AllocError> {
-    let mut payload = Vec::from_slice(alloc, b"\x03\0\0\0\0\0\0\0")?;
+fn put_letters(payload: &mut Vec<u8>, letters: usize) -> Result<(), AllocError> {
     for _ in 0..letters {
         payload.push(b'a')?;
     }
+    Ok(())
+}
+
+/// An event of which 70 bytes stand before the text: 43 of columns, 22 of the name's, and `text=`.
+fn put_lettered(payload: &mut Vec<u8>, letters: usize, last: &str) -> Result<(), AllocError> {
+    payload.extend_from_slice(b"\x03\0\0\0\0\0\0\0")?;
+    put_letters(payload, letters)?;
     let last = if last.is_empty() { "\n" } else { last };
-    payload.extend_from_slice(last.as_bytes())?;
-    Ok(payload)
+    payload.extend_from_slice(last.as_bytes())
 }
 
 /// How long the line is, in a room for its front alone.
@@ -250,7 +268,8 @@ const LIMITS: &[(usize, &str, u32, &str)] = &[
 
 fn are_limited(rt: &impl Abort, alloc: Global, context: &Context) -> Result<(), AllocError> {
     for (letters, last, len, end) in LIMITS {
-        let payload = lettered(alloc, *letters, last)?;
+        let mut payload = Vec::new(alloc);
+        put_lettered(&mut payload, *letters, last)?;
         is_limited(rt, context, &payload, *len, end);
     }
     Ok(())
@@ -259,7 +278,8 @@ fn are_limited(rt: &impl Abort, alloc: Global, context: &Context) -> Result<(), 
 #[test]
 fn a_line_has_a_limit_and_one_newline(rt: HostRuntime) -> Result<(), Fail> {
     let context = context(rt.alloc(), Vec::new(rt.alloc()), "R")?;
-    Ok(are_limited(&rt, rt.alloc(), &context)?)
+    are_limited(&rt, rt.alloc(), &context)?;
+    Ok(())
 }
 
 /// An event of `ftrace/function` and three of `events/prints`, the last of the idle task, and one without a format.
@@ -291,17 +311,25 @@ const CHOICES: &str = "\tyyyyy
 -events:!bogus;-function:ip == 0\tynnny
 ";
 
-fn uses(alloc: Global, filters: &str) -> Result<Vec<FilterUse>, FilterFault> {
-    let mut uses = Vec::new(alloc);
+fn push_use(
+    alloc: Global,
+    uses: &mut Vec<FilterUse>,
+    hide: bool,
+    text: &str,
+) -> Result<(), FilterFault> {
+    let filter = parse_filter(alloc, text.as_bytes())?;
+    uses.push(FilterUse { hide, filter })
+        .map_err(AllocError::from)?;
+    Ok(())
+}
+
+fn push_uses(alloc: Global, uses: &mut Vec<FilterUse>, filters: &str) -> Result<(), FilterFault> {
     for text in filters.split(';') {
-        let hide = text.starts_with('-');
-        if let Some(text) = text.get(1..) {
-            let filter = parse_filter(alloc, text.as_bytes())?;
-            uses.push(FilterUse { hide, filter })
-                .map_err(AllocError::from)?;
+        if let Some(filter) = text.get(1..) {
+            push_use(alloc, uses, text.starts_with('-'), filter)?;
         }
     }
-    Ok(uses)
+    Ok(())
 }
 
 /// Whether an event on processor 1 is shown, and has a line.
@@ -335,7 +363,9 @@ fn are_chosen(rt: &impl Abort, alloc: Global, context: &Context, shown: &str) ->
 
 fn choose(rt: &impl Abort, alloc: Global, row: &str) -> Result<(), Fail> {
     let (filters, shown) = row.split_once("\t").unwrap_or(("", ""));
-    let context = context(alloc, uses(alloc, filters)?, "")?;
+    let mut uses = Vec::new(alloc);
+    push_uses(alloc, &mut uses, filters)?;
+    let context = context(alloc, uses, "")?;
     are_chosen(rt, alloc, &context, shown)
 }
 
@@ -348,12 +378,17 @@ fn filters_choose_the_events(rt: HostRuntime) -> Result<(), Fail> {
 }
 
 /// Formats whose names are their numbers.
-fn many_formats(alloc: Global) -> Result<FormatTable, AllocError> {
-    let mut texts = Vec::new(alloc);
+fn push_many(alloc: Global, texts: &mut Vec<ByteText>) -> Result<(), AllocError> {
     for id in 0..3_000u16 {
         let text = format!(in alloc; "name: n{id}\nID: {id}\nprint fmt: \"a text\"\n")?;
         texts.push(ByteText::copy(alloc, text.as_bytes())?)?;
     }
+    Ok(())
+}
+
+fn many_formats(alloc: Global) -> Result<FormatTable, AllocError> {
+    let mut texts = Vec::new(alloc);
+    push_many(alloc, &mut texts)?;
     FormatTable::new(alloc).with_texts(alloc, b"many", &texts)
 }
 
@@ -378,18 +413,17 @@ fn shows_both(rt: &impl Abort, alloc: Global, context: &Context) -> Result<(), F
 
 #[test]
 fn many_formats_are_known(rt: HostRuntime) -> Result<(), Fail> {
-    let alloc = rt.alloc();
-    let context = context_of(alloc, many_formats(alloc)?, "", Vec::new(alloc), "")?;
-    shows_both(&rt, alloc, &context)
+    let formats = many_formats(rt.alloc())?;
+    let context = context_of(rt.alloc(), formats, "", Vec::new(rt.alloc()), "")?;
+    shows_both(&rt, rt.alloc(), &context)
 }
 
 /// A name of so many letters.
-fn name_of(alloc: Global, letters: u32) -> Result<String, AllocError> {
-    let mut name = String::new(alloc);
+fn put_name(name: &mut String, letters: u32) -> Result<(), AllocError> {
     for _ in 0..letters {
         name.push_str("n")?;
     }
-    Ok(name)
+    Ok(())
 }
 
 fn named(alloc: Global, task: &str) -> Result<Context, AllocError> {
@@ -408,7 +442,9 @@ fn hole_of(context: &Context) -> Option<(u32, u64)> {
 
 /// The same where the task's name has so many letters, and differences are asked for.
 fn hole_behind(alloc: Global, letters: u32) -> Result<Option<(u32, u64)>, AllocError> {
-    let context = named(alloc, name_of(alloc, letters)?.as_str())?;
+    let mut name = String::new(alloc);
+    put_name(&mut name, letters)?;
+    let context = named(alloc, name.as_str())?;
     Ok(hole_of(&context))
 }
 

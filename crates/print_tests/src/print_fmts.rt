@@ -327,12 +327,11 @@ fn put_often(text: &mut Vec<u8>, piece: &[u8]) -> Result<(), AllocError> {
 }
 
 /// Numbers of two digits, each behind 14 bytes of a literal, and as many arguments.
-fn long_fmt(alloc: Global) -> Result<Vec<u8>, AllocError> {
-    let mut text = Vec::from_slice(alloc, b"\"")?;
-    put_often(&mut text, b"and a literal %d")?;
+fn put_long_fmt(text: &mut Vec<u8>) -> Result<(), AllocError> {
     text.push(b'"')?;
-    put_often(&mut text, b", 42")?;
-    Ok(text)
+    put_often(text, b"and a literal %d")?;
+    text.push(b'"')?;
+    put_often(text, b", 42")
 }
 
 /// A plan prints a text that is this long and begins so.
@@ -349,9 +348,10 @@ fn prints_front(rt: &impl Abort, plan: &PrintPlan, symbols: &Symbols, front: &[u
 
 #[test]
 fn a_long_text_of_many_directives_is_printed(rt: HostRuntime) -> Result<(), Fail> {
-    let alloc = rt.alloc();
-    let plan = plan_of(alloc, &[], &long_fmt(alloc)?)?;
-    let symbols = symbols(alloc, "")?;
+    let mut text = Vec::new(rt.alloc());
+    put_long_fmt(&mut text)?;
+    let plan = plan_of(rt.alloc(), &[], &text)?;
+    let symbols = symbols(rt.alloc(), "")?;
     prints_front(
         &rt,
         &plan,
