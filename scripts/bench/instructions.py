@@ -5,7 +5,8 @@
 
 `apt-get install valgrind` brings what counts. Without RECORDING it is samples/sched.dat, by whose header the traces are made that the
 costs of one event are of (scripts/make_trace.py): what 3,000 events take beyond 1,000. With --original the same is counted of the
-original trace-cmd (`report -N`). A count is the same each time, but for some hundred instructions of the C library's.
+original trace-cmd (`report -N`). A count is the same each time, but for some hundred instructions of the C library's. It takes some two
+minutes, and as long again for the original.
 """
 
 from __future__ import annotations
@@ -86,13 +87,13 @@ def rows_of_processors(tool: Tool, folder: Path) -> Iterator[tuple[str, float]]:
     functions, trace = folder / "functions.dat", folder / "dealt.dat"
     one_kind(SAMPLE, functions, "function", 37_000)
     for cpus in (1, 4, 64, 256):
-        for name, words in (("line of report", tool.report), ("event of split", ["split", "-o", "new", "-i"])):
+        for name, words in (("a line of report", tool.report), ("an event of split", ["split", "-o", "new", "-i"])):
             costs, events = [], []
             for pages in (256, 512):
                 deal_to_processors(functions, trace, cpus, pages * 4096)
                 costs.append(counted(tool.program, [*words, trace], folder))
                 events.append(sum(map(len, read_plain_trace(trace).events())))
-            yield f"{cpus} processors: a {name}", (costs[1] - costs[0]) / (events[1] - events[0])
+            yield f"{cpus} processors: {name}", (costs[1] - costs[0]) / (events[1] - events[0])
 
 
 def main() -> None:
