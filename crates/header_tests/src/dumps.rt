@@ -2,7 +2,7 @@
 
 use dat_header::{Header, read_header};
 use dump_tool::dump;
-use std::alloc::Global;
+use std::alloc::{AllocError, Global};
 use std::process::Abort;
 use std::test::Fail;
 use trace_args::DumpWords;
@@ -78,43 +78,42 @@ fn header_of(alloc: Global, bytes: &[u8]) -> Result<Header, Fail> {
     Ok(read_header(alloc, &mut file)?)
 }
 
-/// What a dump of these sections prints.
-fn dumped(alloc: Global, header: &Header, sections: &[Section]) -> Result<Vec<u8>, Fail> {
-    let mut words = DumpWords {
-        input: "trace.dat",
-        sections: [false; 12],
-    };
+fn choose(chosen: &mut [bool; 12], sections: &[Section]) {
     for section in sections {
-        if let Some(chosen) = words.sections.get_mut(section.place()) {
-            *chosen = true;
+        if let Some(slot) = chosen.get_mut(section.place()) {
+            *slot = true;
         }
     }
-    let mut pending = Pending::new(alloc)?;
-    let mut out = MemSink::new(alloc);
-    dump(&words, header, &mut pending, &mut out)?;
-    Ok(out.bytes().to_vec(alloc)?)
 }
 
+/// A dump of these sections prints this.
 fn prints(
     rt: &impl Abort,
     alloc: Global,
     header: &Header,
     sections: &[Section],
     expected: &[u8],
-) -> Result<(), Fail> {
-    let dumped = dumped(alloc, header, sections)?;
-    assert!(rt; dumped.as_slice() == expected);
+) -> Result<(), AllocError> {
+    let mut words = DumpWords {
+        input: "trace.dat",
+        sections: [false; 12],
+    };
+    choose(&mut words.sections, sections);
+    let mut pending = Pending::new(alloc)?;
+    let mut out = MemSink::new(alloc);
+    let dumped = dump(&words, header, &mut pending, &mut out);
+    assert!(rt; dumped.is_ok() && out.bytes() == expected);
     Ok(())
 }
 
-fn prints_plain(rt: &impl Abort, alloc: Global, header: &Header) -> Result<(), Fail> {
+fn prints_plain(rt: &impl Abort, alloc: Global, header: &Header) -> Result<(), AllocError> {
     for (sections, expected) in PLAIN {
         prints(rt, alloc, header, sections, expected.as_bytes())?;
     }
     Ok(())
 }
 
-fn prints_full(rt: &impl Abort, alloc: Global, header: &Header) -> Result<(), Fail> {
+fn prints_full(rt: &impl Abort, alloc: Global, header: &Header) -> Result<(), AllocError> {
     for (section, expected) in FULL {
         prints(rt, alloc, header, &[*section], expected.as_bytes())?;
     }
@@ -124,22 +123,28 @@ fn prints_full(rt: &impl Abort, alloc: Global, header: &Header) -> Result<(), Fa
 #[test]
 fn dumps_print_their_sections(rt: HostRuntime) -> Result<(), Fail> {
     let header = header_of(rt.alloc(), PLAIN_FILE)?;
-    prints_plain(&rt, rt.alloc(), &header)
+    prints_plain(&rt, rt.alloc(), &header)?;
+    Ok(())
 }
 
 /// What all sections print, one behind another.
-fn all_texts(alloc: Global) -> Result<Vec<u8>, Fail> {
-    let mut all = Vec::new(alloc);
+fn put_all_texts(all: &mut Vec<u8>) -> Result<(), AllocError> {
     for (_, expected) in FULL {
         all.extend_from_slice(expected.as_bytes())?;
     }
-    Ok(all)
+    Ok(())
+}
+
+fn prints_all(rt: &impl Abort, alloc: Global, header: &Header) -> Result<(), AllocError> {
+    let mut all = Vec::new(alloc);
+    put_all_texts(&mut all)?;
+    prints(rt, alloc, header, &Section::ALL, &all)
 }
 
 #[test]
 fn all_sections_stand_in_their_order(rt: HostRuntime) -> Result<(), Fail> {
     let header = header_of(rt.alloc(), FULL_FILE)?;
     prints_full(&rt, rt.alloc(), &header)?;
-    let all = all_texts(rt.alloc())?;
-    prints(&rt, rt.alloc(), &header, &Section::ALL, &all)
+    prints_all(&rt, rt.alloc(), &header)?;
+    Ok(())
 }

@@ -4,7 +4,8 @@ ghost use Rattle.std.specs.Prelude.{IfOk};
 ghost use Rattle.dat_header.specs.Allowed.{IsHeader};
 
 use crate::sections::is;
-use dat_header::{Body, Header, read_header, write_header};
+use dat_header::{Body, Header, OpenFault, read_header, write_header};
+use dat_options::Opt;
 use std::alloc::{AllocError, Global};
 use std::process::Abort;
 use std::test::Fail;
@@ -32,12 +33,17 @@ const BEHIND_TEXT: &[u8] = b"header_event\0\0\0\0\0\0\0\0\x05event\
 \0\0\0\x02options  \0\0\x03\0\0\0\x01x\0\x09\0\0\0\0\0\0flyrecord\0\
 \0\0\0\0\0\0\x40\0\0\0\0\0\0\0\x20\0\0\0\0\0\0\0\x60\0\0\0\0\0\0\0\0\0";
 
+fn put_whole(bytes: &mut Vec<u8>) -> Result<(), AllocError> {
+    let len = [(PAGE_TEXT.len() % 256) as u8];
+    for piece in [BEFORE_TEXT, &len, PAGE_TEXT, BEHIND_TEXT] {
+        bytes.extend_from_slice(piece)?;
+    }
+    Ok(())
+}
+
 fn whole(alloc: Global) -> Result<Vec<u8>, AllocError> {
     let mut bytes = Vec::new(alloc);
-    bytes.extend_from_slice(BEFORE_TEXT)?;
-    bytes.push((PAGE_TEXT.len() % 256) as u8)?;
-    bytes.extend_from_slice(PAGE_TEXT)?;
-    bytes.extend_from_slice(BEHIND_TEXT)?;
+    put_whole(&mut bytes)?;
     Ok(bytes)
 }
 
@@ -49,20 +55,37 @@ fn open(alloc: Global, bytes: &[u8]) -> Result<Header, Fail>
 }
 
 /// Why a file is no trace, or nothing.
-fn fault_of(alloc: Global, bytes: &[u8]) -> Result<String, Fail> {
+fn put_fault(text: &mut String, header: &Result<Header, OpenFault>) -> Result<(), AllocError> {
+    match header {
+        Ok(_) => Ok(()),
+        Err(fault) => write!(text, "{fault}"),
+    }
+}
+
+fn has_fault(
+    rt: &impl Abort,
+    alloc: Global,
+    bytes: &[u8],
+    expected: &str,
+) -> Result<(), AllocError> {
     let mut file = MemFile::new(ByteText::copy(alloc, bytes)?);
-    match read_header(alloc, &mut file) {
-        Ok(_) => Ok(String::new(alloc)),
-        Err(fault) => Ok(format!(in alloc; "{fault}")?),
+    let header = read_header(alloc, &mut file);
+    let mut text = String::new(alloc);
+    put_fault(&mut text, &header)?;
+    is(rt, text.as_str(), expected);
+    Ok(())
+}
+
+fn edit(bytes: &mut [u8], at: usize, with: &[u8]) {
+    for (slot, byte) in bytes.iter_mut().skip(at).zip(with) {
+        *slot = *byte;
     }
 }
 
 /// The plain header with other bytes from a place on, cut to a length.
 fn edited(alloc: Global, at: usize, with: &[u8], cut: usize) -> Result<Vec<u8>, AllocError> {
     let mut bytes = PLAIN.to_vec(alloc)?;
-    for (slot, byte) in bytes.iter_mut().skip(at).zip(with) {
-        *slot = *byte;
-    }
+    edit(&mut bytes, at, with);
     bytes.truncate(cut);
     Ok(bytes)
 }
@@ -73,10 +96,9 @@ fn is_refused(
     alloc: Global,
     edit: (usize, &[u8], usize),
     expected: &str,
-) -> Result<(), Fail> {
+) -> Result<(), AllocError> {
     let bytes = edited(alloc, edit.0, edit.1, edit.2)?;
-    is(rt, fault_of(alloc, &bytes)?.as_str(), expected);
-    Ok(())
+    has_fault(rt, alloc, &bytes, expected)
 }
 
 const WRONG: &[((usize, &[u8], usize), &str)] = &[
@@ -131,18 +153,22 @@ fn what_is_wrong_is_told_with_its_place(rt: HostRuntime) -> Result<(), Fail> {
     Ok(())
 }
 
-fn ends_early(rt: &impl Abort, alloc: Global, bytes: &[u8]) -> Result<(), Fail> {
+fn ends_early(rt: &impl Abort, alloc: Global, bytes: &[u8]) -> Result<(), AllocError> {
     let expected = format!(in alloc; "file ends early at byte {}", bytes.len())?;
-    is(rt, fault_of(alloc, bytes)?.as_str(), expected.as_str());
+    has_fault(rt, alloc, bytes, expected.as_str())
+}
+
+fn all_end_early(rt: &impl Abort, alloc: Global, bytes: &[u8]) -> Result<(), AllocError> {
+    for cut in 0..bytes.len() {
+        ends_early(rt, alloc, &bytes[..cut])?;
+    }
     Ok(())
 }
 
 #[test]
 fn a_cut_header_ends_early(rt: HostRuntime) -> Result<(), Fail> {
     let bytes = whole(rt.alloc())?;
-    for cut in 0..bytes.len() {
-        ends_early(&rt, rt.alloc(), &bytes[..cut])?;
-    }
+    all_end_early(&rt, rt.alloc(), &bytes)?;
     Ok(())
 }
 
@@ -155,39 +181,55 @@ const WORDS: &[(usize, usize, &str)] = &[
     (87, 97, "bad section at byte 87"),
 ];
 
+fn each_byte_counts(
+    rt: &impl Abort,
+    alloc: Global,
+    from: usize,
+    to: usize,
+    expected: &str,
+) -> Result<(), AllocError> {
+    for at in from..to {
+        is_refused(rt, alloc, (at, b"\xff", 113), expected)?;
+    }
+    Ok(())
+}
+
 #[test]
 fn a_wrong_byte_of_a_word_is_refused(rt: HostRuntime) -> Result<(), Fail> {
     for (from, to, expected) in WORDS {
-        for at in *from..*to {
-            is_refused(&rt, rt.alloc(), (at, b"\xff", 113), expected)?;
-        }
+        each_byte_counts(&rt, rt.alloc(), *from, *to, expected)?;
     }
     Ok(())
 }
 
 /// The numbers of a header.
-fn numbers_of(alloc: Global, header: &Header) -> Result<String, AllocError> {
+fn put_numbers(header: &Header, told: &mut String) -> Result<(), AllocError> {
     let layout = &header.layout;
-    let places = format!(in alloc;
-        "{} {} {} {}",
-        layout.time_at, layout.commit_at, layout.commit_size, layout.data_at
-    )?;
-    format!(in alloc;
-        "{:?} {} {} {places} {} {}",
-        header.order, header.long, header.page, header.cpus, header.end
-    )
+    write!(told, "{:?} {} {}", header.order, header.long, header.page)?;
+    write!(told, " {} {}", layout.time_at, layout.commit_at)?;
+    write!(told, " {} {}", layout.commit_size, layout.data_at)?;
+    write!(told, " {} {} ", header.cpus, header.end)
+}
+
+fn put_parts(parts: &[Part], told: &mut String) -> Result<(), AllocError> {
+    for part in parts {
+        write!(told, "{}+{} ", part.offset, part.size)?;
+    }
+    Ok(())
 }
 
 /// Where the data of a header's processors stand.
-fn put_body(alloc: Global, body: &Body, told: &mut Vec<u8>) -> Result<(), AllocError> {
-    let Body::Fly(parts) = body else {
-        return told.extend_from_slice(b"latency");
-    };
-    for part in parts.as_slice() {
-        let part = format!(in alloc; "{}+{} ", part.offset, part.size)?;
-        told.extend_from_slice(part.as_bytes())?;
+fn put_body(body: &Body, told: &mut String) -> Result<(), AllocError> {
+    match body {
+        Body::Latency => told.push_str("latency"),
+        Body::Fly(parts) => put_parts(parts.as_slice(), told),
     }
-    Ok(())
+}
+
+fn put_option(alloc: Global, option: &Opt, told: &mut Vec<u8>) -> Result<(), AllocError> {
+    told.extend_from_slice(format!(in alloc; "{}:", option.id)?.as_bytes())?;
+    told.extend_from_slice(option.bytes.as_bytes())?;
+    told.extend_from_slice(b" ")
 }
 
 /// The options of a header, each with its id and its bytes.
@@ -196,9 +238,7 @@ fn put_options(alloc: Global, header: &Header, told: &mut Vec<u8>) -> Result<(),
         return told.extend_from_slice(b"none");
     };
     for option in options.as_slice() {
-        told.extend_from_slice(format!(in alloc; "{}:", option.id)?.as_bytes())?;
-        told.extend_from_slice(option.bytes.as_bytes())?;
-        told.push(b' ')?;
+        put_option(alloc, option, told)?;
     }
     Ok(())
 }
@@ -215,19 +255,7 @@ fn put_line(text: &ByteText, told: &mut Vec<u8>) -> Result<(), AllocError> {
     told.extend_from_slice(text.as_bytes())
 }
 
-/// The texts and lists of a header, each behind a newline.
-fn put_contents(header: &Header, told: &mut Vec<u8>) -> Result<(), AllocError> {
-    let texts = [
-        &header.page_text,
-        &header.event_text,
-        &header.kallsyms,
-        &header.printk,
-        &header.cmdlines,
-    ];
-    for text in texts {
-        put_line(text, told)?;
-    }
-    put_texts(header.ftrace.as_slice(), told)?;
+fn put_systems(header: &Header, told: &mut Vec<u8>) -> Result<(), AllocError> {
     for system in header.systems.as_slice() {
         put_line(&system.name, told)?;
         put_texts(system.formats.as_slice(), told)?;
@@ -235,15 +263,38 @@ fn put_contents(header: &Header, told: &mut Vec<u8>) -> Result<(), AllocError> {
     Ok(())
 }
 
+fn put_own_texts(header: &Header, told: &mut Vec<u8>) -> Result<(), AllocError> {
+    for text in [
+        &header.page_text,
+        &header.event_text,
+        &header.kallsyms,
+        &header.printk,
+        &header.cmdlines,
+    ] {
+        put_line(text, told)?;
+    }
+    Ok(())
+}
+
+/// The texts and lists of a header, each behind a newline.
+fn put_contents(header: &Header, told: &mut Vec<u8>) -> Result<(), AllocError> {
+    put_own_texts(header, told)?;
+    put_texts(header.ftrace.as_slice(), told)?;
+    put_systems(header, told)
+}
+
+fn put_head(alloc: Global, header: &Header, told: &mut Vec<u8>) -> Result<(), AllocError> {
+    let mut head = String::new(alloc);
+    put_numbers(header, &mut head)?;
+    put_body(&header.body, &mut head)?;
+    told.extend_from_slice(head.as_bytes())
+}
+
 /// What a header says: numbers, parts, options and texts.
-fn told(alloc: Global, header: &Header) -> Result<Vec<u8>, AllocError> {
-    let mut told = Vec::new(alloc);
-    told.extend_from_slice(numbers_of(alloc, header)?.as_bytes())?;
-    told.push(b' ')?;
-    put_body(alloc, &header.body, &mut told)?;
-    put_options(alloc, header, &mut told)?;
-    put_contents(header, &mut told)?;
-    Ok(told)
+fn put_told(alloc: Global, header: &Header, told: &mut Vec<u8>) -> Result<(), AllocError> {
+    put_head(alloc, header, told)?;
+    put_options(alloc, header, told)?;
+    put_contents(header, told)
 }
 
 /// A header says just this.
@@ -253,7 +304,8 @@ fn says(
     header: &Header,
     expected: &[u8],
 ) -> Result<(), AllocError> {
-    let told = told(alloc, header)?;
+    let mut told = Vec::new(alloc);
+    put_told(alloc, header, &mut told)?;
     assert!(rt; told.as_slice() == expected);
     Ok(())
 }
@@ -280,8 +332,10 @@ fn is_read(
     edit: (usize, &[u8], usize),
     expected: &[u8],
 ) -> Result<(), Fail> {
-    let header = open(alloc, &edited(alloc, edit.0, edit.1, edit.2)?)?;
-    Ok(says(rt, alloc, &header, expected)?)
+    let bytes = edited(alloc, edit.0, edit.1, edit.2)?;
+    let header = open(alloc, &bytes)?;
+    says(rt, alloc, &header, expected)?;
+    Ok(())
 }
 
 #[test]
@@ -297,46 +351,52 @@ const FRONT: &[u8] = b"Big 4 8192 0 8 4 12 2 369 16384+8192 24576+0 3:x 9: \n";
 
 const TEXTS: &[u8] = b"\nevent\nkall\npr\ncmdline\none\n\nsched\nswitch";
 
+fn put_expected(expected: &mut Vec<u8>) -> Result<(), AllocError> {
+    for piece in [FRONT, PAGE_TEXT, TEXTS] {
+        expected.extend_from_slice(piece)?;
+    }
+    Ok(())
+}
+
 fn is_whole(rt: &impl Abort, alloc: Global, header: &Header) -> Result<(), AllocError> {
-    let mut expected = FRONT.to_vec(alloc)?;
-    expected.extend_from_slice(PAGE_TEXT)?;
-    expected.extend_from_slice(TEXTS)?;
+    let mut expected = Vec::new(alloc);
+    put_expected(&mut expected)?;
     says(rt, alloc, header, &expected)
 }
 
 #[test]
 fn every_item_is_read(rt: HostRuntime) -> Result<(), Fail> {
-    let alloc = rt.alloc();
-    let header = open(alloc, &whole(alloc)?)?;
-    Ok(is_whole(&rt, alloc, &header)?)
+    let bytes = whole(rt.alloc())?;
+    let header = open(rt.alloc(), &bytes)?;
+    is_whole(&rt, rt.alloc(), &header)?;
+    Ok(())
 }
 
-/// So many bytes of a text.
-fn fill(bytes: &mut Vec<u8>, count: u32) -> Result<(), AllocError> {
+fn put_many(bytes: &mut Vec<u8>, piece: &[u8], count: u32) -> Result<(), AllocError> {
     for _ in 0..count {
-        bytes.push(b'x')?;
+        bytes.extend_from_slice(piece)?;
+    }
+    Ok(())
+}
+
+fn put_long_texts(bytes: &mut Vec<u8>) -> Result<(), AllocError> {
+    for head in BEFORE_LARGE {
+        bytes.extend_from_slice(head)?;
+        put_many(bytes, b"x", 100_000)?;
     }
     Ok(())
 }
 
 /// A header of 1,024 processors with 1,000 formats of the ftrace system, where each text and the one option have 100,000 bytes.
-fn large(alloc: Global) -> Result<Vec<u8>, AllocError> {
-    let mut bytes = PLAIN[..51].to_vec(alloc)?;
+fn put_large(bytes: &mut Vec<u8>) -> Result<(), AllocError> {
+    bytes.extend_from_slice(&PLAIN[..51])?;
     bytes.extend_from_slice(b"\xa0\x86\x01\0\0\0\0\0")?;
-    fill(&mut bytes, 100_000)?;
+    put_many(bytes, b"x", 100_000)?;
     bytes.extend_from_slice(b"\xe8\x03\0\0")?;
-    for _ in 0..1_000 {
-        bytes.extend_from_slice(b"\x01\0\0\0\0\0\0\0f")?;
-    }
-    for head in BEFORE_LARGE {
-        bytes.extend_from_slice(head)?;
-        fill(&mut bytes, 100_000)?;
-    }
+    put_many(bytes, b"\x01\0\0\0\0\0\0\0f", 1_000)?;
+    put_long_texts(bytes)?;
     bytes.extend_from_slice(b"\0\0flyrecord\0")?;
-    for _ in 0..1_024 {
-        bytes.extend_from_slice(&[0; 16])?;
-    }
-    Ok(bytes)
+    put_many(bytes, &[0; 16], 1_024)
 }
 
 /// What stands before each of its other long texts.
@@ -350,7 +410,8 @@ const BEFORE_LARGE: &[&[u8]] = &[
 /// A line of numbers, four bytes for each part, a long option with its id, and behind newlines four long texts, an empty one and a
 /// thousand of one byte.
 fn is_large(rt: &impl Abort, alloc: Global, header: &Header, len: usize) -> Result<(), AllocError> {
-    let told = told(alloc, header)?;
+    let mut told = Vec::new(alloc);
+    put_told(alloc, header, &mut told)?;
     let is_read = header.end == len as u64 && header.ftrace.as_slice().len() == 1_000;
     assert!(rt; is_read && told.len() == 35 + 4 * 1_024 + 100_003 + 400_005 + 2_000);
     Ok(())
@@ -358,10 +419,11 @@ fn is_large(rt: &impl Abort, alloc: Global, header: &Header, len: usize) -> Resu
 
 #[test]
 fn a_large_header_is_read(rt: HostRuntime) -> Result<(), Fail> {
-    let alloc = rt.alloc();
-    let bytes = large(alloc)?;
-    let header = open(alloc, &bytes)?;
-    Ok(is_large(&rt, alloc, &header, bytes.len())?)
+    let mut bytes = Vec::new(rt.alloc());
+    put_large(&mut bytes)?;
+    let header = open(rt.alloc(), &bytes)?;
+    is_large(&rt, rt.alloc(), &header, bytes.len())?;
+    Ok(())
 }
 
 const PARTS: [Part; 2] = [
@@ -406,8 +468,9 @@ fn has_options(
 
 #[test]
 fn options_of_instances_are_dropped(rt: HostRuntime) -> Result<(), Fail> {
-    let alloc = rt.alloc();
-    let mut header = open(alloc, &whole(alloc)?)?;
+    let bytes = whole(rt.alloc())?;
+    let mut header = open(rt.alloc(), &bytes)?;
     header.drop_instances();
-    Ok(has_options(&rt, alloc, &header, b"9: ")?)
+    has_options(&rt, rt.alloc(), &header, b"9: ")?;
+    Ok(())
 }

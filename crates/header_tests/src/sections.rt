@@ -1,10 +1,10 @@
 // The sections of options and of parts.
 
 use dat_options::{OpenFault, Opt, read_options, read_table, write_options, write_table};
-use std::alloc::Global;
+use std::alloc::{AllocError, Global};
 use std::process::Abort;
 use std::test::Fail;
-use trace_base::{ByteText, Order, Part};
+use trace_base::{ByteText, ListOf, Order, Part};
 use trace_outside::{MemFile, MemSink};
 
 // Id 1 with four bytes, id 8 with three, and the end.
@@ -32,25 +32,25 @@ pub(crate) fn is(rt: &impl Abort, told: &str, expected: &str) {
 }
 
 /// How many options stand there and the place behind them, or the fault.
-fn options_at(alloc: Global, order: Order, bytes: &[u8], at: u64) -> Result<String, Fail> {
-    let mut file = MemFile::new(ByteText::copy(alloc, bytes)?);
-    match read_options(alloc, order, &mut file, at) {
-        Ok((options, end)) => Ok(format!(in alloc; "{} {end}", options.as_slice().len())?),
-        Err(fault) => Ok(format!(in alloc; "{fault}")?),
+fn put_options_at(
+    text: &mut String,
+    found: &Result<(ListOf<Opt>, u64), OpenFault>,
+) -> Result<(), AllocError> {
+    match found {
+        Ok((options, end)) => write!(text, "{} {end}", options.as_slice().len()),
+        Err(fault) => write!(text, "{fault}"),
     }
 }
 
 /// How many parts stand there and the place behind them, or the fault.
-fn parts_at(alloc: Global, cpus: u32, bytes: &[u8], at: u64) -> Result<String, Fail> {
-    let mut file = MemFile::new(ByteText::copy(alloc, bytes)?);
-    match read_table(alloc, Order::Little, cpus, &mut file, at) {
-        Ok((parts, end)) => Ok(format!(in alloc; "{} {end}", parts.as_slice().len())?),
-        Err(fault) => Ok(format!(in alloc; "{fault}")?),
+fn put_parts_at(
+    text: &mut String,
+    found: &Result<(ListOf<Part>, u64), OpenFault>,
+) -> Result<(), AllocError> {
+    match found {
+        Ok((parts, end)) => write!(text, "{} {end}", parts.as_slice().len()),
+        Err(fault) => write!(text, "{fault}"),
     }
-}
-
-fn ends_early(alloc: Global, len: usize) -> Result<String, Fail> {
-    Ok(format!(in alloc; "file ends early at byte {len}")?)
 }
 
 fn options_are(
@@ -60,8 +60,12 @@ fn options_are(
     bytes: &[u8],
     at: u64,
     expected: &str,
-) -> Result<(), Fail> {
-    is(rt, options_at(alloc, order, bytes, at)?.as_str(), expected);
+) -> Result<(), AllocError> {
+    let mut file = MemFile::new(ByteText::copy(alloc, bytes)?);
+    let found = read_options(alloc, order, &mut file, at);
+    let mut text = String::new(alloc);
+    put_options_at(&mut text, &found)?;
+    is(rt, text.as_str(), expected);
     Ok(())
 }
 
@@ -72,19 +76,23 @@ fn parts_are(
     bytes: &[u8],
     at: u64,
     expected: &str,
-) -> Result<(), Fail> {
-    is(rt, parts_at(alloc, cpus, bytes, at)?.as_str(), expected);
+) -> Result<(), AllocError> {
+    let mut file = MemFile::new(ByteText::copy(alloc, bytes)?);
+    let found = read_table(alloc, Order::Little, cpus, &mut file, at);
+    let mut text = String::new(alloc);
+    put_parts_at(&mut text, &found)?;
+    is(rt, text.as_str(), expected);
     Ok(())
 }
 
 /// A list of options, and one of parts, that are cut here.
-fn end_early(rt: &impl Abort, alloc: Global, order: Order, bytes: &[u8]) -> Result<(), Fail> {
-    let expected = ends_early(alloc, bytes.len())?;
+fn end_early(rt: &impl Abort, alloc: Global, order: Order, bytes: &[u8]) -> Result<(), AllocError> {
+    let expected = format!(in alloc; "file ends early at byte {}", bytes.len())?;
     options_are(rt, alloc, order, bytes, 0, expected.as_str())
 }
 
-fn parts_end_early(rt: &impl Abort, alloc: Global, bytes: &[u8]) -> Result<(), Fail> {
-    let expected = ends_early(alloc, bytes.len())?;
+fn parts_end_early(rt: &impl Abort, alloc: Global, bytes: &[u8]) -> Result<(), AllocError> {
+    let expected = format!(in alloc; "file ends early at byte {}", bytes.len())?;
     parts_are(rt, alloc, 2, bytes, 0, expected.as_str())
 }
 
@@ -116,7 +124,7 @@ fn cut_options_end_early(
     alloc: Global,
     order: Order,
     bytes: &[u8],
-) -> Result<(), Fail> {
+) -> Result<(), AllocError> {
     for cut in 0..bytes.len() {
         end_early(rt, alloc, order, &bytes[..cut])?;
     }
@@ -153,20 +161,33 @@ fn a_cut_table_ends_early(rt: HostRuntime) -> Result<(), Fail> {
     Ok(())
 }
 
-/// The options of a section, each with its id and its bytes.
-fn told(alloc: Global, order: Order, bytes: &[u8]) -> Result<Vec<u8>, Fail> {
-    let mut file = MemFile::new(ByteText::copy(alloc, bytes)?);
-    let (options, _) = read_options(alloc, order, &mut file, 0)?;
-    let mut told = Vec::new(alloc);
-    for option in options.as_slice() {
-        told.extend_from_slice(format!(in alloc; "{}:", option.id)?.as_bytes())?;
-        told.extend_from_slice(option.bytes.as_bytes())?;
-    }
-    Ok(told)
+fn put_option(alloc: Global, told: &mut Vec<u8>, option: &Opt) -> Result<(), AllocError> {
+    told.extend_from_slice(format!(in alloc; "{}:", option.id)?.as_bytes())?;
+    told.extend_from_slice(option.bytes.as_bytes())
 }
 
-/// The same options, written in an order.
-fn written(alloc: Global, order: Order) -> Result<Vec<u8>, Fail> {
+/// The options, each with its id and its bytes.
+fn put_told(alloc: Global, told: &mut Vec<u8>, options: &[Opt]) -> Result<(), AllocError> {
+    for option in options {
+        put_option(alloc, told, option)?;
+    }
+    Ok(())
+}
+
+fn are_told(rt: &impl Abort, alloc: Global, options: &[Opt]) -> Result<(), AllocError> {
+    let mut told = Vec::new(alloc);
+    put_told(alloc, &mut told, options)?;
+    assert!(rt; told.as_slice() == b"1:\0\0\0\08:abc".as_slice());
+    Ok(())
+}
+
+/// The same options are written so.
+fn are_written(
+    rt: &impl Abort,
+    alloc: Global,
+    order: Order,
+    bytes: &[u8],
+) -> Result<(), AllocError> {
     let options = vec![in alloc;
         Opt {
             id: 1,
@@ -177,21 +198,23 @@ fn written(alloc: Global, order: Order) -> Result<Vec<u8>, Fail> {
             bytes: ByteText::copy(alloc, b"abc")?
         },
     ]?;
-    let mut sink = MemSink::new(alloc);
-    write_options(order, options.as_slice(), &mut sink)?;
-    Ok(sink.bytes().to_vec(alloc)?)
+    let mut out = MemSink::new(alloc);
+    let written = write_options(order, options.as_slice(), &mut out);
+    assert!(rt; written.is_ok() && out.bytes() == bytes);
+    Ok(())
 }
 
+/// The options are read as they are, and written as they were.
 fn go_and_come_back(
     rt: &impl Abort,
     alloc: Global,
     order: Order,
     bytes: &[u8],
 ) -> Result<(), Fail> {
-    let told = told(alloc, order, bytes)?;
-    let written = written(alloc, order)?;
-    let expected = b"1:\0\0\0\08:abc".as_slice();
-    assert!(rt; told.as_slice() == expected && written.as_slice() == bytes);
+    let mut file = MemFile::new(ByteText::copy(alloc, bytes)?);
+    let (options, _) = read_options(alloc, order, &mut file, 0)?;
+    are_told(rt, alloc, options.as_slice())?;
+    are_written(rt, alloc, order, bytes)?;
     Ok(())
 }
 
@@ -202,10 +225,11 @@ fn options_are_written_and_read_again(rt: HostRuntime) -> Result<(), Fail> {
 }
 
 /// The bytes of parts in an order.
-fn table_of(alloc: Global, order: Order, parts: &[Part]) -> Result<Vec<u8>, Fail> {
-    let mut sink = MemSink::new(alloc);
-    write_table(order, parts, &mut sink)?;
-    Ok(sink.bytes().to_vec(alloc)?)
+fn table_of(alloc: Global, order: Order, parts: &[Part]) -> Result<ByteText, AllocError> {
+    let mut out = MemSink::new(alloc);
+    let written = write_table(order, parts, &mut out);
+    let bytes = if written.is_ok() { out.bytes() } else { b"" };
+    ByteText::copy(alloc, bytes)
 }
 
 /// The parts are read again where they were written.
@@ -216,22 +240,24 @@ fn are_read_again(
     parts: &[Part],
     cpus: u32,
 ) -> Result<(), Fail> {
-    let bytes = table_of(alloc, order, parts)?;
-    let mut file = MemFile::new(ByteText::copy(alloc, &bytes)?);
+    let mut file = MemFile::new(table_of(alloc, order, parts)?);
     let (again, _) = read_table(alloc, order, cpus, &mut file, 0)?;
     assert!(rt; again.as_slice() == parts);
     Ok(())
 }
 
+// More parts than one write takes.
+const MANY: [Part; 200] = [Part {
+    offset: 20480,
+    size: 4096,
+}; 200];
+
 #[test]
 fn a_table_is_written_and_read_again(rt: HostRuntime) -> Result<(), Fail> {
-    let alloc = rt.alloc();
-    let table = table_of(alloc, Order::Little, &PARTS)?;
-    assert!(rt; table.as_slice() == TABLE);
-    are_read_again(&rt, alloc, Order::Little, &PARTS, 2)?;
-    // More parts than one write takes.
-    let many = vec![in alloc; PARTS[1]; 200]?;
-    are_read_again(&rt, alloc, Order::Big, &many, 200)
+    let table = table_of(rt.alloc(), Order::Little, &PARTS)?;
+    assert!(rt; table.as_bytes() == TABLE);
+    are_read_again(&rt, rt.alloc(), Order::Little, &PARTS, 2)?;
+    are_read_again(&rt, rt.alloc(), Order::Big, &MANY, 200)
 }
 
 const FAULTS: &[OpenFault] = &[
@@ -263,12 +289,17 @@ read failed
 out of memory
 ";
 
+fn put_faults(text: &mut String) -> Result<(), AllocError> {
+    for fault in FAULTS {
+        writeln!(text, "{fault}")?;
+    }
+    Ok(())
+}
+
 #[test]
 fn faults_are_told_with_their_place(rt: HostRuntime) -> Result<(), Fail> {
     let mut text = String::new(rt.alloc());
-    for fault in FAULTS {
-        text.push_str(format!(in rt.alloc(); "{fault}\n")?.as_str())?;
-    }
+    put_faults(&mut text)?;
     is(&rt, text.as_str(), TEXTS);
     Ok(())
 }

@@ -1,7 +1,7 @@
 // Sizes of sub-buffers beside sizes of pages.
 
 use crate::sections::is;
-use dat_header::read_header;
+use dat_header::{Header, OpenFault, read_header};
 use std::alloc::{AllocError, Global};
 use std::process::Abort;
 use std::test::Fail;
@@ -17,29 +17,44 @@ const BEFORE_TEXT: &[u8] = b"header_page\0";
 const BEHIND_TEXT: &[u8] =
     b"header_event\0\0\0\0\0\0\0\0\0\0\0\0\0\0\0\0\0\0\0\0\0\0\0\0\0\0\0\0\0\0\0\0\0\0\0\0\0flyrecord\0";
 
-/// A header of pages of this size, whose sub-buffers have data of this size behind 16 bytes.
-fn header_of(alloc: Global, page: u32, data: u32) -> Result<Vec<u8>, AllocError> {
-    let text = format!(in alloc;
+fn put_text(text: &mut String, data: u32) -> Result<(), AllocError> {
+    write!(
+        text,
         "\tfield: u64 timestamp;\toffset:0;\tsize:8;\tsigned:0;
 \tfield: local_t commit;\toffset:8;\tsize:8;\tsigned:1;
 \tfield: int overwrite;\toffset:8;\tsize:1;\tsigned:1;
 \tfield: char data;\toffset:16;\tsize:{data};\tsigned:0;\n"
-    )?;
-    let mut bytes = BEFORE_PAGE.to_vec(alloc)?;
-    bytes.extend_from_slice(&page.to_le_bytes())?;
-    bytes.extend_from_slice(BEFORE_TEXT)?;
-    bytes.extend_from_slice(&(text.len() as u64).to_le_bytes())?;
-    bytes.extend_from_slice(text.as_bytes())?;
-    bytes.extend_from_slice(BEHIND_TEXT)?;
-    Ok(bytes)
+    )
+}
+
+fn put_header(bytes: &mut Vec<u8>, page: u32, text: &[u8]) -> Result<(), AllocError> {
+    for piece in [
+        BEFORE_PAGE,
+        &page.to_le_bytes(),
+        BEFORE_TEXT,
+        &(text.len() as u64).to_le_bytes(),
+        text,
+        BEHIND_TEXT,
+    ] {
+        bytes.extend_from_slice(piece)?;
+    }
+    Ok(())
+}
+
+/// A header of pages of this size, whose sub-buffers have data of this size behind 16 bytes.
+fn header_of(alloc: Global, page: u32, data: u32) -> Result<ByteText, AllocError> {
+    let mut text = String::new(alloc);
+    put_text(&mut text, data)?;
+    let mut bytes = Vec::new(alloc);
+    put_header(&mut bytes, page, text.as_bytes())?;
+    ByteText::copy(alloc, &bytes)
 }
 
 /// The sizes of the page and of the sub-buffers, or why the file is no trace.
-fn sizes_of(alloc: Global, bytes: &[u8]) -> Result<String, Fail> {
-    let mut file = MemFile::new(ByteText::copy(alloc, bytes)?);
-    match read_header(alloc, &mut file) {
-        Ok(header) => Ok(format!(in alloc; "{} {}", header.page, header.layout.page)?),
-        Err(fault) => Ok(format!(in alloc; "{fault}")?),
+fn put_sizes(text: &mut String, header: &Result<Header, OpenFault>) -> Result<(), AllocError> {
+    match header {
+        Ok(header) => write!(text, "{} {}", header.page, header.layout.page),
+        Err(fault) => write!(text, "{fault}"),
     }
 }
 
@@ -49,9 +64,12 @@ fn has_sizes(
     page: u32,
     data: u32,
     expected: &str,
-) -> Result<(), Fail> {
-    let bytes = header_of(alloc, page, data)?;
-    is(rt, sizes_of(alloc, &bytes)?.as_str(), expected);
+) -> Result<(), AllocError> {
+    let mut file = MemFile::new(header_of(alloc, page, data)?);
+    let header = read_header(alloc, &mut file);
+    let mut text = String::new(alloc);
+    put_sizes(&mut text, &header)?;
+    is(rt, text.as_str(), expected);
     Ok(())
 }
 
