@@ -2,10 +2,11 @@
 
 use super::runs::{answers, prints, run_line_over};
 use dat_header::OpenFault;
-use std::alloc::{Alloc, Global};
+use std::alloc::{Alloc, AllocError, Global};
 use std::process::Abort;
 use std::test::Fail;
 use std::thread::Threads;
+use trace_outside::MemFolder;
 use trace_run::Status;
 use trace_samples::{SWITCH_HEADER, SWITCH_REPORT, switch_file};
 
@@ -23,14 +24,12 @@ fn is_early<R: Alloc<A = Global> + Abort + Threads + Sync>(
     rt: &R,
     file: &[u8],
     len: usize,
-) -> Result<(), Fail> {
+) -> Result<(), AllocError> {
     let front = front_of(file, len);
     let status = Status::Refused(OpenFault::Truncated(len as u64));
     let early = format!(in rt.alloc(); "trace-cmd: trace.dat: file ends early at byte {len}\n")?;
-    for line in ["report", "dump --validate"] {
-        answers(rt, line, front, status, b"", early.as_bytes())?;
-    }
-    Ok(())
+    answers(rt, "report", front, status, b"", early.as_bytes())?;
+    answers(rt, "dump --validate", front, status, b"", early.as_bytes())
 }
 
 /// How a report of the first so many bytes, with the whole header, ends.
@@ -64,20 +63,48 @@ fn is_reported<R: Alloc<A = Global> + Abort + Threads + Sync>(
     rt: &R,
     file: &[u8],
     len: usize,
-) -> Result<(), Fail> {
+) -> Result<(), AllocError> {
     let front = front_of(file, len);
-    assert_eq!(rt; front.len(), len);
+    assert!(rt; front.len() == len, "{len}");
     let status = status_of(len);
     let (out, err) = told(status);
     answers(rt, "report", front, status, out, err)?;
     prints(rt, "dump --validate", front, b"valid\n")
 }
 
+fn all_are_early<R: Alloc<A = Global> + Abort + Threads + Sync>(
+    rt: &R,
+    file: &[u8],
+) -> Result<(), AllocError> {
+    for len in 0..HEADER {
+        is_early(rt, file, len)?;
+    }
+    Ok(())
+}
+
 #[test]
 fn each_cut_of_a_header(rt: HostRuntime) -> Result<(), Fail> {
     let file = switch_file(rt.alloc())?;
-    for len in 0..HEADER {
-        is_early(&rt, &file, len)?;
+    all_are_early(&rt, &file)?;
+    Ok(())
+}
+
+fn all_are_reported<R: Alloc<A = Global> + Abort + Threads + Sync>(
+    rt: &R,
+    file: &[u8],
+) -> Result<(), AllocError> {
+    for more in 0..=64_usize {
+        is_reported(rt, file, HEADER + more)?;
+    }
+    Ok(())
+}
+
+fn ends_are_reported<R: Alloc<A = Global> + Abort + Threads + Sync>(
+    rt: &R,
+    file: &[u8],
+) -> Result<(), AllocError> {
+    for len in [16_384, 20_479, 20_480, 24_575, 24_576] {
+        is_reported(rt, file, len)?;
     }
     Ok(())
 }
@@ -85,14 +112,15 @@ fn each_cut_of_a_header(rt: HostRuntime) -> Result<(), Fail> {
 #[test]
 fn cuts_behind_a_header(rt: HostRuntime) -> Result<(), Fail> {
     let file = switch_file(rt.alloc())?;
-    assert_eq!(rt; file.len(), 24_576);
-    for more in 0..=64_usize {
-        is_reported(&rt, &file, HEADER + more)?;
-    }
-    for len in [16_384, 20_479, 20_480, 24_575, 24_576] {
-        is_reported(&rt, &file, len)?;
-    }
+    assert!(rt; file.len() == 24_576);
+    all_are_reported(&rt, &file)?;
+    ends_are_reported(&rt, &file)?;
     Ok(())
+}
+
+// A split of the first so many bytes makes a file where they have the whole header.
+fn has_split(folder: &MemFolder, len: usize) -> bool {
+    folder.get("p.1").is_some() == (len >= HEADER) && folder.get("p.2").is_none()
 }
 
 // A split of a cut trace makes what stands before the cut.
@@ -100,24 +128,30 @@ fn is_split<R: Alloc<A = Global> + Abort + Threads + Sync>(
     rt: &R,
     file: &[u8],
     len: usize,
-) -> Result<(), Fail> {
+) -> Result<(), AllocError> {
     let status = if len < HEADER {
         Status::Refused(OpenFault::Truncated(len as u64))
     } else {
         status_of(len)
     };
     let (ran, folder) = run_line_over(rt, "split -o p", front_of(file, len))?;
-    assert!(rt; ran.status == status, "{len}");
-    assert_eq!(rt; folder.get("p.1").is_some(), len >= HEADER, "{len}");
-    assert!(rt; folder.get("p.2").is_none(), "{len}");
+    assert!(rt; ran.status == status && has_split(&folder, len), "{len}");
+    Ok(())
+}
+
+fn all_are_split<R: Alloc<A = Global> + Abort + Threads + Sync>(
+    rt: &R,
+    file: &[u8],
+) -> Result<(), AllocError> {
+    for len in [0, 1, 2217, 2218, 20_479, 20_480, 24_575, 24_576] {
+        is_split(rt, file, len)?;
+    }
     Ok(())
 }
 
 #[test]
 fn splits_of_cut_traces(rt: HostRuntime) -> Result<(), Fail> {
     let file = switch_file(rt.alloc())?;
-    for len in [0, 1, 2217, 2218, 20_479, 20_480, 24_575, 24_576] {
-        is_split(&rt, &file, len)?;
-    }
+    all_are_split(&rt, &file)?;
     Ok(())
 }

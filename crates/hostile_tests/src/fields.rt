@@ -1,7 +1,7 @@
 // Fields that lie outside of their event, on one another, or have sizes that no number has.
 
 use super::runs::{file_of, prints};
-use std::alloc::{Alloc, Global};
+use std::alloc::{Alloc, AllocError, Global};
 use std::process::Abort;
 use std::test::Fail;
 use std::thread::Threads;
@@ -47,36 +47,38 @@ __data_loc char[] d;4294967295;4 | "<%s>", __get_str(d) | <>
 __rel_loc char[] d;16;4 | "<%s>", __get_rel_str(d) | <>
 __rel_loc char[] d;12;4 | "<%s>", __get_rel_str(d) | <>"#;
 
-fn put_field(text: &mut String, field: &str) -> Result<(), Fail> {
+fn put_field(text: &mut String, field: &str) -> Result<(), AllocError> {
     let (name, rest) = field.split_once(';').unwrap_or(("", ""));
     let (offset, size) = rest.split_once(';').unwrap_or(("", ""));
     write!(
         text,
         "\tfield:{name};\toffset:{offset};\tsize:{size};\tsigned:0;\n"
-    )?;
-    Ok(())
+    )
 }
 
-// The format of a row.
-fn format_of(alloc: Global, fields: &str, print: &str) -> Result<String, Fail> {
-    let mut text = String::from_str(alloc, "name: odd\nID: 7\nformat:\n")?;
+fn put_format(text: &mut String, fields: &str, print: &str) -> Result<(), AllocError> {
+    text.push_str("name: odd\nID: 7\nformat:\n")?;
     for field in fields.split(',') {
-        put_field(&mut text, field)?;
+        put_field(text, field)?;
     }
-    write!(text, "\nprint fmt: {print}\n")?;
-    Ok(text)
+    write!(text, "\nprint fmt: {print}\n")
+}
+
+// A file with an event whose format has these fields and this print fmt.
+fn file_with(alloc: Global, fields: &str, print: &str) -> Result<Vec<u8>, AllocError> {
+    let mut format = String::new(alloc);
+    put_format(&mut format, fields, print)?;
+    file_of(alloc, format.as_bytes(), EVENT)
 }
 
 fn row_is_answered<R: Alloc<A = Global> + Abort + Threads + Sync>(
     rt: &R,
     row: &str,
-) -> Result<(), Fail> {
-    let alloc = rt.alloc();
+) -> Result<(), AllocError> {
     let (fields, rest) = row.split_once(" | ").unwrap_or(("", ""));
     let (print, text) = rest.split_once(" | ").unwrap_or(("", ""));
-    let format = format_of(alloc, fields, print)?;
-    let file = file_of(alloc, format.as_bytes(), EVENT)?;
-    let out = format!(in alloc;
+    let file = file_with(rt.alloc(), fields, print)?;
+    let out = format!(in rt.alloc();
         "cpus=1\n           <...>-1     [000]     0.000001: odd:                  {text}\n"
     )?;
     prints(rt, "report", &file, out.as_bytes())
@@ -104,15 +106,26 @@ const FILTERS: &[(&str, &str, bool)] = &[
 /// What a filter that passes the event has printed.
 const SHOWN: &str = "cpus=1\n           <...>-1     [000]     0.000001: odd:                  x\n";
 
+fn is_filtered<R: Alloc<A = Global> + Abort + Threads + Sync>(
+    rt: &R,
+    fields: &str,
+    filter: &str,
+    out: &str,
+) -> Result<(), AllocError> {
+    let file = file_with(rt.alloc(), fields, "\"x\"")?;
+    let line = format!(in rt.alloc(); "report -F {filter}")?;
+    prints(rt, line.as_str(), &file, out.as_bytes())
+}
+
 #[test]
 fn filters_over_fields_that_are_not_there(rt: HostRuntime) -> Result<(), Fail> {
-    let alloc = rt.alloc();
     for (fields, filter, is_shown) in FILTERS {
-        let format = format_of(alloc, fields, "\"x\"")?;
-        let file = file_of(alloc, format.as_bytes(), EVENT)?;
-        let line = format!(in alloc; "report -F {filter}")?;
-        let out = if *is_shown { SHOWN } else { "cpus=1\n" };
-        prints(&rt, line.as_str(), &file, out.as_bytes())?;
+        is_filtered(
+            &rt,
+            fields,
+            filter,
+            if *is_shown { SHOWN } else { "cpus=1\n" },
+        )?;
     }
     Ok(())
 }

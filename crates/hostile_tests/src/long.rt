@@ -1,7 +1,6 @@
 // Long texts of one part, again and again.
 
-use std::alloc::Global;
-use std::test::Fail;
+use std::alloc::{AllocError, Global};
 
 /// A text that begins so, has a part again and again, and ends so.
 #[derive(Clone, Copy)]
@@ -15,18 +14,30 @@ pub(super) struct Long {
 /// How many parts are put at once.
 const BLOCK: u32 = 1024;
 
-pub(super) fn text_of(alloc: Global, long: &Long) -> Result<String, Fail> {
+fn put_times(text: &mut String, part: &str, count: u32) -> Result<(), AllocError> {
+    for _ in 0..count {
+        text.push_str(part)?;
+    }
+    Ok(())
+}
+
+// Parts, many at once.
+fn put_parts(alloc: Global, text: &mut String, part: &str, count: u32) -> Result<(), AllocError> {
     let mut block = String::new(alloc);
-    for _ in 0..BLOCK {
-        block.push_str(long.part)?;
-    }
-    let mut text = String::from_str(alloc, long.begin)?;
-    for _ in 0..long.count / BLOCK {
-        text.push_str(block.as_str())?;
-    }
-    for _ in 0..long.count % BLOCK {
-        text.push_str(long.part)?;
-    }
-    text.push_str(long.end)?;
+    put_times(&mut block, part, BLOCK)?;
+    put_times(text, block.as_str(), count / BLOCK)?;
+    put_times(text, part, count % BLOCK)
+}
+
+/// Puts the text behind what is there.
+pub(super) fn put_long(alloc: Global, text: &mut String, long: &Long) -> Result<(), AllocError> {
+    text.push_str(long.begin)?;
+    put_parts(alloc, text, long.part, long.count)?;
+    text.push_str(long.end)
+}
+
+pub(super) fn text_of(alloc: Global, long: &Long) -> Result<String, AllocError> {
+    let mut text = String::new(alloc);
+    put_long(alloc, &mut text, long)?;
     Ok(text)
 }

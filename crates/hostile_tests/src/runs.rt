@@ -1,9 +1,8 @@
 // One run over a file in memory.
 
 use sample_runs::{Ran, folder_of, run_words};
-use std::alloc::{Alloc, Global};
+use std::alloc::{Alloc, AllocError, Global};
 use std::process::Abort;
-use std::test::Fail;
 use std::thread::Threads;
 use trace_base::Words;
 use trace_outside::{MemFolder, NoGate};
@@ -15,11 +14,11 @@ pub(super) const EVENT: &[u8] =
     b"\xe8\x03\0\0\0\0\0\0\x0c\0\0\0\0\0\0\0\x02\0\0\0\x07\0\0\0\x01\0\0\0";
 
 /// The file of one processor that begins with this event, whose format is this text.
-pub(super) fn file_of(alloc: Global, format: &[u8], event: &[u8]) -> Result<Vec<u8>, Fail> {
+pub(super) fn file_of(alloc: Global, format: &[u8], event: &[u8]) -> Result<Vec<u8>, AllocError> {
     let mut trace = TraceFile::new(alloc);
     trace.add_ftrace(format)?;
     trace.add_processor(event)?;
-    Ok(trace.bytes(alloc)?)
+    trace.bytes(alloc)
 }
 
 /// Runs words over a folder with this file under the name trace.dat. The folder comes back with what the run left.
@@ -27,7 +26,7 @@ pub(super) fn run_over<R: Alloc<A = Global> + Threads + Sync>(
     rt: &R,
     words: &Words,
     file: &[u8],
-) -> Result<(Ran, MemFolder), Fail> {
+) -> Result<(Ran, MemFolder), AllocError> {
     let mut folder = folder_of(rt.alloc(), file)?;
     let ran = run_words(rt, words, &mut folder, &NoGate);
     Ok((ran, folder))
@@ -38,8 +37,9 @@ pub(super) fn run_line_over<R: Alloc<A = Global> + Threads + Sync>(
     rt: &R,
     line: &str,
     file: &[u8],
-) -> Result<(Ran, MemFolder), Fail> {
-    run_over(rt, &words_of_line(rt.alloc(), line)?, file)
+) -> Result<(Ran, MemFolder), AllocError> {
+    let words = words_of_line(rt.alloc(), line)?;
+    run_over(rt, &words, file)
 }
 
 /// The words of a line give this status, this output and this message over this file.
@@ -50,15 +50,14 @@ pub(super) fn answers<R: Alloc<A = Global> + Abort + Threads + Sync>(
     status: Status,
     out: &[u8],
     err: &[u8],
-) -> Result<(), Fail> {
+) -> Result<(), AllocError> {
     let (ran, folder) = run_line_over(rt, line, file)?;
+    let is_so = ran.status == status && ran.out.bytes() == out && ran.err.bytes() == err;
     assert!(rt;
-        ran.status == status && ran.err.bytes() == err,
+        is_so && folder.wants() == 0 && ran.out.wants() == 0,
         "{line}: {:?}",
         ran.status
     );
-    assert!(rt; ran.out.bytes() == out, "{line}");
-    assert!(rt; folder.wants() == 0 && ran.out.wants() == 0);
     Ok(())
 }
 
@@ -68,6 +67,6 @@ pub(super) fn prints<R: Alloc<A = Global> + Abort + Threads + Sync>(
     line: &str,
     file: &[u8],
     out: &[u8],
-) -> Result<(), Fail> {
+) -> Result<(), AllocError> {
     answers(rt, line, file, Status::Done, out, b"")
 }

@@ -3,8 +3,10 @@
 
 use super::runs::answers;
 use dat_header::OpenFault::{BadPageSize, TooManyCpus, Truncated};
-use std::alloc::{AllocError, Global};
+use std::alloc::{Alloc, AllocError, Global};
+use std::process::Abort;
 use std::test::Fail;
+use std::thread::Threads;
 use trace_run::Status;
 use trace_run::Status::{Done, Malformed, Refused};
 use trace_samples::{ONE_EVENT, TraceFile};
@@ -112,30 +114,61 @@ const OTHERS: &[(usize, &[u8], usize, &str, Answer)] = &[
     ),
 ];
 
-// The first bytes of the file, with these at a place of its header.
-fn patched(alloc: Global, place: usize, bytes: &[u8], len: usize) -> Result<Vec<u8>, AllocError> {
+fn one_processor(alloc: Global) -> Result<Vec<u8>, AllocError> {
     let mut trace = TraceFile::new(alloc);
     trace.add_processor(ONE_EVENT)?;
-    let mut file = trace.bytes(alloc)?;
-    file.truncate(len);
+    trace.bytes(alloc)
+}
+
+fn patch(file: &mut [u8], place: usize, bytes: &[u8]) {
     for (i, byte) in bytes.iter().enumerate() {
         if let Some(old) = file.get_mut(place.saturating_add(i)) {
             *old = *byte;
         }
     }
+}
+
+// The first bytes of the file, with these at a place of its header.
+fn patched(alloc: Global, place: usize, bytes: &[u8], len: usize) -> Result<Vec<u8>, AllocError> {
+    let mut file = one_processor(alloc)?;
+    file.truncate(len);
+    patch(&mut file, place, bytes);
     Ok(file)
+}
+
+const ENDS_EARLY: &[u8] = b"trace-cmd: trace.dat: file ends early at byte 113\n";
+
+fn is_early<R: Alloc<A = Global> + Abort + Threads + Sync>(
+    rt: &R,
+    file: &[u8],
+) -> Result<(), AllocError> {
+    for line in ["report", "dump", "split -o p"] {
+        answers(
+            rt,
+            line,
+            file,
+            Refused(Truncated(HEADER as u64)),
+            b"",
+            ENDS_EARLY,
+        )?;
+    }
+    Ok(())
+}
+
+fn is_patched_early<R: Alloc<A = Global> + Abort + Threads + Sync>(
+    rt: &R,
+    place: usize,
+    bytes: &[u8],
+) -> Result<(), AllocError> {
+    let file = patched(rt.alloc(), place, bytes, HEADER)?;
+    assert!(rt; file.len() == HEADER, "{place}");
+    is_early(rt, &file)
 }
 
 #[test]
 fn sizes_past_the_end(rt: HostRuntime) -> Result<(), Fail> {
-    let status = Refused(Truncated(HEADER as u64));
-    let err = b"trace-cmd: trace.dat: file ends early at byte 113\n";
     for (place, bytes) in EARLY {
-        let file = patched(rt.alloc(), *place, bytes, HEADER)?;
-        assert_eq!(rt; file.len(), HEADER, "{place}");
-        for line in ["report", "dump", "split -o p"] {
-            answers(&rt, line, &file, status, b"", err)?;
-        }
+        is_patched_early(&rt, *place, bytes)?;
     }
     Ok(())
 }

@@ -1,8 +1,10 @@
 // Sub-buffers that are spelled by no elements, stamps that go back, and times at the last nanosecond.
 
 use super::runs::{answers, prints, run_line_over};
-use std::alloc::{AllocError, Global};
+use std::alloc::{Alloc, AllocError, Global};
+use std::process::Abort;
 use std::test::Fail;
+use std::thread::Threads;
 use trace_run::Status;
 use trace_samples::TraceFile;
 
@@ -20,22 +22,35 @@ const MALFORMED: [&[u8]; 8] = [
     b"\0\0\0\0\0\0\0\0\x0c\0\0\0\0\0\0\0\x3d\0\0\0\x0c\0\0\0\0\0\0\0",
 ];
 
-// The file of these processors.
-fn file_of(alloc: Global, processors: &[&[u8]]) -> Result<Vec<u8>, AllocError> {
-    let mut trace = TraceFile::new(alloc);
+fn add_all(trace: &mut TraceFile, processors: &[&[u8]]) -> Result<(), AllocError> {
     for bytes in processors {
         trace.add_processor(bytes)?;
     }
+    Ok(())
+}
+
+// The file of these processors.
+fn file_of(alloc: Global, processors: &[&[u8]]) -> Result<Vec<u8>, AllocError> {
+    let mut trace = TraceFile::new(alloc);
+    add_all(&mut trace, processors)?;
     trace.bytes(alloc)
+}
+
+const FIRST_IS: &[u8] = b"trace-cmd: trace.dat: malformed sub-page 0 of processor 0\n";
+
+fn is_malformed<R: Alloc<A = Global> + Abort + Threads + Sync>(
+    rt: &R,
+    bytes: &[u8],
+) -> Result<(), AllocError> {
+    let file = file_of(rt.alloc(), &[bytes])?;
+    let status = Status::Malformed { cpu: 0, page: 0 };
+    answers(rt, "report", &file, status, b"cpus=1\n", FIRST_IS)
 }
 
 #[test]
 fn malformed_sub_buffers(rt: HostRuntime) -> Result<(), Fail> {
-    let status = Status::Malformed { cpu: 0, page: 0 };
-    let err = b"trace-cmd: trace.dat: malformed sub-page 0 of processor 0\n";
     for bytes in &MALFORMED {
-        let file = file_of(rt.alloc(), &[*bytes])?;
-        answers(&rt, "report", &file, status, b"cpus=1\n", err)?;
+        is_malformed(&rt, bytes)?;
     }
     Ok(())
 }
@@ -104,15 +119,36 @@ const SPLITS: &[(&str, bool)] = &[
     ("split -o p 0 18446744073.709551614", false),
 ];
 
+fn is_split<R: Alloc<A = Global> + Abort + Threads + Sync>(
+    rt: &R,
+    file: &[u8],
+    line: &str,
+    has: bool,
+) -> Result<(), AllocError> {
+    let (ran, folder) = run_line_over(rt, line, file)?;
+    let len = folder.get("p.1").map_or(0, |bytes| bytes.len());
+    assert!(rt;
+        ran.status == Status::Done
+            && len == if has { 8192 } else { 4096 }
+            && folder.get("p.2").is_none(),
+        "{line}: {len}"
+    );
+    Ok(())
+}
+
+fn all_are_split<R: Alloc<A = Global> + Abort + Threads + Sync>(
+    rt: &R,
+    file: &[u8],
+) -> Result<(), AllocError> {
+    for (line, has) in SPLITS {
+        is_split(rt, file, line, *has)?;
+    }
+    Ok(())
+}
+
 #[test]
 fn splits_at_the_last_nanosecond(rt: HostRuntime) -> Result<(), Fail> {
     let file = file_of(rt.alloc(), &[LAST])?;
-    for (line, has) in SPLITS {
-        let (ran, folder) = run_line_over(&rt, line, &file)?;
-        assert!(rt; ran.status == Status::Done, "{line}");
-        let len = folder.get("p.1").map_or(0, |bytes| bytes.len());
-        assert!(rt; len == if *has { 8192 } else { 4096 }, "{line}: {len}");
-        assert!(rt; folder.get("p.2").is_none(), "{line}");
-    }
+    all_are_split(&rt, &file)?;
     Ok(())
 }

@@ -2,7 +2,10 @@
 
 use super::long::{Long, text_of};
 use super::runs::{EVENT, answers, file_of, run_over};
+use std::alloc::{Alloc, AllocError, Global};
+use std::process::Abort;
 use std::test::Fail;
+use std::thread::Threads;
 use trace_base::Words;
 use trace_run::Status;
 
@@ -119,28 +122,59 @@ const FILTERS: &[(Long, &str, &str)] = &[
     ),
 ];
 
+fn push_filter(words: &mut Words, filter: &str) -> Result<(), AllocError> {
+    words.push("report")?;
+    words.push("-F")?;
+    words.push(filter)
+}
+
+fn is_filtered<R: Alloc<A = Global> + Abort + Threads + Sync>(
+    rt: &R,
+    file: &[u8],
+    filter: &str,
+    out: &str,
+    err: &str,
+) -> Result<(), AllocError> {
+    let mut words = Words::new(rt.alloc());
+    push_filter(&mut words, filter)?;
+    let status = if err.is_empty() {
+        Status::Done
+    } else {
+        Status::Usage
+    };
+    let (ran, _) = run_over(rt, &words, file)?;
+    assert!(rt;
+        ran.status == status
+            && ran.err.bytes() == err.as_bytes()
+            && ran.out.bytes() == out.as_bytes(),
+        "{err}"
+    );
+    Ok(())
+}
+
+fn is_long_filtered<R: Alloc<A = Global> + Abort + Threads + Sync>(
+    rt: &R,
+    file: &[u8],
+    (long, out, err): &(Long, &str, &str),
+) -> Result<(), AllocError> {
+    let filter = text_of(rt.alloc(), long)?;
+    is_filtered(rt, file, filter.as_str(), out, err)
+}
+
+fn all_are_filtered<R: Alloc<A = Global> + Abort + Threads + Sync>(
+    rt: &R,
+    file: &[u8],
+) -> Result<(), AllocError> {
+    for row in FILTERS {
+        is_long_filtered(rt, file, row)?;
+    }
+    Ok(())
+}
+
 #[test]
 fn filters_of_a_megabyte(rt: HostRuntime) -> Result<(), Fail> {
-    let alloc = rt.alloc();
-    let file = file_of(alloc, FORMAT, EVENT)?;
-    for (long, out, err) in FILTERS {
-        let filter = text_of(alloc, long)?;
-        let mut words = Words::new(alloc);
-        words.push("report")?;
-        words.push("-F")?;
-        words.push(filter.as_str())?;
-        let status = if err.is_empty() {
-            Status::Done
-        } else {
-            Status::Usage
-        };
-        let (ran, _) = run_over(&rt, &words, &file)?;
-        assert!(rt;
-            ran.status == status && ran.err.bytes() == err.as_bytes(),
-            "{err}"
-        );
-        assert!(rt; ran.out.bytes() == out.as_bytes(), "{err}");
-    }
+    let file = file_of(rt.alloc(), FORMAT, EVENT)?;
+    all_are_filtered(&rt, &file)?;
     Ok(())
 }
 
@@ -258,19 +292,37 @@ const LINES: &[(Long, Status, &str, &str)] = &[
     ),
 ];
 
+fn is_answered<R: Alloc<A = Global> + Abort + Threads + Sync>(
+    rt: &R,
+    file: &[u8],
+    long: &Long,
+    status: Status,
+    (out, err): (&str, &str),
+) -> Result<(), AllocError> {
+    let line = text_of(rt.alloc(), long)?;
+    answers(
+        rt,
+        line.as_str(),
+        file,
+        status,
+        out.as_bytes(),
+        err.as_bytes(),
+    )
+}
+
+fn all_are_answered<R: Alloc<A = Global> + Abort + Threads + Sync>(
+    rt: &R,
+    file: &[u8],
+) -> Result<(), AllocError> {
+    for (long, status, out, err) in LINES {
+        is_answered(rt, file, long, *status, (*out, *err))?;
+    }
+    Ok(())
+}
+
 #[test]
 fn command_lines_of_a_megabyte(rt: HostRuntime) -> Result<(), Fail> {
     let file = file_of(rt.alloc(), FORMAT, EVENT)?;
-    for (long, status, out, err) in LINES {
-        let line = text_of(rt.alloc(), long)?;
-        answers(
-            &rt,
-            line.as_str(),
-            &file,
-            *status,
-            out.as_bytes(),
-            err.as_bytes(),
-        )?;
-    }
+    all_are_answered(&rt, &file)?;
     Ok(())
 }
