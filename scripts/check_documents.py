@@ -10,7 +10,8 @@ samples/ it is checked that
 - a clause (`crate::call`, clause `name`) is one of that call's contract, and what stands in brackets after it (`field`, `Record.field`)
   a field of a definition;
 - a law (law `name`, law `name` of `crate`) is a call that its crate exports;
-- a file (`crates/NAME/src/lib.rt`, `Ran.antt`, `Cut.antt` of `subpage`) and a link's target stand on disk, and an anchor is a heading;
+- a file (`crates/NAME/src/lib.rt`, `Ran.antt`, `Cut.antt` of `subpage`) and a link's target stand on disk, an anchor is a heading, and
+  a script knows the words that it is called with;
 - an edit of a row (| `crate` | `edit` | ..) stands in its crate's must-fail/, and the clause of that row is there;
 - a row of definitions (| .. | `name`, .. | `crate` File, .. | ..) names files of the crate's specs/ that have these names;
 - any other name in quotes that is written as names of code are stands somewhere in the code;
@@ -256,9 +257,18 @@ class Document:
         if PATH.fullmatch(first):
             if not self.repository.stands(first, self.file.parent) and "/out/" not in first:
                 self.wrong(at, f"no file {first}")
+            elif first.startswith("scripts/"):
+                self.check_words(at, self.repository.top / first, text.split()[1:])
         elif NAME.fullmatch(text):
             self.check_name(at, text)
         return cited
+
+    def check_words(self, at: int, script: Path, words: list[str]) -> None:
+        """The words that a script of this repository is called with, but for names of files and values."""
+        text = script.read_text() if script.is_file() else ""
+        for word in words:
+            if re.fullmatch(r"(?:--)?[a-z][a-z-]*", word) and not re.search(rf"\b{re.escape(word.lstrip('-'))}\b", text):
+                self.wrong(at, f"no {word} in {script.name}")
 
     def check_call(self, at: int, text: str) -> list[Function] | None:
         first, *path = text.split("::")
