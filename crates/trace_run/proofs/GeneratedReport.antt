@@ -17,16 +17,17 @@ use Rattle.trace_args.specs.Command.{ReportData}
 use Rattle.trace_gen.specs.Generated.{lists_of}
 use Rattle.trace_gen.specs.GeneratedFile.{IsGenerated}
 use Rattle.trace_gen.specs.GeneratedHeader.{header_but_parts}
-use Rattle.trace_run.specs.declared.status.Status.TheVariants.{Done}
-use Rattle.trace_run.specs.Context.{context_of}
-use Rattle.trace_run.specs.Ending.{Ends, Prints}
-use Rattle.trace_run.specs.Meaning.{Meaning, report_by}
-use Rattle.trace_run.specs.Outside.{FolderSeen, SinkSeen, beside}
-use Rattle.trace_run.specs.Report.{report_pieces}
-use Rattle.trace_run.specs.Selection.{Every, chosen, has}
+use Rattle.run_endings.specs.declared.status.Status.TheVariants.{Done}
+use Rattle.report_context.specs.Context.{context_of}
+use Rattle.run_endings.specs.Ending.{Ends, Prints}
+use Rattle.run_endings.specs.Meaning.{Meaning}
+use Rattle.file_report.specs.Meaning.{report_by}
+use Rattle.run_endings.specs.Outside.{FolderSeen, SinkSeen, beside}
+use Rattle.file_report.specs.Report.{report_pieces}
+use Rattle.run_endings.specs.Selection.{Every, chosen, has}
 use Rattle.trace_run.specs.Selftest.{plain_report, generated_items, generated_report}
 use Rattle.multi_report.specs.Pieces.{text_of}
-use Rattle.trace_run.proofs.Endings.{known_so}
+use Rattle.run_endings.proofs.Endings.{known_so}
 use Rattle.trace_run.proofs.Filters.{filter-all, filter-same}
 
 -- sound parts have no cut

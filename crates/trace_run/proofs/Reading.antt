@@ -6,42 +6,14 @@ use Rattle.trace_outside.specs.Names.{NamedFiles}
 use Rattle.dat_options.specs.declared.fault.OpenFault.{OpenFault}
 use Rattle.dat_header.specs.declared.header.Header.{Header}
 use Rattle.dat_header.specs.Header.{ReadsHeader}
-use Rattle.trace_run.specs.declared.status.Status.{Status}
-use Rattle.trace_run.specs.declared.status.Status.TheVariants.{Done, Usage, Refused, Malformed, ReadFault, WriteFault, NoMemory}
-use Rattle.trace_run.specs.Input.{BehindHeader, Input, Progress, ReadsDue, ReadsInput, ReadsNoMore, events_of, input_of_run, input_told, progress_at, share, with_header}
-use Rattle.trace_run.specs.Job.{FileCommand, OnFile}
+use Rattle.run_endings.specs.declared.status.Status.{Status}
+use Rattle.trace_run.specs.Input.{Input, ReadsInput, ReadsNoMore, events_of, input_of_run, input_told, share, with_header}
+use Rattle.run_endings.specs.Progress.{Progress, progress_at}
+use Rattle.file_report.specs.Due.{ReadsDue}
+use Rattle.run_words.specs.Job.{FileCommand, OnFile}
 use Rattle.trace_run.specs.Meaning.{input_of}
-use Rattle.trace_run.specs.Report.{Events}
-
--- what follows from a claim for the answers behind a header
-behind_header_map : {one two : Type 0} → (status : Status) → (one → two) → BehindHeader status one → BehindHeader status two
-behind_header_map Done follows claim = follows claim
-behind_header_map (Malformed cpu page) follows claim = follows claim
-behind_header_map WriteFault follows claim = follows claim
-behind_header_map Usage follows claim = tt
-behind_header_map (Refused fault) follows claim = tt
-behind_header_map ReadFault follows claim = tt
-behind_header_map NoMemory follows claim = tt
-
--- what holds for any answer
-pub any_answer : {claim : Type 0} → (status : Status) → claim → BehindHeader status claim
-any_answer Done holds = holds
-any_answer (Malformed cpu page) holds = holds
-any_answer WriteFault holds = holds
-any_answer Usage holds = tt
-any_answer (Refused fault) holds = tt
-any_answer ReadFault holds = tt
-any_answer NoMemory holds = tt
-
--- what follows from two claims for the same answers
-pub both_behind : {one two three : Type 0} → (status : Status) → (one → two → three) → BehindHeader status one → BehindHeader status two → BehindHeader status three
-both_behind Done follows a b = follows a b
-both_behind (Malformed cpu page) follows a b = follows a b
-both_behind WriteFault follows a b = follows a b
-both_behind Usage follows a b = tt
-both_behind (Refused fault) follows a b = tt
-both_behind ReadFault follows a b = tt
-both_behind NoMemory follows a b = tt
+use Rattle.file_report.specs.Report.{Events}
+use Rattle.run_endings.proofs.Reading.{behind_header_map, any_answer}
 
 -- where a run works on nothing
 pub no_input : (status : Status) (before now : Progress) → ReadsInput None status before now

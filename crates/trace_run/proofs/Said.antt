@@ -3,18 +3,18 @@ use Rattle.std.proofs.Common.{◌≡◌, ℕ, List, [], ◌∷◌, ◌++◌, app
 use Rattle.trace_outside.specs.Causes.{HasCause}
 use Rattle.trace_outside.specs.Writing.{Gained, GainedPrefix}
 use Rattle.trace_outside.proofs.Gains.{prefix_whole}
-use Rattle.trace_run.specs.declared.usage.UsageFault.{UsageFault}
-use Rattle.trace_run.specs.Job.{Job, OnFile, OnFiles, SelfTest, Restore}
-use Rattle.trace_run.specs.declared.status.Status.TheVariants.{Usage, NoMemory}
-use Rattle.trace_run.specs.declared.status.Status.{Status}
+use Rattle.run_words.specs.declared.usage.UsageFault.{UsageFault}
+use Rattle.run_words.specs.Job.{Job, OnFile, OnFiles, SelfTest, Restore}
+use Rattle.run_endings.specs.declared.status.Status.TheVariants.{Usage, NoMemory}
+use Rattle.run_endings.specs.declared.status.Status.{Status}
 use Rattle.std.proofs.lemmas.List.{append-nil}
 use Rattle.std.specs.Prelude.{codes}
 use Rattle.multi_report.specs.Pieces.{text_of}
 use Rattle.trace_run.specs.Meaning.{input_of}
-use Rattle.trace_run.proofs.InputNames.{first_of, named_any}
+use Rattle.several_report.proofs.InputNames.{first_of, named_any}
 use Rattle.trace_run.specs.Messages.{IsLineRead, Says, message, usage_line}
 use Rattle.trace_run.specs.Naming.{IsNamed}
-use Rattle.trace_run.specs.Outside.{FolderSeen, SinkSeen}
+use Rattle.run_endings.specs.Outside.{FolderSeen, SinkSeen}
 
 pub says_of : {T E : Type 0} (result : Result T E) (line : List ℕ) (before now : SinkSeen)
     → OnOk result (Gained before.written now.written line) → OnErr result (GainedPrefix before.written now.written line)

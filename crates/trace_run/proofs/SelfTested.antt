@@ -1,18 +1,22 @@
 -- What a self-test prints, and all that is said of a run that is one.
-use Rattle.std.proofs.Common.{◌≡◌, ℕ, List, [], Option, Some, Result, Ok, Err, IfOk, refl, sym, ap, subst, ◌∙◌, arith}
+use Rattle.std.proofs.Common.{◌≡◌, ℕ, List, [], Option, Some, Result, Ok, Err, IfOk, refl, sym, ap, subst, ◌∙◌, arith, map}
 use Rattle.trace_outside.specs.Writing.{Gained}
-use Rattle.trace_args.specs.Command.{SelfData}
+use Rattle.trace_args.specs.Command.{SelfData, ReportData}
 use Rattle.trace_gen.specs.Summary.{summary_line}
-use Rattle.trace_run.specs.declared.status.Status.{Status}
-use Rattle.trace_run.specs.Ending.{Prints}
-use Rattle.trace_run.specs.Input.{progress}
-use Rattle.trace_run.specs.Job.{SelfTest}
-use Rattle.trace_run.specs.Meaning.{on_out, self_test}
-use Rattle.trace_run.specs.Outside.{FolderSeen, SinkSeen, beside}
+use Rattle.run_endings.specs.declared.status.Status.{Status}
+use Rattle.run_endings.specs.Ending.{Prints}
+use Rattle.run_endings.specs.Progress.{progress}
+use Rattle.run_words.specs.Job.{SelfTest}
+use Rattle.run_endings.specs.Meaning.{on_out}
+use Rattle.trace_run.specs.Meaning.{self_test}
+use Rattle.run_endings.specs.Outside.{FolderSeen, SinkSeen, beside}
 use Rattle.trace_run.specs.Ran.{Ran}
-use Rattle.trace_run.specs.Selftest.{generated_report, self_test_line}
-use Rattle.trace_run.proofs.Endings.{ended_complete, not_usage}
+use Rattle.trace_run.specs.Selftest.{generated_report, self_test_line, plain_report}
+use Rattle.run_endings.proofs.Endings.{ended_complete, not_usage}
 use Rattle.trace_run.proofs.Reading.{no_input}
+use Rattle.filter_truth.specs.SelectionView.{use_of}
+use Rattle.filter_truth.specs.declared.select.FilterUse.{FilterUse}
+use Rattle.run_words.specs.Usage.{uses_in}
 
 some_is : (x y : List ℕ) → Some x ≡ Some y → x ≡ y
 some_is x y same = cc
@@ -42,3 +46,8 @@ self_tested words status folder before now prints =
       reads = no_input status (progress (beside folder before)) (progress (beside folder now));
       reads_all = tt;
     }
+
+-- words without filters
+pub no_uses : (report : ReportData) (workers : ℕ) (uses : List FilterUse) → report ≡ record plain_report { workers = workers } → uses ≡ [] → uses_in report.filters ≡ map use_of uses
+unfolding uses_in
+no_uses report workers uses plain none = ap (λ (r : ReportData). uses_in r.filters) plain ∙ sym (ap (map use_of) none)

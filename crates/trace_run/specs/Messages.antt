@@ -5,15 +5,15 @@ use Rattle.dat_options.specs.declared.fault.OpenFault.{OpenFault}
 use Rattle.dat_options.specs.declared.fault.OpenFault.TheVariants.{NotTrace, Compressed, OtherVersion, BadEndian, BadLong, BadPageSize, BadHeaderPage, BadSection, Truncated, TooManyCpus, Read, Memory}
 use Rattle.trace_outside.specs.Causes.{Rose}
 use Rattle.trace_outside.specs.Writing.{Gained, GainedPrefix}
-use Rattle.trace_run.specs.declared.status.Status.{Status}
-use Rattle.trace_run.specs.declared.status.Status.TheVariants.{Done, Usage, Refused, Malformed, ReadFault, WriteFault, NoMemory}
+use Rattle.run_endings.specs.declared.status.Status.{Status}
+use Rattle.run_endings.specs.declared.status.Status.TheVariants.{Done, Usage, Refused, Malformed, ReadFault, WriteFault, NoMemory}
 use Rattle.multi_report.specs.Pieces.{text_of}
-use Rattle.trace_run.specs.declared.usage.UsageFault.{UsageFault}
-use Rattle.trace_run.specs.declared.usage.UsageFault.TheVariants.{Word, Filter}
+use Rattle.run_words.specs.declared.usage.UsageFault.{UsageFault}
+use Rattle.run_words.specs.declared.usage.UsageFault.TheVariants.{Word, Filter}
 use Rattle.trace_args.specs.KindText.{kind_text}
-use Rattle.trace_run.specs.Job.{Job}
+use Rattle.run_words.specs.Job.{Job}
 use Rattle.trace_run.specs.Naming.{IsNamed}
-use Rattle.trace_run.specs.Outside.{FolderSeen, SinkSeen}
+use Rattle.run_endings.specs.Outside.{FolderSeen, SinkSeen}
 
 abbrev pub fault_text : OpenFault → List ℕ
 fault_text (NotTrace place) = codes "not a trace file"

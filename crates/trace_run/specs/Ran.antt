@@ -1,15 +1,16 @@
 -- All that is said of a run over a folder and an output, by what its words ask for.
-use Rattle.std.specs.Prelude.{Result, Ok, Err, ℕ, length, ◌≡◌, ◌≢◌, ◌⊎◌, ◌+◌, ◌-◌, ◌^◌, ◌<◌, ◌≤◌, IfSome}
-use Rattle.trace_outside.specs.declared.counts.Counts.{Counts}
+use Rattle.std.specs.Prelude.{Result, Ok, Err, ℕ, length, ◌≡◌, ◌≢◌, ◌⊎◌, ◌+◌, ◌≤◌, IfSome}
 use Rattle.trace_outside.specs.Causes.{Rose, raised}
-use Rattle.trace_run.specs.declared.status.Status.{Status}
-use Rattle.trace_run.specs.declared.status.Status.TheVariants.{Usage, ReadFault, NoMemory}
-use Rattle.trace_run.specs.declared.usage.UsageFault.{UsageFault}
-use Rattle.trace_run.specs.Ending.{Ended, IsComplete}
-use Rattle.trace_run.specs.Input.{ReadsInput, ReadsInputs, input_of_run, progress}
-use Rattle.trace_run.specs.Job.{Job, OnFile, OnFiles, SelfTest, Restore}
-use Rattle.trace_run.specs.Meaning.{Meaning, meaning_read, target_read}
-use Rattle.trace_run.specs.Outside.{Outside}
+use Rattle.run_endings.specs.declared.status.Status.{Status}
+use Rattle.run_endings.specs.declared.status.Status.TheVariants.{Usage, ReadFault, NoMemory}
+use Rattle.run_words.specs.declared.usage.UsageFault.{UsageFault}
+use Rattle.run_endings.specs.Ending.{Ended, IsComplete}
+use Rattle.trace_run.specs.Input.{ReadsInput, ReadsInputs, input_of_run}
+use Rattle.run_endings.specs.Progress.{progress}
+use Rattle.run_words.specs.Job.{Job, OnFile, OnFiles, SelfTest, Restore}
+use Rattle.trace_run.specs.Meaning.{meaning_read, target_read}
+use Rattle.run_endings.specs.Outside.{Outside}
+use Rattle.run_endings.specs.Ran.{MissesNothingElse, ClosesAll}
 
 -- That a read failed shows in the folder's count. A self-test reads no file.
 abbrev pub Unread : Result Job UsageFault → Outside → Outside → Type 0
@@ -28,14 +29,6 @@ KeepsOff (Ok (OnFiles words)) status before now = (status ≢ Usage) × (now.fol
 KeepsOff (Ok (SelfTest words)) status before now = (status ≢ Usage) × (now.folder ≡ before.folder)
 KeepsOff (Ok (Restore words)) status before now = (status ≢ Usage) × (now.out ≡ before.out) × (status ≡ ReadFault → now.folder.files ≡ before.folder.files)
 KeepsOff (Err fault) status before now = ((status ≡ Usage) ⊎ (status ≡ NoMemory)) × (now ≡ before)
-
--- a name that is missing is asked for only where the meaning is a fault of reading
-abbrev pub MissesNothingElse : Meaning → Counts → Counts → Type 0
-MissesNothingElse m before now = m.status ≢ ReadFault → now.misses ≡ before.misses
-
--- files were opened as often as closed, as far as the counts go
-abbrev pub ClosesAll : Counts → Counts → Type 0
-ClosesAll before now = now.opened < 2 ^ 64 - 1 → now.closed < 2 ^ 64 - 1 → now.opened + before.closed ≡ now.closed + before.opened
 
 -- how many files a run opens at most: the input, or all of them
 abbrev pub most_opened : Result Job UsageFault → ℕ

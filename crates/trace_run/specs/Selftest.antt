@@ -8,8 +8,8 @@ use Rattle.trace_args.specs.Command.{ReportData, SelfData}
 use Rattle.trace_gen.specs.Generated.{lists_of}
 use Rattle.trace_gen.specs.GeneratedHeader.{header_but_parts}
 use Rattle.trace_gen.specs.Summary.{summary_line}
-use Rattle.trace_run.specs.Context.{context_of}
-use Rattle.trace_run.specs.Report.{report_pieces}
+use Rattle.report_context.specs.Context.{context_of}
+use Rattle.file_report.specs.Report.{report_pieces}
 use Rattle.multi_report.specs.Pieces.{text_of}
 
 -- the words of a report without options

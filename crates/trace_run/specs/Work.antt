@@ -1,11 +1,12 @@
 -- What the part of a run did that has an open file.
 use Rattle.std.specs.Prelude.{Option}
 use Rattle.new_files.specs.Stored.{KeepsCounts}
-use Rattle.trace_run.specs.declared.status.Status.{Status}
-use Rattle.trace_run.specs.Ending.{Ended}
-use Rattle.trace_run.specs.Job.{FileCommand}
-use Rattle.trace_run.specs.Meaning.{Meaning, target_of}
-use Rattle.trace_run.specs.Outside.{Outside}
+use Rattle.run_endings.specs.declared.status.Status.{Status}
+use Rattle.run_endings.specs.Ending.{Ended}
+use Rattle.run_words.specs.Job.{FileCommand}
+use Rattle.run_endings.specs.Meaning.{Meaning}
+use Rattle.trace_run.specs.Meaning.{target_of}
+use Rattle.run_endings.specs.Outside.{Outside}
 
 -- it ended like a run, and of the folder's counts none but those of faults and of files created moved
 pub record Worked (command : FileCommand) (unread : Type 0) (means : Option Meaning) (status : Status) (before now : Outside) : Type 0 where

@@ -7,38 +7,32 @@ ghost use Rattle.trace_base.specs.Layout.{IsLayout};
 ghost use Rattle.trace_outside.specs.Causes.{Rose, raised};
 ghost use Rattle.dat_header.specs.Allowed.{IsHeader};
 ghost use Rattle.dat_header.specs.Header.{ReadsHeader};
-ghost use Rattle.trace_run.specs.Allowed.{IsAllowed, IsAllowedJob};
-ghost use Rattle.trace_run.specs.Input.{ReadsDue, ReadsInput, events_of, input_told, progress_at, share};
-ghost use Rattle.trace_run.specs.Job.{OnFile, command_view, job_view};
+ghost use Rattle.run_words.specs.Allowed.{IsAllowed, IsAllowedJob};
+ghost use Rattle.file_report.specs.Due.{ReadsDue};
+ghost use Rattle.trace_run.specs.Input.{ReadsInput, events_of, input_told, share};
+ghost use Rattle.run_endings.specs.Progress.{progress_at};
+ghost use Rattle.run_words.specs.Job.{OnFile, command_view, job_view};
 ghost use Rattle.trace_run.specs.Meaning as spec;
 ghost use Rattle.trace_run.specs.Meaning.{header_means, input_means};
 ghost use Rattle.trace_run.specs.Naming.{IsNamed};
-ghost use Rattle.trace_run.specs.Outside.{folder_seen, outside_seen};
+ghost use Rattle.run_endings.specs.Outside.{folder_seen, outside_seen};
 ghost use Rattle.trace_run.specs.Ran.{Ran};
-ghost use Rattle.trace_run.specs.Usage.{command_filters, job_filters, uses_in};
+ghost use Rattle.run_words.specs.Usage.{command_filters, job_filters, uses_in};
 ghost use Rattle.trace_run.specs.Work.{Worked};
 ghost use Rattle.filter_truth.specs.SelectionView.{use_of};
 
 use crate::dump::print_dump;
-use crate::job::{FileCommand, Job};
-use crate::report::{ReportPlan, print_report};
-use crate::resources::Resources;
-use crate::restore::restore_files;
 use crate::selftest::print_self_test;
-use crate::several::print_files;
-use crate::split::cut_file;
-use crate::status::Status;
 use dat_header::{Header, OpenFault, read_header};
+use file_report::{ReportPlan, print_report};
 use filter_truth::FilterUse;
+use restore_run::restore_files;
+use run_endings::{Outcome, Resources, Status};
+use run_words::{FileCommand, Job};
+use several_report::print_files;
+use split_run::cut_file;
 use std::thread::Threads;
 use trace_outside::{Failed, Folder, Gate, Sink};
-
-/// How a job ended, and the file that its message names.
-#[derive(Clone, Copy)]
-pub(crate) struct Outcome<'a> {
-    pub(crate) status: Status,
-    pub(crate) file: &'a str,
-}
 
 // The name of a command's input.
 fn input_of<'a>(command: &FileCommand<'a>) -> &'a str

@@ -1,11 +1,11 @@
 ghost use Rattle.std.specs.Prelude.{Some};
 ghost use Rattle.trace_args.specs.Command.{dump_view};
-ghost use Rattle.trace_run.specs.Ending.{Prints};
+ghost use Rattle.run_endings.specs.Ending.{Prints};
 ghost use Rattle.trace_run.specs.Meaning.{dump_of};
-ghost use Rattle.trace_run.specs.Outside.{sink_seen};
+ghost use Rattle.run_endings.specs.Outside.{sink_seen};
 
-use crate::status::Status;
 use dat_header::Header;
+use run_endings::Status;
 use std::alloc::Global;
 use trace_args::DumpWords;
 use trace_outside::{Failed, Pending, Sink};

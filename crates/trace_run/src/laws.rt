@@ -12,11 +12,12 @@ ghost use Rattle.subpage.specs.Arrangement.{CpusRise, Keyed};
 ghost use Rattle.report_print.specs.ContextData.{ContextData};
 ghost use Rattle.trace_args.specs.Command.{SplitData};
 ghost use Rattle.split_tool.specs.NewFiles.{ReadBack};
-ghost use Rattle.trace_run.specs.Job.{Split};
+ghost use Rattle.run_words.specs.Job.{Split};
 ghost use Rattle.trace_run.specs.Meaning.{input_means};
-ghost use Rattle.trace_run.specs.Report.{cpus_line, entry_line, report_pieces};
-ghost use Rattle.trace_run.specs.Selection.{Selection, chosen};
-ghost use Rattle.trace_run.specs.Split.{split_items, taken_of};
+ghost use Rattle.report_context.specs.Lines.{cpus_line};
+ghost use Rattle.file_report.specs.Report.{entry_line, report_pieces};
+ghost use Rattle.run_endings.specs.Selection.{Selection, chosen};
+ghost use Rattle.split_run.specs.Split.{split_items, taken_of};
 
 /// The processors that a command takes come by rising numbers, which is what the laws of `subpage` on arrangements and on
 /// reached items ask for: the items of a report, and those of a split, have exactly one arrangement.

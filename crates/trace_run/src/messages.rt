@@ -3,13 +3,13 @@ ghost use Rattle.std.specs.List.{flat_map};
 ghost use Rattle.multi_report.specs.Pieces.{text_of};
 ghost use Rattle.trace_run.specs.Messages as spec;
 ghost use Rattle.trace_run.specs.Messages.{message, usage_line, fault_text, fault_place, Says};
-ghost use Rattle.trace_run.specs.Outside.{sink_seen};
+ghost use Rattle.run_endings.specs.Outside.{sink_seen};
 
-use crate::status::Status;
-use crate::usage::UsageFault;
 use arrayvec::ArrayString;
 use dat_header::OpenFault;
 use itoa::Buffer;
+use run_endings::Status;
+use run_words::UsageFault;
 use trace_args::WordFault;
 use trace_outside::{Sink, write_parts};
 

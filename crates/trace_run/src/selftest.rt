@@ -3,16 +3,15 @@
 ghost use Rattle.std.specs.Prelude.{◌≡◌, [], Some, IfOk, OnOk};
 ghost use Rattle.trace_outside.specs.Writing.{Gained};
 ghost use Rattle.trace_args.specs.Command.{report_view, self_view};
-ghost use Rattle.trace_run.specs.Allowed.{IsWorkers};
-ghost use Rattle.trace_run.specs.Ending.{Prints};
+ghost use Rattle.run_words.specs.Allowed.{IsWorkers};
+ghost use Rattle.run_endings.specs.Ending.{Prints};
 ghost use Rattle.trace_run.specs.Meaning.{self_test};
-ghost use Rattle.trace_run.specs.Outside.{sink_seen};
+ghost use Rattle.run_endings.specs.Outside.{sink_seen};
 ghost use Rattle.trace_run.specs.Selftest.{generated_report, plain_report, self_test_line};
 
-use crate::report::{ReportPlan, print_report};
-use crate::resources::Resources;
-use crate::status::Status;
 use dat_header::read_header;
+use file_report::{ReportPlan, print_report};
+use run_endings::{Resources, Status};
 use std::alloc::{AllocError, Global};
 use std::thread::Threads;
 use trace_args::{ReportWords, SelfWords};

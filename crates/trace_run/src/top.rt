@@ -1,13 +1,12 @@
-ghost use Rattle.trace_run.specs.Usage.{asked};
+ghost use Rattle.run_words.specs.Usage.{asked};
 ghost use Rattle.trace_run.specs.Messages.{SaysOf};
-ghost use Rattle.trace_run.specs.Outside.{folder_seen, outside_seen, sink_seen};
+ghost use Rattle.run_endings.specs.Outside.{folder_seen, outside_seen, sink_seen};
 ghost use Rattle.trace_run.specs.Ran.{Ran};
 
 use crate::command::run_job;
 use crate::messages::{say, say_usage};
-use crate::resources::Resources;
-use crate::status::Status;
-use crate::usage::{AskFault, ask};
+use run_endings::{Resources, Status};
+use run_words::{AskFault, ask};
 use std::alloc::Global;
 use std::thread::Threads;
 use trace_base::Words;

@@ -1,12 +1,14 @@
 use Rattle.std.proofs.Common.{◌∙◌, ap, subst, refl, arith, ℕ, Ok}
 use Rattle.trace_outside.specs.Causes.{Rose, raised}
-use Rattle.trace_run.specs.declared.status.Status.TheVariants.{ReadFault}
-use Rattle.trace_run.specs.Input.{ReadsInput, input_told, progress_at}
-use Rattle.trace_run.specs.Job.{OnFile, command_view}
+use Rattle.run_endings.specs.declared.status.Status.TheVariants.{ReadFault}
+use Rattle.trace_run.specs.Input.{ReadsInput, input_told}
+use Rattle.run_endings.specs.Progress.{progress_at}
+use Rattle.run_words.specs.Job.{OnFile, command_view}
 use Rattle.trace_run.specs.Meaning.{meaning_read, target_of}
-use Rattle.trace_run.specs.Outside.{beside, folder_seen, sink_seen}
+use Rattle.run_endings.specs.Outside.{beside, folder_seen, sink_seen}
 use Rattle.trace_run.specs.Ran.{Unread}
-use Rattle.trace_run.proofs.Endings.{Around, command_asked, command_ended, command_misses, ended_complete, not_usage, unopened_ended}
+use Rattle.run_endings.proofs.Endings.{Around, ended_complete, not_usage}
+use Rattle.trace_run.proofs.Endings.{command_asked, command_ended, command_misses, unopened_ended}
 use Rattle.trace_run.proofs.Reading.{command_reads}
 use Rattle.trace_run.proofs.command.run_command.Goals as goal
 
@@ -53,8 +55,8 @@ returns-in-Ok g c =
       created_then = closes.created;
       unfinished_first = opens.unfinished;
       unfinished_then = closes.unfinished;
-      writing_first = opens.writing;
-      writing_then = closes.writing;
+      writing_first = omega (arith, opens.writing);
+      writing_then = omega (arith, closes.writing);
     } in
     let given = rw c.input_of.ensures at c.in-Ok.ensures.given in
     let unread = Unread (Ok (OnFile command)) before now in

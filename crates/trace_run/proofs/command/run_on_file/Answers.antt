@@ -1,6 +1,6 @@
 use Rattle.std.proofs.Common.{◌≡◌, length, rules, arith, List, ℕ, IfSome, Option, Ok, subst, sym}
 use Rattle.dat_header.specs.Header.{ReadsHeader}
-use Rattle.trace_run.specs.Job.{command_view}
+use Rattle.run_words.specs.Job.{command_view}
 use Rattle.trace_run.proofs.Endings.{behind_header, header_unread}
 use Rattle.trace_run.proofs.Reading.{read_behind_header}
 use Rattle.trace_run.proofs.command.run_on_file.Goals as goal

@@ -1,6 +1,7 @@
 use Rattle.std.proofs.Common.{refl}
-use Rattle.trace_run.specs.Job.{Dump, Report}
-use Rattle.trace_run.proofs.Endings.{printed_worked, prints_always}
+use Rattle.run_words.specs.Job.{Dump, Report}
+use Rattle.trace_run.proofs.Endings.{printed_worked}
+use Rattle.run_endings.proofs.Endings.{prints_always}
 use Rattle.trace_run.proofs.command.run_on_header.Goals as goal
 
 pub returns-in-Report-clause-worked : goal.returns-in-Report-clause-worked

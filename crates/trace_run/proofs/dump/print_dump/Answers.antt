@@ -1,7 +1,7 @@
 use Rattle.std.proofs.Common.{refl}
 use Rattle.dump_tool.specs.Dump.{dump_text}
 use Rattle.trace_args.specs.Command.{dump_view}
-use Rattle.trace_run.proofs.Printed.{piece_unprinted}
+use Rattle.run_endings.proofs.Printed.{piece_unprinted}
 use Rattle.trace_run.proofs.dump.print_dump.Goals as goal
 
 pub returns : goal.returns

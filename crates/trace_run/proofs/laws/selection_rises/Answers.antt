@@ -1,6 +1,6 @@
-use Rattle.trace_run.specs.Selection.{has}
-use Rattle.trace_run.proofs.Chosen.{chosen_rise}
-use Rattle.trace_run.proofs.Taken.{taken_rise}
+use Rattle.run_endings.specs.Selection.{has}
+use Rattle.run_endings.proofs.Chosen.{chosen_rise}
+use Rattle.split_run.proofs.Taken.{taken_rise}
 use Rattle.trace_run.proofs.laws.selection_rises.Goals as goal
 
 pub returns-clause-chosen : goal.returns-clause-chosen

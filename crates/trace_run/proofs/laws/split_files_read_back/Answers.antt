@@ -5,10 +5,10 @@ use Rattle.dat_header.specs.Written.{without_instances}
 use Rattle.dat_header.proofs.HeaderLaws.{computes_header}
 use Rattle.split_tool.specs.NewFiles.{ReadBack}
 use Rattle.split_tool.proofs.FewBytes.{files_back}
-use Rattle.trace_run.specs.Job.{Split}
+use Rattle.run_words.specs.Job.{Split}
 use Rattle.trace_run.specs.Meaning.{file_means}
-use Rattle.trace_run.specs.Split.{split_items, taken_of}
-use Rattle.trace_run.proofs.Taken.{taken_within}
+use Rattle.split_run.specs.Split.{split_items, taken_of}
+use Rattle.split_run.proofs.Taken.{taken_within}
 use Rattle.trace_run.proofs.laws.split_files_read_back.Goals as goal
 
 pub returns : goal.returns

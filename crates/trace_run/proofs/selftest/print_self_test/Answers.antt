@@ -1,7 +1,7 @@
 use Rattle.std.proofs.Common.{◌∙◌}
 use Rattle.trace_args.specs.Command.{self_view}
 use Rattle.trace_run.specs.Selftest.{self_test_line}
-use Rattle.trace_run.proofs.Printed.{piece_printed, piece_unprinted}
+use Rattle.run_endings.proofs.Printed.{piece_printed, piece_unprinted}
 use Rattle.trace_run.proofs.selftest.print_self_test.Goals as goal
 
 pub returns-in-Ok-write_all : goal.returns-in-Ok-write_all

@@ -1,8 +1,8 @@
 use Rattle.std.proofs.Common.{subst, sym}
 use Rattle.trace_args.specs.Command.{ReportData}
-use Rattle.trace_run.specs.Allowed.{IsWorkers}
+use Rattle.run_words.specs.Allowed.{IsWorkers}
 use Rattle.trace_run.proofs.GeneratedReport.{generated_printed}
-use Rattle.trace_run.proofs.Usages.{no_uses}
+use Rattle.trace_run.proofs.SelfTested.{no_uses}
 use Rattle.trace_run.proofs.selftest.report_generated.Goals as goal
 
 pub returns-in-Done : goal.returns-in-Done

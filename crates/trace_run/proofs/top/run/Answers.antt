@@ -1,13 +1,13 @@
 use Rattle.std.proofs.Common.{[], subst, sym, Result}
-use Rattle.trace_run.specs.declared.usage.AskFault.{AskFault}
-use Rattle.trace_run.specs.declared.usage.UsageFault.{UsageFault}
-use Rattle.trace_run.specs.declared.status.Status.TheVariants.{NoMemory, Usage}
-use Rattle.trace_run.specs.Job.{Job}
+use Rattle.run_words.specs.declared.usage.AskFault.{AskFault}
+use Rattle.run_words.specs.declared.usage.UsageFault.{UsageFault}
+use Rattle.run_endings.specs.declared.status.Status.TheVariants.{NoMemory, Usage}
+use Rattle.run_words.specs.Job.{Job}
 use Rattle.trace_run.specs.Messages.{Says, message, usage_line}
-use Rattle.trace_run.specs.Outside.{outside_seen, sink_seen}
+use Rattle.run_endings.specs.Outside.{outside_seen, sink_seen}
 use Rattle.trace_run.specs.Ran.{Ran}
-use Rattle.trace_run.specs.Usage.{asked}
-use Rattle.trace_run.specs.UsageView.{IsFaultOf}
+use Rattle.run_words.specs.Usage.{asked}
+use Rattle.run_words.specs.UsageView.{IsFaultOf}
 use Rattle.trace_run.proofs.Endings.{ran_unasked, ran_unread}
 use Rattle.trace_run.proofs.Said.{usage_said, job_said, wanting}
 use Rattle.trace_run.proofs.top.run.Goals as goal

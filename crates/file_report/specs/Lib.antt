@@ -1,0 +1,5 @@
+pub mod Lists
+pub mod Report
+pub mod Meaning
+pub mod Due
+pub mod Reported

@@ -1,0 +1,119 @@
+// The function graph, printed in place of the events.
+
+ghost use Rattle.std.specs.Option.{option_map};
+ghost use Rattle.std.specs.Prelude.{◌≡◌, ◌≤◌, [], Err, length, IfOk, IfSome};
+ghost use Rattle.trace_base.specs.Layout.{IsLayout};
+ghost use Rattle.trace_outside.specs.Causes.{Rose, raised};
+ghost use Rattle.trace_outside.specs.Pending.{PutsText, on_way};
+ghost use Rattle.subpage.specs.Arrangement.{CpusRise};
+ghost use Rattle.subpage.specs.Cut.{cut_of};
+ghost use Rattle.multi_report.specs.Pieces.{text_of};
+ghost use Rattle.graph_report.specs.Gathered.{cut_place, reached_calls};
+ghost use Rattle.run_endings.specs.Ending.{Prints};
+ghost use Rattle.run_endings.specs.Progress.{parts_size};
+ghost use Rattle.file_report.specs.Meaning.{calls_report};
+ghost use Rattle.run_endings.specs.Outside.{sink_seen};
+ghost use Rattle.run_endings.specs.Output.{WritesText};
+ghost use Rattle.file_report.specs.Report.{call_pieces};
+ghost use Rattle.file_report.specs.Reported.{IsShown, events_shown};
+
+use crate::report::{ReportPlan, Shown};
+use call_pairs::Call;
+use graph_report::{Calls, gather_calls, put_calls};
+use item_pass::PassFault;
+use page_pool::Pool;
+use report_context::{line_buffer, put_cpus};
+use report_print::Context;
+use run_endings::{Status, status_of_cut, status_of_pass};
+use std::alloc::Global;
+use time_merge::set_lanes;
+use trace_base::{Layout, Part};
+use trace_outside::{Failed, File, Pending, Sink};
+
+/// Prints the first line of a report, and behind it the calls of the reached items of the parts that are shown. All memory is
+/// taken and all calls are gathered before the first byte.
+pub(crate) fn print_calls<I: File, O: Sink>(
+    alloc: Global,
+    plan: &ReportPlan<'_, '_>,
+    shown: &Shown<'_>,
+    file: &mut I,
+    out: &mut O,
+) -> Status
+    requires { IsShown plan.now shown.now }
+    ensures prints { Prints (Rose (I.faults file.old) (I.faults file.new))
+        (option_map (λ bytes. calls_report (events_shown plan.now shown.now bytes)) (I.bytes file.old)) result
+        (sink_seen O.Sink out.old) (sink_seen O.Sink out.new) }
+    ensures reads { I.reads file.new ≤ raised (I.reads file.old) (parts_size shown.now.parts.now) }
+{
+    let header = plan.header;
+    let context = &shown.form.context;
+    let (Ok(mut buffer), Ok(mut pending)) = (line_buffer(alloc), Pending::new(alloc)) else {
+        return Status::NoMemory;
+    };
+    let calls = match gathered(alloc, context, &header.layout, shown.parts, file) {
+        Ok(calls) => calls,
+        Err(fault) => return status_of_pass(fault),
+    };
+    let list = calls.list.as_slice();
+    match put_whole(context, header.cpus, list, &mut buffer, &mut pending, out) {
+        Ok(()) => status_of_cut(calls.cut),
+        Err(Failed) => Status::WriteFault,
+    }
+}
+
+// The calls of the reached items of these parts. The memory of the lanes is given back.
+fn gathered<I: File>(
+    alloc: Global,
+    context: &Context,
+    layout: &Layout,
+    chosen: &[(u32, Part)],
+    file: &mut I,
+) -> Result<Calls, PassFault>
+    requires allowed { IsLayout layout.now }
+    requires few { length chosen.now ≤ 1024 }
+    requires rise { CpusRise chosen.now }
+    ensures list { IfSome (I.bytes file.old) (λ bytes. IfOk result (λ calls. calls.list.items ≡ reached_calls context.now layout.now bytes chosen.now)) }
+    ensures cut { IfSome (I.bytes file.old) (λ bytes. IfOk result (λ calls. calls.cut ≡ cut_place (cut_of layout.now bytes chosen.now))) }
+    ensures read { result ≡ Err PassFault.Read → Rose (I.faults file.old) (I.faults file.new) }
+    ensures reads { I.reads file.new ≤ raised (I.reads file.old) (parts_size chosen.now) }
+{
+    // No lines are kept.
+    let Ok(mut pool) = Pool::new(alloc, chosen.len() as u32, layout.page, 0) else {
+        return Err(PassFault::Memory);
+    };
+    let lanes = pool.lanes();
+    set_lanes(lanes, chosen);
+    gather_calls(alloc, context, layout, file, lanes)
+}
+
+// Puts the first line and those of the calls, and writes all of it.
+fn put_whole<O: Sink>(
+    context: &Context,
+    cpus: u32,
+    calls: &[Call],
+    buffer: &mut [u8],
+    pending: &mut Pending,
+    out: &mut O,
+) -> Result<(), Failed>
+    requires empty { pending.old ≡ [] }
+    requires room { 65537 ≤ length buffer.old }
+    ensures { WritesText (text_of (call_pieces cpus context.now calls.now)) (sink_seen O.Sink out.old) (sink_seen O.Sink out.new) result }
+{
+    put_all(context, cpus, calls, buffer, pending, out)?;
+    pending.flush(out)
+}
+
+fn put_all<O: Sink>(
+    context: &Context,
+    cpus: u32,
+    calls: &[Call],
+    buffer: &mut [u8],
+    pending: &mut Pending,
+    out: &mut O,
+) -> Result<(), Failed>
+    requires { 65537 ≤ length buffer.old }
+    ensures { PutsText (text_of (call_pieces cpus context.now calls.now)) (on_way O.written O.name O.faults out.old pending.old) (on_way O.written O.name O.faults out.new pending.new) result }
+{
+    put_cpus(pending, out, cpus)?;
+    put_calls(context, calls, buffer, pending, out)
+}

@@ -1,0 +1,148 @@
+// A report of events: the lines of the items, and behind them how long woken tasks waited.
+
+ghost use Rattle.std.specs.Option.{option_map};
+ghost use Rattle.std.specs.Prelude.{◌≡◌, ◌≤◌, ◌*◌, [], length, true, IfNone, IfSome, OnOk};
+ghost use Rattle.trace_outside.specs.Causes.{Rose, raised};
+ghost use Rattle.wakeup_lat.specs.Section.{section};
+ghost use Rattle.run_endings.specs.Ending.{Prints};
+ghost use Rattle.run_endings.specs.Ends.{status_of_end};
+ghost use Rattle.file_report.specs.Due.{ReadsDue};
+ghost use Rattle.run_endings.specs.Progress.{parts_size, progress_at};
+ghost use Rattle.file_report.specs.Meaning.{events_report, shown_report};
+ghost use Rattle.run_endings.specs.Outside.{sink_seen};
+ghost use Rattle.run_endings.specs.Output.{Shows, WritesFor, WritesText};
+ghost use Rattle.report_context.specs.Lines.{cpus_line};
+ghost use Rattle.file_report.specs.Reported.{IsShown, events_shown};
+
+use crate::report::{ReportPlan, Shown};
+use cpu_workers::Workers;
+use least_tree::LeastTree;
+use page_pool::Pool;
+use report_context::{LINES_ROOM, line_buffer, put_cpus};
+use report_print::Context;
+use report_rounds::{RoundWork, report_rounds};
+use run_endings::{Resources, Status, is_whole, status_of_end, status_of_pass};
+use std::thread::Threads;
+use time_merge::{End, set_lanes};
+use trace_outside::{Failed, File, Gate, Pending, Sink};
+use wakeup_lat::{gather, put_wakeups};
+use wakeup_pairs::Wakeups;
+
+/// Prints the first line, and behind it the lines of the processors' items in the order in which they happened. All memory
+/// is taken before; `None`: there was none, and nothing was done.
+pub(crate) fn print_lines<R: Threads + Sync, I: File, O: Sink, G: Gate>(
+    resources: &Resources<'_, R, G>,
+    plan: &ReportPlan<'_, '_>,
+    shown: &Shown<'_>,
+    file: &mut I,
+    out: &mut O,
+) -> Option<End>
+    requires { IsShown plan.now shown.now }
+    ensures writes { IfSome result (λ end. WritesFor (λ bytes. events_report (events_shown plan.now shown.now bytes))
+        (I.bytes file.old) (status_of_end end) (O.written out.old) (O.written out.new)) }
+    ensures shows { IfSome result (λ end. Shows (Rose (I.faults file.old) (I.faults file.new)) (status_of_end end)
+        (sink_seen O.Sink out.old) (sink_seen O.Sink out.new)) }
+    ensures untouched { IfNone result (sink_seen O.Sink out.new ≡ sink_seen O.Sink out.old) }
+    ensures out_later { O.faults out.old ≤ O.faults out.new }
+    ensures reads { I.reads file.new ≤ raised (I.reads file.old) (parts_size shown.now.parts.now) }
+    ensures due { IfSome (I.bytes file.old) (λ bytes. ReadsDue (events_shown plan.now shown.now bytes) 0
+        (progress_at (O.written out.old) (I.reads file.old)) (progress_at (O.written out.new) (I.reads file.new))) }
+{
+    let alloc = resources.alloc;
+    let header = plan.header;
+    let count = shown.parts.len() as u32;
+    let (Ok(mut pool), Ok(heads), Ok(highs), Ok(moved), Ok(mut pending)) = (
+        Pool::new(alloc, count, header.layout.page, LINES_ROOM),
+        LeastTree::new(alloc, count),
+        LeastTree::new(alloc, count),
+        vec![in alloc; true; shown.parts.len()],
+        Pending::new(alloc),
+    ) else {
+        return None;
+    };
+    let lanes = pool.lanes();
+    set_lanes(lanes, shown.parts);
+    match print_cpus(header.cpus, &mut pending, out) {
+        Ok(()) => {}
+        Err(Failed) => return Some(End::Write),
+    }
+    let layout = &header.layout;
+    let workers = Workers {
+        rt: resources.rt,
+        count: plan.words.workers,
+        gate: resources.gate,
+    };
+    let mut work = RoundWork {
+        heads,
+        highs,
+        moved,
+        pending,
+    };
+    Some(report_rounds(&workers, shown.form, layout, file, lanes, &mut work, out))
+}
+
+/// Prints the same, and behind it how long woken tasks waited. This is gathered before, in a pass of its own over the file,
+/// and all memory is taken before the first line.
+pub(crate) fn print_waits<R: Threads + Sync, I: File, O: Sink, G: Gate>(
+    resources: &Resources<'_, R, G>,
+    plan: &ReportPlan<'_, '_>,
+    shown: &Shown<'_>,
+    file: &mut I,
+    out: &mut O,
+) -> Status
+    requires { IsShown plan.now shown.now }
+    ensures prints { Prints (Rose (I.faults file.old) (I.faults file.new))
+        (option_map (λ bytes. shown_report true (events_shown plan.now shown.now bytes)) (I.bytes file.old)) result
+        (sink_seen O.Sink out.old) (sink_seen O.Sink out.new) }
+    ensures reads { I.reads file.new ≤ raised (I.reads file.old) (2 * parts_size shown.now.parts.now) }
+{
+    let alloc = resources.alloc;
+    let context = &shown.form.context;
+    let wakeups = match gather(alloc, context, &plan.header.layout, file, shown.parts) {
+        Ok(wakeups) => wakeups,
+        Err(fault) => return status_of_pass(fault),
+    };
+    let (Ok(mut buffer), Ok(mut pending)) = (line_buffer(alloc), Pending::new(alloc)) else {
+        return Status::NoMemory;
+    };
+    let Some(end) = print_lines(resources, plan, shown, file, out) else {
+        return Status::NoMemory;
+    };
+    if !is_whole(end) {
+        return status_of_end(end);
+    }
+    match print_section(context, &wakeups, &mut buffer, &mut pending, out) {
+        Ok(()) => status_of_end(end),
+        Err(Failed) => Status::WriteFault,
+    }
+}
+
+// Prints the section of the latencies. Nothing waits behind it.
+fn print_section<O: Sink>(
+    context: &Context,
+    wakeups: &Wakeups,
+    buffer: &mut [u8],
+    pending: &mut Pending,
+    out: &mut O,
+) -> Result<(), Failed>
+    requires long { 65537 ≤ length buffer.old }
+    requires empty { pending.old ≡ [] }
+    ensures { WritesText (section context.now wakeups.now.pairs) (sink_seen O.Sink out.old) (sink_seen O.Sink out.new) result }
+{
+    put_wakeups(context, wakeups, buffer, pending, out)?;
+    pending.flush(out)
+}
+
+/// Prints the first line alone. Nothing waits behind it.
+pub(crate) fn print_cpus<O: Sink>(
+    cpus: u32,
+    pending: &mut Pending,
+    out: &mut O,
+) -> Result<(), Failed>
+    requires { pending.old ≡ [] }
+    ensures writes { WritesText (cpus_line cpus) (sink_seen O.Sink out.old) (sink_seen O.Sink out.new) result }
+    ensures empty { OnOk result (pending.new ≡ []) }
+{
+    put_cpus(pending, out, cpus)?;
+    pending.flush(out)
+}

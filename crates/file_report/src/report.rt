@@ -1,0 +1,148 @@
+ghost use Rattle.std.specs.Option.{option_map};
+ghost use Rattle.std.specs.Prelude.{◌≡◌, ◌≤◌, ◌-◌, length, IfOk};
+ghost use Rattle.trace_outside.specs.Causes.{Rose, raised};
+ghost use Rattle.dat_header.specs.Allowed.{IsBody};
+ghost use Rattle.trace_args.specs.Command.{report_view};
+ghost use Rattle.run_endings.specs.Ending.{Prints};
+ghost use Rattle.file_report.specs.Meaning.{latency_report};
+ghost use Rattle.run_endings.specs.Outside.{sink_seen};
+ghost use Rattle.file_report.specs.Reported.{IsAsked, IsShown, Reported, at_work, chosen_task, file_task, shown_task};
+
+use crate::calls::print_calls;
+use crate::events::{print_cpus, print_lines, print_waits};
+use crate::list::print_list;
+use dat_header::{Body, Header};
+use filter_truth::FilterUse;
+use new_files::{CopyFault, copy_rest};
+use report_context::{ItemLines, context_of};
+use run_endings::{Resources, Selection, Status, status_or_memory};
+use std::alloc::{AllocError, Global};
+use std::thread::Threads;
+use trace_args::ReportWords;
+use trace_base::Part;
+use trace_outside::{Failed, File, Gate, Pending, Sink};
+
+/// A report of one file: what it is asked for, and what the file's header says.
+#[derive(Clone, Copy)]
+pub struct ReportPlan<'a, 'w> {
+    pub words: &'a ReportWords<'w>,
+    pub header: &'a Header,
+}
+
+/// What is shown of a file: the form of its lines, and the parts of the chosen processors with their numbers.
+#[derive(Clone, Copy)]
+pub(crate) struct Shown<'a> {
+    pub(crate) form: &'a ItemLines,
+    pub(crate) parts: &'a [(u32, Part)],
+}
+
+/// Prints the report of a file: the events, or the calls or the list that the words ask for; of a latency file the rest of it.
+pub fn print_report<R: Threads + Sync, I: File, O: Sink, G: Gate>(
+    resources: &Resources<'_, R, G>,
+    plan: &ReportPlan<'_, '_>,
+    filters: Vec<FilterUse>,
+    file: &mut I,
+    out: &mut O,
+) -> Status
+    requires asked { IsAsked (report_view plan.now.words.now) filters.items plan.now.header.now }
+    requires inside { plan.now.header.now.end ≤ I.size file.old }
+    requires parts { IsBody plan.now.header.now.cpus plan.now.header.now.body }
+    requires few { plan.now.header.now.cpus ≤ 1024 }
+    ensures { Reported (file_task (report_view plan.now.words.now) plan.now.header.now (I.size file.old)) (I.bytes file.old) result
+        (at_work I.File O.Sink file.old out.old) (at_work I.File O.Sink file.new out.new) }
+{
+    let header = plan.header;
+    match plan.words.list {
+        Some(list) => print_list(resources.alloc, list, header, out),
+        None => match &header.body {
+            Body::Latency => print_latency(resources.alloc, header.cpus, header.end, file, out),
+            Body::Fly(parts) => print_parts(resources, plan, filters, parts.as_slice(), file, out),
+        },
+    }
+}
+
+// Prints the events of processors' parts, or in their place the calls among them.
+fn print_parts<R: Threads + Sync, I: File, O: Sink, G: Gate>(
+    resources: &Resources<'_, R, G>,
+    plan: &ReportPlan<'_, '_>,
+    filters: Vec<FilterUse>,
+    parts: &[Part],
+    file: &mut I,
+    out: &mut O,
+) -> Status
+    requires asked { IsAsked (report_view plan.now.words.now) filters.items plan.now.header.now }
+    requires few { length parts.now ≤ 1024 }
+    ensures { Reported (chosen_task (report_view plan.now.words.now) plan.now.header.now parts.now) (I.bytes file.old) result
+        (at_work I.File O.Sink file.old out.old) (at_work I.File O.Sink file.new out.new) }
+{
+    let alloc = resources.alloc;
+    let Ok(context) = context_of(alloc, plan.words, filters, plan.header) else {
+        return Status::NoMemory;
+    };
+    let Ok(chosen) = Selection::set_or_all(&plan.words.cpus).chosen(alloc, parts) else {
+        return Status::NoMemory;
+    };
+    let form = ItemLines { context };
+    let shown = Shown {
+        form: &form,
+        parts: chosen.as_slice(),
+    };
+    print_shown(resources, plan, &shown, file, out)
+}
+
+// Prints what is shown: the calls, or the lines of the items, and behind these the latencies, as the words ask.
+fn print_shown<R: Threads + Sync, I: File, O: Sink, G: Gate>(
+    resources: &Resources<'_, R, G>,
+    plan: &ReportPlan<'_, '_>,
+    shown: &Shown<'_>,
+    file: &mut I,
+    out: &mut O,
+) -> Status
+    requires shown { IsShown plan.now shown.now }
+    ensures { Reported (shown_task plan.now shown.now) (I.bytes file.old) result
+        (at_work I.File O.Sink file.old out.old) (at_work I.File O.Sink file.new out.new) }
+{
+    let calls = plan.words.calls;
+    let wakeups = plan.words.wakeups;
+    if calls {
+        return print_calls(resources.alloc, plan, shown, file, out);
+    }
+    if wakeups {
+        return print_waits(resources, plan, shown, file, out);
+    }
+    status_or_memory(print_lines(resources, plan, shown, file, out))
+}
+
+// Prints the rest of a latency file.
+fn print_latency<I: File, O: Sink>(
+    alloc: Global,
+    cpus: u32,
+    end: u64,
+    file: &mut I,
+    out: &mut O,
+) -> Status
+    requires { end ≤ I.size file.old }
+    ensures prints { Prints (Rose (I.faults file.old) (I.faults file.new))
+        (option_map (latency_report cpus end) (I.bytes file.old)) result
+        (sink_seen O.Sink out.old) (sink_seen O.Sink out.new) }
+    ensures reads { I.reads file.new ≤ raised (I.reads file.old) (I.size file.old - end) }
+{
+    let (Ok(mut buffer), Ok(mut pending)) = (copy_buffer(alloc), Pending::new(alloc)) else {
+        return Status::NoMemory;
+    };
+    match print_cpus(cpus, &mut pending, out) {
+        Ok(()) => {}
+        Err(Failed) => return Status::WriteFault,
+    }
+    match copy_rest(file, end, &mut buffer, out) {
+        Ok(()) => Status::Done,
+        Err(CopyFault::Read) => Status::ReadFault,
+        Err(CopyFault::Write) => Status::WriteFault,
+    }
+}
+
+fn copy_buffer(alloc: Global) -> Result<Vec<u8>, AllocError>
+    ensures { IfOk result (λ buffer. length buffer.items ≡ 65536) }
+{
+    vec![in alloc; 0; Pending::ROOM]
+}

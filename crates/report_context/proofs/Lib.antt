@@ -1,0 +1,3 @@
+pub mod LineLength
+pub mod Formats
+pub mod Shared

@@ -1,0 +1,2 @@
+pub mod Restorings
+pub mod RestoreNames

@@ -1,0 +1,3 @@
+pub mod Restore
+pub mod Naming
+pub mod Ran

@@ -1,0 +1,29 @@
+-- How a run ends that is a restore.
+use Rattle.run_endings.specs.declared.status.Status.{Status}
+use Rattle.run_endings.specs.declared.status.Status.TheVariants.{Done, Refused, ReadFault, WriteFault, NoMemory}
+use Rattle.restore_tool.specs.declared.named.Answer.{Answer}
+use Rattle.restore_tool.specs.declared.named.Answer.TheVariants as code
+use Rattle.std.specs.Prelude.{[], ◌∷◌}
+use Rattle.trace_outside.specs.Names.{NamedFiles}
+use Rattle.trace_args.specs.Command.{RestoreData}
+use Rattle.restore_tool.specs.Meaning.{NamesData, Task, missing, refused, made, task_of}
+use Rattle.run_endings.specs.Meaning.{Meaning, only}
+
+abbrev pub status_of_restore : Answer → Status
+status_of_restore code.Done = Done
+status_of_restore (code.Refused fault) = Refused fault
+status_of_restore (code.Read source) = ReadFault
+status_of_restore code.Write = WriteFault
+status_of_restore code.NoMemory = NoMemory
+
+-- nothing is printed: one file is made, unless a file is missing or the partial one has no header
+abbrev pub task_means : Task → Meaning
+task_means missing = only ReadFault
+task_means (refused fault) = only (Refused fault)
+task_means (made file) = record { pieces = []; status = Done; files = file ∷ [] }
+
+abbrev pub names_of : RestoreData → NamesData
+names_of words = record { partial = words.input; files = words.files; output = words.output }
+
+abbrev pub restore_meaning : RestoreData → NamedFiles → Meaning
+restore_meaning words files = task_means (task_of files (names_of words))

@@ -1,0 +1,83 @@
+// A restore: the files are opened, and the new one is made of them.
+
+ghost use Rattle.std.specs.Prelude.{◌≡◌, ◌≤◌, length, suc};
+ghost use Rattle.restore_tool.specs.Failing.{place_of};
+ghost use Rattle.trace_args.specs.Command.{restore_view};
+ghost use Rattle.restore_run.specs.Naming.{IsNameAt, IsNameOf, IsRestoreNamed};
+ghost use Rattle.run_endings.specs.Outside.{SinkSeen, beside, folder_seen};
+ghost use Rattle.restore_run.specs.Ran.{RestoreRan};
+ghost use Rattle.restore_run.specs.Restore.{status_of_restore};
+
+use restore_tool::{Answer, Names, Source, restore_named};
+use run_endings::{Outcome, Status};
+use std::alloc::Global;
+use trace_args::RestoreWords;
+use trace_outside::Folder;
+
+/// Makes the new file, and tells which file the message names.
+pub fn restore_files<'a, F: Folder>(
+    alloc: Global,
+    words: &RestoreWords<'a>,
+    folder: &mut F,
+) -> Outcome<'a>
+    requires few { length words.now.files.items ≤ 256 }
+    ensures ran { (out : SinkSeen) → RestoreRan (restore_view words.now) result.status
+        (beside (folder_seen F.Folder folder.old) out) (beside (folder_seen F.Folder folder.new) out) }
+    ensures named { IsRestoreNamed (restore_view words.now) result.status
+        (folder_seen F.Folder folder.old) (folder_seen F.Folder folder.new) result.file.now }
+{
+    let names = Names {
+        partial: words.input,
+        files: words.files.as_slice(),
+        output: words.output,
+    };
+    let answer = restore_named(alloc, &names, folder);
+    Outcome {
+        status: status_of_restore(answer),
+        file: file_of(words, answer),
+    }
+}
+
+fn status_of_restore(answer: Answer) -> Status
+    ensures { result ≡ status_of_restore answer }
+{
+    match answer {
+        Answer::Done => Status::Done,
+        Answer::Refused(fault) => Status::Refused(fault),
+        Answer::Read(_) => Status::ReadFault,
+        Answer::Write => Status::WriteFault,
+        Answer::NoMemory => Status::NoMemory,
+    }
+}
+
+// The file that the message of an answer names.
+fn file_of<'a>(words: &RestoreWords<'a>, answer: Answer) -> &'a str
+    ensures { IsNameOf (restore_view words.now) answer result.now }
+{
+    match answer {
+        Answer::Read(source) => source_name(words, source),
+        _ => words.input,
+    }
+}
+
+// The name of one of the files that are read.
+#[tactic(auto, using(crate::proofs::RestoreNames::input_at))]
+fn source_name<'a>(words: &RestoreWords<'a>, source: Source) -> &'a str
+    ensures { IsNameAt (restore_view words.now) (place_of source) result.now }
+{
+    match source {
+        Source::Partial => words.input,
+        Source::File(file) => name_at(words, file as usize),
+    }
+}
+
+// The data file of this place.
+fn name_at<'a>(words: &RestoreWords<'a>, place: usize) -> &'a str
+    ensures { IsNameAt (restore_view words.now) (suc place) result.now }
+{
+    if place < words.files.len() {
+        words.files[place]
+    } else {
+        words.input
+    }
+}

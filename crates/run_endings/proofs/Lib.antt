@@ -1,0 +1,6 @@
+pub mod Printing
+pub mod Printed
+pub mod Chosen
+pub mod Endings
+pub mod Reading
+pub mod Names

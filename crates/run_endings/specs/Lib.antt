@@ -1,0 +1,9 @@
+pub mod Selection
+pub mod Ends
+pub mod Meaning
+pub mod Outside
+pub mod Ending
+pub mod Output
+pub mod Progress
+pub mod Ran
+pub mod StatusNumber

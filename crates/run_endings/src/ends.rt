@@ -1,0 +1,60 @@
+// The answer of a run for the end that its lanes come to, for a pass over them that ended early, and for a cut.
+
+ghost use Rattle.std.specs.Prelude.{◌≡◌};
+ghost use Rattle.run_endings.specs.Ends as spec;
+
+use crate::status::Status;
+use item_pass::PassFault;
+use time_merge::End;
+
+/// The answer for this end.
+pub fn status_of_end(end: End) -> Status
+    ensures { result ≡ spec.status_of_end end }
+{
+    match end {
+        End::Done => Status::Done,
+        End::Malformed { cpu, page } => Status::Malformed { cpu, page },
+        End::Read => Status::ReadFault,
+        End::Write => Status::WriteFault,
+    }
+}
+
+/// The same, or the answer for no memory to begin.
+pub fn status_or_memory(end: Option<End>) -> Status
+    ensures { result ≡ spec.status_or_memory end }
+{
+    match end {
+        Some(end) => status_of_end(end),
+        None => Status::NoMemory,
+    }
+}
+
+/// The answer for a pass that ended early.
+pub fn status_of_pass(fault: PassFault) -> Status
+    ensures { result ≡ spec.status_of_pass fault }
+{
+    match fault {
+        PassFault::Read => Status::ReadFault,
+        PassFault::Memory => Status::NoMemory,
+    }
+}
+
+/// The answer of a report whose items end before this sub-buffer of this processor, or before none.
+pub fn status_of_cut(cut: Option<(u32, u64)>) -> Status
+    ensures { result ≡ spec.status_of_cut cut }
+{
+    match cut {
+        None => Status::Done,
+        Some((cpu, page)) => Status::Malformed { cpu, page },
+    }
+}
+
+/// Whether all that the lanes have up to their cut was used up.
+pub fn is_whole(end: End) -> bool
+    ensures { result ≡ spec.is_whole end }
+{
+    match end {
+        End::Done | End::Malformed { .. } => true,
+        End::Read | End::Write => false,
+    }
+}

@@ -1,0 +1,40 @@
+ghost use Rattle.std.specs.Prelude.{◌≡◌};
+ghost use Rattle.run_endings.specs.StatusNumber.{status_number};
+
+use dat_header::OpenFault;
+
+/// How a run ended.
+#[derive(Clone, Copy, Debug, PartialEq, Eq)]
+pub enum Status {
+    /// All was done.
+    Done,
+    /// The words, or a filter of theirs, have no reading.
+    Usage,
+    /// The input is no trace that can be read. The fault is never `Read` and never `Memory`.
+    Refused(OpenFault),
+    /// The output ends before this sub-buffer of this processor, both counted from 0.
+    Malformed { cpu: u32, page: u64 },
+    /// A file could not be opened or read.
+    ReadFault,
+    /// The output could not be written.
+    WriteFault,
+    /// There was no memory. Nothing was written.
+    NoMemory,
+}
+
+impl Status {
+    /// The number with which the program ends.
+    pub fn number(self) -> u8
+        ensures { result ≡ status_number self }
+    {
+        match self {
+            Status::Done => 0,
+            Status::Usage => 1,
+            Status::Refused(_) => 2,
+            Status::Malformed { .. } => 3,
+            Status::ReadFault => 4,
+            Status::WriteFault => 5,
+            Status::NoMemory => 6,
+        }
+    }
+}

@@ -1,0 +1,9 @@
+pub mod SplitWords
+pub mod Jobs
+pub mod Numbers
+pub mod Workers
+pub mod Readings
+pub mod Usages
+pub mod FewValues
+pub mod RestoreWords
+pub mod InputWords

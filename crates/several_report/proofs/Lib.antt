@@ -1,0 +1,6 @@
+pub mod InputNames
+pub mod Opening
+pub mod OpenInputs
+pub mod FilesShown
+pub mod FilesRan
+pub mod LentLanes

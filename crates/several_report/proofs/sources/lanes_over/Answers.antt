@@ -1,0 +1,14 @@
+use Rattle.std.proofs.Common.{◌≡◌, List, length, ap, subst, sym, arith}
+use Rattle.std.specs.List.{All}
+use Rattle.page_pool.specs.declared.lane.Lane.{Lane}
+use Rattle.time_merge.specs.Unused.{IsUnused}
+use Rattle.time_merge.proofs.UnusedLanes.{new_unused}
+use Rattle.several_report.proofs.LentLanes.{all_written}
+use Rattle.several_report.proofs.sources.lanes_over.Goals as goal
+
+pub returns-clause-unused : goal.returns-clause-unused
+returns-clause-unused c =
+    let lanes = c.set_lanes.new.lanes in
+    let same : length lanes ≡ length c.in_ok-pool.pool = omega (arith, c.set_lanes.auto.lanes, ap length c.lanes.ensures.value) in
+    subst (λ (xs : List Lane). All (IsUnused c.args.page 0) xs) (sym (all_written c.in_ok-pool.pool lanes same))
+    (c.set_lanes.ensures.unused c.args.page 0 (new_unused c.args.page 0 c.in_ok-pool.pool c.lanes.result.now c.lanes.ensures.value c.in_ok-pool.ensures.lanes))

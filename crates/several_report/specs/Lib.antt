@@ -1,0 +1,5 @@
+pub mod Inputs
+pub mod Meaning
+pub mod Naming
+pub mod Sources
+pub mod Ran

@@ -1,0 +1,118 @@
+// A report of several files: all are opened, gone through together, and closed.
+
+ghost use Rattle.std.specs.Prelude.{◌≡◌, ◌≤◌, ◌<◌, Ok, [], All, Contains, length, map, vec_capacity};
+ghost use Rattle.multi_report.specs.Sources.{IsFreshSource, IsUsable};
+ghost use Rattle.trace_args.specs.Command.{report_view};
+ghost use Rattle.several_report.specs.Inputs.{names_in};
+ghost use Rattle.several_report.specs.Naming.{IsNameIn};
+ghost use Rattle.run_endings.specs.Outside.{FolderSeen, beside, outside_seen, sink_seen};
+ghost use Rattle.several_report.specs.Ran.{FilesRan};
+ghost use Rattle.several_report.specs.Sources as spec;
+ghost use Rattle.several_report.specs.Sources.{AreOpened, IsNameOfEnd, FilesReported, file_in, source_seen};
+
+use crate::sources::{close_sources, input_at, open_sources};
+use least_tree::LeastTree;
+use multi_report::{FilesEnd, Source, report_files};
+use report_context::{ItemLines, line_buffer};
+use run_endings::{Outcome, Status};
+use std::alloc::Global;
+use trace_args::ReportWords;
+use trace_outside::{File, Folder, Pending, Sink};
+
+/// Prints the report of several files, each line with its file's name, and tells which file the message names. All files are
+/// closed at its end.
+pub fn print_files<'a, F: Folder, O: Sink>(
+    alloc: Global,
+    words: &ReportWords<'a>,
+    folder: &mut F,
+    out: &mut O,
+) -> Outcome<'a>
+    requires few { length words.now.more.items ≤ 7 }
+    ensures ran { FilesRan (report_view words.now) result.status
+        (outside_seen F.Folder O.Sink folder.old out.old) (outside_seen F.Folder O.Sink folder.new out.new) }
+    ensures named { IsNameIn (report_view words.now) (F.files folder.old) result.status result.file.now }
+{
+    let Ok(mut sources) = Vec::with_capacity(alloc, words.more.len() + 1) else {
+        return Outcome {
+            status: Status::NoMemory,
+            file: words.input,
+        };
+    };
+    let outcome = print_opened(alloc, words, &mut sources, folder, out);
+    close_sources(sources, folder);
+    outcome
+}
+
+// Opens the files and prints their report. What is open at its end stays open.
+fn print_opened<'a, F: Folder, O: Sink>(
+    alloc: Global,
+    words: &ReportWords<'a>,
+    sources: &mut Vec<Source<'a, F::In, ItemLines>>,
+    folder: &mut F,
+    out: &mut O,
+) -> Outcome<'a>
+    requires few { length words.now.more.items ≤ 7 }
+    requires none { sources.old.items ≡ [] }
+    requires room { length words.now.more.items < vec_capacity sources.old }
+    ensures { FilesReported (report_view words.now) (map file_in (map (source_seen F.In.File) sources.new.items)) result.status result.file.now
+        (outside_seen F.Folder O.Sink folder.old out.old) (outside_seen F.Folder O.Sink folder.new out.new) }
+{
+    match open_sources(alloc, words, sources, folder) {
+        Ok(()) => print_sources(alloc, words, sources.as_mut_slice(), out),
+        Err(outcome) => outcome,
+    }
+}
+
+// Prints the report of files that are open. All memory is taken before its first byte.
+fn print_sources<'a, I: File, O: Sink>(
+    alloc: Global,
+    words: &ReportWords<'a>,
+    sources: &mut [Source<'a, I, ItemLines>],
+    out: &mut O,
+) -> Outcome<'a>
+    requires few { length sources.old ≤ 8 }
+    requires usable { All IsUsable (map (source_seen I.File) sources.old) }
+    requires fresh { All IsFreshSource (map (source_seen I.File) sources.old) }
+    ensures { (before now : FolderSeen) → AreOpened (report_view words.now) (names_in (report_view words.now)) (map (source_seen I.File) sources.old) before now
+        → FilesReported (report_view words.now) (map file_in (map (source_seen I.File) sources.new)) result.status result.file.now
+        (beside before (sink_seen O.Sink out.old)) (beside now (sink_seen O.Sink out.new)) }
+{
+    let (Ok(mut nexts), Ok(mut buffer), Ok(mut pending)) = (
+        LeastTree::new(alloc, sources.len() as u32),
+        line_buffer(alloc),
+        Pending::new(alloc),
+    ) else {
+        return Outcome {
+            status: Status::NoMemory,
+            file: words.input,
+        };
+    };
+    let end = report_files(sources, &mut nexts, &mut buffer, &mut pending, out);
+    outcome_of(words, end)
+}
+
+// The answer for an end of the report, and the file that it is of.
+fn outcome_of<'a>(words: &ReportWords<'a>, end: FilesEnd) -> Outcome<'a>
+    ensures status { result.status ≡ spec.status_of_files end }
+    ensures named { Contains (names_in (report_view words.now)) result.file.now }
+    ensures source { IsNameOfEnd (report_view words.now) end result.file.now }
+{
+    match end {
+        FilesEnd::Done => Outcome {
+            status: Status::Done,
+            file: words.input,
+        },
+        FilesEnd::Malformed { source, cpu, page } => Outcome {
+            status: Status::Malformed { cpu, page },
+            file: input_at(words, source as usize),
+        },
+        FilesEnd::Read { source } => Outcome {
+            status: Status::ReadFault,
+            file: input_at(words, source as usize),
+        },
+        FilesEnd::Write => Outcome {
+            status: Status::WriteFault,
+            file: words.input,
+        },
+    }
+}

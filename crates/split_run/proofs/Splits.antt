@@ -1,0 +1,72 @@
+-- A split, as one of the four endings.
+use Rattle.std.proofs.Common.{◌≡◌, ℕ, List, length, Option, None, Some, IfSome, refl, ap, subst}
+use Rattle.std.specs.Option.{option_map}
+use Rattle.trace_base.specs.declared.part.Part.{Part}
+use Rattle.trace_outside.specs.Causes.{Rose}
+use Rattle.trace_outside.proofs.Gains.{gained_nothing}
+use Rattle.trace_args.specs.Command.{SplitData}
+use Rattle.dat_header.specs.declared.header.Header.{Header}
+use Rattle.dat_header.specs.Written.{without_instances}
+use Rattle.time_merge.specs.declared.ending.End.{End}
+use Rattle.time_merge.specs.declared.ending.End.TheVariants as end
+use Rattle.split_tool.specs.NewFiles.{Creates, IsSplit, end_of, new_files}
+use Rattle.new_files.specs.Stored.{NewFile}
+use Rattle.run_endings.specs.Ending.{Ends, IsCaused, LeavesAll, MakesFiles}
+use Rattle.run_endings.specs.Meaning.{on_folder}
+use Rattle.split_run.specs.Split.{split_by, split_end, split_files, taken_of}
+use Rattle.run_endings.specs.Outside.{FolderSeen, SinkSeen, beside}
+use Rattle.run_endings.specs.Ends.{status_of_end}
+
+module _ (words : SplitData) (header : Header) (before now : FolderSeen) (out : SinkSeen) where
+  -- the four answers of a split
+  split_ends : (bytes : List ℕ) (answer : End) → IsSplit (split_files words header bytes) (split_end words header bytes) before.counts now.counts before.files now.files answer
+      → Creates (length (split_files words header bytes)) before.counts.created now.counts.created answer
+      → Ends (split_by words header bytes) (status_of_end answer) (beside before out) (beside now out)
+  split_ends bytes end.Done split creates = record { answer = ap status_of_end split.0; output = gained_nothing out.written; files = split.1; created = creates }
+  split_ends bytes (end.Malformed cpu page) split creates =
+      record { answer = ap status_of_end split.0; output = gained_nothing out.written; files = split.1; created = creates }
+  split_ends bytes end.Read split creates = record { output = (0, gained_nothing out.written); files = split; created = creates }
+  split_ends bytes end.Write split creates = record { output = (0, gained_nothing out.written); files = split; created = creates }
+
+  split_leaves : (answer : End) → LeavesAll (status_of_end answer) (beside before out) (beside now out)
+  split_leaves end.Done = tt
+  split_leaves (end.Malformed cpu page) = tt
+  split_leaves end.Read = tt
+  split_leaves end.Write = tt
+
+  split_caused : (unread : Type 0) (answer : End) → (answer ≡ end.Read → unread) → (answer ≡ end.Write → Rose before.counts.writing now.counts.writing)
+      → IsCaused on_folder unread (status_of_end answer) (beside before out) (beside now out)
+  split_caused unread end.Done read write = tt
+  split_caused unread (end.Malformed cpu page) read write = tt
+  split_caused unread end.Read read write = read refl
+  split_caused unread end.Write read write = write refl
+
+-- a split of the header that was read, and of the parts that are taken
+cut_told : (words : SplitData) (header dropped : Header) (parts : List (ℕ × Part)) (bytes : List ℕ) (fact : List NewFile → End → Type 0)
+    → dropped ≡ without_instances header → parts ≡ taken_of words.cpu header.body
+    → fact (new_files words dropped bytes parts) (end_of words dropped bytes parts) → fact (split_files words header bytes) (split_end words header bytes)
+cut_told words header dropped parts bytes fact dropped_is parts_are told =
+    subst (λ (ps : List (ℕ × Part)). fact (new_files words (without_instances header) bytes ps) (end_of words (without_instances header) bytes ps)) parts_are
+    (subst (λ (h : Header). fact (new_files words h bytes parts) (end_of words h bytes parts)) dropped_is told)
+
+pub cut : (unread : Type 0) (words : SplitData) (header dropped : Header) (parts : List (ℕ × Part)) (told : Option (List ℕ)) (before now : FolderSeen)
+    (answer : End) → dropped ≡ without_instances header → parts ≡ taken_of words.cpu header.body
+    → IfSome told (λ bytes. IsSplit (new_files words dropped bytes parts) (end_of words dropped bytes parts) before.counts now.counts before.files now.files answer)
+    → IfSome told (λ bytes. Creates (length (new_files words dropped bytes parts)) before.counts.created now.counts.created answer)
+    → (answer ≡ end.Read → unread) → (answer ≡ end.Write → Rose before.counts.writing now.counts.writing)
+    → MakesFiles unread (option_map (split_by words header) told) (status_of_end answer) before now
+cut unread words header dropped parts told before now answer dropped_is parts_are split creates read write = λ out. record {
+  ends = by_told told out split creates;
+  untouched = split_leaves words header before now out answer;
+  causes = split_caused words header before now out unread answer read write;
+}
+  where
+    by_told : (known : Option (List ℕ)) (out : SinkSeen)
+        → IfSome known (λ bytes. IsSplit (new_files words dropped bytes parts) (end_of words dropped bytes parts) before.counts now.counts before.files now.files answer)
+        → IfSome known (λ bytes. Creates (length (new_files words dropped bytes parts)) before.counts.created now.counts.created answer)
+        → IfSome (option_map (split_by words header) known) (λ m. Ends m (status_of_end answer) (beside before out) (beside now out))
+    by_told None out told made = tt
+    by_told (Some bytes) out told made =
+        split_ends words header before now out bytes answer
+        (cut_told words header dropped parts bytes (λ news last. IsSplit news last before.counts now.counts before.files now.files answer) dropped_is parts_are told)
+        (cut_told words header dropped parts bytes (λ news last. Creates (length news) before.counts.created now.counts.created answer) dropped_is parts_are made)

@@ -1,0 +1,45 @@
+use Rattle.std.proofs.Common.{◌<◌, ◌≤◌, ◌*◌, ℕ, List, subst, sym, ap, ◌∙◌}
+use Rattle.std.specs.Prelude.{sum_by}
+use Rattle.std.specs.List.{All}
+use Rattle.trace_base.specs.declared.part.Part.{Part}
+use Rattle.trace_outside.specs.Causes.{raised}
+use Rattle.trace_args.specs.Command.{split_view}
+use Rattle.dat_header.specs.declared.header.Header.{Header}
+use Rattle.subpage.specs.Arrangement.{CpusRise}
+use Rattle.page_pool.specs.declared.lane.Lane.{Lane}
+use Rattle.time_merge.proofs.UnusedLanes.{new_unused, unused_fresh, unused_in_order}
+use Rattle.split_run.proofs.Splits.{cut}
+use Rattle.split_run.proofs.Taken.{lanes_below, taken_rise}
+use Rattle.split_run.proofs.split.cut_file.Goals as goal
+
+pub split-requires-clause-fresh : goal.split-requires-clause-fresh
+split-requires-clause-fresh g c =
+    unused_fresh _ _ _ (c.set_lanes.ensures.unused _ _ (new_unused _ _ _ _ c.lanes-lanes.ensures.value c.in-Ok-Ok.ensures.lanes))
+
+pub split-requires-clause-in_order : goal.split-requires-clause-in_order
+split-requires-clause-in_order g c =
+    unused_in_order c.drop_instances.new.self.layout _ _
+    (c.set_lanes.ensures.unused _ _ (new_unused _ _ _ _ c.lanes-lanes.ensures.value c.in-Ok-Ok.ensures.lanes))
+
+pub split-requires-clause-rise : goal.split-requires-clause-rise
+split-requires-clause-rise g c =
+    let are = c.set_lanes.ensures.parts ∙ c.deref.ensures.value ∙ c.in-Ok.ensures.taken in
+    subst (λ (ps : List (ℕ × Part)). CpusRise ps) (sym are) (taken_rise c.args.words.now.cpu c.args.header.body)
+
+pub split-requires-clause-cpus : goal.split-requires-clause-cpus
+split-requires-clause-cpus g c =
+    let are = c.set_lanes.ensures.parts ∙ c.deref.ensures.value ∙ c.in-Ok.ensures.taken in
+    subst (λ (n : ℕ). All (λ (lane : Lane). lane.cpu < n) c.set_lanes.new.lanes) (sym (ap (λ (h : Header). h.cpus) c.drop_instances.ensures.dropped))
+    (lanes_below c.args.words.now.cpu c.args.header.cpus c.args.header.body c.set_lanes.new.lanes c.requires.allowed.body are)
+
+pub returns-clause-makes : goal.returns-clause-makes
+returns-clause-makes g c =
+    let are = c.set_lanes.ensures.parts ∙ c.deref.ensures.value ∙ c.in-Ok.ensures.taken in
+    rw c.status_of_end.ensures
+    (cut _ (split_view c.args.words.now) c.args.header c.drop_instances.new.self _ _ _ _ c.split.result
+    c.drop_instances.ensures.dropped are c.split.ensures.told c.split.ensures.created c.split.ensures.read c.split.ensures.write)
+
+pub returns-clause-reads : goal.returns-clause-reads
+returns-clause-reads g c =
+    let are = c.set_lanes.ensures.parts ∙ c.deref.ensures.value ∙ c.in-Ok.ensures.taken in
+    subst (λ (parts : List (ℕ × Part)). g.F.In.File.reads c.split.new.file ≤ raised (g.F.In.File.reads c.args.file.now) (3 * sum_by (λ part. part.1.size) parts)) are c.split.ensures.reads

@@ -1,0 +1,35 @@
+-- What a report of several files and a restore promise, as all that is said of a run.
+use Rattle.std.proofs.Common.{Ok}
+use Rattle.trace_args.specs.Command.{ReportData, RestoreData}
+use Rattle.run_endings.specs.declared.status.Status.{Status}
+use Rattle.run_endings.specs.Outside.{Outside}
+use Rattle.run_endings.specs.Progress.{progress}
+use Rattle.run_words.specs.Job.{OnFiles, Restore}
+use Rattle.several_report.specs.Ran.{FilesRan}
+use Rattle.restore_run.specs.Ran.{RestoreRan}
+use Rattle.trace_run.specs.Ran.{Ran}
+use Rattle.trace_run.proofs.Reading.{no_input}
+
+pub files_ran : (words : ReportData) (status : Status) (before now : Outside) → FilesRan words status before now → Ran (Ok (OnFiles words)) status before now
+files_ran words status before now did = record {
+  ended = did.ran.ended;
+  complete = did.ran.complete;
+  usage = did.usage;
+  misses = did.ran.misses;
+  closes = did.ran.closes;
+  opens = did.ran.opens;
+  reads = no_input status (progress before) (progress now);
+  reads_all = did.reads;
+}
+
+pub restore_ran : (words : RestoreData) (status : Status) (before now : Outside) → RestoreRan words status before now → Ran (Ok (Restore words)) status before now
+restore_ran words status before now did = record {
+  ended = did.ran.ended;
+  complete = did.ran.complete;
+  usage = did.usage;
+  misses = did.ran.misses;
+  closes = did.ran.closes;
+  opens = did.ran.opens;
+  reads = no_input status (progress before) (progress now);
+  reads_all = tt;
+}

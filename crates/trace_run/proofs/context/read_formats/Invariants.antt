@@ -1,9 +1,0 @@
-use Rattle.std.proofs.Common.{◌≡◌, drop}
-use Rattle.std.specs.List.{flat_map}
-use Rattle.format_parse.specs.Table.{with_formats}
-use Rattle.trace_run.specs.Context.{formats_of}
-use Rattle.trace_run.proofs.Formats.{system_formats}
-use Rattle.trace_run.proofs.context.read_formats.Given as goal
-
-abbrev pub invariant-loop-system : goal.invariant-loop-system
-invariant-loop-system l = with_formats l.table (flat_map system_formats (drop l.system-index l.systems)) ≡ formats_of l.header
