@@ -1,29 +1,67 @@
 // A sub-buffer that cannot be read, behind 2,720 lines of its processor.
 
-use sample_runs::{folder_of, is_first_lines, run_line};
+use super::world::{run_in, world_of};
+use sample_runs::is_first_lines;
+use std::alloc::{Alloc, AllocError, Global};
+use std::process::Abort;
 use std::test::Fail;
-use trace_outside::{MemFault, MemSink};
+use std::thread::Threads;
+use trace_outside::MemFault;
 use trace_run::Status;
 use trace_samples::{many_events, many_events_report};
 
+fn prints_all<R: Alloc<A = Global> + Abort + Threads + Sync>(
+    rt: &R,
+    line: &str,
+    file: &[u8],
+    whole: &[u8],
+) -> Result<(), AllocError> {
+    let mut world = world_of(rt.alloc(), file)?;
+    let status = run_in(rt, line, &mut world)?;
+    assert!(rt;
+        status == Status::Done && world.out.bytes() == whole,
+        "{line}"
+    );
+    Ok(())
+}
+
+// More than 2,000 of the first lines.
+fn is_long_front(text: &[u8], whole: &[u8]) -> bool {
+    is_first_lines(text, whole) && text.iter().filter(|byte| **byte == b'\n').count() > 2000
+}
+
+fn prints_front<R: Alloc<A = Global> + Abort + Threads + Sync>(
+    rt: &R,
+    line: &str,
+    file: &[u8],
+    whole: &[u8],
+) -> Result<(), AllocError> {
+    let mut world = world_of(rt.alloc(), file)?;
+    world.folder.fail(MemFault::ReadAt(40_959));
+    let status = run_in(rt, line, &mut world)?;
+    assert!(rt;
+        status == Status::ReadFault && is_long_front(world.out.bytes(), whole),
+        "{line}"
+    );
+    Ok(())
+}
+
+fn all_print<R: Alloc<A = Global> + Abort + Threads + Sync>(
+    rt: &R,
+    file: &[u8],
+    whole: &[u8],
+) -> Result<(), AllocError> {
+    for line in ["report -t", "report -t --workers 3"] {
+        prints_all(rt, line, file, whole)?;
+        prints_front(rt, line, file, whole)?;
+    }
+    Ok(())
+}
+
 #[test]
 fn two_thousand_lines_before_a_failed_read(rt: HostRuntime) -> Result<(), Fail> {
-    let alloc = rt.alloc();
-    let file = many_events(alloc)?;
-    let whole = many_events_report(alloc)?;
-    for line in ["report -t", "report -t --workers 3"] {
-        let mut folder = folder_of(alloc, &file)?;
-        let mut out = MemSink::new(alloc);
-        let mut err = MemSink::new(alloc);
-        let status = run_line(&rt, line, &mut folder, &mut out, &mut err)?;
-        assert!(rt; status == Status::Done && out.bytes() == whole.as_bytes());
-        folder.fail(MemFault::ReadAt(40_959));
-        let mut part = MemSink::new(alloc);
-        let status = run_line(&rt, line, &mut folder, &mut part, &mut err)?;
-        assert_eq!(rt; status, Status::ReadFault);
-        assert!(rt; is_first_lines(part.bytes(), whole.as_bytes()));
-        let lines = part.bytes().iter().filter(|byte| **byte == b'\n').count();
-        assert!(rt; lines > 2000, "{lines}");
-    }
+    let file = many_events(rt.alloc())?;
+    let whole = many_events_report(rt.alloc())?;
+    all_print(&rt, &file, whole.as_bytes())?;
     Ok(())
 }

@@ -16,4 +16,6 @@ mod reads;
 #[cfg(test)]
 mod splits;
 #[cfg(test)]
+mod world;
+#[cfg(test)]
 mod writes;

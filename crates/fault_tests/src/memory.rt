@@ -218,7 +218,7 @@ fn is_done<R: Alloc<A = Global> + Abort + Threads + Sync>(
     rt: &R,
     folder: &mut MemFolder,
     line: &str,
-) -> Result<(), Fail> {
+) -> Result<(), AllocError> {
     let mut out = MemSink::new(rt.alloc());
     let mut err = MemSink::new(rt.alloc());
     let status = run_line(rt, line, folder, &mut out, &mut err)?;
@@ -226,13 +226,27 @@ fn is_done<R: Alloc<A = Global> + Abort + Threads + Sync>(
     Ok(())
 }
 
+fn all_are_done<R: Alloc<A = Global> + Abort + Threads + Sync>(
+    rt: &R,
+    folder: &mut MemFolder,
+) -> Result<(), AllocError> {
+    for line in ["report", "split -o p", "dump", "selftest 7 10"] {
+        is_done(rt, folder, line)?;
+    }
+    Ok(())
+}
+
 // Without this the tests above would pass by ends of any kind that may be.
 #[test]
 fn memory_at_hand(rt: HostRuntime) -> Result<(), Fail> {
-    for line in ["report", "split -o p", "dump", "selftest 7 10"] {
-        let mut folder = folder(rt.alloc()).ok_or("no memory")?;
-        is_done(&rt, &mut folder, line)?;
-    }
+    let mut folder = folder(rt.alloc()).ok_or("no memory")?;
+    all_are_done(&rt, &mut folder)?;
+    Ok(())
+}
+
+#[test]
+fn memory_at_hand_for_tasks_that_wait(rt: HostRuntime) -> Result<(), Fail> {
     let mut folder = woken(rt.alloc())?;
-    is_done(&rt, &mut folder, "report -w")
+    is_done(&rt, &mut folder, "report -w")?;
+    Ok(())
 }
