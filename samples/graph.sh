@@ -1,4 +1,5 @@
 # Makes graph.dat, by scripts/record_in_qemu.py.
+# shellcheck shell=sh
 # All symbols of the kernel would make a file of 4 MB: it has those alone that the functions to be traced may have.
 awk '$3 ~ /^(vfs_|pipe_|security_file_|path_|do_filp_open$|schedule$|__wake_up|copy_page_|generic_perform_write$|shmem_)/' /proc/kallsyms > /tmp/symbols
 mount --bind /tmp/symbols /proc/kallsyms
