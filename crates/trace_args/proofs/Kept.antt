@@ -12,7 +12,7 @@ use Rattle.trace_args.specs.contracts.option.FlagOptionEq.TheImpl.Laws as flags
 use Rattle.trace_args.specs.contracts.option.ValuedOptionEq.TheImpl.Laws as options
 use Rattle.trace_args.specs.contracts.option.FlagOptionPartialEq.TheImpl as flag_is
 use Rattle.trace_args.specs.contracts.option.ValuedOptionPartialEq.TheImpl as option_is
-use Rattle.trace_args.specs.Setting.{Setting, Flag, Valued, Stray}
+use Rattle.trace_args.specs.Setting.{Setting, Flag, Valued, Help, Stray}
 use Rattle.trace_args.specs.Given.{AskSame, gives, is_given, is_kept, is_set, sets, value_for, values_of, with_one}
 
 -- one more answer that does not come, or is there already
@@ -48,12 +48,14 @@ flag_again : (f o : FlagOption) → flag_is.ghosts.eq f o ≡ true → (ss : Lis
 flag_again f o e [] h = h
 flag_again f o e (Flag g w ∷ ss) h = or_again (flag_is.ghosts.eq g f) (flag_is.ghosts.eq g o) (list_any (sets f) ss) (list_any (sets o) ss) (λ same. flags.laws-law.congr g f o same ∙ e) (flag_again f o e ss) h
 flag_again f o e (Valued g w v ∷ ss) h = flag_again f o e ss h
+flag_again f o e (Help ∷ ss) h = flag_again f o e ss h
 flag_again f o e (Stray w ∷ ss) h = flag_again f o e ss h
 
 option_again : (f o : ValuedOption) → option_is.ghosts.eq f o ≡ true → (ss : List Setting) → list_any (gives f) ss ≡ true → list_any (gives o) ss ≡ true
 option_again f o e [] h = h
 option_again f o e (Flag g w ∷ ss) h = option_again f o e ss h
 option_again f o e (Valued g w v ∷ ss) h = or_again (option_is.ghosts.eq g f) (option_is.ghosts.eq g o) (list_any (gives f) ss) (list_any (gives o) ss) (λ same. options.laws-law.congr g f o same ∙ e) (option_again f o e ss) h
+option_again f o e (Help ∷ ss) h = option_again f o e ss h
 option_again f o e (Stray w ∷ ss) h = option_again f o e ss h
 
 some_cond : (b : Bool) (s : Setting) (found : Option Setting) → is_some (cond b (Some s) found) ≡ (b || is_some found)
@@ -77,16 +79,19 @@ set_before : (o : FlagOption) (other : List Setting) (s : Setting) → is_kept o
 unfolding is_set
 set_before o other (Flag f w) h e = flag_again f o e other (not_false (is_set f other) h)
 set_before o other (Valued f w v) h e = absurd (false≢true e)
+set_before o other Help h e = absurd (false≢true e)
 set_before o other (Stray w) h e = absurd (false≢true e)
 
 given_before : (o : ValuedOption) (other : List Setting) (s : Setting) → is_kept other s ≡ false → gives o s ≡ true → list_any (gives o) other ≡ true
 given_before o other (Flag f w) h e = absurd (false≢true e)
 given_before o other (Valued f w v) h e = option_again f o e other (sym (given_any f other) ∙ not_false (is_given f other) (neither_second (option_is.ghosts.eq f Source) (not (is_given f other)) h))
+given_before o other Help h e = absurd (false≢true e)
 given_before o other (Stray w) h e = absurd (false≢true e)
 
 no_source : (other : List Setting) (s : Setting) → is_kept other s ≡ false → value_for Source s ≡ None
 no_source other (Flag f w) h = refl
 no_source other (Valued f w v) h = ap (λ b. if b then v else None) (neither_first (option_is.ghosts.eq f Source) (not (is_given f other)) h)
+no_source other Help h = refl
 no_source other (Stray w) h = refl
 
 -- ---- both lists with one more

@@ -1,6 +1,6 @@
 -- The command that settings ask for.
 -- Source: trace-cmd-report(1), trace-cmd-split(1), trace-cmd-dump(1) and trace-cmd-restore(1), `OPTIONS`.
-use Rattle.std.specs.Prelude.{ℕ, Bool, true, false, ◌&&◌, ◌||◌, not, List, [], ◌∷◌, drop, map, Option, option_map, unwrap_or, codes}
+use Rattle.std.specs.Prelude.{ℕ, Bool, true, false, ◌&&◌, ◌||◌, not, List, [], ◌∷◌, drop, map, Option, option_map, unwrap_or, codes, if◌then◌else◌}
 use Rattle.std.specs.List.{list_any, find, cons_option}
 use Rattle.std.specs.Option.{option_and_then, option_map_or, option_or}
 use Rattle.word_values.specs.declared.section.Section.{Section}
@@ -22,9 +22,10 @@ use Rattle.trace_args.specs.declared.tool.Tool.TheVariants as tool
 use Rattle.trace_args.specs.declared.option.FlagOption.TheVariants as flag
 use Rattle.trace_args.specs.declared.option.ValuedOption.{ValuedOption}
 use Rattle.trace_args.specs.declared.option.ValuedOption.TheVariants as valued
-use Rattle.trace_args.specs.Command.{CommandData, Report, Dump, SelfTest, Split, Restore, ReportData, DumpData, SelfData, SplitData, RestoreData, FilterData}
+use Rattle.trace_args.specs.declared.topic.Topic.TheVariants.{HelpOf}
+use Rattle.trace_args.specs.Command.{CommandData, Report, Dump, SelfTest, Split, Restore, About, ReportData, DumpData, SelfData, SplitData, RestoreData, FilterData}
 use Rattle.trace_args.specs.Setting.{Text, Setting}
-use Rattle.trace_args.specs.Given.{sets, value_for, value_of, value_at, texts_of, is_set}
+use Rattle.trace_args.specs.Given.{asks_help, sets, value_for, value_of, value_at, texts_of, is_set}
 
 -- the value of an option, or else another text
 abbrev pub text_or : ValuedOption → List ℕ → List Setting → List ℕ
@@ -163,9 +164,14 @@ abbrev pub restore_of : List Setting → RestoreData
 restore_of settings =
     record { input = input_of settings; output = output_of settings; files = texts_of valued.DataFile settings }
 
+-- the work of a command
+abbrev pub work_of : Tool → List Setting → CommandData
+work_of tool.Report settings = Report (report_of settings)
+work_of tool.Dump settings = Dump (dump_of settings)
+work_of tool.SelfTest settings = SelfTest (self_of settings)
+work_of tool.Split settings = Split (split_of settings)
+work_of tool.Restore settings = Restore (restore_of settings)
+
+-- help in place of the work, where it is asked for
 abbrev pub command_of : Tool → List Setting → CommandData
-command_of tool.Report settings = Report (report_of settings)
-command_of tool.Dump settings = Dump (dump_of settings)
-command_of tool.SelfTest settings = SelfTest (self_of settings)
-command_of tool.Split settings = Split (split_of settings)
-command_of tool.Restore settings = Restore (restore_of settings)
+command_of command settings = if asks_help settings then About (HelpOf command) else work_of command settings

@@ -11,6 +11,7 @@ use Rattle.trace_args.specs.declared.command.DumpWords.{DumpWords}
 use Rattle.trace_args.specs.declared.command.SelfWords.{SelfWords}
 use Rattle.trace_args.specs.declared.command.SplitWords.{SplitWords}
 use Rattle.trace_args.specs.declared.command.RestoreWords.{RestoreWords}
+use Rattle.trace_args.specs.declared.topic.Topic.{Topic}
 
 -- a filter, the number of the word that holds it, and whether it hides
 pub record FilterData : Type 0 where
@@ -65,6 +66,7 @@ pub data CommandData : Type 0 where
   SelfTest : SelfData → CommandData
   Split : SplitData → CommandData
   Restore : RestoreData → CommandData
+  About : Topic → CommandData
 
 abbrev pub filter_view : FilterWord → FilterData
 filter_view w = record { word = w.word; hide = w.hide; text = w.text.now }
@@ -119,3 +121,4 @@ command_view (code.Dump w) = Dump (dump_view w)
 command_view (code.SelfTest w) = SelfTest (self_view w)
 command_view (code.Split w) = Split (split_view w)
 command_view (code.Restore w) = Restore (restore_view w)
+command_view (code.About topic) = About topic

@@ -1,8 +1,9 @@
 ghost use Rattle.std.specs.Prelude.{◌≡◌, IfOk, MatchResult, map};
 ghost use Rattle.std.specs.List.{list_any};
 ghost use Rattle.word_values.specs.Sections.{sections};
-ghost use Rattle.trace_args.specs.Asked.{base_of, bound_of, command_of, cpu_of, cpus_of, dump_of, events_of, first_input, input_of, is_printed, listing_of, more_inputs, names_any, names_section, output_of, piece_by, report_of, restore_of, seed_of, self_of, split_of, text_or, unit_of, workers_of};
+ghost use Rattle.trace_args.specs.Asked.{base_of, bound_of, command_of, cpu_of, cpus_of, dump_of, events_of, first_input, input_of, is_printed, listing_of, more_inputs, names_any, names_section, output_of, piece_by, report_of, restore_of, seed_of, self_of, split_of, text_or, unit_of, work_of, workers_of};
 ghost use Rattle.trace_args.specs.Command.{command_view, dump_view, report_view, restore_view, self_view, split_view};
+ghost use Rattle.trace_args.specs.Faults.{no_memory};
 ghost use Rattle.trace_args.specs.Given.{is_set};
 ghost use Rattle.trace_args.specs.GivenView.{given_view};
 
@@ -10,6 +11,7 @@ use crate::fault::{WordFault, WordKind};
 use crate::given::Given;
 use crate::option::{FlagOption, ValuedOption};
 use crate::tool::Tool;
+use crate::topic::Topic;
 use std::alloc::{AllocError, Global};
 use word_values::{
     CpuSet, Listing, Moment, PieceOption, PieceUnit, Section, cpu_number, cpu_set, event_count,
@@ -29,6 +31,8 @@ pub enum Command<'a> {
     Split(SplitWords<'a>),
     /// Make a file of a partial one and of data files.
     Restore(RestoreWords<'a>),
+    /// Print what the program tells of itself.
+    About(Topic),
 }
 
 /// The words of `report` (trace-cmd-report(1)).
@@ -138,7 +142,20 @@ impl<'a> Command<'a> {
     ) -> Result<Command<'a>, WordFault>
         ensures { MatchResult result
             (λ command. command_view command ≡ command_of tool (given_view given.now))
-            (λ fault. fault.kind ≡ WordKind.Memory) }
+            (λ fault. fault ≡ no_memory) }
+    {
+        if given.asks_help() {
+            Ok(Command::About(Topic::HelpOf(tool)))
+        } else {
+            Command::work(alloc, tool, given)
+        }
+    }
+
+    // The work of the command.
+    fn work(alloc: Global, tool: Tool, given: &Given<'a>) -> Result<Command<'a>, WordFault>
+        ensures { MatchResult result
+            (λ command. command_view command ≡ work_of tool (given_view given.now))
+            (λ fault. fault ≡ no_memory) }
     {
         match tool {
             Tool::Report => match ReportWords::asked(alloc, given) {
