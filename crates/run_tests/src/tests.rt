@@ -248,6 +248,39 @@ const ROWS: &[Row] = &[
         err: "trace-cmd: word 1: no command\n",
     },
     Row {
+        words: &["--version", "report"],
+        file: Input::Missing,
+        status: Status::Done,
+        out: "trace_cmd 1.0.0\n",
+        err: "",
+    },
+    Row {
+        words: &["restore", "--help", "-x"],
+        file: Input::Missing,
+        status: Status::Done,
+        out: "\
+trace_cmd restore: make a trace file of what an interrupted recording left.
+
+Usage: trace_cmd restore -i PARTIAL [-o FILE] CPUFILE ..
+
+  -i PARTIAL    read the descriptions from this file; it must be given
+  -o FILE       make this file; without it, trace.dat
+  -h, --help    print this text
+
+Each CPUFILE has the raw data of one processor. There are 1 to 256 of them, in
+the order of the processors.
+Read more: man trace_cmd
+",
+        err: "",
+    },
+    Row {
+        words: &["report", "--cpu", "4-2", "--help"],
+        file: Input::Missing,
+        status: Status::Usage,
+        out: "",
+        err: "trace-cmd: word 3: bad processor list\n",
+    },
+    Row {
         words: &["report", "a", "b"],
         file: Input::Missing,
         status: Status::Usage,

@@ -14,14 +14,15 @@ use Rattle.word_values.specs.declared.piece.PieceOption.{PieceOption}
 use Rattle.word_values.specs.declared.piece.PieceOption.TheVariants.{Seconds, Millis, Micros, Events}
 use Rattle.trace_args.specs.declared.tool.Tool.{Tool}
 use Rattle.trace_args.specs.declared.tool.Tool.TheVariants as tool
-use Rattle.trace_args.specs.Asked.{base_of, command_of, input_of, piece_by, split_of, unit_of as unit_in}
+use Rattle.trace_args.specs.Asked.{base_of, input_of, piece_by, split_of, unit_of as unit_in, work_of}
 use Rattle.trace_args.specs.Command.{SplitData, Split}
-use Rattle.trace_args.specs.Faults.{fault, fault_of, input_name_fault, late_fault, name_fault, value_fault, IsClean}
+use Rattle.trace_args.specs.Faults.{fault, fault_of, input_name_fault, name_fault, value_fault, work_fault, IsClean}
 use Rattle.trace_args.specs.Given.{gives, value_in, value_of}
 use Rattle.word_values.specs.Number.{number_of, piece_count}
 use Rattle.word_values.specs.Pieces.{piece}
 use Rattle.trace_args.specs.Reading.{Reads}
-use Rattle.trace_args.specs.Setting.{Text, Setting, Flag, Valued, Stray}
+use Rattle.trace_args.specs.Setting.{Text, Setting, Flag, Valued, Help, Stray}
+use Rattle.trace_args.proofs.HelpLaws.{works}
 use Rattle.run_words.specs.Allowed.{IsAllowedSplit}
 use Rattle.run_words.proofs.Numbers.{within_of}
 
@@ -112,6 +113,7 @@ setting_short : (earlier : List Setting) (s : Setting) (other : List ℕ) → gi
     → IsShort (option_map_or (λ text. text.bytes) (value_in s) other)
 setting_short earlier (Flag given word) other g h = cc
 setting_short earlier (Valued option word value) other g h = value_short earlier option word value other g (second_none _ _ h)
+setting_short earlier Help other g h = cc
 setting_short earlier (Stray word) other g h = cc
 
 input_short : (value : Option Text) → option_and_then name_fault value ≡ None → IsShort (option_map_or (λ text. text.bytes) value (codes "trace.dat"))
@@ -131,8 +133,8 @@ base_short settings clean h = base_by settings (find (gives valued.Base) setting
 
 -- BOTH
 
-by_tool : (command : Tool) (last : ℕ) (settings : List Setting) (words : SplitData) → IsClean settings → late_fault command last settings ≡ None
-    → Split words ≡ command_of command settings → IsAllowedSplit words
+by_tool : (command : Tool) (last : ℕ) (settings : List Setting) (words : SplitData) → IsClean settings → work_fault command last settings ≡ None
+    → Split words ≡ work_of command settings → IsAllowedSplit words
 by_tool tool.Split last settings words clean late is =
     let same : words ≡ split_of settings = cc in
     subst IsAllowedSplit (sym same) record { unit = unit_good settings; base = base_short settings clean late }
@@ -142,4 +144,6 @@ by_tool tool.SelfTest last settings words clean late is = cc
 by_tool tool.Restore last settings words clean late is = cc
 
 pub split_allowed : (given : List (List ℕ)) (words : SplitData) → Reads given (Split words) → IsAllowedSplit words
-split_allowed given words reads = by_tool reads.tool (length given) reads.settings words reads.clean reads.whole reads.command_is
+split_allowed given words reads =
+    let asks = works given (Split words) (λ topic is. cc) reads in
+    by_tool asks.command (length given) asks.settings words asks.clean asks.whole asks.work_is

@@ -5,7 +5,7 @@
 use Rattle.std.specs.Prelude.{◌≤◌, ℕ, length}
 use Rattle.split_pieces.specs.Pieces.{IsUnit}
 use Rattle.trace_args.specs.Command.{SplitData}
-use Rattle.run_words.specs.Job.{FileCommand, Report, Dump, Split, Job, OnFile, OnFiles, SelfTest, Restore}
+use Rattle.run_words.specs.Job.{FileCommand, Report, Dump, Split, Job, OnFile, OnFiles, SelfTest, Restore, About}
 
 pub record IsAllowedSplit (words : SplitData) : Type 0 where
   pub unit : IsUnit words.unit
@@ -25,3 +25,4 @@ IsAllowedJob (OnFile command) = IsAllowed command
 IsAllowedJob (OnFiles words) = length words.more ≤ 7
 IsAllowedJob (SelfTest words) = IsWorkers words.workers
 IsAllowedJob (Restore words) = length words.files ≤ 256
+IsAllowedJob (About topic) = Unit {0}

@@ -3,6 +3,7 @@
 use Rattle.std.specs.Prelude.{Result, Ok, Err, ◌≡◌, ◌≢◌, List, [], ◌∷◌, ℕ, MatchResult}
 use Rattle.trace_args.specs.declared.fault.WordFault.{WordFault}
 use Rattle.trace_args.specs.declared.fault.WordKind.TheVariants as kind
+use Rattle.trace_args.specs.declared.topic.Topic.{Topic}
 use Rattle.trace_args.specs.Command as asked
 use Rattle.trace_args.specs.Command.{CommandData, ReportData, DumpData, SelfData, SplitData, RestoreData, report_view, dump_view, self_view, split_view, restore_view}
 use Rattle.trace_args.specs.Reading.{reading}
@@ -17,12 +18,13 @@ pub data FileCommand : Type 0 where
   Dump : DumpData → FileCommand
   Split : SplitData → FileCommand
 
--- a command on one file, a report of several, a self-test, or a restore
+-- a command on one file, a report of several, a self-test, a restore, or what the program tells of itself
 pub data Job : Type 0 where
   OnFile : FileCommand → Job
   OnFiles : ReportData → Job
   SelfTest : SelfData → Job
   Restore : RestoreData → Job
+  About : Topic → Job
 
 -- a report, by the inputs after its first
 abbrev pub report_by_more : List (List ℕ) → ReportData → Job
@@ -39,6 +41,7 @@ job_read (Ok (asked.Dump dump)) = Ok (OnFile (Dump dump))
 job_read (Ok (asked.Split split)) = Ok (OnFile (Split split))
 job_read (Ok (asked.SelfTest words)) = Ok (SelfTest words)
 job_read (Ok (asked.Restore words)) = Ok (Restore words)
+job_read (Ok (asked.About topic)) = Ok (About topic)
 job_read (Err wrong) = Err wrong
 
 -- the job that words ask for, or their first fault
@@ -55,6 +58,7 @@ job_view (code_job.OnFile command) = OnFile (command_view command)
 job_view (code_job.OnFiles report) = OnFiles (report_view report)
 job_view (code_job.SelfTest words) = SelfTest (self_view words)
 job_view (code_job.Restore words) = Restore (restore_view words)
+job_view (code_job.About topic) = About topic
 
 -- an answer is the job; the only other is that there was no memory
 abbrev pub IsJob : List (List ℕ) → Result CodeJob WordFault → Type 0

@@ -7,7 +7,7 @@ use Rattle.trace_args.specs.declared.fault.WordFault.{WordFault}
 use Rattle.filter_lang.specs.Filter as lang
 use Rattle.filter_lang.specs.Reading as filter_text
 use Rattle.filter_truth.specs.Selection.{UseData}
-use Rattle.run_words.specs.Job.{FileCommand, Report, Dump, Split, Job, OnFile, OnFiles, SelfTest, Restore, job_of}
+use Rattle.run_words.specs.Job.{FileCommand, Report, Dump, Split, Job, OnFile, OnFiles, SelfTest, Restore, About, job_of}
 use Rattle.run_words.specs.Readings.{readings}
 use Rattle.run_words.specs.declared.usage.UsageFault.{UsageFault}
 use Rattle.run_words.specs.declared.usage.UsageFault.TheVariants.{Word, Filter}
@@ -35,6 +35,7 @@ job_filters (OnFile command) = command_filters command
 job_filters (OnFiles words) = words.filters
 job_filters (SelfTest words) = []
 job_filters (Restore words) = []
+job_filters (About topic) = []
 
 -- the filters of some words, where all have a reading
 unfoldable pub uses_in : List FilterData → List UseData

@@ -7,7 +7,8 @@ ghost use Rattle.run_words.specs.Job.{IsJob, job_view, report_job};
 
 use std::alloc::Global;
 use trace_args::{
-    Command, DumpWords, ReportWords, RestoreWords, SelfWords, SplitWords, WordFault, read_words,
+    Command, DumpWords, ReportWords, RestoreWords, SelfWords, SplitWords, Topic, WordFault,
+    read_words,
 };
 use trace_base::Words;
 
@@ -29,13 +30,15 @@ pub enum Job<'a> {
     SelfTest(SelfWords),
     /// A restore, which works on a partial file and on data files.
     Restore(RestoreWords<'a>),
+    /// What the program tells of itself.
+    About(Topic),
 }
 
 /// Reads the words into the job that they ask for.
 ///
 /// # Errors
 /// The words' first fault. Only `WordKind::Memory`, at word 1, may stand in place of any answer.
-#[tactic(auto, using(crate::proofs::Jobs::report_asked, crate::proofs::Jobs::dump_asked, crate::proofs::Jobs::self_test_asked, crate::proofs::Jobs::split_asked, crate::proofs::Jobs::restore_asked, crate::proofs::Jobs::none_asked))]
+#[tactic(auto, using(crate::proofs::Jobs::report_asked, crate::proofs::Jobs::dump_asked, crate::proofs::Jobs::self_test_asked, crate::proofs::Jobs::split_asked, crate::proofs::Jobs::restore_asked, crate::proofs::Jobs::about_asked, crate::proofs::Jobs::none_asked))]
 pub(crate) fn read_job<'a>(alloc: Global, words: &'a Words) -> Result<Job<'a>, WordFault>
     ensures job { IsJob words.now result }
     ensures allowed { IfOk result (λ job. IsAllowedJob (job_view job)) }
@@ -46,6 +49,7 @@ pub(crate) fn read_job<'a>(alloc: Global, words: &'a Words) -> Result<Job<'a>, W
         Ok(Command::Split(split)) => Ok(Job::OnFile(FileCommand::Split(split))),
         Ok(Command::SelfTest(words)) => Ok(Job::SelfTest(words)),
         Ok(Command::Restore(words)) => Ok(Job::Restore(words)),
+        Ok(Command::About(topic)) => Ok(Job::About(topic)),
         Err(fault) => Err(fault),
     }
 }

@@ -72,7 +72,7 @@ fn filters_of<'a, 'b>(job: &'b Job<'a>) -> &'b [FilterWord<'a>]
     match job {
         Job::OnFile(command) => command_filters(command),
         Job::OnFiles(words) => words.filters.as_slice(),
-        Job::SelfTest(_) | Job::Restore(_) => &[],
+        Job::SelfTest(_) | Job::Restore(_) | Job::About(_) => &[],
     }
 }
 

@@ -17,7 +17,7 @@ use Rattle.run_words.specs.declared.usage.UsageFault.{UsageFault}
 use Rattle.run_endings.specs.Ending.{Ended, Ends, IsUnasked, Prints}
 use Rattle.trace_run.specs.Input.{ReadsInputs}
 use Rattle.run_endings.specs.Progress.{progress}
-use Rattle.run_words.specs.Job.{FileCommand, Report, Dump, Split, Job, OnFile, OnFiles, SelfTest, Restore}
+use Rattle.run_words.specs.Job.{FileCommand, Report, Dump, Split, Job, OnFile, OnFiles, SelfTest, Restore, About}
 use Rattle.run_endings.specs.Meaning.{Meaning, Target, on_nothing, on_out, only}
 use Rattle.trace_run.specs.Meaning.{header_means, file_means, input_means, command_means, command_meaning, meaning_read, input_of, target_of, target_read}
 use Rattle.run_endings.specs.Outside.{FolderSeen, Outside, SinkSeen, beside}
@@ -151,6 +151,7 @@ ran_unread read before =
     nothing (Ok (OnFiles words)) = tt
     nothing (Ok (SelfTest words)) = tt
     nothing (Ok (Restore words)) = tt
+    nothing (Ok (About topic)) = tt
     nothing (Err fault) = tt
 
     keeps_off : (r : Result Job UsageFault) → KeepsOff r NoMemory before before
@@ -158,6 +159,7 @@ ran_unread read before =
     keeps_off (Ok (OnFiles words)) = ((λ is. cc), refl)
     keeps_off (Ok (SelfTest words)) = ((λ is. cc), refl)
     keeps_off (Ok (Restore words)) = ((λ is. cc), refl, λ unread. refl)
+    keeps_off (Ok (About topic)) = ((λ is. cc), refl)
     keeps_off (Err fault) = (inr refl, refl)
 
 -- the input could not be opened

@@ -4,7 +4,7 @@ use Rattle.trace_outside.specs.Causes.{HasCause}
 use Rattle.trace_outside.specs.Writing.{Gained, GainedPrefix}
 use Rattle.trace_outside.proofs.Gains.{prefix_whole}
 use Rattle.run_words.specs.declared.usage.UsageFault.{UsageFault}
-use Rattle.run_words.specs.Job.{Job, OnFile, OnFiles, SelfTest, Restore}
+use Rattle.run_words.specs.Job.{Job, OnFile, OnFiles, SelfTest, Restore, About}
 use Rattle.run_endings.specs.declared.status.Status.TheVariants.{Usage, NoMemory}
 use Rattle.run_endings.specs.declared.status.Status.{Status}
 use Rattle.std.proofs.lemmas.List.{append-nil}
@@ -30,6 +30,7 @@ wanting (Ok (OnFile command)) seen = (input_of command, refl, refl)
 wanting (Ok (OnFiles words)) seen = (words.input, named_any words seen.files words.input NoMemory (first_of words) (λ inputs. tt), refl)
 wanting (Ok (SelfTest words)) seen = ([], refl, refl)
 wanting (Ok (Restore words)) seen = (words.input, refl, refl)
+wanting (Ok (About topic)) seen = ([], refl, refl)
 wanting (Err fault) seen = refl
 
 -- what is said of words without a reading

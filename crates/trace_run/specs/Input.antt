@@ -9,7 +9,7 @@ use Rattle.dat_header.specs.declared.header.Header.{Header}
 use Rattle.dat_header.specs.Header.{header_of}
 use Rattle.run_endings.specs.declared.status.Status.{Status}
 use Rattle.run_words.specs.declared.usage.UsageFault.{UsageFault}
-use Rattle.run_words.specs.Job.{FileCommand, Report, Dump, Split, Job, OnFile, OnFiles, SelfTest, Restore}
+use Rattle.run_words.specs.Job.{FileCommand, Report, Dump, Split, Job, OnFile, OnFiles, SelfTest, Restore, About}
 use Rattle.several_report.specs.Inputs.{inputs_in, names_in, input_share}
 use Rattle.trace_run.specs.Meaning.{input_of}
 use Rattle.file_report.specs.Report.{Events, listed_events}
@@ -43,6 +43,7 @@ input_of_run (Ok (OnFile command)) told = option_and_then (λ files. input_told 
 input_of_run (Ok (OnFiles words)) told = None
 input_of_run (Ok (SelfTest words)) told = None
 input_of_run (Ok (Restore words)) told = None
+input_of_run (Ok (About topic)) told = None
 input_of_run (Err fault) told = None
 
 -- how many bytes behind the header a command needs, of a file of this size

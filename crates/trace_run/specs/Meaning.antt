@@ -9,8 +9,10 @@ use Rattle.dat_header.specs.Header.{header_of}
 use Rattle.run_endings.specs.declared.status.Status.TheVariants.{Done, Usage, Refused, ReadFault}
 use Rattle.run_words.specs.declared.usage.UsageFault.{UsageFault}
 use Rattle.run_words.specs.Usage.{asked}
+use Rattle.trace_args.specs.declared.topic.Topic.{Topic}
+use Rattle.trace_args.specs.Topics.{topic_text}
 use Rattle.trace_args.specs.Command.{DumpData, SelfData}
-use Rattle.run_words.specs.Job.{FileCommand, Report, Dump, Split, Job, OnFile, OnFiles, SelfTest, Restore}
+use Rattle.run_words.specs.Job.{FileCommand, Report, Dump, Split, Job, OnFile, OnFiles, SelfTest, Restore, About}
 use Rattle.trace_run.specs.Selftest.{self_test_line}
 use Rattle.dump_tool.specs.Dump.{dump_text}
 use Rattle.run_endings.specs.Meaning.{Target, Meaning, prints, only, on_nothing, on_out, on_folder}
@@ -26,6 +28,10 @@ dump_of words header = prints (dump_text words header ∷ []) Done
 -- the line of a self-test
 abbrev pub self_test : SelfData → Meaning
 self_test words = prints (self_test_line words ∷ []) Done
+
+-- what the program tells of itself
+abbrev pub topic_means : Topic → Meaning
+topic_means topic = prints (topic_text topic ∷ []) Done
 
 -- what a command writes to
 abbrev pub target_of : FileCommand → Target
@@ -67,6 +73,7 @@ job_target (OnFile command) = target_of command
 job_target (OnFiles words) = on_out
 job_target (SelfTest words) = on_out
 job_target (Restore words) = on_folder
+job_target (About topic) = on_out
 
 abbrev pub target_read : Result Job UsageFault → Target
 target_read (Ok job) = job_target job
@@ -78,6 +85,7 @@ meaning_read (Ok (OnFile command)) told = option_map (command_meaning command) t
 meaning_read (Ok (OnFiles words)) told = option_map (files_meaning words) told
 meaning_read (Ok (SelfTest words)) told = Some (self_test words)
 meaning_read (Ok (Restore words)) told = option_map (restore_meaning words) told
+meaning_read (Ok (About topic)) told = Some (topic_means topic)
 meaning_read (Err fault) told = Some (only Usage)
 
 abbrev pub meaning : List (List ℕ) → Option NamedFiles → Option Meaning

@@ -23,6 +23,7 @@ ghost use Rattle.filter_truth.specs.SelectionView.{use_of};
 
 use crate::dump::print_dump;
 use crate::selftest::print_self_test;
+use crate::topic::print_topic;
 use dat_header::{Header, OpenFault, read_header};
 use file_report::{ReportPlan, print_report};
 use filter_truth::FilterUse;
@@ -71,6 +72,10 @@ pub(crate) fn run_job<'a, R: Threads + Sync, F: Folder, O: Sink, G: Gate>(
             Outcome { status, file: "" }
         }
         Job::Restore(words) => restore_files(resources.alloc, words, folder),
+        Job::About(topic) => {
+            let status = print_topic(*topic, out);
+            Outcome { status, file: "" }
+        }
     }
 }
 

@@ -7,6 +7,7 @@ mod laws;
 mod messages;
 mod selftest;
 mod top;
+mod topic;
 
 pub use laws::{selection_rises, split_files_read_back};
 pub use run_endings::Status;

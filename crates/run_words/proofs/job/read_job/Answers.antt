@@ -1,6 +1,6 @@
 use Rattle.std.proofs.Common.{rules, subst, sym}
 use Rattle.trace_args.specs.Command.{report_view, restore_view, self_view, split_view}
-use Rattle.run_words.proofs.Jobs.{restore_asked, split_asked}
+use Rattle.run_words.proofs.Jobs.{none_asked, restore_asked, split_asked}
 use Rattle.run_words.proofs.RestoreWords.{restore_few}
 use Rattle.run_words.proofs.SplitWords.{split_allowed}
 use Rattle.run_words.proofs.InputWords.{report_allowed}
@@ -26,3 +26,6 @@ returns-in-Ok-Restore-clause-allowed c = restore_few c.args.words.now (restore_v
 
 pub returns-in-Ok-Restore-clause-job : goal.returns-in-Ok-Restore-clause-job
 returns-in-Ok-Restore-clause-job c = restore_asked c.args.words.now (restore_view c.in-Ok-Restore.words) (search rules)
+
+pub returns-in-Err-clause-job : goal.returns-in-Err-clause-job
+returns-in-Err-clause-job c = none_asked c.args.words.now c.in-Err.fault c.in-Err.ensures.exact

@@ -1,6 +1,7 @@
 use Rattle.run_endings.specs.Outside.{sink_seen}
 use Rattle.trace_run.proofs.JobsRan.{files_ran, restore_ran}
 use Rattle.trace_run.proofs.SelfTested.{self_tested}
+use Rattle.trace_run.proofs.TopicTold.{topic_told}
 use Rattle.trace_run.proofs.command.run_job.Goals as goal
 
 pub returns-in-SelfTest-clause-ran : goal.returns-in-SelfTest-clause-ran
@@ -17,3 +18,6 @@ returns-in-OnFiles-clause-named g c = rw c.in-OnFiles.is c.print_files.ensures.n
 
 pub returns-in-Restore-clause-named : goal.returns-in-Restore-clause-named
 returns-in-Restore-clause-named g c = rw c.in-Restore.is c.restore_files.ensures.named
+
+pub returns-in-About-clause-ran : goal.returns-in-About-clause-ran
+returns-in-About-clause-ran g c = rw c.in-About.is (topic_told _ c.print_topic-status.result _ _ _ c.print_topic-status.ensures)
