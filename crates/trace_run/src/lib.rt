@@ -9,6 +9,6 @@ mod selftest;
 mod top;
 mod topic;
 
-pub use laws::{selection_rises, split_files_read_back};
+pub use laws::{differences_by_places, selection_rises, split_files_read_back};
 pub use run_endings::Status;
 pub use top::run;
