@@ -26,7 +26,7 @@ use Rattle.run_endings.specs.Ending.{Ends}
 use Rattle.several_report.specs.Inputs.{input_share, NamedInput, WrongInput, inputs_in, names_in}
 use Rattle.run_endings.specs.Meaning.{Meaning, on_out}
 use Rattle.several_report.specs.Meaning.{ended_in, files_meaning, files_report, inputs_mean}
-use Rattle.several_report.specs.Naming.{IsInputOf}
+use Rattle.several_report.specs.Naming.{IsInputOf, IsHeldNamed}
 use Rattle.run_endings.specs.Outside.{FolderSeen, SinkSeen, beside}
 use Rattle.run_endings.specs.Output.{Shows, Writes}
 use Rattle.run_endings.specs.Ran.{MissesNothingElse}
@@ -37,6 +37,7 @@ use Rattle.run_endings.proofs.Endings.{Around, ended_around, known_so, if_known}
 use Rattle.several_report.proofs.InputNames.{named_any}
 use Rattle.run_endings.proofs.Printed.{printed_known}
 use Rattle.run_endings.proofs.Reading.{any_answer}
+use Rattle.several_report.proofs.Unread.{WereRead, name_at, unread_there}
 
 -- THE CUT'S FILE IS ONE OF THEM
 
@@ -79,13 +80,18 @@ sum_mapped f g [] = refl
 sum_mapped f g (x ∷ xs) = omega (arith, sum_mapped f g xs, sum_by-cons f (g x) (map g xs), sum_by-cons (λ z. f (g z)) x xs)
 
 -- an element of a list, as its own default
-faulty_at : (xs : List Seen) (i : ℕ) → i < length xs → ((d : Seen) → 0 < (get_or xs i d).faults) → SomeFaulty (map file_in xs)
-faulty_at xs i lt each = (i, omega (arith, lt, length-map xs file_in), at (slice_get_cases xs i).1)
+own_faulty : (xs : List Seen) (i : ℕ) → i < length xs → ((d : Seen) → 0 < (get_or xs i d).faults) → (i < length (map file_in xs)) × ((d : FileSeen) → 0 < (get_or (map file_in xs) i d).faults)
+own_faulty xs i lt each = (omega (arith, lt, length-map xs file_in), at (slice_get_cases xs i).1)
   where
     at : ((x : Seen) × (i < length xs) × (slice_get xs i ≡ Some x) × (get_or xs i x ≡ x)) ⊎ ((length xs ≤ i) × (slice_get xs i ≡ None))
         → (d : FileSeen) → 0 < (get_or (map file_in xs) i d).faults
     at (inl found) d = subst (λ (f : FileSeen). 0 < f.faults) (sym (get_or-map file_in xs i found.0 d lt)) (each found.0)
     at (inr past) d = absurd (omega (arith, past.0, lt))
+
+faulty_at : (xs : List Seen) (i : ℕ) → i < length xs → ((d : Seen) → 0 < (get_or xs i d).faults) → SomeFaulty (map file_in xs)
+faulty_at xs i lt each =
+    let own = own_faulty xs i lt each in
+    (i, own.0, own.1)
 
 -- THE END
 
@@ -176,6 +182,24 @@ module _ (words : ReportData) (old new : List Seen) (before now : FolderSeen) (o
     named_told (Some files) (end.Read source) inputs is report = tt
     named_told (Some files) end.Write inputs is report = tt
 
+    unread_of : (e : FilesEnd) → ReadRose e old new → length new ≡ length old → IfSome (source_of e) (λ source. IfSome (slice_get (names_in words) source) (λ n. n ≡ name))
+        → IsHeldNamed words (map file_in new) (status_of_files e) before now name
+    unread_of end.Done read same is = tt
+    unread_of (end.Malformed source cpu page) read same is = tt
+    unread_of end.Write read same is = tt
+    unread_of (end.Read source) read same is =
+        let lt : source < length (names_in words) = omega (arith, read.0, opened.count) in
+        let faulty = own_faulty new source (omega (arith, same, read.0)) (λ d. let rose = read.1 d in omega (arith, rose)) in
+        record {
+          input = record {
+            place = source;
+            there = name_at (names_in words) source name lt is;
+            unread = unread_there before.files (names_in words) source before.counts.misses now.counts.misses lt
+                (known_so (λ files. AreInputs words files (names_in words) old) (λ files. WereRead files (names_in words)) before.files (λ files inputs. (inputs.inputs, inputs.read)) opened.inputs) opened.misses;
+          };
+          own = inr faulty;
+        }
+
     pub files_shown : (All (λ source. IsSome source.told) old → IsFilesReport all_shown out.written out_now.written answer)
         → ReadRose answer old new → WriteRose answer out.faults out_now.faults → AllReadTheirParts old new → AreSame old new
         → FilesReported words (map file_in new) (status_of_files answer) name (beside before out) (beside now out_now)
@@ -197,6 +221,7 @@ module _ (words : ReportData) (old new : List Seen) (before now : FolderSeen) (o
       bytes = any_answer (status_of_files answer) opened.counts.bytes;
       reads = any_answer (status_of_files answer) (reads_within before.files same.count reads opened.inputs);
       named = (named, named_told before.files answer opened.inputs place report);
+      unread = unread_of answer read same.count place;
     }
 
   -- there was no memory for it
@@ -223,6 +248,7 @@ module _ (words : ReportData) (old new : List Seen) (before now : FolderSeen) (o
         bytes = tt;
         reads = tt;
         named = named_any words before.files name NoMemory named (λ inputs. tt);
+        unread = tt;
       }
 
 -- a buffer for the longest line has room for those of each

@@ -4,3 +4,4 @@ pub mod OpenInputs
 pub mod FilesShown
 pub mod FilesRan
 pub mod LentLanes
+pub mod Unread

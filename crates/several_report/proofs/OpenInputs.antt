@@ -28,24 +28,16 @@ use Rattle.several_report.specs.Naming.{IsInputOf}
 use Rattle.run_endings.specs.Outside.{FolderSeen, SinkSeen, beside}
 use Rattle.run_endings.specs.Ran.{MissesNothingElse}
 use Rattle.several_report.specs.Sources.{AreInputs, AreOpened, IsInput, IsOpened, IsUnopened, LeavesHeld, FilesReported, StandsAt, file_in, reads_due}
-use Rattle.run_endings.proofs.Endings.{if_known, stored_none}
+use Rattle.run_endings.proofs.Endings.{if_known, stored_none, known_so}
 use Rattle.run_words.proofs.Readings.{readings_fault, readings_more}
 use Rattle.several_report.proofs.InputNames.{named_any}
+use Rattle.several_report.proofs.Unread.{WereRead, found_there, name_at, next_named, there_is, unread_next}
 
 sum_push : {X : Type 0} (f : X → ℕ) (xs : List X) (x : X) → sum_by f (xs ++ x ∷ []) ≡ sum_by f xs + f x
 sum_push f xs x = omega (arith, sum_by-append f xs (x ∷ []), sum_one f x)
   where
     sum_one : {X : Type 0} (f : X → ℕ) (x : X) → sum_by f (x ∷ []) ≡ f x
     sum_one f x = omega (arith, sum_by-cons f x [])
-
--- the misses after a name that is there
-there_is : (found : Option (List ℕ)) (misses : ℕ) → IsSome found → (if is_none found then raised misses 1 else misses) ≡ misses
-there_is None misses there = absurd cc
-there_is (Some bytes) misses there = refl
-
-found_there : (name : List ℕ) (found : Option (List ℕ)) (input : NamedInput) → input_found name found ≡ Ok input → IsSome found
-found_there name None input is = absurd (let bad : ⊥ = cc in bad)
-found_there name (Some bytes) input is = refl
 
 module _ (words : ReportData) (names : List (List ℕ)) (name : List ℕ) (sources : List Seen) where
   inputs_are : (files : NamedFiles) (source : Seen) → AreInputs words files names sources → IsInput words files name source → AreInputs words files (names ++ name ∷ []) (sources ++ source ∷ [])
@@ -172,6 +164,7 @@ module _ (words : ReportData) (names : List (List ℕ)) (name : List ℕ) (sourc
           bytes = tt;
           reads = tt;
           named = (is_one, named_told before.files meaning);
+          unread = tt;
         }
       where
         by_told : (told : Option NamedFiles) → IfSome told (λ files. inputs_in files (names_in words) ≡ Err (record { name = name; status = Refused fault }))
@@ -202,6 +195,16 @@ module _ (words : ReportData) (names : List (List ℕ)) (name : List ℕ) (sourc
       bytes = tt;
       reads = tt;
       named = named_any words before.files name ReadFault is_one (λ inputs. tt);
+      unread = record {
+        input = record {
+          place = length names;
+          there = next_named (names_in words) names name rest are;
+          unread = unread_next (names_in words) names name rest are before.files before.counts.misses mid.counts.misses now.counts.misses
+              (known_so (λ files. AreInputs words files names sources) (λ files. WereRead files names) before.files (λ files inputs. (inputs.inputs, inputs.read)) all.inputs) all.misses
+              (subst (λ (t : Option NamedFiles). IfSome t (λ fs. now.counts.misses ≡ misses_after fs name mid.counts.misses)) all.files one.misses);
+        };
+        own = inl (omega (arith, length-map sources file_in, all.count), omega (arith, all.counts.reading, one.reason));
+      };
     }
     unopened_shown NoMemory one = record {
       ended = record {
@@ -215,6 +218,7 @@ module _ (words : ReportData) (names : List (List ℕ)) (name : List ℕ) (sourc
       bytes = tt;
       reads = tt;
       named = named_any words before.files name NoMemory is_one (λ inputs. tt);
+      unread = tt;
     }
     unopened_shown Done one = absurd one.reason
     unopened_shown Usage one = absurd one.reason
@@ -255,18 +259,14 @@ pub inputs_closed : {S : Type 0} (f : S → Seen) (all left tail : List S) (befo
 inputs_closed {S} f all [] tail before now e none closes = subst (λ (xs : List S). ClosesMany (map file_in (map f xs)) before now) (sym e) closes
 inputs_closed {S} f all (x ∷ left) tail before now e none closes = absurd (omega (arith, none))
 
--- the name of a place
-name_at : (names : List (List ℕ)) (i : ℕ) (name : List ℕ) → i < length names → StandsAt names i name → get_or names i name ≡ name
-name_at names i name lt stands = subst (λ (found : Option (List ℕ)). IfSome found (λ there. there ≡ name)) (slice_get-get_or names i name lt) stands
-
 -- the names in front of one, that one, and those behind it
 pub names_split : (names : List (List ℕ)) (i : ℕ) (name : List ℕ) → i < length names → StandsAt names i name → names ≡ take i names ++ name ∷ drop (i + 1) names
 names_split names i name lt stands =
     let next : suc i ≡ i + 1 = omega arith in
     sym (take-append-drop i names)
     ∙ ap (λ (rest : List (List ℕ)). take i names ++ rest)
-    (drop-cons names i name lt ∙ ap (λ (n : List ℕ). n ∷ drop (suc i) names) (name_at names i name lt stands) ∙ ap (λ (k : ℕ). name ∷ drop k names) next)
+    (drop-cons names i name lt ∙ ap (λ (n : List ℕ). n ∷ drop (suc i) names) (name_at names i name lt stands name) ∙ ap (λ (k : ℕ). name ∷ drop k names) next)
 
 pub names_more : (names : List (List ℕ)) (i : ℕ) (name : List ℕ) → i < length names → StandsAt names i name → take i names ++ name ∷ [] ≡ take (i + 1) names
 names_more names i name lt stands =
-    ap (λ (n : List ℕ). take i names ++ n ∷ []) (sym (name_at names i name lt stands)) ∙ sym (take_more names i name lt)
+    ap (λ (n : List ℕ). take i names ++ n ∷ []) (sym (name_at names i name lt stands name)) ∙ sym (take_more names i name lt)

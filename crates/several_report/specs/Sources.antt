@@ -31,7 +31,7 @@ use Rattle.several_report.specs.Inputs.{input_share, NamedInput, shown_in, input
 use Rattle.time_merge.specs.Unused.{IsUnused}
 use Rattle.several_report.specs.Meaning.{files_meaning}
 use Rattle.run_endings.specs.Meaning.{on_out}
-use Rattle.several_report.specs.Naming.{IsNameIn}
+use Rattle.several_report.specs.Naming.{IsNameIn, IsHeldNamed}
 use Rattle.run_endings.specs.Outside.{FolderSeen, Outside, SinkSeen, beside}
 use Rattle.run_endings.specs.Ran.{MissesNothingElse}
 use Rattle.report_context.specs.Lines.{item_line}
@@ -165,6 +165,7 @@ pub record FilesReported (words : ReportData) (held : List FileSeen) (status : S
   pub bytes : BehindHeader status (now.folder.counts.bytes ≡ before.folder.counts.bytes)
   pub reads : BehindHeader status (IfSome before.folder.files (λ files. IfOk (inputs_in files (names_in words)) (λ inputs. sum_by (λ file. file.reads) held ≤ sum_by (input_share words) inputs)))
   pub named : IsNameIn words before.folder.files status name
+  pub unread : IsHeldNamed words held status before.folder now.folder name
 
 -- one more input: it is open too, or that is the end of the report
 abbrev pub OpensNext : ReportData → FolderSeen → List (List ℕ) → List ℕ → List Seen → FolderSeen → Result Unit Outcome → Type 0

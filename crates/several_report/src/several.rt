@@ -4,8 +4,8 @@ ghost use Rattle.std.specs.Prelude.{◌≡◌, ◌≤◌, ◌<◌, Ok, [], All, 
 ghost use Rattle.multi_report.specs.Sources.{IsFreshSource, IsUsable};
 ghost use Rattle.trace_args.specs.Command.{report_view};
 ghost use Rattle.several_report.specs.Inputs.{names_in};
-ghost use Rattle.several_report.specs.Naming.{IsNameIn};
-ghost use Rattle.run_endings.specs.Outside.{FolderSeen, beside, outside_seen, sink_seen};
+ghost use Rattle.several_report.specs.Naming.{IsNameIn, IsUnreadNamed};
+ghost use Rattle.run_endings.specs.Outside.{FolderSeen, beside, outside_seen, sink_seen, folder_seen};
 ghost use Rattle.several_report.specs.Ran.{FilesRan};
 ghost use Rattle.several_report.specs.Sources as spec;
 ghost use Rattle.several_report.specs.Sources.{AreOpened, IsNameOfEnd, FilesReported, file_in, source_seen};
@@ -31,6 +31,7 @@ pub fn print_files<'a, F: Folder, O: Sink>(
     ensures ran { FilesRan (report_view words.now) result.status
         (outside_seen F.Folder O.Sink folder.old out.old) (outside_seen F.Folder O.Sink folder.new out.new) }
     ensures named { IsNameIn (report_view words.now) (F.files folder.old) result.status result.file.now }
+    ensures unread { IsUnreadNamed (report_view words.now) result.status (folder_seen F.Folder folder.old) (folder_seen F.Folder folder.new) result.file.now }
 {
     let Ok(mut sources) = Vec::with_capacity(alloc, words.more.len() + 1) else {
         return Outcome {

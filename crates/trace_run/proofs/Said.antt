@@ -27,7 +27,7 @@ says_of (Err error) line before now gained prefix cause =
 -- want of memory says the same, whatever the words are
 pub wanting : (read : Result Job UsageFault) (seen : FolderSeen) → IsLineRead read NoMemory seen seen (message [] NoMemory)
 wanting (Ok (OnFile command)) seen = (input_of command, refl, refl)
-wanting (Ok (OnFiles words)) seen = (words.input, named_any words seen.files words.input NoMemory (first_of words) (λ inputs. tt), refl)
+wanting (Ok (OnFiles words)) seen = (words.input, (named_any words seen.files words.input NoMemory (first_of words) (λ inputs. tt), tt), refl)
 wanting (Ok (SelfTest words)) seen = ([], refl, refl)
 wanting (Ok (Restore words)) seen = (words.input, refl, refl)
 wanting (Ok (About topic)) seen = ([], refl, refl)

@@ -5,6 +5,8 @@ use Rattle.several_report.specs.Sources.{file_in, source_seen}
 use Rattle.several_report.proofs.FilesRan.{files_unbegun, shown_ran}
 use Rattle.several_report.proofs.InputNames.{first_of, named_any}
 use Rattle.several_report.proofs.several.print_files.Goals as goal
+use Rattle.several_report.proofs.Unread.{unread_later}
+use Rattle.run_endings.specs.Outside.{folder_seen}
 
 pub returns-in_default-clause-ran : goal.returns-in_default-clause-ran
 returns-in_default-clause-ran g c = files_unbegun (report_view c.args.words.now) _
@@ -19,3 +21,9 @@ returns-clause-ran g c =
 
 pub returns-clause-named : goal.returns-clause-named
 returns-clause-named g c = c.print_opened-outcome.ensures.named
+
+pub returns-clause-unread : goal.returns-clause-unread
+returns-clause-unread g c =
+    unread_later (report_view c.args.words.now) _ c.print_opened-outcome.result.status c.print_opened-outcome.result.file.now
+    (folder_seen g.F.Folder c.args.folder.now) (folder_seen g.F.Folder c.print_opened-outcome.new.folder) (folder_seen g.F.Folder c.close_sources.new.folder)
+    c.close_sources.ensures.counts.misses c.print_opened-outcome.ensures.unread

@@ -14,7 +14,7 @@ pub returns-in-OnFiles-clause-ran : goal.returns-in-OnFiles-clause-ran
 returns-in-OnFiles-clause-ran g c = rw c.in-OnFiles.is (files_ran _ c.print_files.result.status _ _ c.print_files.ensures.ran)
 
 pub returns-in-OnFiles-clause-named : goal.returns-in-OnFiles-clause-named
-returns-in-OnFiles-clause-named g c = rw c.in-OnFiles.is c.print_files.ensures.named
+returns-in-OnFiles-clause-named g c = rw c.in-OnFiles.is (c.print_files.ensures.named, c.print_files.ensures.unread)
 
 pub returns-in-Restore-clause-named : goal.returns-in-Restore-clause-named
 returns-in-Restore-clause-named g c = rw c.in-Restore.is c.restore_files.ensures.named
