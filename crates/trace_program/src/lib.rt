@@ -2,14 +2,17 @@
 #![tactic(auto)]
 
 ghost use Rattle.std.specs.Prelude.{◌≡◌, ◌⊎◌, IfErr, IfOk};
-ghost use Rattle.trace_run.specs.Answers.{IsNumberOf};
+ghost use Rattle.run_endings.specs.Outside.{outside_seen, sink_seen};
+ghost use Rattle.run_words.specs.Usage.{asked};
+ghost use Rattle.trace_run.specs.Answers.{Answers, IsNumberOf};
 
+use std::alloc::Global;
 use std::io::{ErrorKind, Write};
 use std::rt::{Env, Files};
 use std::thread::Threads;
 use std::{env, io};
 use trace_base::Words;
-use trace_outside::{NoGate, RealFolder, RealSink, write_all};
+use trace_outside::{Folder, NoGate, RealFolder, RealSink, Sink, write_all};
 use trace_run::{Status, run};
 
 /// The number with which the program ends where its words cannot be read, which no run answers.
@@ -33,7 +36,7 @@ where
     match words {
         Ok(words) => {
             let mut folder = RealFolder::new(rt, alloc);
-            run(rt, alloc, &words, &mut folder, &mut out, &mut err, &NoGate).number()
+            program_on(rt, alloc, &words, &mut folder, &mut out, &mut err)
         }
         Err(error) if error.kind() == ErrorKind::OutOfMemory => {
             let _ = write_all(&mut err, b"trace-cmd: out of memory\n");
@@ -44,6 +47,23 @@ where
             UNREADABLE_WORDS
         }
     }
+}
+
+/// Runs the program on its words over this folder and these sinks, and answers the number of the run's status. The output goes to `out`,
+/// and the message to `err`.
+pub fn program_on<R: Threads + Sync, F: Folder, O: Sink, E: Sink>(
+    rt: &R,
+    alloc: Global,
+    words: &Words,
+    folder: &mut F,
+    out: &mut O,
+    err: &mut E,
+) -> u8
+    ensures { Answers (asked words.now) result
+        (outside_seen F.Folder O.Sink folder.old out.old) (outside_seen F.Folder O.Sink folder.new out.new)
+        (sink_seen E.Sink err.old) (sink_seen E.Sink err.new) }
+{
+    run(rt, alloc, words, folder, out, err, &NoGate).number()
 }
 
 /// The words of the command line behind the program's own name.
