@@ -1,5 +1,5 @@
 -- A report of calls: the first line, and behind it those of the calls.
-use Rattle.std.proofs.Common.{◌≡◌, ℕ, List, [], ◌∷◌, ◌++◌, map, Option, None, Some, IfSome, refl, sym, ap, ◌∙◌, subst}
+use Rattle.std.proofs.Common.{◌≡◌, ℕ, List, [], ◌∷◌, ◌++◌, map, Option, None, Some, IfSome, refl, sym, ap, ◌∙◌, subst, ◌≢◌}
 use Rattle.std.proofs.lemmas.List.Concat.{flat_map-cons}
 use Rattle.std.specs.List.{flat_map}
 use Rattle.trace_base.specs.declared.part.Part.{Part}
@@ -10,7 +10,7 @@ use Rattle.dat_header.specs.declared.header.Header.{Header}
 use Rattle.call_pairs.specs.declared.call.Call.{Call}
 use Rattle.graph_report.specs.CallText.{call_line}
 use Rattle.graph_report.specs.Gathered.{cut_place, reached_calls}
-use Rattle.run_endings.specs.declared.status.Status.TheVariants.{WriteFault}
+use Rattle.run_endings.specs.declared.status.Status.TheVariants.{ReadFault, WriteFault}
 use Rattle.run_endings.specs.Ends.{status_of_cut}
 use Rattle.run_endings.specs.Meaning.{Meaning}
 use Rattle.file_report.specs.Meaning.{calls_report}
@@ -40,6 +40,11 @@ writes_at m (Some place) old now is gained = (is, gained)
 pub cut_shows : (unread : Type 0) (cut : Option (ℕ × ℕ)) (before now : SinkSeen) → Shows unread (status_of_cut cut) before now
 cut_shows unread None before now = tt
 cut_shows unread (Some place) before now = tt
+
+-- nor was it a fault of reading
+pub cut_no_fault : (cut : Option (ℕ × ℕ)) → status_of_cut cut ≢ ReadFault
+cut_no_fault None = λ is. cc
+cut_no_fault (Some place) = λ is. cc
 
 module _ (given : ContextData) (shown : List (ℕ × Part)) (header : Header) where
   abbrev means : List ℕ → Meaning

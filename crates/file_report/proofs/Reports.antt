@@ -1,5 +1,5 @@
 -- A report, by what its words ask for: what its parts did is what the whole was to do.
-use Rattle.std.proofs.Common.{◌≡◌, ◌≤◌, ◌-◌, ◌*◌, ℕ, Bool, true, false, List, [], Option, None, Some, IfSome, sym, subst, arith}
+use Rattle.std.proofs.Common.{◌≡◌, ◌≤◌, ◌-◌, ◌*◌, ℕ, Bool, true, false, List, [], Option, None, Some, IfSome, sym, subst, arith, refl}
 use Rattle.std.specs.Option.{option_map}
 use Rattle.trace_base.specs.declared.part.Part.{Part}
 use Rattle.trace_outside.specs.Causes.{Rose, raised}
@@ -11,14 +11,14 @@ use Rattle.report_print.specs.ContextData.{ContextData}
 use Rattle.trace_args.specs.Command.{ReportData}
 use Rattle.word_values.specs.declared.listing.Listing.{Listing}
 use Rattle.run_endings.specs.declared.status.Status.{Status}
-use Rattle.run_endings.specs.declared.status.Status.TheVariants.{NoMemory}
+use Rattle.run_endings.specs.declared.status.Status.TheVariants.{NoMemory, ReadFault}
 use Rattle.run_endings.specs.Ending.{Prints}
 use Rattle.report_context.specs.Context.{context_of}
 use Rattle.file_report.specs.Due.{ReadsDue, parts_share, report_share}
 use Rattle.run_endings.specs.Progress.{parts_size}
 use Rattle.file_report.specs.Meaning.{calls_report, events_report, latency_report, list_report, report_by, shown_report}
 use Rattle.run_endings.specs.Outside.{SinkSeen}
-use Rattle.file_report.specs.Report.{events_on, listed_events}
+use Rattle.file_report.specs.Report.{events_on, listed_events, listed_calls}
 use Rattle.file_report.specs.Reported.{AtWork, Reported, Task, body_task, chosen_task, file_task, parts_task, progress_of}
 use Rattle.run_endings.specs.Selection.{chosen, set_or_all}
 use Rattle.run_endings.proofs.Endings.{if_known, prints_always, unprinted}
@@ -29,6 +29,7 @@ not_begun task told seen = record {
   prints = unprinted _ (option_map task.means told) seen.out;
   reads = omega arith;
   due = if_known _ told (λ bytes. if_known _ (task.events bytes) (λ events. ([], (gained_nothing seen.out.written, omega arith))));
+  gathers = λ calls unread. refl;
 }
 
 module _ (words : ReportData) (header : Header) (told : Option (List ℕ)) (status : Status) where
@@ -38,13 +39,14 @@ module _ (words : ReportData) (header : Header) (told : Option (List ℕ)) (stat
     means = report_by list words header;
     share = report_share list words header size;
     events = listed_events list words header;
+    calls = listed_calls list words.calls header.body;
   }
 
   pub events_reported : (size : ℕ) (before now : AtWork) → words.list ≡ None
       → Reported (body_task words header header.body size) told status before now → Reported (file_task words header size) told status before now
   events_reported size before now none did =
       subst (λ (list : Option Listing). Reported (by_list list size) told status before now) (sym none)
-      (record { prints = did.prints; reads = did.reads; due = did.due })
+      (record { prints = did.prints; reads = did.reads; due = did.due; gathers = did.gathers })
 
   pub list_reported : (list : Listing) (size faults reads : ℕ) (before now : SinkSeen) → words.list ≡ Some list
       → Prints ⊥ (Some (list_report header list)) status before now
@@ -55,6 +57,7 @@ module _ (words : ReportData) (header : Header) (told : Option (List ℕ)) (stat
         prints = prints_always _ (list_report header list) told status before now prints;
         reads = omega arith;
         due = if_known _ told (λ bytes. tt);
+        gathers = λ calls unread. absurd cc;
       })
 
   pub latency_reported : (size : ℕ) (before now : AtWork) → header.body ≡ Latency
@@ -62,7 +65,7 @@ module _ (words : ReportData) (header : Header) (told : Option (List ℕ)) (stat
       → now.reads ≤ raised before.reads (size - header.end) → Reported (body_task words header header.body size) told status before now
   latency_reported size before now is prints reads =
       subst (λ (body : Body). Reported (body_task words header body size) told status before now) (sym is)
-      (record { prints = prints; reads = reads; due = if_known _ told (λ bytes. tt) })
+      (record { prints = prints; reads = reads; due = if_known _ told (λ bytes. tt); gathers = λ calls unread. absurd cc })
 
   pub fly_reported : (size : ℕ) (slice own : List Part) (before now : AtWork) → header.body ≡ Fly own → slice ≡ own
       → Reported (chosen_task words header slice) told status before now → Reported (body_task words header header.body size) told status before now
@@ -70,7 +73,7 @@ module _ (words : ReportData) (header : Header) (told : Option (List ℕ)) (stat
       let there : Reported (chosen_task words header own) told status before now =
       subst (λ (parts : List Part). Reported (chosen_task words header parts) told status before now) same did in
       subst (λ (body : Body). Reported (body_task words header body size) told status before now) (sym is)
-      (record { prints = there.prints; reads = there.reads; due = there.due })
+      (record { prints = there.prints; reads = there.reads; due = there.due; gathers = there.gathers })
 
   -- what is shown is what the words choose
   pub chosen_reported : (parts : List Part) (given : ContextData) (shown : List (ℕ × Part)) (before now : AtWork) → given ≡ context_of words header → shown ≡ chosen (set_or_all words.cpus) parts
@@ -88,10 +91,11 @@ module _ (given : ContextData) (shown : List (ℕ × Part)) (header : Header) (t
   pub calls_reported : (calls wakeups : Bool) (status : Status) → calls ≡ true
       → Prints (Rose before.faults now.faults) (option_map (λ bytes. calls_report (events_on given shown header bytes)) told) status before.out now.out
       → now.reads ≤ raised before.reads (parts_size shown)
+      → (status ≡ ReadFault → now.out ≡ before.out)
       → Reported (parts_task calls wakeups given shown header) told status before now
-  calls_reported calls wakeups status is prints reads =
+  calls_reported calls wakeups status is prints reads kept =
       subst (λ (asked : Bool). Reported (parts_task asked wakeups given shown header) told status before now) (sym is)
-      (record { prints = prints; reads = calls_share wakeups reads; due = if_known _ told (λ bytes. tt) })
+      (record { prints = prints; reads = calls_share wakeups reads; due = if_known _ told (λ bytes. tt); gathers = λ calls. kept })
 
   -- of lines, with or without the latencies behind them
   by_words : (calls wakeups asked : Bool) (status : Status) → calls ≡ false → wakeups ≡ asked → Reported (parts_task false asked given shown header) told status before now
@@ -105,7 +109,7 @@ module _ (given : ContextData) (shown : List (ℕ × Part)) (header : Header) (t
       → now.reads ≤ raised before.reads (2 * parts_size shown)
       → Reported (parts_task calls wakeups given shown header) told status before now
   waits_reported calls wakeups status is behind prints reads =
-      by_words calls wakeups true status is behind (record { prints = prints; reads = reads; due = if_known _ told (λ bytes. tt) })
+      by_words calls wakeups true status is behind (record { prints = prints; reads = reads; due = if_known _ told (λ bytes. tt); gathers = λ calls unread. absurd cc })
 
   pub lines_reported : (calls wakeups : Bool) (status : Status) → calls ≡ false → wakeups ≡ false
       → Prints (Rose before.faults now.faults) (option_map (λ bytes. events_report (events_on given shown header bytes)) told) status before.out now.out
@@ -113,4 +117,4 @@ module _ (given : ContextData) (shown : List (ℕ × Part)) (header : Header) (t
       → IfSome told (λ bytes. ReadsDue (events_on given shown header bytes) 0 (progress_of before) (progress_of now))
       → Reported (parts_task calls wakeups given shown header) told status before now
   lines_reported calls wakeups status is behind prints reads due =
-      by_words calls wakeups false status is behind (record { prints = prints; reads = reads; due = due })
+      by_words calls wakeups false status is behind (record { prints = prints; reads = reads; due = due; gathers = λ calls unread. absurd cc })

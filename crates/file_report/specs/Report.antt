@@ -75,3 +75,13 @@ body_events words header (Fly parts) bytes = unless_calls words.calls words.wake
 abbrev pub listed_events : Option Listing → ReportData → Header → List ℕ → Option Events
 listed_events None words header bytes = body_events words header header.body bytes
 listed_events (Some list) words header bytes = None
+
+-- whether a report of a file with this body shows calls, which are all gathered before the first byte
+abbrev pub body_calls : Bool → Body → Bool
+body_calls calls Latency = false
+body_calls calls (Fly parts) = calls
+
+-- no list does
+abbrev pub listed_calls : Option Listing → Bool → Body → Bool
+listed_calls None calls body = body_calls calls body
+listed_calls (Some list) calls body = false

@@ -24,9 +24,10 @@ use Rattle.file_report.specs.Due.{ReadsDue, body_share, parts_share, report_shar
 use Rattle.run_endings.specs.Meaning.{Meaning}
 use Rattle.file_report.specs.Meaning.{body_report, report_as, report_by}
 use Rattle.run_endings.specs.Outside.{SinkSeen, sink_seen}
-use Rattle.file_report.specs.Report.{Events, body_events, events_on, listed_events, unless_calls}
+use Rattle.file_report.specs.Report.{Events, body_events, events_on, listed_events, unless_calls, body_calls, listed_calls}
 use Rattle.run_endings.specs.Selection.{chosen, set_or_all}
 use Rattle.run_words.specs.Usage.{uses_in}
+use Rattle.run_endings.specs.Output.{GathersFirst}
 
 -- what the words, their filters and a header keep
 pub record IsAsked (words : ReportData) (uses : List FilterUse) (header : Header) : Type 0 where
@@ -34,12 +35,13 @@ pub record IsAsked (words : ReportData) (uses : List FilterUse) (header : Header
   pub filters : uses_in words.filters ≡ map use_of uses
   pub layout : IsLayout header.layout
 
--- What a report is to do: what it means of the file's bytes, how many of them it needs behind the header, and the events of
--- which it reads no more than their lines need, if any.
+-- What a report is to do: what it means of the file's bytes, how many of them it needs behind the header, the events of which it
+-- reads no more than their lines need, if any, and whether it shows calls.
 pub record Task : Type 0 where
   pub means : List ℕ → Meaning
   pub share : ℕ
   pub events : List ℕ → Option Events
+  pub calls : Bool
 
 -- the whole report of a file of this size
 abbrev pub file_task : ReportData → Header → ℕ → Task
@@ -47,6 +49,7 @@ file_task words header size = record {
   means = report_by words.list words header;
   share = report_share words.list words header size;
   events = listed_events words.list words header;
+  calls = listed_calls words.list words.calls header.body;
 }
 
 -- where the words ask for no list
@@ -55,6 +58,7 @@ body_task words header body size = record {
   means = body_report words header body;
   share = body_share words header body size;
   events = body_events words header body;
+  calls = body_calls words.calls body;
 }
 
 -- of these parts with their processors, by whether calls are shown in place of the events, and the latencies behind them
@@ -63,6 +67,7 @@ parts_task calls wakeups given parts header = record {
   means = λ bytes. report_as calls wakeups (events_on given parts header bytes);
   share = parts_share wakeups parts;
   events = λ bytes. unless_calls calls wakeups (events_on given parts header bytes);
+  calls = calls;
 }
 
 -- of the parts of the processors that the words choose
@@ -102,3 +107,4 @@ pub record Reported (task : Task) (told : Option (List ℕ)) (status : Status) (
   pub prints : Prints (Rose before.faults now.faults) (option_map task.means told) status before.out now.out
   pub reads : now.reads ≤ raised before.reads task.share
   pub due : IfSome told (λ bytes. IfSome (task.events bytes) (λ events. ReadsDue events 0 (progress_of before) (progress_of now)))
+  pub gathers : GathersFirst task.calls status before.out now.out

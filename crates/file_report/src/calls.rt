@@ -43,6 +43,7 @@ pub(crate) fn print_calls<I: File, O: Sink>(
     ensures prints { Prints (Rose (I.faults file.old) (I.faults file.new))
         (option_map (λ bytes. calls_report (events_shown plan.now shown.now bytes)) (I.bytes file.old)) result
         (sink_seen O.Sink out.old) (sink_seen O.Sink out.new) }
+    ensures gathers { result ≡ Status.ReadFault → sink_seen O.Sink out.new ≡ sink_seen O.Sink out.old }
     ensures reads { I.reads file.new ≤ raised (I.reads file.old) (parts_size shown.now.parts.now) }
 {
     let header = plan.header;

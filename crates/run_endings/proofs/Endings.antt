@@ -15,7 +15,7 @@ use Rattle.dat_header.specs.declared.header.Header.{Header}
 use Rattle.dat_header.specs.Header.{IsRefusal}
 use Rattle.run_endings.specs.declared.status.Status.{Status}
 use Rattle.run_endings.specs.declared.status.Status.TheVariants.{Done, Usage, Refused, Malformed, ReadFault, WriteFault, NoMemory}
-use Rattle.run_endings.specs.Ending.{Ended, Ends, Finished, IsCaused, IsComplete, IsUnasked, LeavesAll, Prints, Untouched, Unwritten}
+use Rattle.run_endings.specs.Ending.{Ended, Ends, Finished, IsCaused, IsComplete, IsUnasked, LeavesAll, Prints, Untouched, Unwritten, KeepsOut}
 use Rattle.run_endings.specs.Meaning.{Meaning, Target, on_nothing, on_out, on_folder, only}
 use Rattle.run_endings.specs.Outside.{Outside, SinkSeen, beside}
 use Rattle.run_endings.specs.Ran.{JobRan, MissesNothingElse}
@@ -59,6 +59,11 @@ unmoved counts = record {
 
 pub untouched : (seen : Outside) → Untouched seen seen
 untouched seen = record { output = refl; files = refl; created = refl }
+
+pub keeps_out : (target : Target) (out : SinkSeen) → KeepsOut target out out
+keeps_out on_nothing out = tt
+keeps_out on_out out = tt
+keeps_out on_folder out = refl
 
 pub unheld : (target : Target) (unread : Type 0) (means : Option Meaning) (seen : Outside) → Ended target unread means NoMemory seen seen
 unheld target unread means seen = record {

@@ -76,6 +76,11 @@ IsCaused target unread (Refused fault) before now = IsRefusal fault
 IsCaused target unread Usage before now = IsUnasked target
 IsCaused target unread status before now = Unit {0}
 
+-- what writes to the folder leaves the output as it was
+abbrev pub KeepsOut : Target → SinkSeen → SinkSeen → Type 0
+KeepsOut on_folder before now = now ≡ before
+KeepsOut target before now = Unit {0}
+
 -- How a run, or a part of it, ended that means this, where its meaning is known, and writes to this. A read of it failed
 -- only with this reason.
 pub record Ended (target : Target) (unread : Type 0) (means : Option Meaning) (status : Status) (before now : Outside) : Type 0 where

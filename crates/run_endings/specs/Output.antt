@@ -1,5 +1,5 @@
 -- What a command that only prints leaves on the output, where there was memory.
-use Rattle.std.specs.Prelude.{Option, Result, ◌≡◌, ℕ, List, take, IfSome, OnOk, OnErr}
+use Rattle.std.specs.Prelude.{Option, Result, ◌≡◌, ℕ, List, take, IfSome, OnOk, OnErr, Bool, true}
 use Rattle.trace_outside.specs.Causes.{HasCause, Rose}
 use Rattle.trace_outside.specs.Writing.{Gained, GainedPrefix}
 use Rattle.run_endings.specs.declared.status.Status.{Status}
@@ -22,6 +22,10 @@ Writes m status old now = (status ≡ m.status) × Gained old now (text_of m.pie
 
 abbrev pub WritesFor : (List ℕ → Meaning) → Option (List ℕ) → Status → Option (List ℕ) → Option (List ℕ) → Type 0
 WritesFor means told status old now = IfSome told (λ bytes. Writes (means bytes) status old now)
+
+-- where everything is gathered before the first byte, a fault of reading left the output as it was
+abbrev pub GathersFirst : Bool → Status → SinkSeen → SinkSeen → Type 0
+GathersFirst gathers status before now = gathers ≡ true → status ≡ ReadFault → now ≡ before
 
 -- why the answer is a fault, and that it is none that leaves all as it was
 abbrev pub Shows : Type 0 → Status → SinkSeen → SinkSeen → Type 0

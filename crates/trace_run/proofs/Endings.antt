@@ -14,8 +14,8 @@ use Rattle.dat_header.specs.Header.{header_of, IsRefusal, ReadsHeader}
 use Rattle.run_endings.specs.declared.status.Status.{Status}
 use Rattle.run_endings.specs.declared.status.Status.TheVariants.{Usage, Refused, ReadFault, NoMemory}
 use Rattle.run_words.specs.declared.usage.UsageFault.{UsageFault}
-use Rattle.run_endings.specs.Ending.{Ended, Ends, IsUnasked, Prints}
-use Rattle.trace_run.specs.Input.{ReadsInputs}
+use Rattle.run_endings.specs.Ending.{Ended, Ends, IsUnasked, Prints, KeepsOut}
+use Rattle.trace_run.specs.Input.{ReadsInputs, input_of_run}
 use Rattle.run_endings.specs.Progress.{progress}
 use Rattle.run_words.specs.Job.{FileCommand, Report, Dump, Split, Job, OnFile, OnFiles, SelfTest, Restore, About}
 use Rattle.run_endings.specs.Meaning.{Meaning, Target, on_nothing, on_out, only}
@@ -24,7 +24,7 @@ use Rattle.run_endings.specs.Outside.{FolderSeen, Outside, SinkSeen, beside}
 use Rattle.trace_run.specs.Ran.{KeepsOff, Ran, Unread}
 use Rattle.run_endings.specs.Ran.{MissesNothingElse}
 use Rattle.trace_run.specs.Work.{Worked}
-use Rattle.run_endings.proofs.Endings.{if_known, stored_none, unmoved, untouched, unheld, because, refused_by, finished_nothing, Around, ended_complete, ended_around}
+use Rattle.run_endings.proofs.Endings.{if_known, stored_none, unmoved, untouched, unheld, because, refused_by, finished_nothing, Around, ended_complete, ended_around, keeps_out}
 
 -- BEHIND A HEADER
 
@@ -34,6 +34,7 @@ pub printed_worked : (command : FileCommand) (unread : Type 0) (means : Option M
 printed_worked command unread means status folder before now on prints = record {
   ended = subst (λ (t : Target). Ended t unread means status (beside folder before) (beside folder now)) (sym on) (prints folder);
   counts = unmoved folder.counts;
+  out = subst (λ (t : Target). KeepsOut t before now) (sym on) tt;
 }
 
 header_meaning : (command : FileCommand) (header : Header) (told : Option (List ℕ)) → ReadsHeader told (Ok header)
@@ -51,6 +52,7 @@ behind_header command header told same unread other status before now is found s
       (subst (λ (means : Option Meaning). Ended (target_of command) unread means status before now)
       (ap (option_map (header_means command header)) is ∙ header_meaning command header told found) worked.ended);
   counts = worked.counts;
+  out = worked.out;
 }
 
 -- the header could not be read
@@ -66,11 +68,13 @@ header_unread command means unread seen rose = record {
     causes = rose;
   };
   counts = unmoved seen.folder.counts;
+  out = keeps_out (target_of command) seen.out;
 }
 
 -- there was no memory for the header
 pub header_unheld : (command : FileCommand) (means : Option Meaning) (unread : Type 0) (seen : Outside) → Worked command unread means NoMemory seen seen
-header_unheld command means unread seen = record { ended = unheld (target_of command) unread means seen; counts = unmoved seen.folder.counts }
+header_unheld command means unread seen =
+    record { ended = unheld (target_of command) unread means seen; counts = unmoved seen.folder.counts; out = keeps_out (target_of command) seen.out }
 
 -- the file has no header
 pub header_refused : (command : FileCommand) (fault : OpenFault) (told : Option (List ℕ)) (unread : Type 0) (seen : Outside) → IsRefusal fault
@@ -78,6 +82,7 @@ pub header_refused : (command : FileCommand) (fault : OpenFault) (told : Option 
 header_refused command fault told unread seen refusal found = record {
   ended = record { ends = refused told found; untouched = untouched seen; causes = refusal };
   counts = unmoved seen.folder.counts;
+  out = keeps_out (target_of command) seen.out;
 }
   where
     refused : (known : Option (List ℕ)) → ReadsHeader known (Err fault)
@@ -128,6 +133,7 @@ ran_unasked fault before =
       closes = λ opened closed. omega arith;
       opens = omega arith;
       reads = tt;
+      gathers = tt;
       reads_all = tt;
     }
 
@@ -143,6 +149,7 @@ ran_unread read before =
       closes = λ opened closed. omega arith;
       opens = omega arith;
       reads = tt;
+      gathers = if_known _ (input_of_run read before.folder.files) (λ input calls unread. refl);
       reads_all = nothing read;
     }
   where
@@ -155,7 +162,7 @@ ran_unread read before =
     nothing (Err fault) = tt
 
     keeps_off : (r : Result Job UsageFault) → KeepsOff r NoMemory before before
-    keeps_off (Ok (OnFile command)) = λ is. cc
+    keeps_off (Ok (OnFile command)) = ((λ is. cc), keeps_out (target_of command) before.out)
     keeps_off (Ok (OnFiles words)) = ((λ is. cc), refl)
     keeps_off (Ok (SelfTest words)) = ((λ is. cc), refl)
     keeps_off (Ok (Restore words)) = ((λ is. cc), refl, λ unread. refl)

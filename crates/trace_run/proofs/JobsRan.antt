@@ -19,6 +19,7 @@ files_ran words status before now did = record {
   closes = did.ran.closes;
   opens = did.ran.opens;
   reads = no_input status (progress before) (progress now);
+  gathers = tt;
   reads_all = did.reads;
 }
 
@@ -31,5 +32,6 @@ restore_ran words status before now did = record {
   closes = did.ran.closes;
   opens = did.ran.opens;
   reads = no_input status (progress before) (progress now);
+  gathers = tt;
   reads_all = tt;
 }

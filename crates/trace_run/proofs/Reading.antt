@@ -1,5 +1,5 @@
 -- How many bytes of its input a run reads.
-use Rattle.std.proofs.Common.{◌≡◌, ◌≤◌, ◌+◌, ℕ, List, length, Option, None, Some, IfSome, Result, Ok, sym, subst, arith}
+use Rattle.std.proofs.Common.{◌≡◌, ◌≤◌, ◌+◌, ℕ, List, length, Option, None, Some, IfSome, Result, Ok, sym, subst, arith, refl}
 use Rattle.trace_outside.specs.Causes.{raised}
 use Rattle.trace_outside.specs.Folders.{IsFileOf}
 use Rattle.trace_outside.specs.Names.{NamedFiles}
@@ -7,13 +7,16 @@ use Rattle.dat_options.specs.declared.fault.OpenFault.{OpenFault}
 use Rattle.dat_header.specs.declared.header.Header.{Header}
 use Rattle.dat_header.specs.Header.{ReadsHeader}
 use Rattle.run_endings.specs.declared.status.Status.{Status}
-use Rattle.trace_run.specs.Input.{Input, ReadsInput, ReadsNoMore, events_of, input_of_run, input_told, share, with_header}
+use Rattle.trace_run.specs.Input.{Input, ReadsInput, ReadsNoMore, events_of, input_of_run, input_told, share, with_header, GathersInput, command_calls}
 use Rattle.run_endings.specs.Progress.{Progress, progress_at}
 use Rattle.file_report.specs.Due.{ReadsDue}
 use Rattle.run_words.specs.Job.{FileCommand, OnFile}
 use Rattle.trace_run.specs.Meaning.{input_of}
 use Rattle.file_report.specs.Report.{Events}
 use Rattle.run_endings.proofs.Reading.{behind_header_map, any_answer}
+use Rattle.run_endings.specs.Output.{GathersFirst}
+use Rattle.run_endings.specs.Outside.{SinkSeen}
+use Rattle.run_endings.proofs.Endings.{if_known}
 
 -- where a run works on nothing
 pub no_input : (status : Status) (before now : Progress) → ReadsInput None status before now
@@ -69,3 +72,22 @@ command_reads command None bytes status old now reads before last file is most =
 command_reads command (Some files) bytes status old now reads before last file is most =
     subst (λ (found : Option (List ℕ)). ReadsInput (input_told command found) status (progress_at old before) (progress_at now last)) file.1
     (counted (input_told command bytes) status old now reads before last is most)
+
+-- GATHERED BEFORE THE FIRST BYTE
+
+-- what holds of a header that was read holds of the input
+pub gathers_behind_header : (command : FileCommand) (header : Header) (told : Option (List ℕ)) (status : Status) (before now : SinkSeen) → ReadsHeader told (Ok header)
+    → GathersFirst (command_calls command header) status before now → GathersInput (input_told command told) status before now
+gathers_behind_header command header None status before now found gathers = tt
+gathers_behind_header command header (Some bytes) status before now found gathers =
+    subst (λ (read : Result Header OpenFault). GathersInput (with_header command bytes read) status before now) (sym found) gathers
+
+pub gathers_nothing : (known : Option Input) (status : Status) (out : SinkSeen) → GathersInput known status out out
+gathers_nothing known status out = if_known _ known (λ input calls unread. refl)
+
+pub command_gathers : (command : FileCommand) (told : Option NamedFiles) (bytes : Option (List ℕ)) (status : Status) (before now : SinkSeen)
+    → IsFileOf told (input_of command) bytes → GathersInput (input_told command bytes) status before now
+    → GathersInput (input_of_run (Ok (OnFile command)) told) status before now
+command_gathers command None bytes status before now file gathers = tt
+command_gathers command (Some files) bytes status before now file gathers =
+    subst (λ (found : Option (List ℕ)). GathersInput (input_told command found) status before now) file.1 gathers

@@ -24,5 +24,6 @@ topic_told topic status folder before now prints =
       closes = λ opened closed. omega arith;
       opens = omega arith;
       reads = no_input status (progress (beside folder before)) (progress (beside folder now));
+      gathers = tt;
       reads_all = tt;
     }

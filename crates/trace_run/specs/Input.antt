@@ -1,5 +1,5 @@
 -- What a run works on, and how much of it is read.
-use Rattle.std.specs.Prelude.{Option, None, Some, Result, Ok, Err, ◌+◌, ◌≤◌, ℕ, List, length, sum_by, IfOk, IfSome}
+use Rattle.std.specs.Prelude.{Option, None, Some, Result, Ok, Err, ◌+◌, ◌≤◌, ℕ, List, length, sum_by, IfOk, IfSome, Bool, false}
 use Rattle.std.specs.FinMap.{get}
 use Rattle.std.specs.Option.{option_and_then}
 use Rattle.trace_outside.specs.Names.{NamedFiles}
@@ -12,10 +12,12 @@ use Rattle.run_words.specs.declared.usage.UsageFault.{UsageFault}
 use Rattle.run_words.specs.Job.{FileCommand, Report, Dump, Split, Job, OnFile, OnFiles, SelfTest, Restore, About}
 use Rattle.several_report.specs.Inputs.{inputs_in, names_in, input_share}
 use Rattle.trace_run.specs.Meaning.{input_of}
-use Rattle.file_report.specs.Report.{Events, listed_events}
+use Rattle.file_report.specs.Report.{Events, listed_events, listed_calls}
 use Rattle.file_report.specs.Due.{report_share, ReadsDue}
 use Rattle.split_run.specs.Split.{split_share}
 use Rattle.run_endings.specs.Progress.{Progress, BehindHeader}
+use Rattle.run_endings.specs.Outside.{SinkSeen}
+use Rattle.run_endings.specs.Output.{GathersFirst}
 
 -- WHAT A RUN WORKS ON
 
@@ -57,6 +59,16 @@ abbrev pub events_of : FileCommand → Header → List ℕ → Option Events
 events_of (Report words) header bytes = listed_events words.list words header bytes
 events_of (Dump words) header bytes = None
 events_of (Split words) header bytes = None
+
+-- whether a command on a file shows calls, which are all gathered before the first byte
+abbrev pub command_calls : FileCommand → Header → Bool
+command_calls (Report words) header = listed_calls words.list words.calls header.body
+command_calls (Dump words) header = false
+command_calls (Split words) header = false
+
+-- then a fault of reading left the output as it was
+abbrev pub GathersInput : Option Input → Status → SinkSeen → SinkSeen → Type 0
+GathersInput known status before now = IfSome known (λ input. GathersFirst (command_calls input.command input.header) status before now)
 
 -- No more bytes were read than so many and the command's share, nor by a report of events more than are due by what it
 -- wrote.

@@ -4,11 +4,11 @@ use Rattle.trace_outside.specs.Causes.{Rose, raised}
 use Rattle.run_endings.specs.declared.status.Status.{Status}
 use Rattle.run_endings.specs.declared.status.Status.TheVariants.{Usage, ReadFault, NoMemory}
 use Rattle.run_words.specs.declared.usage.UsageFault.{UsageFault}
-use Rattle.run_endings.specs.Ending.{Ended, IsComplete}
-use Rattle.trace_run.specs.Input.{ReadsInput, ReadsInputs, input_of_run}
+use Rattle.run_endings.specs.Ending.{Ended, IsComplete, KeepsOut}
+use Rattle.trace_run.specs.Input.{ReadsInput, ReadsInputs, input_of_run, GathersInput}
 use Rattle.run_endings.specs.Progress.{progress}
 use Rattle.run_words.specs.Job.{Job, OnFile, OnFiles, SelfTest, Restore, About}
-use Rattle.trace_run.specs.Meaning.{meaning_read, target_read}
+use Rattle.trace_run.specs.Meaning.{meaning_read, target_read, target_of}
 use Rattle.run_endings.specs.Outside.{Outside}
 use Rattle.run_endings.specs.Ran.{MissesNothingElse, ClosesAll}
 
@@ -22,10 +22,10 @@ Unread (Ok (About topic)) before now = ⊥
 Unread (Err fault) before now = ⊥
 
 -- Usage is answered just where the words or a filter of theirs have no reading, unless there is no memory to read them.
--- Nothing is touched then; a report of several files changes no file, a self-test and what the program tells of itself leave the
--- folder alone, and a restore the output, and after a fault of reading all files too.
+-- Nothing is touched then; a split leaves the output alone, a report of several files changes no file, a self-test and what the
+-- program tells of itself leave the folder alone, and a restore the output, and after a fault of reading all files too.
 abbrev pub KeepsOff : Result Job UsageFault → Status → Outside → Outside → Type 0
-KeepsOff (Ok (OnFile command)) status before now = status ≢ Usage
+KeepsOff (Ok (OnFile command)) status before now = (status ≢ Usage) × KeepsOut (target_of command) before.out now.out
 KeepsOff (Ok (OnFiles words)) status before now = (status ≢ Usage) × (now.folder.files ≡ before.folder.files)
 KeepsOff (Ok (SelfTest words)) status before now = (status ≢ Usage) × (now.folder ≡ before.folder)
 KeepsOff (Ok (Restore words)) status before now = (status ≢ Usage) × (now.out ≡ before.out) × (status ≡ ReadFault → now.folder.files ≡ before.folder.files)
@@ -49,4 +49,5 @@ pub record Ran (read : Result Job UsageFault) (status : Status) (before now : Ou
   pub closes : ClosesAll before.folder.counts now.folder.counts
   pub opens : now.folder.counts.opened ≤ raised before.folder.counts.opened (most_opened read)
   pub reads : ReadsInput (input_of_run read before.folder.files) status (progress before) (progress now)
+  pub gathers : GathersInput (input_of_run read before.folder.files) status before.out now.out
   pub reads_all : ReadsInputs read before.folder.files status (progress before) (progress now)

@@ -2,13 +2,14 @@
 use Rattle.std.specs.Prelude.{Option}
 use Rattle.new_files.specs.Stored.{KeepsCounts}
 use Rattle.run_endings.specs.declared.status.Status.{Status}
-use Rattle.run_endings.specs.Ending.{Ended}
+use Rattle.run_endings.specs.Ending.{Ended, KeepsOut}
 use Rattle.run_words.specs.Job.{FileCommand}
 use Rattle.run_endings.specs.Meaning.{Meaning}
 use Rattle.trace_run.specs.Meaning.{target_of}
 use Rattle.run_endings.specs.Outside.{Outside}
 
--- it ended like a run, and of the folder's counts none but those of faults and of files created moved
+-- it ended like a run, of the folder's counts none but those of faults and of files created moved, and a split left the output as it was
 pub record Worked (command : FileCommand) (unread : Type 0) (means : Option Meaning) (status : Status) (before now : Outside) : Type 0 where
   pub ended : Ended (target_of command) unread means status before now
   pub counts : KeepsCounts before.folder.counts now.folder.counts
+  pub out : KeepsOut (target_of command) before.out now.out

@@ -1,8 +1,8 @@
-use Rattle.std.proofs.Common.{Err, refl, ap}
+use Rattle.std.proofs.Common.{Err, ap, refl, sym, ◌∙◌}
 use Rattle.run_endings.specs.declared.status.Status.TheVariants.{WriteFault}
 use Rattle.file_report.specs.Meaning.{calls_report}
 use Rattle.file_report.specs.Report.{events_on}
-use Rattle.file_report.proofs.CallsPrinted.{calls_written, calls_unwritten, cut_shows}
+use Rattle.file_report.proofs.CallsPrinted.{calls_written, calls_unwritten, cut_no_fault, cut_shows}
 use Rattle.run_endings.proofs.Printed.{pass_printed, printed_of}
 use Rattle.file_report.proofs.calls.print_calls.Goals as goal
 
@@ -24,3 +24,9 @@ returns-clause-prints g c =
     printed_of _ (λ bytes. calls_report (events_on c.args.shown.now.form.now.context c.args.shown.now.parts.now c.args.plan.now.header.now bytes)) _ WriteFault _ _ (λ bytes. refl)
     (calls_unwritten c.args.shown.now.form.now.context c.args.shown.now.parts.now c.args.plan.now.header.now _ _ _ _ _ c.as_slice-list.ensures.value c.in-Ok.ensures.list c.in-Err-put_whole.ensures.prefix)
     c.in-Err-put_whole.ensures.cause.failed
+
+pub returns-in-Ok-put_whole-clause-gathers : goal.returns-in-Ok-put_whole-clause-gathers
+returns-in-Ok-put_whole-clause-gathers g c = λ unread. absurd (cut_no_fault c.in-Ok.calls.cut (sym c.status_of_cut.ensures ∙ unread))
+
+pub returns-clause-gathers : goal.returns-clause-gathers
+returns-clause-gathers g c = λ unread. absurd cc

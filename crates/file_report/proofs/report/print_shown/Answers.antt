@@ -10,7 +10,7 @@ pub returns-then-calls : goal.returns-then-calls
 returns-then-calls g c =
     calls_reported c.args.shown.now.form.now.context c.args.shown.now.parts.now c.args.plan.now.header.now _
     (at_work g.I.File g.O.Sink c.args.file.now c.args.out.now) (at_work g.I.File g.O.Sink c.print_calls.new.file c.print_calls.new.out) _ _ c.print_calls.result
-    c.if-calls.true c.print_calls.ensures.prints c.print_calls.ensures.reads
+    c.if-calls.true c.print_calls.ensures.prints c.print_calls.ensures.reads c.print_calls.ensures.gathers
 
 pub returns-then-wakeups : goal.returns-then-wakeups
 returns-then-wakeups g c =

@@ -1,15 +1,15 @@
 use Rattle.std.proofs.Common.{◌∙◌, ap, subst, refl, arith, ℕ, Ok}
 use Rattle.trace_outside.specs.Causes.{Rose, raised}
 use Rattle.run_endings.specs.declared.status.Status.TheVariants.{ReadFault}
-use Rattle.trace_run.specs.Input.{ReadsInput, input_told}
+use Rattle.trace_run.specs.Input.{ReadsInput, input_told, input_of_run}
 use Rattle.run_endings.specs.Progress.{progress_at}
 use Rattle.run_words.specs.Job.{OnFile, command_view}
 use Rattle.trace_run.specs.Meaning.{meaning_read, target_of}
 use Rattle.run_endings.specs.Outside.{beside, folder_seen, sink_seen}
 use Rattle.trace_run.specs.Ran.{Unread}
-use Rattle.run_endings.proofs.Endings.{Around, ended_complete, not_usage}
+use Rattle.run_endings.proofs.Endings.{Around, ended_complete, not_usage, keeps_out}
 use Rattle.trace_run.proofs.Endings.{command_asked, command_ended, command_misses, unopened_ended}
-use Rattle.trace_run.proofs.Reading.{command_reads}
+use Rattle.trace_run.proofs.Reading.{command_reads, command_gathers, gathers_nothing}
 use Rattle.trace_run.proofs.command.run_command.Goals as goal
 
 pub returns-in-Err : goal.returns-in-Err
@@ -24,11 +24,12 @@ returns-in-Err g c =
     record {
       ended = ended;
       complete = ended_complete (target_of command) unread (meaning_read (Ok (OnFile command)) before.folder.files) ReadFault before now ended;
-      usage = λ is. cc;
+      usage = ((λ is. cc), keeps_out (target_of command) out);
       misses = command_misses command _ _ before.folder.counts now.folder.counts now.folder.counts c.input_of.ensures opens.misses refl;
       closes = λ opened closed. omega (arith, c.in-Err.ensures.counts.opened, opens.closed);
       opens = omega (arith, c.in-Err.ensures.counts.opened);
       reads = tt;
+      gathers = gathers_nothing (input_of_run (Ok (OnFile command)) before.folder.files) ReadFault out;
       reads_all = tt;
     }
 
@@ -67,12 +68,13 @@ returns-in-Ok g c =
     record {
       ended = ended;
       complete = ended_complete (target_of command) unread (meaning_read (Ok (OnFile command)) before.folder.files) status before now ended;
-      usage = not_usage (target_of command) unread status before now (command_asked command) ended.causes;
+      usage = (not_usage (target_of command) unread status before now (command_asked command) ended.causes, work.out);
       misses = command_misses command _ _ before.folder.counts opened.folder.counts now.folder.counts c.input_of.ensures opens.misses (closes.misses ∙ work.counts.misses);
       closes = λ last_opened last_closed. omega (arith, c.in-Ok.ensures.counts.opened, opens.closed, work.counts.opened, work.counts.closed, closes.opened, closes.closed);
       opens = omega (arith, c.in-Ok.ensures.counts.opened, work.counts.opened, closes.opened);
       reads = command_reads command _ _ status out.written out_now.written reads _ _ given
           (closes.bytes ∙ ap (λ (b : ℕ). raised b reads) (work.counts.bytes ∙ opens.bytes))
           (subst (λ (n : ℕ). ReadsInput (input_told command (g.F.In.File.bytes c.in-Ok.file)) status (progress_at out.written n) (progress_at out_now.written reads)) c.in-Ok.ensures.no_reads c.run_on_file-status.ensures.reads);
+      gathers = command_gathers command _ _ status out out_now given c.run_on_file-status.ensures.gathers;
       reads_all = tt;
     }

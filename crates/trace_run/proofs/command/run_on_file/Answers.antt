@@ -2,8 +2,9 @@ use Rattle.std.proofs.Common.{◌≡◌, length, rules, arith, List, ℕ, IfSome
 use Rattle.dat_header.specs.Header.{ReadsHeader}
 use Rattle.run_words.specs.Job.{command_view}
 use Rattle.trace_run.proofs.Endings.{behind_header, header_unread}
-use Rattle.trace_run.proofs.Reading.{read_behind_header}
+use Rattle.trace_run.proofs.Reading.{read_behind_header, gathers_behind_header, gathers_nothing}
 use Rattle.trace_run.proofs.command.run_on_file.Goals as goal
+use Rattle.trace_run.specs.Input.{input_told}
 
 pub run_on_header-requires-clause-read : goal.run_on_header-requires-clause-read
 run_on_header-requires-clause-read g c κs live =
@@ -22,3 +23,10 @@ returns-in-Ok-clause-reads g c =
 
 pub returns-in-Err-Read-clause-worked : goal.returns-in-Err-Read-clause-worked
 returns-in-Err-Read-clause-worked g c = header_unread (command_view c.args.command.now) _ _ _ (search rules)
+
+pub returns-in-Ok-clause-gathers : goal.returns-in-Ok-clause-gathers
+returns-in-Ok-clause-gathers g c =
+    gathers_behind_header (command_view c.args.command.now) c.in-Ok.header _ c.run_on_header.result _ _ c.in-Ok.ensures.answer c.run_on_header.ensures.gathers
+
+pub returns-in-Err-Read-clause-gathers : goal.returns-in-Err-Read-clause-gathers
+returns-in-Err-Read-clause-gathers g c = gathers_nothing (input_told (command_view c.args.command.now) (g.F.In.File.bytes c.args.file.now)) _ _

@@ -14,4 +14,13 @@ returns-in-Dump-clause-worked g c =
 
 pub returns-in-Split-clause-worked : goal.returns-in-Split-clause-worked
 returns-in-Split-clause-worked g c =
-    rw c.in-Split.is record { ended = c.cut_file.ensures.makes _; counts = c.cut_file.ensures.counts }
+    rw c.in-Split.is record { ended = c.cut_file.ensures.makes _; counts = c.cut_file.ensures.counts; out = refl }
+
+pub returns-in-Report-clause-gathers : goal.returns-in-Report-clause-gathers
+returns-in-Report-clause-gathers g c = rw c.in-Report.is c.print_report.ensures.gathers
+
+pub returns-in-Dump-clause-gathers : goal.returns-in-Dump-clause-gathers
+returns-in-Dump-clause-gathers g c = rw c.in-Dump.is (λ calls unread. absurd cc)
+
+pub returns-in-Split-clause-gathers : goal.returns-in-Split-clause-gathers
+returns-in-Split-clause-gathers g c = rw c.in-Split.is (λ calls unread. absurd cc)
