@@ -3,3 +3,4 @@ pub mod Fills
 pub mod PendingLemmas
 pub mod Keeping
 pub mod Putting
+mod Unwritten

@@ -1,5 +1,5 @@
 -- What the calls of a folder do to its map and to its eight counts: one record a call, one line a count.
-use Rattle.std.specs.Prelude.{Some, [], Option, Result, ◌≡◌, ℕ, ◌<◌, ◌≤◌, List, IsSome, is_none, if◌then◌else◌, MatchResult, IfSome, IsSomeAnd, OnErr}
+use Rattle.std.specs.Prelude.{Some, [], Option, Result, ◌≡◌, ℕ, ◌<◌, ◌≤◌, List, IsSome, is_none, if◌then◌else◌, MatchResult, IfSome, IsSomeAnd, OnErr, OnOk}
 use Rattle.std.specs.FinMap.{get}
 use Rattle.trace_outside.specs.declared.counts.Counts.{Counts}
 use Rattle.trace_outside.specs.Names.{NamedFiles, SameBut, stored}
@@ -21,7 +21,8 @@ IsFileOf told name bytes = IfSome told (λ files. IsSome (get files name) × (by
 pub record Opens {I E : Type 0} (told : Option NamedFiles) (name : List ℕ) (before now : Counts) (result : Result I E) : Type 0 where
   pub reading : before.reading ≤ now.reading
   pub failed : OnErr result (Rose before.reading now.reading)
-  pub writing : before.writing ≤ now.writing
+  pub kept : OnOk result (now.reading ≡ before.reading)
+  pub writing : now.writing ≡ before.writing
   pub misses : IfSome told (λ files. now.misses ≡ misses_after files name before.misses)
   pub misses_later : before.misses ≤ now.misses
   pub opened : MatchResult result (λ _. now.opened ≡ raised before.opened 1) (λ _. now.opened ≡ before.opened)
@@ -35,7 +36,7 @@ pub record Closes (faults reads : ℕ) (before now : Counts) : Type 0 where
   pub reading : before.reading ≤ now.reading
   pub clean : faults ≡ 0 → now.reading ≡ before.reading
   pub faulty : 0 < faults → Rose before.reading now.reading
-  pub writing : before.writing ≤ now.writing
+  pub writing : now.writing ≡ before.writing
   pub misses : now.misses ≡ before.misses
   pub opened : now.opened ≡ before.opened
   pub closed : now.closed ≡ raised before.closed 1

@@ -1,5 +1,5 @@
 -- What reading a piece of a file answers.
-use Rattle.std.specs.Prelude.{Option, Result, Ok, Err, ◌≡◌, ℕ, ◌+◌, ◌<◌, ◌≤◌, List, length}
+use Rattle.std.specs.Prelude.{Option, Result, Ok, Err, ◌≡◌, ℕ, ◌+◌, ◌<◌, ◌≤◌, List, length, MatchResult}
 use Rattle.trace_outside.specs.Reading.{GivesBytesAt}
 use Rattle.trace_outside.specs.declared.piece.PieceFault.{PieceFault}
 use Rattle.trace_outside.specs.declared.piece.PieceFault.TheVariants.{EndsEarly, Read, Memory}
@@ -17,3 +17,13 @@ GivesPiece told size at count (Ok bytes) = (length bytes ≡ count) × (at + cou
 GivesPiece told size at count (Err (EndsEarly len)) = (len ≡ size) × (size < at + count)
 GivesPiece told size at count (Err Read) = Unit {0}
 GivesPiece told size at count (Err Memory) = at + count ≤ size
+
+-- this fault leaves the count of faults as it was, if it is no failed read
+abbrev pub KeptAt : ℕ → ℕ → PieceFault → Type 0
+KeptAt before now (EndsEarly len) = now ≡ before
+KeptAt before now Read = Unit {0}
+KeptAt before now Memory = now ≡ before
+
+-- the count of faults is as it was, but where a read failed
+abbrev pub KeptUnlessRead : {T : Type 0} → ℕ → ℕ → Result T PieceFault → Type 0
+KeptUnlessRead before now result = MatchResult result (λ _. now ≡ before) (KeptAt before now)

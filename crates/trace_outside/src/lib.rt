@@ -14,6 +14,7 @@ mod outside;
 mod pending;
 mod piece;
 mod real;
+mod requests;
 mod whole;
 
 pub use counts::Counts;

@@ -3,7 +3,7 @@
 // Contents are optional in each meaning: an object in memory tells its bytes, and one over the system does not. Faults are
 // counted by the object itself, so that a caller which answers a fault can be held to a count that rose.
 
-ghost use Rattle.std.specs.Prelude.{Option, ◌≡◌, ◌<◌, ◌≤◌, List, ℕ, [], length, IfOk, IfSome, OnOk, OnErr, Some};
+ghost use Rattle.std.specs.Prelude.{Option, ◌≡◌, ◌<◌, ◌≤◌, ◌++◌, ◌∷◌, List, ℕ, [], length, IfOk, IfSome, OnOk, OnErr, Some};
 ghost use Rattle.trace_outside.specs.declared.counts.Counts.{Counts};
 ghost use Rattle.trace_outside.specs.Causes.{HasCause, raised};
 ghost use Rattle.trace_outside.specs.Reading.{ReadsAt};
@@ -78,18 +78,23 @@ pub trait Folder {
     /// What the folder has counted.
     ghost counts: { Self → Counts };
 
+    /// The names that it was asked for, in their order, those of new files among them.
+    ghost requested: { Self → List (List ℕ) };
+
     /// Opens the file of a name.
     fn open_file(&mut self, name: &str) -> Result<Self::In, Failed>
         ensures given { IfOk result (λ file. IsFileOf (files self.old) name.now (Self.In.bytes file)) }
         ensures no_faults { IfOk result (λ file. Self.In.faults file ≡ 0) }
         ensures no_reads { IfOk result (λ file. Self.In.reads file ≡ 0) }
         ensures files { files self.new ≡ files self.old }
-        ensures counts { Opens (files self.old) name.now (counts self.old) (counts self.new) result };
+        ensures counts { Opens (files self.old) name.now (counts self.old) (counts self.new) result }
+        ensures requested { requested self.new ≡ requested self.old ++ name.now ∷ [] };
 
     /// Takes an opened file back. Its faults and the bytes read from it are counted here.
     fn close_file(&mut self, file: Self::In)
         ensures files { files self.new ≡ files self.old }
-        ensures counts { Closes (Self.In.faults file) (Self.In.reads file) (counts self.old) (counts self.new) };
+        ensures counts { Closes (Self.In.faults file) (Self.In.reads file) (counts self.old) (counts self.new) }
+        ensures requested { requested self.new ≡ requested self.old };
 
     /// Makes an empty sink of a name. The name has these bytes once the sink is finished.
     fn create_file(&mut self, name: &str) -> Result<Self::Out, Failed>
@@ -97,18 +102,21 @@ pub trait Folder {
         ensures empty { IfOk result (λ file. IsEmptySink (files self.old) (Self.Out.written file)) }
         ensures no_faults { IfOk result (λ file. Self.Out.faults file ≡ 0) }
         ensures files { files self.new ≡ files self.old }
-        ensures counts { Creates (counts self.old) (counts self.new) result };
+        ensures counts { Creates (counts self.old) (counts self.new) result }
+        ensures requested { requested self.new ≡ requested self.old ++ name.now ∷ [] };
 
     /// Sets the sink's name to what was written to it, in place of an older file of that name.
     fn finish_file(&mut self, file: Self::Out) -> Result<(), Failed>
         ensures stored { OnOk result (Stores (files self.old) (files self.new) (Self.Out.name file) (Self.Out.written file)) }
         ensures others { OnErr result (KeepsOthers (files self.old) (files self.new) (Self.Out.name file)) }
-        ensures counts { Finishes (Self.Out.faults file) (counts self.old) (counts self.new) result };
+        ensures counts { Finishes (Self.Out.faults file) (counts self.old) (counts self.new) result }
+        ensures requested { requested self.new ≡ requested self.old };
 
     /// Gives a sink up. Its name stays as it was.
     fn drop_file(&mut self, file: Self::Out)
         ensures files { files self.new ≡ files self.old }
-        ensures counts { Drops (Self.Out.faults file) (counts self.old) (counts self.new) };
+        ensures counts { Drops (Self.Out.faults file) (counts self.old) (counts self.new) }
+        ensures requested { requested self.new ≡ requested self.old };
 }
 
 /// Where each lane passes as it is formatted, so that a test can hold lanes up. It changes nothing.

@@ -3,7 +3,7 @@
 ghost use Rattle.std.specs.Prelude.{◌≡◌, ◌-◌, ◌^◌, ◌<◌, ◌≤◌, length, OnOk, IsErrOf};
 ghost use Rattle.trace_outside.specs.Causes.{Rose, raised};
 ghost use Rattle.trace_outside.specs.Keeping.{KeepsFile};
-ghost use Rattle.trace_outside.specs.Piece.{FillsFrom, GivesPiece};
+ghost use Rattle.trace_outside.specs.Piece.{FillsFrom, GivesPiece, KeptUnlessRead};
 ghost use Rattle.trace_outside.specs.declared.piece.PieceFault.TheVariants.{Read};
 
 use crate::outside::{Failed, File};
@@ -41,6 +41,7 @@ pub fn read_piece<F: File>(file: &mut F, at: u64, into: &mut [u8]) -> Result<(),
     ensures unread { IsErrOf result (PieceFault.EndsEarly (F.size file.old)) → F.reads file.new ≡ F.reads file.old }
     ensures most { F.reads file.new ≤ raised (F.reads file.old) (F.size file.old - at) }
     ensures cause { IsErrOf result PieceFault.Read → Rose (F.faults file.old) (F.faults file.new) }
+    ensures kept { KeptUnlessRead (F.faults file.old) (F.faults file.new) result }
     ensures keeps { KeepsFile F.File file.old file.new }
     ensures fits { F.size file.old < 2 ^ 64 }
 {
@@ -69,6 +70,7 @@ pub fn read_bytes<F: File>(
     ensures unread { IsErrOf result (PieceFault.EndsEarly (F.size file.old)) → F.reads file.new ≡ F.reads file.old }
     ensures most { F.reads file.new ≤ raised (F.reads file.old) (F.size file.old - at) }
     ensures cause { IsErrOf result PieceFault.Read → Rose (F.faults file.old) (F.faults file.new) }
+    ensures kept { KeptUnlessRead (F.faults file.old) (F.faults file.new) result }
     ensures keeps { KeepsFile F.File file.old file.new }
     ensures fits { F.size file.old < 2 ^ 64 }
 {

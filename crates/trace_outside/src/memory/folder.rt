@@ -1,4 +1,4 @@
-ghost use Rattle.std.specs.Prelude.{◌≡◌, Some, IfOk, OnOk, OnErr, option_copied};
+ghost use Rattle.std.specs.Prelude.{◌≡◌, ◌++◌, ◌∷◌, [], Some, IfOk, OnOk, OnErr, option_copied};
 ghost use Rattle.std.specs.FinMap as map;
 ghost use Rattle.std.specs.Ordering.{nat_cmp};
 ghost use Rattle.std.specs.Cmp.Lexicographic.{slice_cmp};
@@ -13,6 +13,7 @@ use crate::memory::faults::{Calls, MemFault, Settings, due_after, is_failing, ne
 use crate::memory::file::MemFile;
 use crate::memory::sink::MemSink;
 use crate::outside::{Failed, File, Folder, Sink};
+use crate::requests::Requests;
 use std::alloc::{AllocError, Global};
 use std::collections::VecDeque;
 use trace_base::ByteText;
@@ -28,6 +29,7 @@ pub struct MemFolder {
     wants: u64,
     set: Settings,
     calls: Calls,
+    requests: Requests,
 }
 
 impl MemFolder {
@@ -35,6 +37,7 @@ impl MemFolder {
     pub fn new(alloc: Global) -> MemFolder
         ensures empty { ⟦<MemFolder as Folder>⟧.files result ≡ Some map.empty }
         ensures no_counts { ⟦<MemFolder as Folder>⟧.counts result ≡ no_counts }
+        ensures no_requests { ⟦<MemFolder as Folder>⟧.requested result ≡ [] }
         ensures no_wants { folder_wants result ≡ 0 }
         ensures no_settings { folder_set result ≡ no_settings }
         ensures no_calls { folder_calls result ≡ no_calls }
@@ -46,6 +49,7 @@ impl MemFolder {
             wants: 0,
             set: Settings::NONE,
             calls: Calls::NONE,
+            requests: Requests::none(),
         }
     }
 
@@ -54,6 +58,7 @@ impl MemFolder {
         ensures ok { OnOk result (⟦<MemFolder as Folder>⟧.files self.new ≡ stored (⟦<MemFolder as Folder>⟧.files self.old) name.now bytes.now) }
         ensures err { OnErr result (⟦<MemFolder as Folder>⟧.files self.new ≡ ⟦<MemFolder as Folder>⟧.files self.old) }
         ensures counts { ⟦<MemFolder as Folder>⟧.counts self.new ≡ ⟦<MemFolder as Folder>⟧.counts self.old }
+        ensures requested { ⟦<MemFolder as Folder>⟧.requested self.new ≡ ⟦<MemFolder as Folder>⟧.requested self.old }
         ensures wants { folder_wants self.new ≡ folder_wants self.old }
         ensures set { folder_set self.new ≡ folder_set self.old }
         ensures calls { folder_calls self.new ≡ folder_calls self.old }
@@ -76,6 +81,7 @@ impl MemFolder {
         ensures set { folder_set self.new ≡ with_fault fault (folder_set self.old) }
         ensures files { ⟦<MemFolder as Folder>⟧.files self.new ≡ ⟦<MemFolder as Folder>⟧.files self.old }
         ensures counts { ⟦<MemFolder as Folder>⟧.counts self.new ≡ ⟦<MemFolder as Folder>⟧.counts self.old }
+        ensures requested { ⟦<MemFolder as Folder>⟧.requested self.new ≡ ⟦<MemFolder as Folder>⟧.requested self.old }
         ensures wants { folder_wants self.new ≡ folder_wants self.old }
         ensures calls { folder_calls self.new ≡ folder_calls self.old }
     {
@@ -88,6 +94,7 @@ impl MemFolder {
         ensures set { folder_set self.new ≡ record (folder_set self.old) { limit = Some most } }
         ensures files { ⟦<MemFolder as Folder>⟧.files self.new ≡ ⟦<MemFolder as Folder>⟧.files self.old }
         ensures counts { ⟦<MemFolder as Folder>⟧.counts self.new ≡ ⟦<MemFolder as Folder>⟧.counts self.old }
+        ensures requested { ⟦<MemFolder as Folder>⟧.requested self.new ≡ ⟦<MemFolder as Folder>⟧.requested self.old }
         ensures wants { folder_wants self.new ≡ folder_wants self.old }
         ensures calls { folder_calls self.new ≡ folder_calls self.old }
     {
@@ -130,12 +137,15 @@ impl Folder for MemFolder {
 
     ghost counts = { λ f. f.counts };
 
+    ghost requested = { λ f. f.requests.names };
+
     fn open_file(&mut self, name: &str) -> Result<MemFile, Failed>
         ensures given { IfOk result (λ file. IsFileOf (⟦<MemFolder as Folder>⟧.files self.old) name.now (⟦<MemFile as File>⟧.bytes file)) }
         ensures no_faults { IfOk result (λ file. ⟦<MemFile as File>⟧.faults file ≡ 0) }
         ensures no_reads { IfOk result (λ file. ⟦<MemFile as File>⟧.reads file ≡ 0) }
         ensures files { ⟦<MemFolder as Folder>⟧.files self.new ≡ ⟦<MemFolder as Folder>⟧.files self.old }
         ensures counts { Opens (⟦<MemFolder as Folder>⟧.files self.old) name.now (⟦<MemFolder as Folder>⟧.counts self.old) (⟦<MemFolder as Folder>⟧.counts self.new) result }
+        ensures requested { ⟦<MemFolder as Folder>⟧.requested self.new ≡ ⟦<MemFolder as Folder>⟧.requested self.old ++ name.now ∷ [] }
         ensures just_there { FailsReading (⟦<MemFolder as Folder>⟧.counts self.old) (⟦<MemFolder as Folder>⟧.counts self.new) result }
         ensures fails { OpensAsSet (⟦<MemFolder as Folder>⟧.files self.old) name.now
             (is_failing (folder_set self.old).opening (raised (folder_calls self.old).opens 1)) (folder_wants self.old) (folder_wants self.new) result }
@@ -143,6 +153,7 @@ impl Folder for MemFolder {
         ensures calls { CountsCalls 1 0 0 0 (folder_calls self.old) (folder_calls self.new) }
         ensures set { folder_set self.new ≡ folder_set self.old }
     {
+        self.requests = self.requests.and(name);
         let number = next_number(self.calls.opens);
         self.calls.opens = number;
         let Some(bytes) = self.get(name) else {
@@ -170,6 +181,7 @@ impl Folder for MemFolder {
     fn close_file(&mut self, file: MemFile)
         ensures files { ⟦<MemFolder as Folder>⟧.files self.new ≡ ⟦<MemFolder as Folder>⟧.files self.old }
         ensures counts { Closes (⟦<MemFile as File>⟧.faults file) (⟦<MemFile as File>⟧.reads file) (⟦<MemFolder as Folder>⟧.counts self.old) (⟦<MemFolder as Folder>⟧.counts self.new) }
+        ensures requested { ⟦<MemFolder as Folder>⟧.requested self.new ≡ ⟦<MemFolder as Folder>⟧.requested self.old }
         ensures just_there { KeepsFaults (with_read_faults (⟦<MemFile as File>⟧.faults file) (⟦<MemFolder as Folder>⟧.counts self.old)) (⟦<MemFolder as Folder>⟧.counts self.new) }
         ensures wants { folder_wants self.new ≡ folder_wants self.old }
         ensures calls { folder_calls self.new ≡ folder_calls self.old }
@@ -188,6 +200,7 @@ impl Folder for MemFolder {
         ensures no_faults { IfOk result (λ file. ⟦<MemSink as Sink>⟧.faults file ≡ 0) }
         ensures files { ⟦<MemFolder as Folder>⟧.files self.new ≡ ⟦<MemFolder as Folder>⟧.files self.old }
         ensures counts { Creates (⟦<MemFolder as Folder>⟧.counts self.old) (⟦<MemFolder as Folder>⟧.counts self.new) result }
+        ensures requested { ⟦<MemFolder as Folder>⟧.requested self.new ≡ ⟦<MemFolder as Folder>⟧.requested self.old ++ name.now ∷ [] }
         ensures just_there { FailsWriting (⟦<MemFolder as Folder>⟧.counts self.old) (⟦<MemFolder as Folder>⟧.counts self.new) result }
         ensures fails { FailsAsSet (is_failing (folder_set self.old).creation (raised (folder_calls self.old).creates 1)) (folder_wants self.old) (folder_wants self.new) result }
         ensures no_wants { IfOk result (λ file. sink_wants file ≡ 0) }
@@ -195,6 +208,7 @@ impl Folder for MemFolder {
         ensures calls { CountsCalls 0 1 0 0 (folder_calls self.old) (folder_calls self.new) }
         ensures set { folder_set self.new ≡ folder_set self.old }
     {
+        self.requests = self.requests.and(name);
         let number = next_number(self.calls.creates);
         self.calls.creates = number;
         if is_failing(self.set.creation, number) {
@@ -222,6 +236,7 @@ impl Folder for MemFolder {
         ensures others { OnErr result (KeepsOthers (⟦<MemFolder as Folder>⟧.files self.old) (⟦<MemFolder as Folder>⟧.files self.new) (⟦<MemSink as Sink>⟧.name file)) }
         ensures kept { OnErr result (⟦<MemFolder as Folder>⟧.files self.new ≡ ⟦<MemFolder as Folder>⟧.files self.old) }
         ensures counts { Finishes (⟦<MemSink as Sink>⟧.faults file) (⟦<MemFolder as Folder>⟧.counts self.old) (⟦<MemFolder as Folder>⟧.counts self.new) result }
+        ensures requested { ⟦<MemFolder as Folder>⟧.requested self.new ≡ ⟦<MemFolder as Folder>⟧.requested self.old }
         ensures just_there { FailsWriting (with_faults (⟦<MemSink as Sink>⟧.faults file) (⟦<MemFolder as Folder>⟧.counts self.old)) (⟦<MemFolder as Folder>⟧.counts self.new) result }
         ensures fails { FailsAsSet (is_failing (folder_set self.old).finish (raised (folder_calls self.old).finishes 1)) (raised (folder_wants self.old) (sink_wants file)) (folder_wants self.new) result }
         ensures calls { CountsCalls 0 0 (sink_writes file) 1 (folder_calls self.old) (folder_calls self.new) }
@@ -262,6 +277,7 @@ impl Folder for MemFolder {
     fn drop_file(&mut self, file: MemSink)
         ensures files { ⟦<MemFolder as Folder>⟧.files self.new ≡ ⟦<MemFolder as Folder>⟧.files self.old }
         ensures counts { Drops (⟦<MemSink as Sink>⟧.faults file) (⟦<MemFolder as Folder>⟧.counts self.old) (⟦<MemFolder as Folder>⟧.counts self.new) }
+        ensures requested { ⟦<MemFolder as Folder>⟧.requested self.new ≡ ⟦<MemFolder as Folder>⟧.requested self.old }
         ensures just_there { KeepsFaults (with_faults (⟦<MemSink as Sink>⟧.faults file) (⟦<MemFolder as Folder>⟧.counts self.old)) (⟦<MemFolder as Folder>⟧.counts self.new) }
         ensures wanted { folder_wants self.new ≡ raised (folder_wants self.old) (sink_wants file) }
         ensures calls { CountsCalls 0 0 (sink_writes file) 0 (folder_calls self.old) (folder_calls self.new) }

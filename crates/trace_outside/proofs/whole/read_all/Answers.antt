@@ -17,4 +17,5 @@ loop-done-preserved g c =
         size = c.in_ok-done.ensures.size ∙ c.loop-done.invariant.keeps.size;
         later = omega (arith, c.in_ok-done.ensures.cause.later, c.loop-done.invariant.keeps.later);
       };
+      faults = c.in_ok-done.ensures.cause.kept ∙ c.loop-done.invariant.faults;
     }

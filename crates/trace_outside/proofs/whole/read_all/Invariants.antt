@@ -10,6 +10,7 @@ invariant-loop-done g l = record {
   given : GivesBytesAt (g.I.File.bytes l.initial.file) l.at l.done l.into;
   reads : g.I.File.reads l.file ≡ raised (g.I.File.reads l.initial.file) l.done;
   keeps : KeepsFile g.I.File l.initial.file l.file;
+  faults : g.I.File.faults l.file ≡ g.I.File.faults l.initial.file;
 }
 
 abbrev pub decreases-loop-done : goal.decreases-loop-done

@@ -1,4 +1,4 @@
-use Rattle.std.proofs.Common.{rules, arith}
+use Rattle.std.proofs.Common.{◌∙◌, rules, arith}
 use Rattle.std.proofs.lemmas.List.{take_rest, length-drop}
 use Rattle.trace_outside.proofs.Gains.{gained_more}
 use Rattle.trace_outside.proofs.whole.write_all.Goals as goal
@@ -10,5 +10,5 @@ loop-done-preserved g c =
       within = omega (arith, taken.0, length-drop c.loop-done.done c.args.text.now);
       gained = gained_more _ _ _ c.args.text.now c.loop-done.done c.in_ok-done.field-0 c.loop-done.invariant.gained taken.2;
       name = search rules;
-      later = omega arith;
+      faults = c.in_ok-done.ensures.cause.kept ∙ c.loop-done.invariant.faults;
     }

@@ -7,7 +7,7 @@ invariant-loop-done g l = record {
   within : l.done ≤ length l.text;
   gained : Gained (g.O.Sink.written l.initial.out) (g.O.Sink.written l.out) (take l.done l.text);
   name : g.O.Sink.name l.out ≡ g.O.Sink.name l.initial.out;
-  later : g.O.Sink.faults l.initial.out ≤ g.O.Sink.faults l.out;
+  faults : g.O.Sink.faults l.out ≡ g.O.Sink.faults l.initial.out;
 }
 
 abbrev pub decreases-loop-done : goal.decreases-loop-done
