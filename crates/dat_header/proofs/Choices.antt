@@ -18,7 +18,7 @@ use Rattle.dat_header.specs.Found.{Found, ◌>>=◌, or_wrong}
 use Rattle.dat_header.specs.Header.{IsRefusal, last_in, last_word_in, first_word_in}
 use Rattle.dat_header.specs.Steps.{Steps, GivesThere}
 use Rattle.dat_header.specs.Seen.{FileSeen}
-use Rattle.dat_header.proofs.Steps.{erring, erring_is, answers_itself, steps_found, steps_fault}
+use Rattle.dat_header.proofs.Steps.{erring, erring_is, answers_itself, kept_at, steps_found, steps_fault}
 use Rattle.dat_header.proofs.Words.{cut_same, there_is}
 
 -- what a choice of words says of the bytes that are there, of which the first ten tell all
@@ -157,7 +157,7 @@ choice_found {V} choose at count size buffer value before now chooses is long wi
     let all : 10 ≡ count = omega (arith, enough, counted, length-take count buffer) in
     let told = subst (λ (r : Result V OpenFault). AnswersTold (chosen_at choose at) before.bytes (r >>= λ v. Ok (v, at + 10))) ok (told_choice choose before.bytes at before.size count buffer chooses is gives.given counted) in
     steps_found (chosen_at choose at) at (at + count) value before now (subst (λ (n : ℕ). AnswersTold (chosen_at choose at) before.bytes (Ok (value, at + n))) all told)
-    gives.bytes gives.size gives.later (omega (arith, gives.reads)) (omega arith) (omega (arith, counted, within))
+    gives.bytes gives.size gives.kept (omega (arith, gives.reads)) (omega arith) (omega (arith, counted, within))
 
 pub choice_failed : {V : Type 0} (choose : List ℕ → ℕ → Result V OpenFault) (at count size : ℕ) (buffer : List ℕ) (fault : OpenFault) (before now : FileSeen) → Chooses choose
     → IfSome before.bytes (λ file. length file ≡ before.size) → length buffer ≡ 10 → at ≤ before.size → GivesThere at buffer before now (Ok count)
@@ -168,7 +168,7 @@ choice_failed {V} choose at count size buffer fault before now chooses is long w
     let err : choose (take count buffer) before.size ≡ Err fault = sym (chosen ∙ ap (λ (n : ℕ). choose (take count buffer) n) same) in
     let told = subst (λ (r : Result V OpenFault). AnswersTold (chosen_at choose at) before.bytes (r >>= λ v. Ok (v, at + 10))) err (told_choice choose before.bytes at before.size count buffer chooses is gives.given counted) in
     steps_fault V (chosen_at choose at) at fault before now told gives.bytes gives.size gives.later
-    (λ e. absurd (subst IsRefusal (erring_is V fault Read e) (chooses.refuses (take count buffer) before.size fault err))) gives.most
+    (λ e. absurd (subst IsRefusal (erring_is V fault Read e) (chooses.refuses (take count buffer) before.size fault err))) (kept_at before.faults now.faults fault gives.kept) gives.most
 
 any_of : (test : List ℕ → Bool) (words : List (Bor (List ℕ))) → list_any (λ word. test word.now) words ≡ list_any test (map (λ word. word.now) words)
 any_of test [] = refl

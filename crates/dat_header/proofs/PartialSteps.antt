@@ -32,7 +32,7 @@ pub steps_none : (order : Order) (at : ℕ) (text : List ℕ) (now : FileSeen) �
 steps_none order at text now is ends empty =
     steps_found (λ file. cmdlines_at order file at) at at text now now
     (subst (λ (t : List ℕ). AnswersTold (λ file. cmdlines_at order file at) now.bytes (found_text t at)) (sym empty) (told_none order at now.size now.bytes is ends))
-    refl refl (omega arith) (omega arith) (omega arith) (omega (arith, ends))
+    refl refl refl (omega arith) (omega arith) (omega (arith, ends))
 
 told_some : (order : Order) (at size : ℕ) (told : Option (List ℕ)) (result : Found (List ℕ)) → IfSome told (λ file. length file ≡ size) → (at ≡ size → ⊥)
     → AnswersTold (λ file. text_at 8 order file at) told result → AnswersTold (λ file. cmdlines_at order file at) told result
@@ -48,6 +48,7 @@ steps_some order at before now result is more steps = record {
   size = steps.size;
   later = steps.later;
   cause = steps.cause;
+  kept = steps.kept;
   reads = steps.reads;
   most = steps.most;
   forward = steps.forward;

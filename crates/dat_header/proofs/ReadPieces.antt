@@ -11,7 +11,8 @@ use Rattle.trace_outside.specs.declared.piece.PieceFault.{PieceFault}
 use Rattle.trace_outside.specs.declared.piece.PieceFault.TheVariants as piece
 use Rattle.dat_options.specs.Answer.{AnswersTold, fault_of_piece}
 use Rattle.trace_outside.specs.Piece.{FillsFrom, GivesPiece}
-use Rattle.dat_options.proofs.Pieces.{read_of_piece}
+use Rattle.trace_outside.specs.Piece as pieces
+use Rattle.dat_options.proofs.Pieces.{read_of_piece, kept_piece}
 use Rattle.dat_header.specs.Found.{Found}
 use Rattle.dat_header.specs.ItemsAt.{bytes_at, number_at}
 use Rattle.dat_header.specs.Steps.{Steps}
@@ -65,14 +66,15 @@ told_short (Some file) total at size piece.Read within is fails = tt
 told_short (Some file) total at size piece.Memory within is fails = tt
 
 pub content_found : (size at : ℕ) (text : List ℕ) (before now : FileSeen) → length text ≡ size → at + size ≤ before.size → GivesBytesAt before.bytes at size text
-    → IfSome before.bytes (λ file. length file ≡ before.size) → now.bytes ≡ before.bytes → now.size ≡ before.size → before.faults ≤ now.faults → now.reads ≡ raised before.reads size
+    → IfSome before.bytes (λ file. length file ≡ before.size) → now.bytes ≡ before.bytes → now.size ≡ before.size → now.faults ≡ before.faults → now.reads ≡ raised before.reads size
     → Steps (λ found. found.1) (λ bytes. bytes_at size bytes at) at before now (Ok (text, at + size))
-content_found size at text before now long within given is bytes same later reads = record {
+content_found size at text before now long within given is bytes same kept reads = record {
   answer = told_found before.bytes before.size at size text long within is given;
   bytes = bytes;
   size = same;
-  later = later;
+  later = omega (arith, kept);
   cause = λ e. cc;
+  kept = kept;
   reads = omega (arith, reads);
   most = omega (arith, reads, within);
   forward = omega arith;
@@ -84,14 +86,15 @@ failing X fault = Err fault
 
 pub content_failed : (X : Type 0) (size at : ℕ) (fault : PieceFault) (before now : FileSeen) → FailsAt before.size at size fault → at ≤ before.size
     → IfSome before.bytes (λ file. length file ≡ before.size) → now.bytes ≡ before.bytes → now.size ≡ before.size → before.faults ≤ now.faults
-    → (failing X fault ≡ failing X piece.Read → Rose before.faults now.faults) → now.reads ≤ raised before.reads (before.size - at)
+    → (failing X fault ≡ failing X piece.Read → Rose before.faults now.faults) → pieces.KeptAt before.faults now.faults fault → now.reads ≤ raised before.reads (before.size - at)
     → Steps {V = List ℕ × ℕ} (λ found. found.1) (λ bytes. bytes_at size bytes at) at before now (Err (fault_of_piece fault))
-content_failed X size at fault before now fails within is bytes same later cause most = record {
+content_failed X size at fault before now fails within is bytes same later cause kept most = record {
   answer = told_short before.bytes before.size at size fault within is fails;
   bytes = bytes;
   size = same;
   later = later;
   cause = λ e. cause (ap (failing X) (read_of_piece fault (erring_is _ _ _ e)));
+  kept = kept_piece before.faults now.faults fault kept;
   reads = tt;
   most = most;
   forward = tt;
@@ -100,19 +103,19 @@ content_failed X size at fault before now fails within is bytes same later cause
 
 pub number_found : (width : ℕ) (order : Order) (at value : ℕ) (buffer : List ℕ) (before now : FileSeen) → length buffer ≡ width → value ≡ num order (take width buffer)
     → FillsFrom before.bytes before.size at (Ok tt) buffer
-    → IfSome before.bytes (λ file. length file ≡ before.size) → now.bytes ≡ before.bytes → now.size ≡ before.size → before.faults ≤ now.faults → now.reads ≡ raised before.reads (length buffer)
+    → IfSome before.bytes (λ file. length file ≡ before.size) → now.bytes ≡ before.bytes → now.size ≡ before.size → now.faults ≡ before.faults → now.reads ≡ raised before.reads (length buffer)
     → Steps (λ found. found.1) (λ bytes. number_at width order bytes at) at before now (Ok (value, at + width))
 unfolding number_at
-number_found width order at value buffer before now long number fills is bytes same later reads =
-    let content = content_found width at buffer before now long (omega (arith, fills.0, long)) (subst (λ (n : ℕ). GivesBytesAt before.bytes at n buffer) long fills.1) is bytes same later (omega (arith, reads, long)) in
+number_found width order at value buffer before now long number fills is bytes same kept reads =
+    let content = content_found width at buffer before now long (omega (arith, fills.0, long)) (subst (λ (n : ℕ). GivesBytesAt before.bytes at n buffer) long fills.1) is bytes same kept (omega (arith, reads, long)) in
     let whole : num order buffer ≡ value = ap (num order) (sym (take_all width buffer (omega (arith, long)))) ∙ sym number in
     steps_then _ _ _ _ _ _ _ _ _ _ content (steps_here (λ found. found.1) (Ok (num order buffer, at + width)) (at + width) now (value, at + width) (ap (λ (n : ℕ). found_ok n (at + width)) whole) refl (omega (arith, fills.0, same, long)))
 
 pub number_failed : (X : Type 0) (width : ℕ) (order : Order) (at : ℕ) (buffer : List ℕ) (fault : PieceFault) (before now : FileSeen) → length buffer ≡ width
     → FillsFrom before.bytes before.size at (Err fault) buffer → at ≤ before.size
     → IfSome before.bytes (λ file. length file ≡ before.size) → now.bytes ≡ before.bytes → now.size ≡ before.size → before.faults ≤ now.faults
-    → (failing X fault ≡ failing X piece.Read → Rose before.faults now.faults) → now.reads ≤ raised before.reads (before.size - at)
+    → (failing X fault ≡ failing X piece.Read → Rose before.faults now.faults) → pieces.KeptAt before.faults now.faults fault → now.reads ≤ raised before.reads (before.size - at)
     → Steps {V = ℕ × ℕ} (λ found. found.1) (λ bytes. number_at width order bytes at) at before now (Err (fault_of_piece fault))
 unfolding number_at
-number_failed X width order at buffer fault before now long fills within is bytes same later cause most =
-    steps_failed _ _ _ _ _ _ _ _ (content_failed X width at fault before now (failed_fill before.bytes before.size at width buffer fault long fills) within is bytes same later cause most)
+number_failed X width order at buffer fault before now long fills within is bytes same later cause kept most =
+    steps_failed _ _ _ _ _ _ _ _ (content_failed X width at fault before now (failed_fill before.bytes before.size at width buffer fault long fills) within is bytes same later cause kept most)

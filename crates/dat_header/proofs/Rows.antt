@@ -48,6 +48,7 @@ goes_on_memory whole rest at place before now on = on now (Err Memory) (record {
   size = refl;
   later = omega arith;
   cause = λ e. cc;
+  kept = refl;
   reads = tt;
   most = omega arith;
   forward = tt;

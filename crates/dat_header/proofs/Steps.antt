@@ -3,7 +3,7 @@ use Rattle.std.proofs.Common.{◌≡◌, ℕ, ◌≤◌, ◌-◌, List, Option, 
 use Rattle.trace_outside.specs.Causes.{Rose, raised}
 use Rattle.dat_options.specs.declared.fault.OpenFault.{OpenFault}
 use Rattle.dat_options.specs.declared.fault.OpenFault.TheVariants.{Read, Memory}
-use Rattle.dat_options.specs.Answer.{AnswersUnlessFaulty, AnswersTold}
+use Rattle.dat_options.specs.Answer.{AnswersUnlessFaulty, AnswersTold, KeptAt, KeptUnlessRead}
 use Rattle.dat_header.specs.Found.{Found, ◌>>=◌}
 use Rattle.dat_header.specs.Header.{IsRefusal}
 use Rattle.dat_header.specs.Steps.{Steps}
@@ -35,6 +35,15 @@ told_failed : {V W : Type 0} (told : Option (List ℕ)) (first : List ℕ → Re
 told_failed None first next fault is = tt
 told_failed (Some bytes) first next fault is = answers_failed fault (first bytes) (λ v. next v bytes) is
 
+-- a count that did not move is kept, whatever was answered
+pub kept_at : (before now : ℕ) (fault : OpenFault) → now ≡ before → KeptAt before now fault
+kept_at before now Read same = tt
+kept_at before now fault same = same
+
+pub kept_still : {V : Type 0} (before now : ℕ) (result : Result V OpenFault) → now ≡ before → KeptUnlessRead before now result
+kept_still before now (Ok value) same = same
+kept_still before now (Err fault) same = kept_at before now fault same
+
 -- a step, and then another from the place that it answered
 pub steps_then : {V W : Type 0} (place : V → ℕ) (end : W → ℕ) (first : List ℕ → Result V OpenFault) (next : V → List ℕ → Result W OpenFault)
     (at : ℕ) (before mid now : FileSeen) (value : V) (result : Result W OpenFault)
@@ -46,6 +55,7 @@ steps_then place end first next at before mid now value (Ok w) one two = record 
   size = two.size ∙ one.size;
   later = omega (arith, one.later, two.later);
   cause = λ is. cc;
+  kept = two.kept ∙ one.kept;
   reads = omega (arith, one.reads, two.reads, one.forward, two.forward);
   most = omega (arith, one.reads, two.most, one.inside, one.forward, one.size);
   forward = omega (arith, one.forward, two.forward);
@@ -57,6 +67,7 @@ steps_then place end first next at before mid now value (Err fault) one two = re
   size = two.size ∙ one.size;
   later = omega (arith, one.later, two.later);
   cause = λ is. let rose : Rose mid.faults now.faults = two.cause is in omega (arith, one.later, rose);
+  kept = subst (λ (count : ℕ). KeptAt count now.faults fault) one.kept two.kept;
   reads = tt;
   most = omega (arith, one.reads, two.most, one.inside, one.forward, one.size);
   forward = tt;
@@ -73,6 +84,7 @@ steps_failed {V} {W} place end first next at before now fault one = record {
   size = one.size;
   later = one.later;
   cause = λ is. one.cause (cc);
+  kept = one.kept;
   reads = tt;
   most = one.most;
   forward = tt;
@@ -98,6 +110,7 @@ steps_here end expected at now value is ends within = record {
   size = refl;
   later = omega arith;
   cause = λ e. cc;
+  kept = refl;
   reads = omega arith;
   most = omega arith;
   forward = omega (arith, ends);
@@ -113,6 +126,7 @@ steps_wrong end expected at now wrong is refusal = record {
   size = refl;
   later = omega arith;
   cause = λ e. absurd (subst IsRefusal (erring_is _ _ _ e) refusal);
+  kept = kept_at now.faults now.faults wrong refl;
   reads = tt;
   most = omega arith;
   forward = tt;
@@ -133,6 +147,7 @@ steps_same next first other at before now result same steps = record {
   size = steps.size;
   later = steps.later;
   cause = steps.cause;
+  kept = steps.kept;
   reads = steps.reads;
   most = steps.most;
   forward = steps.forward;
@@ -141,14 +156,15 @@ steps_same next first other at before now result same steps = record {
 
 -- a step that is told by its clauses
 pub steps_found : {V : Type 0} (expected : List ℕ → Found V) (at end : ℕ) (value : V) (before now : FileSeen) → AnswersTold expected before.bytes (Ok (value, end))
-    → now.bytes ≡ before.bytes → now.size ≡ before.size → before.faults ≤ now.faults → now.reads ≤ raised before.reads (end - at) → at ≤ end → end ≤ before.size
+    → now.bytes ≡ before.bytes → now.size ≡ before.size → now.faults ≡ before.faults → now.reads ≤ raised before.reads (end - at) → at ≤ end → end ≤ before.size
     → Steps (λ found. found.1) expected at before now (Ok (value, end))
-steps_found expected at end value before now answer bytes size later reads forward inside = record {
+steps_found expected at end value before now answer bytes size kept reads forward inside = record {
   answer = answer;
   bytes = bytes;
   size = size;
-  later = later;
+  later = omega (arith, kept);
   cause = λ e. cc;
+  kept = kept;
   reads = reads;
   most = omega (arith, reads, inside);
   forward = forward;
@@ -157,14 +173,15 @@ steps_found expected at end value before now answer bytes size later reads forwa
 
 pub steps_fault : {V : Type 0} (X : Type 0) (expected : List ℕ → Found V) (at : ℕ) (fault : OpenFault) (before now : FileSeen) → AnswersTold expected before.bytes (Err fault)
     → now.bytes ≡ before.bytes → now.size ≡ before.size → before.faults ≤ now.faults → (erring X fault ≡ erring X Read → Rose before.faults now.faults)
-    → now.reads ≤ raised before.reads (before.size - at)
+    → KeptAt before.faults now.faults fault → now.reads ≤ raised before.reads (before.size - at)
     → Steps (λ found. found.1) expected at before now (Err fault)
-steps_fault X expected at fault before now answer bytes size later cause most = record {
+steps_fault X expected at fault before now answer bytes size later cause kept most = record {
   answer = answer;
   bytes = bytes;
   size = size;
   later = later;
   cause = λ e. cause (ap (erring X) (erring_is _ _ _ e));
+  kept = kept;
   reads = tt;
   most = most;
   forward = tt;

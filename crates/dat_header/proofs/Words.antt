@@ -17,7 +17,7 @@ use Rattle.dat_header.specs.ItemsAt.{word_in, word_at}
 use Rattle.dat_header.specs.Steps.{Steps, GivesThere}
 use Rattle.dat_header.specs.Opening.{version_at}
 use Rattle.dat_header.specs.Seen.{FileSeen}
-use Rattle.dat_header.proofs.Steps.{erring_is, answers_itself}
+use Rattle.dat_header.proofs.Steps.{erring_is, answers_itself, kept_still}
 
 bytes_apart : (xs ys : List ℕ) → (xs ≡ ys → ⊥) → bytes_eq xs ys ≡ false
 bytes_apart xs ys apart = elim (cases_Bool (bytes_eq xs ys)) [
@@ -100,6 +100,7 @@ word_in_steps expected word wrong at count buffer before now long within refusal
       size = gives.size;
       later = gives.later;
       cause = λ e. absurd (chosen_refuses stands begins (at + length word) before.size wrong refusal e);
+      kept = kept_still before.faults now.faults (word_in word wrong (take count buffer) at before.size) gives.kept;
       most = gives.most;
       reads = chosen_ends stands begins (at + length word) before.size wrong (λ value. now.reads ≤ raised before.reads (value - at)) (λ e. omega (arith, gives.reads, whole e));
       forward = chosen_ends stands begins (at + length word) before.size wrong (λ value. at ≤ value) (λ e. omega arith);

@@ -25,7 +25,7 @@ use Rattle.dat_header.specs.Written.{Writes, options_section, is_instance, with_
 -- by the clauses of a call that writes
 pub writes_by : {O E : Type 0} {o : sink.Ghosts O} (text : List ℕ) (before now : O) (result : Result (Unit {0}) E) → OnOk result (Gained (o.written before) (o.written now) text) → OnErr result (GainedPrefix (o.written before) (o.written now) text)
     → o.name now ≡ o.name before → HasCause (o.faults before) (o.faults now) result → Writes text o before now result
-writes_by text before now result gained prefix name cause = record { gained = gained; prefix = prefix; name = name; later = cause.later; failed = cause.failed }
+writes_by text before now result gained prefix name cause = record { gained = gained; prefix = prefix; name = name; later = cause.later; failed = cause.failed; kept = cause.kept }
 
 -- the same text
 pub writes_as : {O E : Type 0} {o : sink.Ghosts O} (text other : List ℕ) (before now : O) (result : Result (Unit {0}) E) → text ≡ other → Writes text o before now result → Writes other o before now result
@@ -33,7 +33,7 @@ writes_as {O} {E} {o} text other before now result same writes = subst (λ (t : 
 
 -- nothing
 pub writes_nothing : {O E : Type 0} {o : sink.Ghosts O} (done : Unit {0}) (now : O) → Writes {E = E} [] o now now (Ok done)
-writes_nothing {O} {E} {o} done now = record { gained = gained_nothing (o.written now); prefix = tt; name = refl; later = omega arith; failed = tt }
+writes_nothing {O} {E} {o} done now = record { gained = gained_nothing (o.written now); prefix = tt; name = refl; later = omega arith; failed = tt; kept = refl }
 
 -- a piece, and then another
 pub writes_then : {O E : Type 0} {o : sink.Ghosts O} (one two : List ℕ) (before mid now : O) (done : Unit {0}) (result : Result (Unit {0}) E) → Writes {E = E} one o before mid (Ok done) → Writes two o mid now result → Writes (one ++ two) o before now result
@@ -43,6 +43,7 @@ writes_then {O} {E} {o} one two before mid now done (Ok last) first second = rec
   name = second.name ∙ first.name;
   later = omega (arith, first.later, second.later);
   failed = tt;
+  kept = second.kept ∙ first.kept;
 }
 writes_then {O} {E} {o} one two before mid now done (Err fault) first second = record {
   gained = tt;
@@ -50,6 +51,7 @@ writes_then {O} {E} {o} one two before mid now done (Err fault) first second = r
   name = second.name ∙ first.name;
   later = omega (arith, first.later, second.later);
   failed = omega (arith, first.later, second.failed);
+  kept = tt;
 }
 
 -- a piece that failed, and no other behind it
@@ -60,6 +62,7 @@ writes_failed {O} {E} {o} one two before now fault first = record {
   name = first.name;
   later = first.later;
   failed = first.failed;
+  kept = tt;
 }
 
 -- one item more of a row
@@ -81,6 +84,7 @@ writes_row_failed {O} {E} {X} {o} f xs i x before mid now done fault inside is f
       name = both.name;
       later = both.later;
       failed = both.failed;
+      kept = tt;
     }
 
 pub writes_row : {O E X : Type 0} {o : sink.Ghosts O} (f : X → List ℕ) (xs : List X) (i : ℕ) (before now : O) (done : Unit {0}) → length xs ≤ i → Writes {E = E} (flat_map f (take i xs)) o before now (Ok done) → Writes {E = E} (flat_map f xs) o before now (Ok done)

@@ -2,7 +2,7 @@
 use Rattle.std.specs.Prelude.{◌≡◌, ◌≤◌, ◌-◌, ℕ, min, List, length, Result, Err, IfOk, IfErr}
 use Rattle.trace_outside.specs.Causes.{Rose, raised}
 use Rattle.trace_outside.specs.Reading.{GivesBytesAt}
-use Rattle.dat_options.specs.Answer.{AnswersTold}
+use Rattle.dat_options.specs.Answer.{AnswersTold, KeptUnlessRead}
 use Rattle.dat_options.specs.declared.fault.OpenFault.{OpenFault}
 use Rattle.dat_options.specs.declared.fault.OpenFault.TheVariants.{Read}
 use Rattle.trace_outside.specs.declared.outside.File as file
@@ -17,6 +17,7 @@ pub record Steps {V : Type 0} (next : V → ℕ) (expected : List ℕ → Result
   pub size : now.size ≡ before.size
   pub later : before.faults ≤ now.faults
   pub cause : result ≡ Err Read → Rose before.faults now.faults
+  pub kept : KeptUnlessRead before.faults now.faults result
   pub reads : IfOk result (λ value. now.reads ≤ raised before.reads (next value - at))
   pub most : now.reads ≤ raised before.reads (before.size - at)
   pub forward : IfOk result (λ value. at ≤ next value)
@@ -39,5 +40,6 @@ pub record GivesThere (at : ℕ) (buffer : List ℕ) (before now : FileSeen) (re
   pub size : now.size ≡ before.size
   pub later : before.faults ≤ now.faults
   pub cause : result ≡ Err Read → Rose before.faults now.faults
+  pub kept : KeptUnlessRead before.faults now.faults result
   pub reads : IfOk result (λ count. now.reads ≤ raised before.reads count)
   pub most : now.reads ≤ raised before.reads (before.size - at)

@@ -49,3 +49,4 @@ pub record Writes {O E : Type 0} (text : List ℕ) (o : sink.Ghosts O) (before n
   pub name : o.name now ≡ o.name before
   pub later : o.faults before ≤ o.faults now
   pub failed : OnErr result (Rose (o.faults before) (o.faults now))
+  pub kept : OnOk result (o.faults now ≡ o.faults before)

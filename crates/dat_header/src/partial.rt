@@ -5,6 +5,7 @@ ghost use Rattle.trace_outside.specs.Causes.{Rose, raised};
 ghost use Rattle.trace_outside.specs.Keeping.{KeepsFile};
 ghost use Rattle.trace_base.specs.Layout.{IsLayout};
 ghost use Rattle.dat_header.specs.Partial.{IsPartial, ReadsPartial, cmdlines_at, partial_header, partial_of};
+ghost use Rattle.dat_options.specs.Answer.{KeptUnlessRead};
 ghost use Rattle.dat_header.specs.Seen.{file_seen};
 ghost use Rattle.dat_header.specs.Steps.{Finds, Steps};
 
@@ -29,6 +30,7 @@ use trace_outside::File;
 pub fn read_partial<F: File>(alloc: Global, file: &mut F) -> Result<Header, OpenFault>
     ensures answer { ReadsPartial (F.bytes file.old) result }
     ensures read { IsErrOf result OpenFault.Read → Rose (F.faults file.old) (F.faults file.new) }
+    ensures kept { KeptUnlessRead (F.faults file.old) (F.faults file.new) result }
     ensures reads { IfOk result (λ header. F.reads file.new ≤ raised (F.reads file.old) header.end) }
     ensures most { F.reads file.new ≤ raised (F.reads file.old) (F.size file.old) }
     ensures end_inside { IfOk result (λ header. header.end ≤ F.size file.old) }

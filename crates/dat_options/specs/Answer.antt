@@ -1,5 +1,5 @@
 -- What a call that reads a file's header, or a part of it, may answer.
-use Rattle.std.specs.Prelude.{Option, Some, None, Result, Ok, Err, ◌≡◌, ℕ, ◌-◌, List, length, IfSome}
+use Rattle.std.specs.Prelude.{Option, Some, None, Result, Ok, Err, ◌≡◌, ℕ, ◌-◌, List, length, IfSome, MatchResult}
 use Rattle.dat_options.specs.declared.fault.OpenFault.{OpenFault}
 use Rattle.dat_options.specs.declared.fault.OpenFault.TheVariants.{Truncated, Read, Memory}
 use Rattle.trace_outside.specs.declared.piece.PieceFault.{PieceFault}
@@ -33,3 +33,12 @@ abbrev pub fault_of_piece : PieceFault → OpenFault
 fault_of_piece (piece.EndsEarly len) = Truncated len
 fault_of_piece piece.Read = Read
 fault_of_piece piece.Memory = Memory
+
+-- this fault leaves the count of faults as it was, if it is no failed read
+abbrev pub KeptAt : ℕ → ℕ → OpenFault → Type 0
+KeptAt before now Read = Unit {0}
+KeptAt before now fault = now ≡ before
+
+-- the count of faults is as it was, but where a read failed
+abbrev pub KeptUnlessRead : {T : Type 0} → ℕ → ℕ → Result T OpenFault → Type 0
+KeptUnlessRead before now result = MatchResult result (λ _. now ≡ before) (KeptAt before now)

@@ -6,7 +6,7 @@ ghost use Rattle.trace_outside.specs.Causes.{HasCause, Rose, raised};
 ghost use Rattle.trace_outside.specs.Keeping.{KeepsFile};
 ghost use Rattle.trace_base.specs.Number.{bytes_of};
 ghost use Rattle.trace_outside.specs.Writing.{Gained, GainedPrefix};
-ghost use Rattle.dat_options.specs.Answer.{AnswersTold, IsEnd};
+ghost use Rattle.dat_options.specs.Answer.{AnswersTold, IsEnd, KeptUnlessRead};
 ghost use Rattle.dat_options.specs.OneOption.{ReadsFirst};
 ghost use Rattle.dat_options.specs.Options.{IsOption, MayBeWritten, FindsOptions, option_text, options_text, options_from};
 
@@ -39,6 +39,7 @@ pub fn read_options<F: File>(
     ensures reads { IfOk result (λ found. F.reads file.new ≡ raised (F.reads file.old) (found.1 - at)) }
     ensures most { F.reads file.new ≤ raised (F.reads file.old) (F.size file.old - at) }
     ensures cause { IsErrOf result OpenFault.Read → Rose (F.faults file.old) (F.faults file.new) }
+    ensures kept { KeptUnlessRead (F.faults file.old) (F.faults file.new) result }
     ensures keeps { KeepsFile F.File file.old file.new }
 {
     let mut options = Vec::new(alloc);
@@ -68,6 +69,7 @@ fn read_option<F: File>(
     ensures reads { IfOk result (λ found. F.reads file.new ≡ raised (F.reads file.old) (found.1 - at)) }
     ensures most { F.reads file.new ≤ raised (F.reads file.old) (F.size file.old - at) }
     ensures cause { IsErrOf result OpenFault.Read → Rose (F.faults file.old) (F.faults file.new) }
+    ensures kept { KeptUnlessRead (F.faults file.old) (F.faults file.new) result }
     ensures keeps { KeepsFile F.File file.old file.new }
 {
     let mut id = [0; 2];

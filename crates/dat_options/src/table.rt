@@ -5,7 +5,7 @@ ghost use Rattle.std.specs.List.{All};
 ghost use Rattle.trace_outside.specs.Causes.{HasCause, Rose, raised};
 ghost use Rattle.trace_outside.specs.Keeping.{KeepsFile};
 ghost use Rattle.trace_outside.specs.Writing.{Gained, GainedPrefix};
-ghost use Rattle.dat_options.specs.Answer.{AnswersTold, IsEnd};
+ghost use Rattle.dat_options.specs.Answer.{AnswersTold, IsEnd, KeptUnlessRead};
 ghost use Rattle.dat_options.specs.Table.{IsPart, FindsTable, part_text, table_text, table_from};
 
 use crate::fault::OpenFault;
@@ -42,6 +42,7 @@ pub fn read_table<F: File>(
     ensures unread { IsErrOf result (OpenFault.Truncated (F.size file.old)) → F.reads file.new ≡ F.reads file.old }
     ensures most { F.reads file.new ≤ raised (F.reads file.old) (F.size file.old - at) }
     ensures cause { IsErrOf result OpenFault.Read → Rose (F.faults file.old) (F.faults file.new) }
+    ensures kept { KeptUnlessRead (F.faults file.old) (F.faults file.new) result }
     ensures keeps { KeepsFile F.File file.old file.new }
 {
     let size = 16 * cpus as u64;

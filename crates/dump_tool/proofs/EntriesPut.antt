@@ -1,5 +1,5 @@
 -- Texts that are put one behind another, as an iterator gives their entries.
-use Rattle.std.proofs.Common.{◌≡◌, ℕ, ◌≤◌, List, [], ◌∷◌, ◌++◌, length, map, Option, Some, None, Result, Ok, Err, IsErr, refl, sym, ap, ◌∙◌, subst, arith}
+use Rattle.std.proofs.Common.{◌≡◌, ℕ, List, [], ◌∷◌, ◌++◌, length, map, Option, Some, None, Result, Ok, Err, IsErr, refl, sym, ap, ◌∙◌, subst, arith}
 use Rattle.std.specs.Prelude.{⊤}
 use Rattle.std.specs.List.{concat, flat_map}
 use Rattle.std.specs.Iterator.{AlwaysYields}
@@ -20,19 +20,15 @@ put_nothing : (now : OnWay) → Puts [] now now (Ok tt)
 put_nothing now = record {
   puts = λ before text held. subst (λ whole. Holds before now.written now.waiting whole) (sym (append-nil text)) held;
   name = refl;
-  cause = record { later = omega arith; failed = tt };
+  cause = record { later = omega arith; failed = tt; kept = refl };
 }
-
-later_cause : (before mid now : ℕ) (result : Result ⊤ Failed) → before ≤ mid → HasCause mid now result → HasCause before now result
-later_cause before mid now (Ok value) first then = record { later = omega (arith, first, then.later); failed = tt }
-later_cause before mid now (Err error) first then = record { later = omega (arith, first, then.later); failed = omega (arith, first, then.failed) }
 
 -- a text was put, and then another
 pub both_put : (first then : List ℕ) (before mid now : OnWay) (result : Result ⊤ Failed) → Puts first before mid (Ok tt) → Puts then mid now result → Puts (first ++ then) before now result
 both_put first then before mid now result one two = record {
   puts = put_both first then before.written mid.written now.written before.waiting mid.waiting now.waiting result one.puts two.puts;
   name = two.name ∙ one.name;
-  cause = later_cause before.faults mid.faults now.faults result one.cause.later two.cause;
+  cause = subst (λ (count : ℕ). HasCause count now.faults result) one.cause.kept two.cause;
 }
 
 -- the first of two texts was stopped
@@ -41,7 +37,7 @@ first_stopped first then before now error (Ok value) one failed = absurd (let ba
 first_stopped first then before now error (Err other) one failed = record {
   puts = stopped_first {T = ⊤} {E = Failed} first then before.written now.written before.waiting now.waiting (Err other) refl one.puts;
   name = one.name;
-  cause = record { later = one.cause.later; failed = one.cause.failed };
+  cause = record { later = one.cause.later; failed = one.cause.failed; kept = tt };
 }
 
 module _ {S A : Type 0} (steps : S → Option A → S → Type 0) (text : A → List ℕ) (texts : List (List ℕ)) where

@@ -1,3 +1,4 @@
 pub mod Copies
 pub mod Padding
+pub mod Requested
 pub mod Stored

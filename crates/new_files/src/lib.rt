@@ -1,5 +1,5 @@
 //! What every tool that makes a file needs: zero bytes up to a multiple of a page, and a file's bytes copied a buffer at a time;
-//! and, in `specs/`, what a new file is and what making some leaves of a folder.
+//! and, in `specs/`, what a new file is, what making some leaves of a folder, and which names it is asked for.
 #![tactic(auto)]
 
 mod copies;

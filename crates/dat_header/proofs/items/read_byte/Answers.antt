@@ -8,9 +8,9 @@ pub returns-in_err-read_piece-clause-steps : goal.returns-in_err-read_piece-clau
 returns-in_err-read_piece-clause-steps g c =
     let p = err_from_is_err_and c.from_residual.result c.from_residual.ensures.1 in
     let e = c.in_err-read_piece.ensures in
-    rw (p.1, p.2) (number_failed _ 1 Little c.args.at _ _ _ _ (search rules) e.filled c.requires.inside (g.met.F.File.size_is c.args.file.now) e.keeps.bytes e.keeps.size e.keeps.later e.cause e.most)
+    rw (p.1, p.2) (number_failed _ 1 Little c.args.at _ _ _ _ (search rules) e.filled c.requires.inside (g.met.F.File.size_is c.args.file.now) e.keeps.bytes e.keeps.size e.keeps.later e.cause e.kept e.most)
 
 pub returns-clause-steps : goal.returns-clause-steps
 returns-clause-steps g c =
     let e = c.in_ok-read_piece.ensures in
-    number_found 1 Little c.args.at _ _ _ _ (search rules) (search rules) e.filled (g.met.F.File.size_is c.args.file.now) e.keeps.bytes e.keeps.size e.keeps.later e.reads
+    number_found 1 Little c.args.at _ _ _ _ (search rules) (search rules) e.filled (g.met.F.File.size_is c.args.file.now) e.keeps.bytes e.keeps.size e.kept e.reads

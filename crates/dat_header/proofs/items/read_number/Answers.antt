@@ -7,9 +7,9 @@ pub returns-in_err-read_piece : goal.returns-in_err-read_piece
 returns-in_err-read_piece g c =
     let p = err_from_is_err_and c.from_residual.result c.from_residual.ensures.1 in
     let e = c.in_err-read_piece.ensures in
-    rw (p.1, p.2) (number_failed _ 4 c.args.order c.args.at _ _ _ _ (search rules) e.filled c.requires.inside (g.met.F.File.size_is c.args.file.now) e.keeps.bytes e.keeps.size e.keeps.later e.cause e.most)
+    rw (p.1, p.2) (number_failed _ 4 c.args.order c.args.at _ _ _ _ (search rules) e.filled c.requires.inside (g.met.F.File.size_is c.args.file.now) e.keeps.bytes e.keeps.size e.keeps.later e.cause e.kept e.most)
 
 pub returns : goal.returns
 returns g c =
     let e = c.in_ok-read_piece.ensures in
-    number_found 4 c.args.order c.args.at c.read_u32.result _ _ _ (search rules) c.read_u32.ensures e.filled (g.met.F.File.size_is c.args.file.now) e.keeps.bytes e.keeps.size e.keeps.later e.reads
+    number_found 4 c.args.order c.args.at c.read_u32.result _ _ _ (search rules) c.read_u32.ensures e.filled (g.met.F.File.size_is c.args.file.now) e.keeps.bytes e.keeps.size e.kept e.reads

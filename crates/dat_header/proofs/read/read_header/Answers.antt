@@ -11,6 +11,9 @@ returns-clause-answer g c = c.read_pieces.ensures.steps.answer
 pub returns-clause-read : goal.returns-clause-read
 returns-clause-read g c = c.read_pieces.ensures.steps.cause
 
+pub returns-clause-kept : goal.returns-clause-kept
+returns-clause-kept g c = c.read_pieces.ensures.steps.kept
+
 pub returns-clause-reads : goal.returns-clause-reads
 returns-clause-reads g c = reads_whole _ _ _ c.read_pieces.ensures.steps.reads
 

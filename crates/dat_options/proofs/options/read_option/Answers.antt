@@ -1,7 +1,9 @@
-use Rattle.std.proofs.Common.{◌≡◌, ◌<◌, ◌≤◌, ◌+◌, None, Err, drop, IfSome, arith, refl, ◌∙◌}
+use Rattle.std.proofs.Common.{◌≡◌, ℕ, ◌<◌, ◌≤◌, ◌+◌, None, Err, drop, IfSome, arith, refl, ◌∙◌, subst}
 use Rattle.std.proofs.lemmas.Result.{err_from_is_err_and}
 use Rattle.trace_base.specs.Number.{bytes_of}
+use Rattle.dat_options.specs.Answer.{KeptAt, fault_of_piece}
 use Rattle.dat_options.specs.Options.{option_at}
+use Rattle.dat_options.proofs.Pieces.{kept_piece}
 use Rattle.dat_options.proofs.FirstLaws.{HoldsAt, faulty, faulty_piece, no_id, no_size, no_content, filled_holds, option_holds, given_holds, length-option_text, fills_same, gives_same}
 use Rattle.dat_options.proofs.options.read_option.Goals as goal
 
@@ -10,6 +12,11 @@ returns-in_err-read_piece-clause-first g c =
     let p = err_from_is_err_and c.from_residual.result c.from_residual.ensures.1 in
     rw (p.1, p.2) (faulty c.args.order _ _ c.args.at c.in_err-read_piece.field-0.0 c.read_piece.new.into c.args.at
     (λ short. no_id c.args.order _ _ c.args.at (g.met.F.File.size_is c.args.file.now) (omega (arith, short))) c.in_err-read_piece.ensures.filled)
+
+pub returns-in_err-read_piece-clause-kept : goal.returns-in_err-read_piece-clause-kept
+returns-in_err-read_piece-clause-kept g c =
+    let p = err_from_is_err_and c.from_residual.result c.from_residual.ensures.1 in
+    rw (p.1, p.2) (kept_piece _ _ c.in_err-read_piece.field-0.0 c.in_err-read_piece.ensures.kept)
 
 pub overflow_add-result : goal.overflow_add-result
 overflow_add-result g c = omega (arith, c.in_ok-read_piece.ensures.filled, c.in_ok-read_piece.ensures.fits)
@@ -37,6 +44,11 @@ returns-in_err-read_piece-2-clause-first g c =
     rw (p.1, p.2) (faulty order told size c.args.at c.in_err-read_piece-2.field-0.0 c.read_piece-2.new.into (c.args.at + 2) (λ past. short (omega (arith, past)))
     (fills_same told _ size _ (c.args.at + 2) (Err c.in_err-read_piece-2.field-0.0) c.read_piece-2.new.into c.in_ok-read_piece.ensures.keeps.bytes c.in_ok-read_piece.ensures.keeps.size c.in_err-read_piece-2.ensures.filled))
 
+pub returns-in_err-read_piece-2-clause-kept : goal.returns-in_err-read_piece-2-clause-kept
+returns-in_err-read_piece-2-clause-kept g c =
+    let p = err_from_is_err_and c.from_residual-in_err-read_piece-2.result c.from_residual-in_err-read_piece-2.ensures.1 in
+    rw (p.1, p.2) (subst (λ (count : ℕ). KeptAt count (g.F.File.faults c.read_piece-2.new.file) (fault_of_piece c.in_err-read_piece-2.field-0.0)) c.in_ok-read_piece.ensures.kept (kept_piece _ _ c.in_err-read_piece-2.field-0.0 c.in_err-read_piece-2.ensures.kept))
+
 pub returns-in_err-bytes-clause-first : goal.returns-in_err-bytes-clause-first
 returns-in_err-bytes-clause-first g c =
     let order = c.args.order in
@@ -52,6 +64,12 @@ returns-in_err-bytes-clause-first g c =
     let p = err_from_is_err_and c.from_residual-in_err-bytes.result c.from_residual-in_err-bytes.ensures.1 in
     rw (p.1, p.2) (faulty_piece order told size at c.in_err-bytes.field-0.0 c.size_of-size.result (at + 6) short
     (gives_same told _ size _ (at + 6) c.size_of-size.result (Err c.in_err-bytes.field-0.0) same as_long c.in_err-bytes.ensures.given))
+
+pub returns-in_err-bytes-clause-kept : goal.returns-in_err-bytes-clause-kept
+returns-in_err-bytes-clause-kept g c =
+    let p = err_from_is_err_and c.from_residual-in_err-bytes.result c.from_residual-in_err-bytes.ensures.1 in
+    rw (p.1, p.2) (subst (λ (count : ℕ). KeptAt count (g.F.File.faults c.read_bytes.new.file) (fault_of_piece c.in_err-bytes.field-0.0)) (c.in_ok-read_piece-2.ensures.kept ∙ c.in_ok-read_piece.ensures.kept)
+    (kept_piece _ _ c.in_err-bytes.field-0.0 c.in_err-bytes.ensures.kept))
 
 pub returns-clause-first : goal.returns-clause-first
 returns-clause-first g c =

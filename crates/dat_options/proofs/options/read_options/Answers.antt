@@ -1,8 +1,9 @@
-use Rattle.std.proofs.Common.{◌≡◌, ◌+◌, None, Some, Ok, Err, List, ◌++◌, ◌∷◌, [], length, subst, sym, arith}
+use Rattle.std.proofs.Common.{◌≡◌, ◌∙◌, ℕ, ◌+◌, None, Some, Ok, Err, List, ◌++◌, ◌∷◌, [], length, subst, sym, arith}
 use Rattle.std.proofs.lemmas.Result.{err_from_is_err_and}
 use Rattle.std.specs.List.{All, flat_map}
 use Rattle.trace_outside.proofs.Keeping.{file_kept}
 use Rattle.dat_options.specs.declared.option.Opt.{Opt}
+use Rattle.dat_options.specs.Answer.{KeptAt}
 use Rattle.dat_options.specs.Options.{IsOption, option_text}
 use Rattle.dat_options.proofs.FirstLaws.{HoldsAt}
 use Rattle.dat_options.proofs.OptionsFound.{Faulty, faulty, Found, all_found, first_same, as_first, behind_one_more, holds_one_more, All-push}
@@ -20,6 +21,11 @@ returns-in_err-option-clause-found g c = let p = err_from_is_err_and c.from_resi
 
 pub returns-in_err-option-clause-exact : goal.returns-in_err-option-clause-exact
 returns-in_err-option-clause-exact g c = let p = err_from_is_err_and c.from_residual.result c.from_residual.ensures.1 in rw (p.1, p.2) (at_fault g c).exact
+
+pub returns-in_err-option-clause-kept : goal.returns-in_err-option-clause-kept
+returns-in_err-option-clause-kept g c =
+    let p = err_from_is_err_and c.from_residual.result c.from_residual.ensures.1 in
+    rw (p.1, p.2) (subst (λ (count : ℕ). KeptAt count (g.F.File.faults c.read_option.new.file) c.in_err-option.field-0.0) c.loop-options.invariant.faults c.in_err-option.ensures.kept)
 
 at_end : (g : given.Over) (c : goal.After-from_vec g) → Found c.args.order (g.F.File.bytes c.args.file.now) (g.F.File.size c.args.file.now) c.args.at c.loop-options.options.items c.in_ok-option.behind
 at_end g c =
@@ -50,4 +56,5 @@ loop-options-preserved g c =
       inside = omega (arith, first.inside);
       reads = omega (arith, c.in_ok-option.ensures.reads, c.loop-options.invariant.reads, first.behind, c.loop-options.invariant.behind);
       keeps = file_kept c.loop-options.invariant.keeps c.in_ok-option.ensures.keeps;
+      faults = c.in_ok-option.ensures.kept ∙ c.loop-options.invariant.faults;
     }

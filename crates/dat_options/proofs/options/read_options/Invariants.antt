@@ -14,6 +14,7 @@ invariant-loop-options g l = record {
   inside : l.place ≤ max l.at (g.F.File.size l.initial.file);
   reads : g.F.File.reads l.file ≡ raised (g.F.File.reads l.initial.file) (l.place - l.at);
   keeps : KeepsFile g.F.File l.initial.file l.file;
+  faults : g.F.File.faults l.file ≡ g.F.File.faults l.initial.file;
 }
 
 abbrev pub decreases-loop-options : goal.decreases-loop-options

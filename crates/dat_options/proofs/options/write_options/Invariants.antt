@@ -1,4 +1,4 @@
-use Rattle.std.proofs.Common.{take, ◌≡◌, ◌≤◌}
+use Rattle.std.proofs.Common.{take, ◌≡◌}
 use Rattle.std.specs.List.{flat_map}
 use Rattle.trace_outside.specs.Writing.{Gained}
 use Rattle.dat_options.specs.Options.{option_text}
@@ -8,5 +8,5 @@ abbrev pub invariant-loop-option : goal.invariant-loop-option
 invariant-loop-option g l = record {
   gained : Gained (g.O.Sink.written l.initial.out) (g.O.Sink.written l.out) (flat_map (option_text l.order) (take l.option-index l.options));
   name : g.O.Sink.name l.out ≡ g.O.Sink.name l.initial.out;
-  later : g.O.Sink.faults l.initial.out ≤ g.O.Sink.faults l.out;
+  faults : g.O.Sink.faults l.out ≡ g.O.Sink.faults l.initial.out;
 }

@@ -27,7 +27,7 @@ loop-rest-preserved g c =
       parted = parted done block behind c.loop-rest.rest.now c.args.parts.now _ c.loop-rest.invariant.parted c.split_at.ensures.front c.split_at.ensures.back ∙ sym (append_assoc done block behind);
       gained = gained_parts order done block _ _ _ c.loop-rest.invariant.gained c.in_ok-write_block.ensures.gained;
       name = search rules;
-      later = omega arith;
+      faults = c.in_ok-write_block.ensures.cause.kept ∙ c.loop-rest.invariant.faults;
     }
 
 pub returns-in_err-write_block-clause-prefix : goal.returns-in_err-write_block-clause-prefix

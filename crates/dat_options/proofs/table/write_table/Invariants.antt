@@ -1,4 +1,4 @@
-use Rattle.std.proofs.Common.{List, length, ◌++◌, ◌≡◌, ◌≤◌}
+use Rattle.std.proofs.Common.{List, length, ◌++◌, ◌≡◌}
 use Rattle.trace_base.specs.declared.part.Part.{Part}
 use Rattle.trace_outside.specs.Writing.{Gained}
 use Rattle.dat_options.specs.Table.{table_text}
@@ -10,7 +10,7 @@ invariant-loop-rest g l = record {
   parted : l.parts ≡ done ++ l.rest;
   gained : Gained (g.O.Sink.written l.initial.out) (g.O.Sink.written l.out) (table_text l.order done);
   name : g.O.Sink.name l.out ≡ g.O.Sink.name l.initial.out;
-  later : g.O.Sink.faults l.initial.out ≤ g.O.Sink.faults l.out;
+  faults : g.O.Sink.faults l.out ≡ g.O.Sink.faults l.initial.out;
 }
 
 abbrev pub decreases-loop-rest : goal.decreases-loop-rest

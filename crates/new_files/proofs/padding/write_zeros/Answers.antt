@@ -13,7 +13,7 @@ loop-init g c =
     record {
       gained = subst (Gained (g.O.Sink.written c.args.out.now) (g.O.Sink.written c.write_all.new.out)) text c.in_ok-write_all.ensures.gained;
       name = c.write_all.ensures.name;
-      later = c.write_all.ensures.cause.later;
+      faults = c.in_ok-write_all.ensures.cause.kept;
     }
 
 pub loop-preserved : goal.loop-preserved
@@ -24,7 +24,7 @@ loop-preserved g c =
       gained = gained_both (g.O.Sink.written c.args.out.now) (g.O.Sink.written c.loop.out) (g.O.Sink.written c.write_all-in-loop.new.out) (zeros done) (zeros 4096) c.loop.invariant.gained c.in_ok-write_all-2.ensures.gained
           ∙ ap (append_known (g.O.Sink.written c.args.out.now)) (replicate-append-replicate done 4096 0 ∙ more);
       name = c.write_all-in-loop.ensures.name ∙ c.loop.invariant.name;
-      later = omega (arith, c.write_all-in-loop.ensures.cause.later, c.loop.invariant.later);
+      faults = c.in_ok-write_all-2.ensures.cause.kept ∙ c.loop.invariant.faults;
     }
 
 pub returns-in_err-write_all-clause-prefix : goal.returns-in_err-write_all-clause-prefix

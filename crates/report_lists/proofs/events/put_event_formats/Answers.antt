@@ -12,5 +12,5 @@ pub loop-i-preserved : goal.loop-i-preserved
 loop-i-preserved g c = record {
   held = entry_put format_lines c.args.formats.now c.loop-i.i _ _ _ _ _ _ _ c.loop-i.invariant.held c.in_ok-put_format.ensures.puts (ap (entry format_lines) c.get.ensures);
   name = search rules;
-  later = search rules;
+  faults = search rules;
 }

@@ -12,5 +12,5 @@ pub loop-i-preserved : goal.loop-i-preserved
 loop-i-preserved g c = record {
   held = entry_put printk_line c.args.symbols.now.printk c.loop-i.i _ _ _ _ _ _ _ c.loop-i.invariant.held c.in_ok-put_row.ensures.puts (ap (entry printk_line) c.printk.ensures);
   name = search rules;
-  later = search rules;
+  faults = search rules;
 }

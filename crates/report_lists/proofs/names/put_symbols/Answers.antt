@@ -12,5 +12,5 @@ pub loop-i-preserved : goal.loop-i-preserved
 loop-i-preserved g c = record {
   held = entry_put symbol_line c.args.symbols.now.symbols c.loop-i.i _ _ _ _ _ _ _ c.loop-i.invariant.held c.in_ok-put_row.ensures.puts (ap (entry symbol_line) c.symbol.ensures);
   name = search rules;
-  later = search rules;
+  faults = search rules;
 }

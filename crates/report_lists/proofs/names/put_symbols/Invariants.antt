@@ -1,4 +1,4 @@
-use Rattle.std.proofs.Common.{take, ◌≡◌, ◌≤◌}
+use Rattle.std.proofs.Common.{take, ◌≡◌}
 use Rattle.std.specs.List.{flat_map}
 use Rattle.report_lists.specs.Lists.{symbol_line}
 use Rattle.trace_outside.proofs.Putting.{Put}
@@ -8,5 +8,5 @@ abbrev pub invariant-loop-i : goal.invariant-loop-i
 invariant-loop-i g l = record {
   held : Put (flat_map symbol_line (take l.i l.symbols.symbols)) (g.O.Sink.written l.initial.out) l.initial.pending (g.O.Sink.written l.out) l.pending;
   name : g.O.Sink.name l.out ≡ g.O.Sink.name l.initial.out;
-  later : g.O.Sink.faults l.initial.out ≤ g.O.Sink.faults l.out;
+  faults : g.O.Sink.faults l.out ≡ g.O.Sink.faults l.initial.out;
 }
