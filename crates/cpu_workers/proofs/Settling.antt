@@ -12,6 +12,7 @@ use Rattle.page_pool.proofs.Keeping.{lane_still}
 use Rattle.event_cursor.specs.Standing.{IsInOrder, keyed_held}
 use Rattle.cpu_workers.specs.Spaces.{Space, has_no_room, with_line, fill, space_of}
 use Rattle.cpu_workers.specs.Formats.{IsFormatted, IsSettled}
+use Rattle.cpu_workers.proofs.Using.{used_none}
 
 module _ (text : ℕ → ItemData → LineText) where
   -- filling what filling left changes nothing
@@ -43,6 +44,7 @@ module _ (text : ℕ → ItemData → LineText) where
     unheld = λ _. refl;
     most = omega arith;
     used = refl;
+    behind = used_none l a a refl refl;
     high = refl;
     sorted = λ s. s;
     stands = λ file s. s;

@@ -7,6 +7,7 @@ ghost use Rattle.subpage.specs.Cut.{cut_of};
 ghost use Rattle.event_cursor.specs.Standing.{IsInOrder};
 ghost use Rattle.page_pool.specs.Fresh.{IsFresh};
 ghost use Rattle.time_merge.specs.LaneRows.{parts_of};
+ghost use Rattle.item_pass.specs.Faults.{KeptUnlessRead};
 ghost use Rattle.graph_report.specs.Gathered.{reached_calls, cut_place};
 
 use crate::sight::Sight;
@@ -50,6 +51,7 @@ pub fn gather_calls<F: File>(
     ensures parts { parts_of lanes.new ≡ parts_of lanes.old }
     ensures reads { F.reads file.new ≤ raised (F.reads file.old) (sum_by (λ part. part.1.size) (parts_of lanes.old)) }
     ensures read { result ≡ Err PassFault.Read → Rose (F.faults file.old) (F.faults file.new) }
+    ensures kept { KeptUnlessRead (F.faults file.old) (F.faults file.new) result }
     ensures keeps { KeepsFile F.File file.old file.new }
 {
     let Ok(roles) = FormatRoles::of(alloc, context.formats()) else {

@@ -7,6 +7,7 @@ ghost use Rattle.subpage.specs.Cut.{cut_of, reached_of};
 ghost use Rattle.page_pool.specs.Fresh.{IsFresh};
 ghost use Rattle.event_cursor.specs.Standing.{IsInOrder};
 ghost use Rattle.time_merge.specs.LaneRows.{parts_of};
+ghost use Rattle.item_pass.specs.Faults.{KeptUnlessRead};
 ghost use Rattle.item_pass.specs.Skipping.{by_item, cut_place};
 ghost use Rattle.item_pass.specs.declared.passing.PassFault.TheVariants.{Read};
 
@@ -63,6 +64,7 @@ pub fn pass<G: Gatherer, F: File>(
     ensures reads { F.reads file.new
         ≤ raised (F.reads file.old) (sum_by (λ part. part.1.size) (parts_of lanes.old)) }
     ensures read { result ≡ Err PassFault.Read → Rose (F.faults file.old) (F.faults file.new) }
+    ensures kept { KeptUnlessRead (F.faults file.old) (F.faults file.new) result }
     ensures keeps { KeepsFile F.File file.old file.new }
 {
     let Some(mut nexts) = tree_for(alloc, lanes) else {

@@ -1,6 +1,7 @@
 -- The first lines of several files, one behind another.
-use Rattle.std.proofs.Common.{Option, ◌≡◌, ℕ, ◌≤◌, List, [], ◌∷◌, ◌++◌, map, refl, ap, ◌∙◌, subst, append_assoc, arith, Result, Ok, Err, IsErr}
+use Rattle.std.proofs.Common.{Option, ◌≡◌, ℕ, List, [], ◌∷◌, ◌++◌, map, refl, ap, ◌∙◌, subst, append_assoc, Result, Ok, Err, IsErr}
 use Rattle.std.specs.List.{flat_map}
+use Rattle.trace_outside.specs.Causes.{HasCause}
 use Rattle.trace_outside.specs.Pending.{Holds, OnWay, Puts, PutsText}
 use Rattle.trace_outside.specs.Writing.{GainedPrefix}
 use Rattle.trace_outside.proofs.PendingLemmas.{prefix_longer}
@@ -14,16 +15,16 @@ heads_text f [] = refl
 heads_text f (x ∷ xs) = ap (λ (t : List ℕ). head_line (shown_of (f x)) ++ t) (heads_text f xs)
 
 -- a piece that was put, and another behind it
-pub puts_both : {T E : Type 0} (p q : List ℕ) (a m z : OnWay) (result : Result T E) → Put p a m → m.name ≡ a.name → a.faults ≤ m.faults → PutsText q m z result → PutsText (p ++ q) a z result
-puts_both p q a m z (Ok v) one name later two = record {
+pub puts_both : {T E : Type 0} (p q : List ℕ) (a m z : OnWay) (result : Result T E) → Put p a m → m.name ≡ a.name → m.faults ≡ a.faults → PutsText q m z result → PutsText (p ++ q) a z result
+puts_both {T = T} {E = E} p q a m z (Ok v) one name same two = record {
   puts = λ before text held. subst (Holds before z.written z.waiting) (append_assoc text p q) (two.puts before (text ++ p) (one before text held));
   name = two.name ∙ name;
-  cause = record { later = omega (arith, later, two.cause.later); failed = tt };
+  cause = subst (λ (count : ℕ). HasCause {T = T} {E = E} count z.faults (Ok v)) same two.cause;
 }
-puts_both p q a m z (Err v) one name later two = record {
+puts_both {T = T} {E = E} p q a m z (Err v) one name same two = record {
   puts = λ before text held. subst (GainedPrefix before z.written) (append_assoc text p q) (two.puts before (text ++ p) (one before text held));
   name = two.name ∙ name;
-  cause = record { later = omega (arith, later, two.cause.later); failed = omega (arith, later, two.cause.failed) };
+  cause = subst (λ (count : ℕ). HasCause {T = T} {E = E} count z.faults (Err v)) same two.cause;
 }
 
 -- a piece that was stopped, and another that was to stand behind it

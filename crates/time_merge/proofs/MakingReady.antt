@@ -1,5 +1,5 @@
 -- Lanes that are made ready, one after another.
-use Rattle.std.proofs.Common.{◌≡◌, ℕ, ◌+◌, ◌-◌, ◌<◌, ◌≤◌, Bool, List, length, get_or, set, sum_by, refl, sym, ap, subst, ◌∙◌, inl, inr, arith, get_or-set_same, get_or-set_other}
+use Rattle.std.proofs.Common.{◌≡◌, ℕ, ◌+◌, ◌-◌, ◌<◌, ◌≤◌, Bool, Result, Ok, Err, IsErr, List, length, get_or, set, sum_by, refl, sym, ap, subst, ◌∙◌, inl, inr, arith, get_or-set_same, get_or-set_other}
 use Rattle.std.specs.Option.{IfSome}
 use Rattle.std.specs.List.{All, AllWithin}
 use Rattle.std.proofs.lemmas.Bool.{cases_eq}
@@ -8,7 +8,7 @@ use Rattle.std.proofs.lemmas.List.Elements.{All-set, AllWithin-more, AllWithin-m
 use Rattle.std.proofs.lemmas.List.Sums.{sum_by-set}
 use Rattle.trace_base.specs.declared.layout.Layout.{Layout}
 use Rattle.trace_outside.specs.declared.outside.File as file
-use Rattle.trace_outside.specs.Causes.{raised}
+use Rattle.trace_outside.specs.Causes.{HasCause, Rose, raised}
 use Rattle.trace_outside.specs.Keeping.{KeepsFile}
 use Rattle.trace_outside.proofs.Keeping.{file_kept, file_still}
 use Rattle.page_pool.specs.declared.lane.Lane.{Lane}
@@ -40,6 +40,7 @@ pub record ReadySoFar {F : Type 0} (f : file.Ghosts F) (l : Layout) (start now :
   pub reads : f.reads now ≤ raised (f.reads start) (all_unread l (f.size start) first - all_unread l (f.size start) lanes)
   pub unread : all_unread l (f.size start) lanes ≤ all_unread l (f.size start) first
   pub keeps : KeepsFile f start now
+  pub faults : f.faults now ≡ f.faults start
 
 -- What a load of the next lane comes to, also where its read failed.
 pub record LoadedSoFar {F : Type 0} (f : file.Ghosts F) (l : Layout) (start now : F) (first lanes : List Lane) : Type 0 where
@@ -47,6 +48,11 @@ pub record LoadedSoFar {F : Type 0} (f : file.Ghosts F) (l : Layout) (start now 
   pub each : (j : ℕ) (d : Lane) → j < length first → IsReadied l (f.bytes start) (get_or first j d) (get_or lanes j d)
   pub kept : (j : ℕ) (d : Lane) → j < length first → IsReady l (get_or first j d) → get_or lanes j d ≡ get_or first j d
   pub stopped : HasStopped l (f.size start) first lanes (f.reads start) (f.reads now)
+
+-- a read that failed, behind loads that left the count of faults as it was
+pub read_failed : {T E : Type 0} (start mid now : ℕ) (result : Result T E) → mid ≡ start → IsErr result → mid ≤ now → Rose mid now → HasCause start now result
+read_failed start mid now (Ok value) same failed later rose = absurd (let bad : ⊥ = cc in bad)
+read_failed start mid now (Err error) same failed later rose = record { later = omega (arith, same, later); failed = omega (arith, same, rose); kept = tt }
 
 -- a lane that was ready stays as it was, as long as those behind are as they were
 still_kept : (l : Layout) (first lanes : List Lane) (i : ℕ) (d now : Lane) → i < length lanes → (IsReady l (get_or lanes i d) → now ≡ get_or lanes i d)
@@ -78,6 +84,7 @@ module _ {F : Type 0} (f : file.Ghosts F) (l : Layout) (start : F) (first : List
     reads = omega arith;
     unread = omega arith;
     keeps = file_still f start;
+    faults = refl;
   }
 
   module _ (now : F) (lanes : List Lane) (so_far : ReadySoFar f l start now first lanes (length lanes)) where
@@ -111,6 +118,7 @@ module _ {F : Type 0} (f : file.Ghosts F) (l : Layout) (start : F) (first : List
       reads = so_far.reads;
       unread = so_far.unread;
       keeps = so_far.keeps;
+      faults = so_far.faults;
     }
 
     module _ (later : F) (d lane : Lane) (inside : i < length lanes) (load : LoadsLane f l now later (get_or lanes i d) lane) (same : IsReady l (get_or lanes i d) → lane ≡ get_or lanes i d) where
@@ -136,8 +144,8 @@ module _ {F : Type 0} (f : file.Ghosts F) (l : Layout) (start : F) (first : List
         stopped = stopped l (f.size start) (f.size now) lanes i d lane so_far.keeps.size inside first _ _ _ long so_far.behind so_far.reads so_far.unread load.reads load.unread;
       }
 
-      pub one_ready : IsReady l lane → ReadySoFar f l start later first (set lanes i lane) (i + 1)
-      one_ready ready =
+      pub one_ready : IsReady l lane → f.faults later ≡ f.faults now → ReadySoFar f l start later first (set lanes i lane) (i + 1)
+      one_ready ready unfaulted =
           let done = one_loaded in
           record {
             in_order = done.loads.in_order;
@@ -153,6 +161,7 @@ module _ {F : Type 0} (f : file.Ghosts F) (l : Layout) (start : F) (first : List
             reads = one_read_ready l (f.size start) (f.size now) lanes i d lane so_far.keeps.size inside _ _ _ _ so_far.reads so_far.unread load.reads load.unread (ready_reads lane.cursor.state _ _ ready);
             unread = done.loads.unread;
             keeps = done.loads.keeps;
+            faults = unfaulted ∙ so_far.faults;
           }
 
   module _ (now : F) (lanes : List Lane) (moved : List Bool) (from : ℕ) (marks : length moved ≡ length first) (unmoved : AllUnmoved (IsReady l) moved first) (so_far : ReadySoFar f l start now first lanes from) where

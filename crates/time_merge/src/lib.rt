@@ -3,7 +3,8 @@
 //! Items stand by key, then processor, then position, and end before the least cut. What lanes have to come in that order
 //! is one list, `to_come` in `specs/LaneRows.antt`: [`next_lane_by`] tells its first item, by a tree of what comes next of
 //! each lane, and whoever steps that lane has its rest. [`next_lane`] tells the same by a look at every lane: it is the
-//! plain call beside the fast one. Over fresh lanes the list is that of the reached items ([`laws`]).
+//! plain call beside the fast one, which tests compare with it, while every command goes by the tree. Over fresh lanes the
+//! list is that of the reached items ([`laws`]).
 //!
 //! Whoever takes many items at once makes the lanes ready, all of them ([`make_all_ready`]) or, where a mark tells which
 //! ones moved, those alone ([`make_moved_ready`]; [`wants_load`] tells which lanes are to have a mark), and asks for the

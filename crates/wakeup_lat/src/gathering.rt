@@ -4,6 +4,7 @@ ghost use Rattle.trace_outside.specs.Causes.{Rose, raised};
 ghost use Rattle.trace_outside.specs.Keeping.{KeepsFile};
 ghost use Rattle.subpage.specs.Arrangement.{CpusRise};
 ghost use Rattle.subpage.specs.Cut.{reached_of};
+ghost use Rattle.item_pass.specs.Faults.{KeptUnlessRead};
 ghost use Rattle.wakeup_pairs.specs.Pairs.{ArePairs};
 ghost use Rattle.wakeup_lat.specs.Roles.{all_seen};
 
@@ -34,6 +35,7 @@ pub fn gather<F: File>(
     ensures pairs { IfSome (F.bytes file.old) (λ bytes. IfOk result (λ wakeups.
         ArePairs (all_seen context.now (reached_of layout.now bytes parts.now)) wakeups.pairs)) }
     ensures read { result ≡ Err PassFault.Read → Rose (F.faults file.old) (F.faults file.new) }
+    ensures kept { KeptUnlessRead (F.faults file.old) (F.faults file.new) result }
     ensures reads { F.reads file.new ≤ raised (F.reads file.old) (sum_by (λ part. part.1.size) parts.now) }
     ensures keeps { KeepsFile F.File file.old file.new }
 {

@@ -12,7 +12,7 @@ ghost use Rattle.event_cursor.specs.Standing.{IsInOrder};
 use super::times::time_of;
 use cpu_workers::{Form, Workers, format_lanes};
 use event_cursor::load;
-use page_pool::{Lane, LaneState, Pool};
+use page_pool::{Lane, LaneState, Pool, Region};
 use std::alloc::{AllocError, Global};
 use std::test::Fail;
 use std::thread::Threads;
@@ -86,10 +86,23 @@ fn open_lanes(layout: &Layout, file: &mut MemFile, lanes: &mut [Lane], room: u32
     }
 }
 
+// Whether the lines that a region keeps are this text, one after another.
+fn keeps(region: &Region, text: &[u8]) -> bool {
+    let mut rest = text;
+    for i in 0..region.lines() {
+        let (line, _, _) = region.line(i);
+        let Some(after) = rest.strip_prefix(line) else {
+            return false;
+        };
+        rest = after;
+    }
+    rest.is_empty()
+}
+
 // The texts of the lines that a lane keeps, how many these are, and how many items are used up.
 fn has(lane: &Lane, text: &str, lines: u32, used: u32) -> bool {
     let region = &lane.region;
-    region.lines() == lines && region.front(lines) == text.as_bytes() && lane.cursor.at == used
+    region.lines() == lines && keeps(region, text.as_bytes()) && lane.cursor.at == used
 }
 
 fn have(lanes: &[Lane], first: (&str, u32, u32), second: (&str, u32, u32)) -> bool

@@ -1,4 +1,4 @@
-use Rattle.std.proofs.Common.{rules, refl, arith, ◌≡◌, ◌≤◌, ℕ, List, Option, ap, subst}
+use Rattle.std.proofs.Common.{rules, refl, arith, ◌∙◌, ◌≡◌, ◌≤◌, ℕ, List, Option, ap, subst}
 use Rattle.std.specs.Option.{IfSome}
 use Rattle.trace_outside.proofs.Keeping.{file_kept, file_still}
 use Rattle.subpage.specs.Processor.{page_count}
@@ -31,6 +31,7 @@ loop-lane-init g c = record {
   unread = open_le (size_from c.args.layout.now (g.F.File.size c.args.file.now) c.args.lane.now.part) c.args.lane.now.cursor.state c.args.lane.now.cursor.next c.requires.sound;
   left = told_all _ (g.F.File.bytes c.args.file.now) (λ file. stays c.args.layout.now file c.args.lane.now _ c.requires.used_up refl refl refl);
   keeps = file_still _ _;
+  faults = refl;
 }
 
 pub loop-lane-preserved : goal.loop-lane-preserved
@@ -50,6 +51,7 @@ loop-lane-preserved g c =
       unread = passed_less l (g.F.File.size c.args.file.now) (g.F.File.size c.loop-lane.file) c.args.lane.now c.loop-lane.lane c.load_next.new.lane inv.keeps.size _ _ _ inv.reads inv.unread n.reads passed.read;
       left = told_both _ _ _ told (λ file k k2. keeps_trans l file c.args.lane.now c.loop-lane.lane c.load_next.new.lane k k2) inv.left left;
       keeps = file_kept inv.keeps n.keeps;
+      faults = n.cause.kept ∙ inv.faults;
     }
 
 pub returns-in-Some-clause-state : goal.returns-in-Some-clause-state

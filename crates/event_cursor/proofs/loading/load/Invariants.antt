@@ -21,6 +21,7 @@ invariant-loop-lane g l = record {
   unread : unread l.layout (g.F.File.size l.fn.file) l.lane ≤ unread l.layout (g.F.File.size l.fn.file) l.fn.lane;
   left : IfSome (g.F.File.bytes l.fn.file) (λ bytes. KeepsLeft l.layout bytes l.fn.lane l.lane);
   keeps : KeepsFile g.F.File l.fn.file l.file;
+  faults : g.F.File.faults l.file ≡ g.F.File.faults l.fn.file;
 }
 
 abbrev pub decreases-loop-lane : goal.decreases-loop-lane

@@ -10,5 +10,5 @@ invariant-loop-call g l = record {
       → Holds before (g.O.Sink.written l.out) l.pending (text ++ flat_map (call_line l.context) (take l.call-index l.calls));
   room : 65537 ≤ length l.buffer;
   name : g.O.Sink.name l.out ≡ g.O.Sink.name l.initial.out;
-  later : g.O.Sink.faults l.initial.out ≤ g.O.Sink.faults l.out;
+  faults : g.O.Sink.faults l.out ≡ g.O.Sink.faults l.initial.out;
 }

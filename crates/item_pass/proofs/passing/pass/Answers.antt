@@ -1,6 +1,7 @@
 use Rattle.std.proofs.Common.{refl, arith, ◌<◌, [], length, set, sym, ap, ◌∙◌}
 use Rattle.std.proofs.lemmas.List.{get_or_default, length-set}
 use Rattle.std.proofs.lemmas.List.Elements.{All-set}
+use Rattle.std.proofs.lemmas.Result.{err_from_is_err_and}
 use Rattle.page_pool.specs.declared.lane.Lane.{Lane}
 use Rattle.event_cursor.specs.Keys.{first_of}
 use Rattle.event_cursor.specs.Standing.{IsInOrder, keyed_held}
@@ -24,6 +25,7 @@ loop-nexts-init g c = record {
   reads = omega arith;
   unread = omega arith;
   keeps = record { bytes = refl; size = refl; later = omega arith };
+  faults = refl;
 }
 
 pub loop-nexts-preserved : goal.loop-nexts-preserved
@@ -53,7 +55,13 @@ loop-nexts-preserved g c =
         size = c.next_lane_by.ensures.loads.keeps.size ∙ c.loop-nexts.invariant.keeps.size;
         later = omega (arith, c.next_lane_by.ensures.loads.keeps.later, c.loop-nexts.invariant.keeps.later);
       };
+      faults = c.in_ok-i.ensures.cause.kept ∙ c.loop-nexts.invariant.faults;
     }
+
+pub returns-in_err-i-clause-kept : goal.returns-in_err-i-clause-kept
+returns-in_err-i-clause-kept g c =
+    let p = err_from_is_err_and c.from_residual.result c.from_residual.ensures.1 in
+    rw (p.1, p.2) tt
 
 pub returns-in-Done-clause-gathered : goal.returns-in-Done-clause-gathered
 returns-in-Done-clause-gathered g c =

@@ -23,4 +23,4 @@ returns g c =
     subst (λ (n : List ℕ). PutsText (label n ++ (codes "cpus=" ++ (decimal c.args.source.now.cpus ++ codes "\n"))) (way c.args.out.now c.args.pending.now) (way c.put_parts-2.new.out c.put_parts-2.new.self) c.put_parts-2.result) c.as_bytes-name.ensures.value
     (subst (λ (d : List ℕ). PutsText (label c.as_bytes-name.result.now ++ (codes "cpus=" ++ (d ++ codes "\n"))) (way c.args.out.now c.args.pending.now) (way c.put_parts-2.new.out c.put_parts-2.new.self) c.put_parts-2.result) digits
     (puts_both (label c.as_bytes-name.result.now) (codes "cpus=" ++ (c.as_bytes-cpus.result.now ++ codes "\n")) (way c.args.out.now c.args.pending.now) (way c.put_parts.new.out c.put_parts.new.self) (way c.put_parts-2.new.out c.put_parts-2.new.self) c.put_parts-2.result
-    c.in_ok-put_parts.ensures.puts c.put_parts.ensures.name c.put_parts.ensures.cause.later c.put_parts-2.ensures))
+    c.in_ok-put_parts.ensures.puts c.put_parts.ensures.name c.in_ok-put_parts.ensures.cause.kept c.put_parts-2.ensures))

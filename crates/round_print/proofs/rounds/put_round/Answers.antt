@@ -27,7 +27,7 @@ loop-i-init g c = record {
   );
   last = refl;
   name = refl;
-  later = omega arith;
+  faults = refl;
   parts = refl;
   rising = c.requires.rising;
   heads = c.requires.heads;
@@ -76,7 +76,7 @@ loop-i-preserved g c =
       );
       last = last_on c.args.horizon.now c.loop-i.lanes c.in-Some.i c.index-lanes-i.result c.print_first.new.lane c.loop-i.last c.print_first.new.last (last_of c.args.last.now (printed c.args.horizon.now c.args.lanes.now)) c.index-lanes-i.is step c.print_first.ensures.last c.loop-i.invariant.last;
       name = c.in-Ok.ensures.name ∙ c.loop-i.invariant.name;
-      later = omega (arith, c.in-Ok.ensures.cause.later, c.loop-i.invariant.later);
+      faults = c.in-Ok.ensures.cause.kept ∙ c.loop-i.invariant.faults;
       parts = set_parts c.loop-i.lanes c.in-Some.i c.index-lanes-i.result c.print_first.new.lane c.in-Some.ensures.inside c.in-Ok.ensures.cpu c.in-Ok.ensures.part ∙ c.loop-i.invariant.parts;
       rising = record { cpus = step.rise; keys = step.rises };
       heads = heads_on c.loop-i.heads c.set.new.self c.loop-i.lanes c.in-Some.i c.print_first.new.lane c.head_kept.result c.set.ensures key c.loop-i.invariant.heads;

@@ -1,4 +1,4 @@
-use Rattle.std.proofs.Common.{◌≡◌, ℕ, ◌<◌, ◌≤◌, List, ◌++◌, length, map, Option}
+use Rattle.std.proofs.Common.{◌≡◌, ℕ, ◌<◌, List, ◌++◌, length, map, Option}
 use Rattle.std.specs.Prelude.{slice_index_or}
 use Rattle.trace_outside.specs.Pending.{Holds}
 use Rattle.page_pool.specs.declared.lane.Lane.{Lane}
@@ -14,7 +14,7 @@ invariant-loop-i g l = record {
   text : (done : List ℕ) × ((done ++ text_of (filled l.last (printed l.horizon l.lanes)) ≡ text_of (filled l.fn.last (printed l.horizon l.fn.lanes))) × ((before : Option (List ℕ)) → (text : List ℕ) → Holds before (g.O.Sink.written l.fn.out) l.fn.pending text → Holds before (g.O.Sink.written l.out) l.pending (text ++ done)));
   last : last_of l.last (printed l.horizon l.lanes) ≡ last_of l.fn.last (printed l.horizon l.fn.lanes);
   name : g.O.Sink.name l.out ≡ g.O.Sink.name l.fn.out;
-  later : g.O.Sink.faults l.fn.out ≤ g.O.Sink.faults l.out;
+  faults : g.O.Sink.faults l.out ≡ g.O.Sink.faults l.fn.out;
   parts : parts_of l.lanes ≡ parts_of l.fn.lanes;
   rising : AreRising l.lanes;
   heads : l.heads ≡ map head_kept l.lanes;

@@ -1,7 +1,7 @@
 use Rattle.std.proofs.Common.{rules, ◌<◌, length, arith}
 use Rattle.trace_outside.proofs.Gains.{on_err}
 use Rattle.time_merge.proofs.Advancing.{same_length}
-use Rattle.time_merge.proofs.MakingReady.{all_loaded, one_loaded, one_ready, up_to_end, up_to_mark}
+use Rattle.time_merge.proofs.MakingReady.{all_loaded, one_loaded, one_ready, read_failed, up_to_end, up_to_mark}
 use Rattle.time_merge.proofs.ready.make_moved_ready.Goals as goal
 
 pub loop-i-preserved : goal.loop-i-preserved
@@ -16,7 +16,7 @@ loop-i-preserved g c =
     record {
       within = omega (arith, mark.inside);
       so_far = one_ready g.F.File c.args.layout.now c.args.file.now first c.loop-i.file now i here c.make_ready.new.file c.index-lanes-i.result c.make_ready.new.lane inside
-          c.in_ok-make_ready.ensures.loads c.in_ok-make_ready.ensures.kept c.in_ok-make_ready.ensures.ready;
+          c.in_ok-make_ready.ensures.loads c.in_ok-make_ready.ensures.kept c.in_ok-make_ready.ensures.ready c.in_ok-make_ready.ensures.cause.kept;
     }
 
 pub returns-in_err-make_ready-clause-makes_ready : goal.returns-in_err-make_ready-clause-makes_ready
@@ -34,7 +34,7 @@ returns-in_err-make_ready-clause-makes_ready g c =
       loads = done.loads;
       ready = search rules;
       each = done.each;
-      cause = search rules;
+      cause = read_failed _ _ _ c.from_residual.result before.faults c.from_residual.ensures.0 c.in_err-make_ready.ensures.cause.later c.in_err-make_ready.ensures.cause.failed;
       reads_done = search rules;
       stops = on_err c.from_residual.result done.stopped;
     }
