@@ -1,5 +1,6 @@
 //! Restored files, read back.
 
 mod faults;
+mod reads;
 mod rows;
 mod told;

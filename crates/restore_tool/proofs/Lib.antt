@@ -5,3 +5,5 @@ pub mod OpenFiles
 pub mod Answered
 pub mod Unread
 pub mod Failures
+pub mod Reading
+pub mod Asking

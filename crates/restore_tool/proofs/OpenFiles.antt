@@ -5,7 +5,7 @@ use Rattle.std.specs.List.{All}
 use Rattle.std.proofs.lemmas.Bool.{cases_lt}
 use Rattle.std.proofs.lemmas.List.{length-map, length-append, map-append, get_or-map, get_or_append_left}
 use Rattle.std.proofs.Math.Seq.{get_or-append_seam}
-use Rattle.std.proofs.lemmas.List.Elements.{All-push}
+use Rattle.std.proofs.lemmas.List.Elements.{All-head, All-push, All-tail}
 use Rattle.std.proofs.lemmas.List.Sums.{sum_by-cons}
 use Rattle.trace_outside.specs.declared.counts.Counts.{Counts}
 use Rattle.trace_outside.specs.Causes.{Rose, raised}
@@ -18,7 +18,8 @@ use Rattle.restore_tool.specs.Open.{AreFilesOf, ClosesMany, IsUnused, OpensMany}
 pub closes_none : (counts : Counts) → ClosesMany [] counts counts
 closes_none counts = record {
   reading = omega arith;
-  writing = omega arith;
+  clean = λ none. refl;
+  writing = refl;
   faulty = λ i d lt. absurd (omega arith);
   misses = refl;
   opened = refl;
@@ -32,7 +33,8 @@ closes_none counts = record {
 pub closes_more : (x : FileSeen) (xs : List FileSeen) (before mid now : Counts) → ClosesMany xs before mid → Closes x.faults x.reads mid now → ClosesMany (x ∷ xs) before now
 closes_more x xs before mid now many one = record {
   reading = omega (arith, many.reading, one.reading);
-  writing = omega (arith, many.writing, one.writing);
+  clean = λ none. one.clean (All-head (λ (file : FileSeen). file.faults ≡ 0) x xs none) ∙ many.clean (All-tail (λ (file : FileSeen). file.faults ≡ 0) x xs none);
+  writing = one.writing ∙ many.writing;
   faulty = faulty;
   misses = one.misses ∙ many.misses;
   opened = one.opened ∙ many.opened;
@@ -75,7 +77,7 @@ module _ {F : Type 0} (f : F → FileSeen) where
 pub opens_more : (before mid now : Counts) (a b c : ℕ) → OpensMany before mid a → OpensMany mid now b → c ≡ a + b → OpensMany before now c
 opens_more before mid now a b c p q e = record {
   reading = omega (arith, p.reading, q.reading);
-  writing = omega (arith, p.writing, q.writing);
+  writing = q.writing ∙ p.writing;
   misses = omega (arith, p.misses, q.misses);
   opened = omega (arith, p.opened, q.opened, e);
   closed = q.closed ∙ p.closed;

@@ -1,5 +1,5 @@
 -- What is promised where a file could not be opened or read, or there was no memory, so that nothing was made.
-use Rattle.std.proofs.Common.{◌≡◌, ◌≢◌, ◌⊎◌, ℕ, ◌≤◌, List, [], length, Option, Some, None, Result, Err, inl, inr, refl, sym, ap, subst, ◌∙◌, arith}
+use Rattle.std.proofs.Common.{◌≡◌, ◌≢◌, ◌⊎◌, ℕ, ◌≤◌, List, Option, Some, None, Result, Err, inl, inr, refl, sym, ap, subst, ◌∙◌, arith}
 use Rattle.std.specs.Option.{IfSome}
 use Rattle.trace_outside.specs.declared.counts.Counts.{Counts}
 use Rattle.trace_outside.specs.Causes.{Rose}
@@ -11,9 +11,9 @@ use Rattle.dat_options.specs.Answer.{AnswersUnlessFaulty}
 use Rattle.dat_header.specs.declared.header.Header.{Header}
 use Rattle.dat_header.specs.Partial.{ReadsPartial, partial_of}
 use Rattle.restore_tool.specs.declared.named.Answer.{Answer}
-use Rattle.restore_tool.specs.Answers.{Causes, ClosesAll, Created, KeepsFiles, LeavesOpen, unread_of}
+use Rattle.restore_tool.specs.Answers.{Causes, ClosesAll, Created, KeepsFiles, unread_of}
 use Rattle.restore_tool.specs.Meaning.{IsDone, NamesData, missing, with_header, with_texts, texts_of}
-use Rattle.restore_tool.specs.Open.{AreThere, OpensMany}
+use Rattle.restore_tool.specs.Open.{AreThere}
 use Rattle.restore_tool.proofs.Answered.{not_missing}
 
 -- THE HEADER OF THE PARTIAL FILE
@@ -83,28 +83,6 @@ closes_nothing most counts = record {
   closed = omega arith;
 }
 
-pub none_open : {A : Type 0} (items : List A) (counts : Counts) → items ≡ [] → LeavesOpen (length items) counts counts
-none_open items counts none = subst (λ (n : ℕ). LeavesOpen n counts counts) (sym (ap length none)) (record {
-  reading = omega arith;
-  writing = omega arith;
-  unfinished = omega arith;
-  opened = omega arith;
-  closed = refl;
-})
-
-pub none_inside : {A : Type 0} (items : List A) (most : ℕ) → items ≡ [] → length items ≤ most
-none_inside items most none = omega (arith, ap length none)
-
--- a file could not be opened
-pub left_open : (count : ℕ) (before now : Counts) → OpensMany before now count → LeavesOpen count before now
-left_open count before now opens = record {
-  reading = opens.reading;
-  writing = opens.writing;
-  unfinished = omega (arith, opens.unfinished);
-  opened = opens.opened;
-  closed = opens.closed;
-}
-
 pub unopened_counts : (most : ℕ) (before now : Counts) → before.reading ≤ now.reading → before.writing ≤ now.writing → now.unfinished ≡ before.unfinished → now.opened ≡ before.opened → now.closed ≡ before.closed
     → ClosesAll most before now
 unopened_counts most before now reading writing unfinished opened closed = record {
@@ -115,17 +93,6 @@ unopened_counts most before now reading writing unfinished opened closed = recor
   few = omega arith;
   opened = omega (arith, opened);
   closed = omega (arith, closed);
-}
-
--- all files were opened, and the new file was made
-pub made_open : (count : ℕ) (before mid now : Counts) → OpensMany before mid count → mid.reading ≤ now.reading → mid.writing ≤ now.writing → mid.unfinished ≤ now.unfinished → now.opened ≡ mid.opened → now.closed ≡ mid.closed
-    → LeavesOpen count before now
-made_open count before mid now opens reading writing unfinished opened closed = record {
-  reading = omega (arith, opens.reading, reading);
-  writing = omega (arith, opens.writing, writing);
-  unfinished = omega (arith, opens.unfinished, unfinished);
-  opened = opened ∙ opens.opened;
-  closed = closed ∙ opens.closed;
 }
 
 -- where there is something to make, no name was missed

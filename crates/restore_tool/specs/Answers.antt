@@ -52,13 +52,30 @@ KeepsFiles (code.Read source) old new = new ≡ old
 KeepsFiles code.Write old new = Unit {0}
 KeepsFiles code.NoMemory old new = new ≡ old
 
--- so many files were opened and are open still, and no count of faults fell
+-- this holds where there was no memory
+abbrev pub IfNoMemory : Answer → Type 0 → Type 0
+IfNoMemory code.Done claim = Unit {0}
+IfNoMemory (code.Refused fault) claim = Unit {0}
+IfNoMemory (code.Read source) claim = Unit {0}
+IfNoMemory code.Write claim = Unit {0}
+IfNoMemory code.NoMemory claim = claim
+
+-- this holds where the new file was finished, or could not be made
+abbrev pub IfMade : Answer → Type 0 → Type 0
+IfMade code.Done claim = claim
+IfMade (code.Refused fault) claim = Unit {0}
+IfMade (code.Read source) claim = Unit {0}
+IfMade code.Write claim = claim
+IfMade code.NoMemory claim = Unit {0}
+
+-- so many files were opened and are open still, no count of faults fell, and nothing is counted yet of what was read
 pub record LeavesOpen (count : ℕ) (before now : Counts) : Type 0 where
   pub reading : before.reading ≤ now.reading
   pub writing : before.writing ≤ now.writing
   pub unfinished : before.unfinished ≤ now.unfinished
   pub opened : now.opened ≡ raised before.opened count
   pub closed : now.closed ≡ before.closed
+  pub bytes : now.bytes ≡ before.bytes
 
 -- as many files were closed as were opened, and no more than so many, and no count of faults fell
 pub record ClosesAll (most : ℕ) (before now : Counts) : Type 0 where

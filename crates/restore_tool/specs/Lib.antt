@@ -1,3 +1,4 @@
+pub mod Reads
 pub mod Restored
 pub mod Copying
 pub mod Placed
@@ -5,4 +6,5 @@ pub mod Restoring
 pub mod Open
 pub mod Meaning
 pub mod Answers
+pub mod Asked
 pub mod Failing

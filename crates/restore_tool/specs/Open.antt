@@ -24,7 +24,7 @@ AreThere named names = All (λ name. IsSome (get named name)) names
 -- so many files were opened, and nothing else was counted but faults and names that are missing
 pub record OpensMany (before now : Counts) (count : ℕ) : Type 0 where
   pub reading : before.reading ≤ now.reading
-  pub writing : before.writing ≤ now.writing
+  pub writing : now.writing ≡ before.writing
   pub misses : before.misses ≤ now.misses
   pub opened : now.opened ≡ raised before.opened count
   pub closed : now.closed ≡ before.closed
@@ -35,7 +35,8 @@ pub record OpensMany (before now : Counts) (count : ℕ) : Type 0 where
 -- these files were closed: their faults and the bytes read from them are counted
 pub record ClosesMany (files : List FileSeen) (before now : Counts) : Type 0 where
   pub reading : before.reading ≤ now.reading
-  pub writing : before.writing ≤ now.writing
+  pub clean : All (λ file. file.faults ≡ 0) files → now.reading ≡ before.reading
+  pub writing : now.writing ≡ before.writing
   pub faulty : (i : ℕ) (d : FileSeen) → i < length files → 0 < (slice_index_or files i d).faults → Rose before.reading now.reading
   pub misses : now.misses ≡ before.misses
   pub opened : now.opened ≡ before.opened

@@ -1,8 +1,9 @@
 // Files that are open at once, and are closed on every way out.
 
-ghost use Rattle.std.specs.Prelude.{◌≡◌, ◌≤◌, ◌<◌, ◌++◌, ◌∷◌, ◌-◌, [], ℕ, All, IfSome, List, OnErr, OnOk, length, map, slice_index_or, vec_capacity, vec_len};
+ghost use Rattle.std.specs.Prelude.{◌≡◌, ◌≤◌, ◌<◌, ◌++◌, ◌∷◌, ◌+◌, ◌-◌, [], ℕ, All, IfSome, List, OnErr, OnOk, length, map, slice_index_or, take, vec_capacity, vec_len};
 ghost use Rattle.trace_outside.specs.Causes.{Rose};
 ghost use Rattle.trace_outside.specs.Folders.{IsFileOf, misses_after};
+ghost use Rattle.new_files.specs.Requested.{AskedAll};
 ghost use Rattle.restore_tool.specs.Copying.{files_seen};
 ghost use Rattle.restore_tool.specs.Open.{AreFilesOf, ClosesMany, IsUnused, OpensMany};
 
@@ -19,6 +20,7 @@ fn open_next<F: Folder>(name: &str, files: &mut Vec<F::In>, folder: &mut F) -> R
     ensures counts { OpensMany (F.counts folder.old) (F.counts folder.new) (length files.new.items - length files.old.items) }
     ensures misses { IfSome (F.files folder.old) (λ named. (F.counts folder.new).misses ≡ misses_after named name.now (F.counts folder.old).misses) }
     ensures files { F.files folder.new ≡ F.files folder.old }
+    ensures requested { AskedAll (name.now ∷ []) (F.requested folder.old) (F.requested folder.new) }
 {
     let file = folder.open_file(name)?;
     files.push_reserved(file);
@@ -44,6 +46,8 @@ pub fn open_files<F: Folder>(
     ensures missed { OnErr result (IfSome (F.files folder.old) (λ named. (d : List ℕ) → (F.counts folder.new).misses
         ≡ misses_after named (slice_index_or (map (λ name. name.now) names.now) (length files.new.items) d) (F.counts folder.old).misses)) }
     ensures files { F.files folder.new ≡ F.files folder.old }
+    ensures requested { AskedAll (take (length files.new.items + 1) (map (λ name. name.now) names.now))
+        (F.requested folder.old) (F.requested folder.new) }
 {
     for name in names {
         open_next(name, files, folder)?;
@@ -55,6 +59,7 @@ pub fn open_files<F: Folder>(
 pub fn close_files<F: Folder>(mut files: Vec<F::In>, folder: &mut F)
     ensures counts { ClosesMany (files_seen F.In.File files.items) (F.counts folder.old) (F.counts folder.new) }
     ensures files { F.files folder.new ≡ F.files folder.old }
+    ensures requested { F.requested folder.new ≡ F.requested folder.old }
 {
     while let Some(file) = files.pop() {
         folder.close_file(file);

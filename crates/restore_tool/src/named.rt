@@ -1,14 +1,17 @@
 // A restoring by names: files are opened in order before anything is created, stay open, and are closed on every way out.
 
-ghost use Rattle.std.specs.Prelude.{◌≡◌, ◌≢◌, ◌+◌, ◌≤◌, ◌⊎◌, [], IfSome, length, vec_capacity};
+ghost use Rattle.std.specs.Prelude.{◌≡◌, ◌≢◌, ◌+◌, ◌≤◌, ◌⊎◌, [], IfOk, IfSome, length, vec_capacity};
 ghost use Rattle.trace_outside.specs.Causes.{Rose, raised};
+ghost use Rattle.trace_outside.specs.Memory.{KeepsFaults};
 ghost use Rattle.dat_header.specs.Allowed.{IsHeader};
 ghost use Rattle.dat_header.specs.Partial.{partial_of};
 ghost use Rattle.restore_tool.specs.Copying.{files_seen};
-ghost use Rattle.restore_tool.specs.Answers.{Causes, ClosesAll, Created, KeepsFiles, LeavesOpen, answer_of, unread_of};
+ghost use Rattle.restore_tool.specs.Answers.{Causes, ClosesAll, Created, IfMade, IfNoMemory, KeepsFiles, LeavesOpen, answer_of, unread_of};
+ghost use Rattle.restore_tool.specs.Asked.{AsksFor, asked_behind, asked_of};
 ghost use Rattle.restore_tool.specs.Failing.{IfRead, IsFaulty, IsUnread, IsUnreadBehind, inputs_of, place_of};
 ghost use Rattle.restore_tool.specs.Meaning.{IsDone, missing, names_view, task_of, texts_of, with_header, with_texts};
 ghost use Rattle.restore_tool.specs.Open.{AreThere};
+ghost use Rattle.restore_tool.specs.Reads.{DataWithin, ReadsOnce, reads_of};
 
 use crate::copying::RestoreEnd;
 use crate::frame::{close_files, open_files};
@@ -87,6 +90,9 @@ fn restore_data<D: Folder>(
     ensures kept { KeepsFiles result (D.files folder.old) (D.files folder.new) }
     ensures created { Created result (D.counts folder.old).created (D.counts folder.new).created }
     ensures misses { IfSome (D.files folder.old) (λ named. AreThere named (names_view names.now).files → (D.counts folder.new).misses ≡ (D.counts folder.old).misses) }
+    ensures requested { AsksFor (asked_behind (names_view names.now)) (D.requested folder.old) (D.requested folder.new) result }
+    ensures memory { IfNoMemory result (KeepsFaults (D.counts folder.old) (D.counts folder.new) × (files.new.items ≡ [])) }
+    ensures reads { IfSome (D.files folder.old) (λ named. DataWithin named (names_view names.now) (λ size. reads_of (files_seen D.In.File files.new.items) ≤ size)) }
     ensures inside { length files.new.items ≤ length names.now.files.now }
     ensures counts { LeavesOpen (length files.new.items) (D.counts folder.old) (D.counts folder.new) }
 {
@@ -129,6 +135,9 @@ fn restore_under<D: Folder>(
     ensures kept { KeepsFiles result (D.files folder.old) (D.files folder.new) }
     ensures created { Created result (D.counts folder.old).created (D.counts folder.new).created }
     ensures misses { IfSome (D.files folder.old) (λ named. AreThere named (names_view names.now).files → (D.counts folder.new).misses ≡ (D.counts folder.old).misses) }
+    ensures requested { AsksFor (asked_behind (names_view names.now)) (D.requested folder.old) (D.requested folder.new) result }
+    ensures memory { IfNoMemory result (KeepsFaults (D.counts folder.old) (D.counts folder.new)) }
+    ensures reads { IfSome (D.files folder.old) (λ named. DataWithin named (names_view names.now) (λ size. (D.counts folder.new).bytes ≤ raised (D.counts folder.old).bytes size)) }
     ensures counts { ClosesAll (length names.now.files.now) (D.counts folder.old) (D.counts folder.new) }
 {
     let Ok(mut files) = Vec::with_capacity(alloc, names.files.len()) else {
@@ -157,6 +166,10 @@ fn restore_from<D: Folder>(
     ensures created { Created result (D.counts folder.old).created (D.counts folder.new).created }
     ensures misses { IfSome (D.files folder.old) (λ named. IfSome (D.In.bytes partial.old) (λ bytes. with_header named (names_view names.now) (partial_of bytes) ≢ missing
         → (D.counts folder.new).misses ≡ (D.counts folder.old).misses)) }
+    ensures requested { AsksFor (asked_behind (names_view names.now)) (D.requested folder.old) (D.requested folder.new) result }
+    ensures memory { IfNoMemory result (KeepsFaults (D.counts folder.old) (D.counts folder.new) × (D.In.faults partial.new ≡ D.In.faults partial.old)) }
+    ensures reads { IfSome (D.files folder.old) (λ named. DataWithin named (names_view names.now) (λ size. (D.counts folder.new).bytes ≤ raised (D.counts folder.old).bytes size)) }
+    ensures header_reads { IfMade result (IfSome (D.In.bytes partial.old) (λ bytes. IfOk (partial_of bytes) (λ header. D.In.reads partial.new ≤ raised (D.In.reads partial.old) header.end))) }
     ensures counts { ClosesAll (length names.now.files.now) (D.counts folder.old) (D.counts folder.new) }
 {
     match read_partial(alloc, partial) {
@@ -182,7 +195,8 @@ fn unread_of(fault: OpenFault) -> Answer
 /// The partial file is opened first and then the data files, in order, before anything is created; all stay open until the end,
 /// so that the new file may have the name of one of them, and all are closed then. The first file that is missing or has no
 /// header decides, and is the one that the answer names; where all are there, it names the one that could not be opened or
-/// read. After a fault every name is as it was, unless finishing the new file failed.
+/// read. After a fault every name is as it was, unless finishing the new file failed. Of the partial file no more is read than
+/// its header, and each data file once.
 pub fn restore_named<D: Folder>(alloc: Global, names: &Names<'_>, folder: &mut D) -> Answer
     requires few { length names.now.files.now ≤ 256 }
     ensures done { IfSome (D.files folder.old) (λ named. IsDone (task_of named (names_view names.now)) names.now.output.now
@@ -192,6 +206,9 @@ pub fn restore_named<D: Folder>(alloc: Global, names: &Names<'_>, folder: &mut D
     ensures kept { KeepsFiles result (D.files folder.old) (D.files folder.new) }
     ensures created { Created result (D.counts folder.old).created (D.counts folder.new).created }
     ensures misses { IfSome (D.files folder.old) (λ named. task_of named (names_view names.now) ≢ missing → (D.counts folder.new).misses ≡ (D.counts folder.old).misses) }
+    ensures requested { AsksFor (asked_of (names_view names.now)) (D.requested folder.old) (D.requested folder.new) result }
+    ensures memory { IfNoMemory result (KeepsFaults (D.counts folder.old) (D.counts folder.new)) }
+    ensures reads { IfMade result (IfSome (D.files folder.old) (λ named. ReadsOnce named (names_view names.now) (D.counts folder.old).bytes (D.counts folder.new).bytes)) }
     ensures counts { ClosesAll (length names.now.files.now + 1) (D.counts folder.old) (D.counts folder.new) }
 {
     match folder.open_file(names.partial) {

@@ -1,9 +1,10 @@
 // The new file: created, written, and finished only where all of it was written.
 
-ghost use Rattle.std.specs.Prelude.{◌≡◌, ◌≤◌, ◌<◌, ◌++◌, length, map};
+ghost use Rattle.std.specs.Prelude.{◌≡◌, ◌≤◌, ◌<◌, ◌++◌, ◌∷◌, [], length, map};
 ghost use Rattle.trace_outside.specs.Keeping.{KeepsSink};
 ghost use Rattle.dat_header.specs.Allowed.{IsHeader};
 ghost use Rattle.dat_header.specs.Written.{header_text};
+ghost use Rattle.new_files.specs.Requested.{AskedAll};
 ghost use Rattle.new_files.specs.Stored.{KeepsCounts};
 ghost use Rattle.restore_tool.specs.Copying.{AllKeep, AllTold, CopiesAll, IsCaused, files_seen, text_of};
 ghost use Rattle.restore_tool.specs.Restored.{data_behind};
@@ -64,6 +65,7 @@ pub fn restore<D: Folder>(
     ensures cause { IsCaused result (files_seen D.In.File files.old) (files_seen D.In.File files.new)
         (D.counts folder.old).writing (D.counts folder.new).writing }
     ensures keep { AllKeep (files_seen D.In.File files.old) (files_seen D.In.File files.new) }
+    ensures requested { AskedAll (name.now ∷ []) (D.requested folder.old) (D.requested folder.new) }
     ensures counts { KeepsCounts (D.counts folder.old) (D.counts folder.new) }
     ensures created { CreatesOne (D.counts folder.old).created (D.counts folder.new).created result }
     ensures unfinished { LeavesUnfinished (D.counts folder.old).unfinished (D.counts folder.new).unfinished result }
@@ -77,13 +79,9 @@ pub fn restore<D: Folder>(
             Ok(()) => RestoreEnd::Done,
             Err(Failed) => RestoreEnd::Write,
         },
-        RestoreEnd::Read { file } => {
+        end => {
             folder.drop_file(out);
-            RestoreEnd::Read { file }
-        }
-        RestoreEnd::Write => {
-            folder.drop_file(out);
-            RestoreEnd::Write
+            end
         }
     }
 }

@@ -197,21 +197,20 @@ fn folder_of(
     Ok(folder)
 }
 
-/// What comes of a row, and behind it the files that are open still, if any.
-pub(super) fn text_of(
+// What comes of a row, and the folder as it is then.
+fn restored(
     alloc: Global,
     row: &Row,
     fault: Option<MemFault>,
     most: u32,
-) -> Result<String, Fail> {
+) -> Result<(Option<Answer>, MemFolder), Fail> {
     let mut folder = folder_of(alloc, row, fault, most)?;
     let mut names = Vec::new(alloc);
     for (name, _) in row.files {
         names.push(*name)?;
     }
-    let mut text = String::new(alloc);
     if names.len() > 256 {
-        return Ok(text);
+        return Ok((None, folder));
     }
     let names = Names {
         partial: "p.dat",
@@ -219,7 +218,21 @@ pub(super) fn text_of(
         output: row.output,
     };
     let answer = restore_named(alloc, &names, &mut folder);
-    put_answer(&mut text, answer)?;
+    Ok((Some(answer), folder))
+}
+
+/// What comes of a row, and behind it the files that are open still, if any.
+pub(super) fn text_of(
+    alloc: Global,
+    row: &Row,
+    fault: Option<MemFault>,
+    most: u32,
+) -> Result<String, Fail> {
+    let (answer, folder) = restored(alloc, row, fault, most)?;
+    let mut text = String::new(alloc);
+    if let Some(answer) = answer {
+        put_answer(&mut text, answer)?;
+    }
     if let Some(bytes) = folder.get(row.output) {
         put_file(alloc, &mut text, bytes, row.files)?;
     }
@@ -228,4 +241,15 @@ pub(super) fn text_of(
         text.push_str(" open")?;
     }
     Ok(text)
+}
+
+/// How many bytes of the files a restoring of a row reads.
+pub(super) fn bytes_read(
+    alloc: Global,
+    row: &Row,
+    fault: Option<MemFault>,
+    most: u32,
+) -> Result<u64, Fail> {
+    let (_, folder) = restored(alloc, row, fault, most)?;
+    Ok(folder.counts().bytes)
 }

@@ -5,7 +5,7 @@ use Rattle.restore_tool.proofs.OpenFiles.{closes_all, closes_more, closes_none, 
 use Rattle.restore_tool.proofs.frame.close_files.Goals as goal
 
 pub loop-file-init : goal.loop-file-init
-loop-file-init g c = record { closed = ([], (sym (append-nil c.args.files.items), closes_none (g.F.Folder.counts c.args.folder.now))); files = refl }
+loop-file-init g c = record { closed = ([], (sym (append-nil c.args.files.items), closes_none (g.F.Folder.counts c.args.folder.now))); files = refl; requested = refl }
 
 pub loop-file-preserved : goal.loop-file-preserved
 loop-file-preserved g c =
@@ -22,6 +22,7 @@ loop-file-preserved g c =
         ),
       );
       files = c.close_file.ensures.files ∙ before.files;
+      requested = c.close_file.ensures.requested ∙ before.requested;
     }
 
 pub returns-clause-counts : goal.returns-clause-counts

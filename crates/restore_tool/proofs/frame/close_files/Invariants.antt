@@ -8,6 +8,7 @@ invariant-loop-file g l = record {
   closed : (tail : List g.row.F-In.Denot) × ((l.fn.files.items ≡ l.files.items ++ tail)
       × ClosesMany (map (file_seen g.F.In.File) tail) (g.F.Folder.counts l.fn.folder) (g.F.Folder.counts l.folder));
   files : g.F.Folder.files l.folder ≡ g.F.Folder.files l.fn.folder;
+  requested : g.F.Folder.requested l.folder ≡ g.F.Folder.requested l.fn.folder;
 }
 
 abbrev pub decreases-loop-file : goal.decreases-loop-file

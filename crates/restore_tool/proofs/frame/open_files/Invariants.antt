@@ -1,7 +1,8 @@
-use Rattle.std.proofs.Common.{◌≡◌, map, length, vec_capacity}
+use Rattle.std.proofs.Common.{◌≡◌, map, length, take, vec_capacity}
 use Rattle.std.specs.List.{All}
 use Rattle.dat_header.specs.Seen.{file_seen}
 use Rattle.restore_tool.specs.Open.{AreFilesOf, IsUnused, OpensMany}
+use Rattle.new_files.specs.Requested.{AskedAll}
 use Rattle.std.specs.Option.{IfSome}
 use Rattle.restore_tool.proofs.frame.open_files.Given as goal
 
@@ -14,4 +15,5 @@ invariant-loop-name g l = record {
   counts : OpensMany (g.F.Folder.counts l.fn.folder) (g.F.Folder.counts l.folder) (length l.files.items);
   unmissed : IfSome (g.F.Folder.files l.fn.folder) (λ named. (g.F.Folder.counts l.folder).misses ≡ (g.F.Folder.counts l.fn.folder).misses);
   files : g.F.Folder.files l.folder ≡ g.F.Folder.files l.fn.folder;
+  requested : AskedAll (take l.name-index (map (λ name. name.now) l.names)) (g.F.Folder.requested l.fn.folder) (g.F.Folder.requested l.folder);
 }

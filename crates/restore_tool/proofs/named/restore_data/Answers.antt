@@ -1,15 +1,21 @@
-use Rattle.std.proofs.Common.{◌≡◌, List, inl, length, map, refl, sym, ap, subst, arith}
+use Rattle.std.proofs.Common.{◌≡◌, ◌≤◌, ◌+◌, List, [], ◌∷◌, inl, length, map, refl, sym, ap, subst, ◌∙◌, arith}
+use Rattle.std.specs.Option.{IfSome}
+use Rattle.std.specs.List.{All}
 use Rattle.std.proofs.lemmas.List.{length-map, take_at}
 use Rattle.trace_outside.specs.Causes.{Rose}
 use Rattle.trace_outside.specs.Names.{NamedFiles}
 use Rattle.restore_tool.specs.declared.named.Source.TheVariants.{Partial}
 use Rattle.restore_tool.specs.Answers.{Causes}
+use Rattle.restore_tool.specs.Asked.{asked_behind}
 use Rattle.dat_header.specs.Seen.{file_seen}
 use Rattle.restore_tool.specs.Failing.{IfRead, IsFaulty}
 use Rattle.restore_tool.specs.Meaning.{names_view, texts_of, with_texts}
-use Rattle.restore_tool.specs.Open.{AreFilesOf, AreThere}
+use Rattle.restore_tool.specs.Open.{AreFilesOf, AreThere, IsUnused}
+use Rattle.restore_tool.specs.Reads.{DataWithin, reads_of}
 use Rattle.restore_tool.proofs.Answered.{created_by, data_done, kept_by, unheld_done, unread_done}
 use Rattle.restore_tool.proofs.Failures.{any_missed, data_faulty, data_unread, misses_since, missed_there, unopened_unread}
+use Rattle.restore_tool.proofs.Asking.{asked_few, asked_made, asked_none, made_memory, no_faults}
+use Rattle.restore_tool.proofs.Reading.{all_kept_once, all_sized, data_within, kept_files, none_within, unused_once}
 use Rattle.restore_tool.proofs.Unread.{none_missed}
 use Rattle.restore_tool.proofs.named.restore_data.Goals as goal
 
@@ -53,7 +59,7 @@ returns-clause-causes g c =
     let failed = Rose start.reading last.reading in
     subst (λ (xs : List g.row.D-In.Denot). Causes c.answer_of.result (IfRead c.answer_of.result (IsFaulty failed (map f xs))) (Rose start.writing last.writing)) (sym (take_at now _ c.open_files.new.files.len long))
     (data_faulty (map f slice) (map f now) failed start (g.D.Folder.counts c.open_files.new.folder) last c.restore-end.result c.answer_of.result c.answer_of.ensures
-    (omega (arith, length-map slice f, length-map now f, c.restore-end.auto.files)) c.open_files.ensures.counts.writing c.restore-end.ensures.cause)
+    (omega (arith, length-map slice f, length-map now f, c.restore-end.auto.files)) (omega (arith, c.open_files.ensures.counts.writing)) c.restore-end.ensures.cause)
 
 pub returns-clause-kept : goal.returns-clause-kept
 returns-clause-kept g c =
@@ -98,3 +104,52 @@ returns-in-Err-clause-unread g c =
     let items = c.open_files.new.files.items in
     unopened_unread (g.D.Folder.files c.args.folder.now) (names_view c.args.names.now).files (map f items) (length items) _ _ _ (sym (length-map items f)) (omega arith)
     (omega (arith, c.in-Err.ensures.fewer, length-map c.args.names.now.files.now (λ name. name.now))) c.open_files.ensures.told c.in-Err.ensures.missed
+
+-- NAMES, MEMORY AND WHAT IS READ
+
+pub returns-in_default-clause-requested : goal.returns-in_default-clause-requested
+returns-in_default-clause-requested g c = asked_none (asked_behind (names_view c.args.names.now)) (g.D.Folder.requested c.args.folder.now)
+
+pub returns-in_default-clause-memory : goal.returns-in_default-clause-memory
+returns-in_default-clause-memory g c = (no_faults (g.D.Folder.counts c.args.folder.now), c.requires.none)
+
+pub returns-in_default-clause-reads : goal.returns-in_default-clause-reads
+returns-in_default-clause-reads g c =
+    let files = c.args.files.now.items in
+    none_within (g.D.Folder.files c.args.folder.now) (names_view c.args.names.now) (map (file_seen g.D.In.File) files) (length-map files (file_seen g.D.In.File) ∙ ap length c.requires.none)
+
+pub returns-in-Err-clause-requested : goal.returns-in-Err-clause-requested
+returns-in-Err-clause-requested g c =
+    asked_few (names_view c.args.names.now).files (c.args.names.now.output.now ∷ []) _ _ (length c.open_files.new.files.items + 1)
+    (omega (arith, c.in-Err.ensures.fewer, length-map c.args.names.now.files.now (λ name. name.now))) c.open_files.ensures.requested
+
+pub returns-in-Err-clause-reads : goal.returns-in-Err-clause-reads
+returns-in-Err-clause-reads g c =
+    let seen = map (file_seen g.D.In.File) c.open_files.new.files.items in
+    data_within (g.D.Folder.files c.args.folder.now) (names_view c.args.names.now) seen c.open_files.ensures.told (unused_once seen c.open_files.ensures.unused)
+    (omega (arith, c.open_files.ensures.inside, length-map c.open_files.new.files.items (file_seen g.D.In.File), length-map c.args.names.now.files.now (λ name. name.now)))
+
+pub returns-clause-requested : goal.returns-clause-requested
+returns-clause-requested g c =
+    asked_made (names_view c.args.names.now).files _ _ _ c.args.names.now.output.now (length c.open_files.new.files.items + 1) c.restore-end.result c.answer_of.result c.answer_of.ensures
+    (omega (arith, c.in-Ok.ensures.all, length-map c.args.names.now.files.now (λ name. name.now))) c.open_files.ensures.requested c.restore-end.ensures.requested
+
+pub returns-clause-memory : goal.returns-clause-memory
+returns-clause-memory g c = made_memory c.restore-end.result c.answer_of.result _ c.answer_of.ensures
+
+pub returns-clause-reads : goal.returns-clause-reads
+returns-clause-reads g c =
+    let f = file_seen g.D.In.File in
+    let names = names_view c.args.names.now in
+    let told = g.D.Folder.files c.args.folder.now in
+    let slice = c.as_mut_slice.result.now in
+    let now = c.restore-end.new.files in
+    let long : length now ≡ c.open_files.new.files.len = omega (arith, c.as_mut_slice.ensures.len, c.restore-end.auto.files) in
+    let same : length (map f now) ≡ length (map f slice) = omega (arith, length-map slice f, length-map now f, c.restore-end.auto.files) in
+    let opened = subst (λ (xs : List g.row.D-In.Denot). AreFilesOf told names.files (map f xs)) (sym c.as_mut_slice.ensures.value) c.open_files.ensures.told in
+    let unused = subst (λ (xs : List g.row.D-In.Denot). All IsUnused (map f xs)) (sym c.as_mut_slice.ensures.value) c.open_files.ensures.unused in
+    let sized = all_sized f slice (λ file. g.met.D.In.File.size_is file) in
+    let few : length (map f now) ≤ length names.files =
+    omega (arith, length-map now f, c.restore-end.auto.files, ap length c.as_mut_slice.ensures.value, c.in-Ok.ensures.all, length-map c.args.names.now.files.now (λ name. name.now)) in
+    subst (λ (xs : List g.row.D-In.Denot). IfSome told (λ named. DataWithin named names (λ size. reads_of (map f xs) ≤ size))) (sym (take_at now _ c.open_files.new.files.len long))
+    (data_within told names (map f now) (kept_files told names.files (map f slice) (map f now) same c.restore-end.ensures.keep opened) (all_kept_once (map f slice) (map f now) same c.restore-end.ensures.keep unused sized) few)

@@ -1,9 +1,13 @@
 use Rattle.std.proofs.Common.{◌≡◌, ◌≢◌, ◌∙◌, ℕ, List, Err, inl, inr, ap, refl}
+use Rattle.trace_outside.specs.Memory.{KeepsFaults}
 use Rattle.trace_outside.specs.Names.{NamedFiles}
 use Rattle.dat_header.specs.Partial.{partial_of}
+use Rattle.restore_tool.specs.Asked.{asked_behind}
 use Rattle.restore_tool.specs.Meaning.{IsDone, Task, missing, names_view, with_header}
 use Rattle.restore_tool.proofs.Answered.{causes_more, header_done}
+use Rattle.restore_tool.proofs.Asking.{memory_map, no_faults, unread_asks, unread_memory}
 use Rattle.restore_tool.proofs.Failures.{header_unread}
+use Rattle.restore_tool.proofs.Reading.{header_within, made_anyhow, nothing_within, unread_unmade}
 use Rattle.restore_tool.proofs.Unread.{closes_nothing, partial_unread, same_misses, texts_misses, unread_causes, unread_created, unread_kept}
 use Rattle.restore_tool.proofs.named.restore_from.Goals as goal
 
@@ -50,3 +54,25 @@ returns-in-Err-clause-kept g c = unread_kept _ c.unread_of.result (g.D.Folder.fi
 pub returns-in-Err-clause-unread : goal.returns-in-Err-clause-unread
 returns-in-Err-clause-unread g c =
     header_unread _ c.unread_of.result (g.D.Folder.files c.args.folder.now) (names_view c.args.names.now).files (g.D.Folder.counts c.args.folder.now).misses c.unread_of.ensures
+
+pub returns-in-Ok-clause-memory : goal.returns-in-Ok-clause-memory
+returns-in-Ok-clause-memory g c =
+    let kept = KeepsFaults (g.D.Folder.counts c.args.folder.now) (g.D.Folder.counts c.restore_under.new.folder) in
+    memory_map c.restore_under.result kept (kept × (g.D.In.File.faults c.read_partial.new.file ≡ g.D.In.File.faults c.args.partial.now)) (λ so_far. (so_far, c.in-Ok.ensures.kept)) c.restore_under.ensures.memory
+
+pub returns-in-Ok-clause-header_reads : goal.returns-in-Ok-clause-header_reads
+returns-in-Ok-clause-header_reads g c =
+    made_anyhow c.restore_under.result _ (header_within (g.D.In.File.bytes c.args.partial.now) c.in-Ok.header _ _ c.in-Ok.ensures.answer c.in-Ok.ensures.reads)
+
+pub returns-in-Err-clause-requested : goal.returns-in-Err-clause-requested
+returns-in-Err-clause-requested g c = unread_asks _ c.unread_of.result (asked_behind (names_view c.args.names.now)) (g.D.Folder.requested c.args.folder.now) c.unread_of.ensures
+
+pub returns-in-Err-clause-memory : goal.returns-in-Err-clause-memory
+returns-in-Err-clause-memory g c =
+    unread_memory _ c.unread_of.result (g.D.In.File.faults c.args.partial.now) (g.D.In.File.faults c.read_partial.new.file) _ c.unread_of.ensures (λ same. (no_faults (g.D.Folder.counts c.args.folder.now), same)) c.in-Err.ensures.kept
+
+pub returns-in-Err-clause-reads : goal.returns-in-Err-clause-reads
+returns-in-Err-clause-reads g c = nothing_within (g.D.Folder.files c.args.folder.now) (names_view c.args.names.now) _ _ refl
+
+pub returns-in-Err-clause-header_reads : goal.returns-in-Err-clause-header_reads
+returns-in-Err-clause-header_reads g c = unread_unmade _ c.unread_of.result _ c.unread_of.ensures

@@ -2,11 +2,15 @@ use Rattle.std.proofs.Common.{◌≡◌, ◌≢◌, Option, sym, subst, arith}
 use Rattle.std.specs.Option.{IfSome}
 use Rattle.trace_outside.specs.Causes.{Rose}
 use Rattle.trace_outside.specs.Folders.{IsFileOf}
+use Rattle.trace_outside.specs.Memory.{KeepsFaults}
 use Rattle.trace_outside.specs.Names.{NamedFiles}
 use Rattle.restore_tool.specs.declared.named.Source.TheVariants.{Partial}
+use Rattle.restore_tool.specs.Asked.{asked_behind}
 use Rattle.restore_tool.specs.Meaning.{IsDone, Task, missing, names_view, task_of}
 use Rattle.restore_tool.proofs.Answered.{all_closed, causes_more, created_since, created_then, done_opened, kept_around, misses_then, one_closed_counts, opened_misses, partial_done, unopened_misses, unread_done}
+use Rattle.restore_tool.proofs.Asking.{asks_first, asks_then, memory_map, partial_faults}
 use Rattle.restore_tool.proofs.Failures.{partial_unopened, unread_behind}
+use Rattle.restore_tool.proofs.Reading.{read_once}
 use Rattle.restore_tool.proofs.Unread.{one_rose, unopened_counts}
 use Rattle.restore_tool.proofs.named.restore_named.Goals as goal
 
@@ -21,7 +25,7 @@ returns-in-Err-clause-misses g c = unopened_misses (names_view c.args.names.now)
 pub returns-in-Err-clause-counts : goal.returns-in-Err-clause-counts
 returns-in-Err-clause-counts g c =
     let opens = c.open_file.ensures.counts in
-    unopened_counts _ _ _ opens.reading opens.writing opens.unfinished c.in-Err.ensures.counts.opened opens.closed
+    unopened_counts _ _ _ opens.reading (omega (arith, opens.writing)) opens.unfinished c.in-Err.ensures.counts.opened opens.closed
 
 pub returns-in-Ok-clause-done : goal.returns-in-Ok-clause-done
 returns-in-Ok-clause-done g c =
@@ -78,7 +82,7 @@ returns-in-Ok-clause-misses g c =
 pub returns-in-Ok-clause-counts : goal.returns-in-Ok-clause-counts
 returns-in-Ok-clause-counts g c =
     let opens = c.open_file.ensures.counts in
-    one_closed_counts _ _ _ _ _ _ _ opens.reading opens.writing opens.unfinished c.in-Ok.ensures.counts.opened opens.closed c.restore_from-answer.ensures.counts c.close_file.ensures.counts
+    one_closed_counts _ _ _ _ _ _ _ opens.reading (omega (arith, opens.writing)) opens.unfinished c.in-Ok.ensures.counts.opened opens.closed c.restore_from-answer.ensures.counts c.close_file.ensures.counts
 
 pub returns-in-Ok-clause-kept : goal.returns-in-Ok-clause-kept
 returns-in-Ok-clause-kept g c =
@@ -98,3 +102,30 @@ returns-in-Ok-clause-unread g c =
     unread_behind names bytes before opened worked _ c.close_file.ensures.counts.misses c.restore_from-answer.result old (g.D.Folder.files c.open_file.new.self)
     c.open_file.ensures.files c.in-Ok.ensures.given (opened_misses names.partial old bytes before opened c.in-Ok.ensures.given c.open_file.ensures.counts.misses)
     c.restore_from-answer.ensures.unread
+
+pub returns-in-Err-clause-requested : goal.returns-in-Err-clause-requested
+returns-in-Err-clause-requested g c = (1, c.open_file.ensures.requested)
+
+pub returns-in-Ok-clause-requested : goal.returns-in-Ok-clause-requested
+returns-in-Ok-clause-requested g c =
+    let names = names_view c.args.names.now in
+    let behind = asked_behind names in
+    let answer = c.restore_from-answer.result in
+    asks_first names.partial behind _ _ _ answer c.open_file.ensures.requested (asks_then behind _ _ _ answer c.close_file.ensures.requested c.restore_from-answer.ensures.requested)
+
+pub returns-in-Ok-clause-memory : goal.returns-in-Ok-clause-memory
+returns-in-Ok-clause-memory g c =
+    let start = g.D.Folder.counts c.args.folder.now in
+    let opened = g.D.Folder.counts c.open_file.new.self in
+    let worked = g.D.Folder.counts c.restore_from-answer.new.folder in
+    let last = g.D.Folder.counts c.close_file.new.self in
+    let faults = g.D.In.File.faults c.in-Ok.partial in
+    let faults_now = g.D.In.File.faults c.restore_from-answer.new.partial in
+    memory_map c.restore_from-answer.result (KeepsFaults opened worked × (faults_now ≡ faults)) (KeepsFaults start last)
+    (λ kept. partial_faults faults faults_now _ start opened worked last c.in-Ok.ensures.counts.kept c.open_file.ensures.counts.writing c.in-Ok.ensures.no_faults c.close_file.ensures.counts kept.0 kept.1)
+    c.restore_from-answer.ensures.memory
+
+pub returns-in-Ok-clause-reads : goal.returns-in-Ok-clause-reads
+returns-in-Ok-clause-reads g c =
+    read_once (names_view c.args.names.now) c.restore_from-answer.result (g.D.Folder.files c.args.folder.now) (g.D.Folder.files c.open_file.new.self) (g.D.In.File.bytes c.in-Ok.partial) _ _ _ _ _ _
+    c.open_file.ensures.files c.in-Ok.ensures.given c.open_file.ensures.counts.bytes c.in-Ok.ensures.no_reads c.close_file.ensures.counts.bytes c.restore_from-answer.ensures.reads c.restore_from-answer.ensures.header_reads

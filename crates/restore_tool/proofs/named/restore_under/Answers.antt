@@ -1,13 +1,17 @@
-use Rattle.std.proofs.Common.{refl, sym, map, length, subst, ℕ, arith}
+use Rattle.std.proofs.Common.{◌≡◌, [], refl, sym, map, length, subst, ℕ, arith}
 use Rattle.std.proofs.lemmas.List.{length-map}
 use Rattle.trace_outside.specs.Causes.{Rose}
+use Rattle.trace_outside.specs.Memory.{KeepsFaults}
 use Rattle.trace_outside.specs.Names.{NamedFiles}
 use Rattle.dat_header.specs.Seen.{file_seen}
+use Rattle.restore_tool.specs.Asked.{asked_behind}
 use Rattle.restore_tool.specs.Failing.{IfRead, IsUnreadBehind}
 use Rattle.restore_tool.specs.Meaning.{names_view, texts_of, with_texts}
 use Rattle.restore_tool.specs.Open.{AreThere}
 use Rattle.restore_tool.proofs.Answered.{all_closed, all_closed_counts, closed_rose, created_then, kept_around, unheld_done}
+use Rattle.restore_tool.proofs.Asking.{asked_none, asks_then, closed_faults, memory_map, no_faults}
 use Rattle.restore_tool.proofs.Failures.{causes_faulty}
+use Rattle.restore_tool.proofs.Reading.{closed_within, nothing_within}
 use Rattle.restore_tool.proofs.Unread.{closes_nothing, misses_kept, none_missed}
 use Rattle.restore_tool.proofs.named.restore_under.Goals as goal
 
@@ -61,3 +65,30 @@ pub returns-clause-unread : goal.returns-clause-unread
 returns-clause-unread g c =
     subst (λ (n : ℕ). IfRead c.restore_data-answer.result (IsUnreadBehind (g.D.Folder.files c.args.folder.now) (names_view c.args.names.now).files (g.D.Folder.counts c.args.folder.now).misses n))
     (sym c.close_files.ensures.counts.misses) c.restore_data-answer.ensures.unread
+
+pub returns-in_default-clause-requested : goal.returns-in_default-clause-requested
+returns-in_default-clause-requested g c = asked_none (asked_behind (names_view c.args.names.now)) (g.D.Folder.requested c.args.folder.now)
+
+pub returns-in_default-clause-memory : goal.returns-in_default-clause-memory
+returns-in_default-clause-memory g c = no_faults (g.D.Folder.counts c.args.folder.now)
+
+pub returns-in_default-clause-reads : goal.returns-in_default-clause-reads
+returns-in_default-clause-reads g c = nothing_within (g.D.Folder.files c.args.folder.now) (names_view c.args.names.now) _ _ refl
+
+pub returns-clause-requested : goal.returns-clause-requested
+returns-clause-requested g c =
+    asks_then (asked_behind (names_view c.args.names.now)) _ _ _ c.restore_data-answer.result c.close_files.ensures.requested c.restore_data-answer.ensures.requested
+
+pub returns-clause-memory : goal.returns-clause-memory
+returns-clause-memory g c =
+    let start = g.D.Folder.counts c.args.folder.now in
+    let mid = g.D.Folder.counts c.restore_data-answer.new.folder in
+    let now = g.D.Folder.counts c.close_files.new.folder in
+    let files = c.restore_data-answer.new.files.items in
+    memory_map c.restore_data-answer.result (KeepsFaults start mid × (files ≡ [])) (KeepsFaults start now)
+    (λ kept. closed_faults (file_seen g.D.In.File) files start mid now kept.1 c.close_files.ensures.counts kept.0) c.restore_data-answer.ensures.memory
+
+pub returns-clause-reads : goal.returns-clause-reads
+returns-clause-reads g c =
+    closed_within (g.D.Folder.files c.args.folder.now) (names_view c.args.names.now) (map (file_seen g.D.In.File) c.restore_data-answer.new.files.items) _ _ _
+    c.restore_data-answer.ensures.counts.bytes c.close_files.ensures.counts.bytes c.restore_data-answer.ensures.reads

@@ -1,4 +1,4 @@
-use Rattle.std.proofs.Common.{◌≡◌, ◌∙◌, length, map, inl, arith}
+use Rattle.std.proofs.Common.{◌≡◌, ◌∙◌, length, map, arith}
 use Rattle.dat_header.specs.Tables.{in_table}
 use Rattle.dat_header.specs.Seen.{file_seen}
 use Rattle.restore_tool.specs.Copying.{text_of}
@@ -25,6 +25,3 @@ pub returns-in-Err-clause-leaves : goal.returns-in-Err-clause-leaves
 returns-in-Err-clause-leaves g c =
     unmade_finish _ _ _ c.args.name.now (g.D.Out.Sink.name c.write_whole.new.out) (g.D.Folder.files c.args.folder.now) (g.D.Folder.files c.create_file.new.self) (g.D.Folder.files c.finish_file.new.self)
     c.in-Ok.ensures.files (c.write_whole.ensures.keeps_out.name ∙ c.in-Ok.ensures.named) c.create_file.ensures.counts.unfinished c.in-Err.ensures.counts.unfinished c.in-Err.ensures.others
-
-pub returns-in-Write-clause-leaves : goal.returns-in-Write-clause-leaves
-returns-in-Write-clause-leaves g c = inl (c.drop_file-in-Write.ensures.files ∙ c.in-Ok.ensures.files)
