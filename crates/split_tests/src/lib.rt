@@ -2,7 +2,7 @@
 //!
 //! The pieces of two processors, each measured and packed, are a line of `ROWS` in `passes`, and passes that fail a row of its
 //! `FAULTS`. Whole traces that are cut by the words of a command line and read back are a line of `ROWS` in `whole`, and
-//! folders in which a call fails a row of `FAULTS` in `faults`.
+//! folders in which a call fails a row of `FAULTS` in `faults`, and files that change between the passes a row of `CHANGES` there.
 #![tactic(auto)]
 
 #[cfg(test)]

@@ -14,4 +14,5 @@ pub mod Passing
 pub mod Measuring
 pub mod Preparing
 pub mod Making
+pub mod Numbering
 pub mod FewBytes

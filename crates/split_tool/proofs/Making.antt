@@ -46,7 +46,7 @@ use Rattle.split_file.proofs.Wrapped.{front_wrapped}
 use Rattle.split_tool.specs.declared.lists.Ends.{Ends}
 use Rattle.split_tool.specs.Counted.{lists_of}
 use Rattle.split_tool.specs.Lists.{files_of, files_behind, lists_left, bad_left}
-use Rattle.split_tool.specs.Made.{Prepared, Written, Made, IsMade}
+use Rattle.split_tool.specs.Made.{Prepared, Written, Made, IsMade, LeavesFile}
 use Rattle.split_tool.specs.Measured.{taken_of}
 use Rattle.split_tool.specs.NewFiles.{Creates, files_from, new_files, end_by, IsSplit}
 use Rattle.split_tool.specs.Rules.{rules_of}
@@ -66,7 +66,7 @@ use Rattle.split_passes.proofs.Running.{rises_tail}
 
 -- A FILE WAS FINISHED
 
-stored_is : (old1 old new : Option NamedFiles) (w0 w : Option (List ℕ)) (name name1 content : List ℕ) → old1 ≡ old → name1 ≡ name → IsEmptySink old w0 → Gained w0 w content → Stores old1 new name1 w → IfSome old (λ files. new ≡ Some (insert files name content))
+pub stored_is : (old1 old new : Option NamedFiles) (w0 w : Option (List ℕ)) (name name1 content : List ℕ) → old1 ≡ old → name1 ≡ name → IsEmptySink old w0 → Gained w0 w content → Stores old1 new name1 w → IfSome old (λ files. new ≡ Some (insert files name content))
 stored_is old1 None new w0 w name name1 content e n empty gained stores = tt
 stored_is old1 (Some files) new w0 w name name1 content e n empty gained stores =
     let is : w ≡ Some content = gained ∙ ap (λ (o : Option (List ℕ)). append_known o content) empty in
@@ -210,7 +210,7 @@ module _ (header : Header) (base : List ℕ) (file : List ℕ) (rules : Rules) (
       (ap (λ (xss : List (List Keyed)). is_some_left (joined_lists xss) && rules.repeat) (sym m.left.left) ∙ ap (λ (b : Bool). b && rules.repeat) (sym m.left.more) ∙ more)
 
   -- the last file is that of this number
-  last_counted : (ends : Ends) → (ends.more && rules.repeat) ≡ false → Made (record { header = header; rules = rules; name = file_name base number }) file now later mid new ends
+  pub last_counted : (ends : Ends) → (ends.more && rules.repeat) ≡ false → Made (record { header = header; rules = rules; name = file_name base number }) file now later mid new ends
       → Progress header base file rules news bad number now old mid → length news ≡ number
   last_counted ends more m p =
       let none : length (files_from header base (number + 1) (files_behind rules (lists_left header.layout file rules now))) ≡ 0 =
@@ -218,7 +218,7 @@ module _ (header : Header) (base : List ℕ) (file : List ℕ) (rules : Rules) (
       omega (arith, p.counted, none)
 
   -- there are at least as many files
-  some_counted : Progress header base file rules news bad number now old mid → number ≤ length news
+  pub some_counted : Progress header base file rules news bad number now old mid → number ≤ length news
   some_counted p = omega (arith, p.counted)
 
   pub created_last : (ends : Ends) (result : End) (first before after : ℕ) → (ends.more && rules.repeat) ≡ false → result ≡ end_by ends.bad → Made (record { header = header; rules = rules; name = file_name base number }) file now later mid new ends
@@ -230,23 +230,24 @@ module _ (header : Header) (base : List ℕ) (file : List ℕ) (rules : Rules) (
       by_bad None result is e = subst (λ (r : End). Creates (length news) first after r) (sym is) e
       by_bad (Some place) result is e = subst (λ (r : End). Creates (length news) first after r) (sym is) e
 
-  pub created_stops : (end result : End) (between now_counts : Counts) (first before after : ℕ) → result ≡ end → IsMade (record { header = header; rules = rules; name = file_name base number }) file now later (record { files = mid; counts = between }) (record { files = new; counts = now_counts }) (Err end)
+  pub created_stops : (end result : End) (first before after : ℕ) → result ≡ end → IsMade (record { header = header; rules = rules; name = file_name base number }) file now later mid new (Err end)
       → 1 ≤ number → before ≡ raised first (number - 1) → after ≤ raised before 1
       → Progress header base file rules news bad number now old mid → Creates (length news) first after result
-  created_stops code.Done result between now_counts first before after is m least so_far one p = absurd m
-  created_stops (code.Malformed cpu page) result between now_counts first before after is m least so_far one p = absurd m
-  created_stops code.Read result between now_counts first before after is m least so_far one p = subst (λ (r : End). Creates (length news) first after r) (sym is) (omega (arith, some_counted p, least, so_far, one))
-  created_stops code.Write result between now_counts first before after is m least so_far one p = subst (λ (r : End). Creates (length news) first after r) (sym is) (omega (arith, some_counted p, least, so_far, one))
+  created_stops code.Done result first before after is m least so_far one p = absurd m
+  created_stops (code.Malformed cpu page) result first before after is m least so_far one p = absurd m
+  created_stops code.Read result first before after is m least so_far one p = subst (λ (r : End). Creates (length news) first after r) (sym is) (omega (arith, some_counted p, least, so_far, one))
+  created_stops code.Write result first before after is m least so_far one p = subst (λ (r : End). Creates (length news) first after r) (sym is) (omega (arith, some_counted p, least, so_far, one))
 
-  pub progress_stops : (end result : End) (counts between now_counts : Counts) → result ≡ end → counts.unfinished ≤ between.unfinished
-      → IsMade (record { header = header; rules = rules; name = file_name base number }) file now later (record { files = mid; counts = between }) (record { files = new; counts = now_counts }) (Err end)
+  pub progress_stops : (end result : End) (counts between now_counts : Counts) (asked asked_now : List (List ℕ)) → result ≡ end → counts.unfinished ≤ between.unfinished
+      → IsMade (record { header = header; rules = rules; name = file_name base number }) file now later mid new (Err end)
+      → LeavesFile (file_name base number) later (record { files = mid; counts = between; requested = asked }) (record { files = new; counts = now_counts; requested = asked_now }) (Err end)
       → Progress header base file rules news bad number now old mid → IsSplit news (end_by bad) counts now_counts old new result
-  progress_stops code.Done result counts between now_counts is since m p = absurd m
-  progress_stops (code.Malformed cpu page) result counts between now_counts is since m p = absurd m
-  progress_stops code.Read result counts between now_counts is since m p = subst (λ (e : End). IsSplit news (end_by bad) counts now_counts old new e) (sym is) (some_stored news _ old mid new m p.stage)
-  progress_stops code.Write result counts between now_counts is since m p =
+  progress_stops code.Done result counts between now_counts asked asked_now is since m leaves p = absurd m
+  progress_stops (code.Malformed cpu page) result counts between now_counts asked asked_now is since m leaves p = absurd m
+  progress_stops code.Read result counts between now_counts asked asked_now is since m leaves p = subst (λ (e : End). IsSplit news (end_by bad) counts now_counts old new e) (sym is) (some_stored news _ old mid new leaves p.stage)
+  progress_stops code.Write result counts between now_counts asked asked_now is since m leaves p =
       subst (λ (e : End). IsSplit news (end_by bad) counts now_counts old new e) (sym is)
-      (first_stored news _ _ counts now_counts old mid new (unmade_since counts.unfinished between.unfinished now_counts.unfinished (file_name base number) mid new since m) p.stage)
+      (first_stored news _ _ counts now_counts old mid new (unmade_since counts.unfinished between.unfinished now_counts.unfinished (file_name base number) mid new since leaves) p.stage)
 
 -- lanes of the same processors
 pub same_cpus : (n : ℕ) (first now : List Lane) → parts_of now ≡ parts_of first → All (λ (a : Lane). a.cpu < n) first → All (λ (a : Lane). a.cpu < n) now

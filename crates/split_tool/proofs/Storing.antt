@@ -7,6 +7,7 @@ use Rattle.trace_outside.specs.Names.{NamedFiles, SameBut}
 use Rattle.trace_outside.specs.declared.counts.Counts.{Counts}
 use Rattle.trace_outside.specs.Causes.{Rose}
 use Rattle.time_merge.specs.declared.ending.End.{End}
+use Rattle.time_merge.specs.declared.ending.End.TheVariants as code
 use Rattle.split_tool.specs.NewFiles.{LeavesUnfinished, end_by}
 use Rattle.new_files.specs.Stored.{KeepsCounts, IsUnmade, NewFile, Stored, FilesStored, IsNextOpen, FirstFilesStored}
 
@@ -22,7 +23,7 @@ pub record Stage (news more : List NewFile) (files : NamedFiles) (now : Option N
 abbrev pub Stages : List NewFile → List NewFile → Option NamedFiles → Option NamedFiles → Type 0
 Stages news more old now = IfSome old (λ files. Stage news more files now)
 
-stored_push : (done : List NewFile) (f : NewFile) (files middle : NamedFiles) → Stored done files middle → Stored (done ++ f ∷ []) files (insert middle f.name f.content)
+pub stored_push : (done : List NewFile) (f : NewFile) (files middle : NamedFiles) → Stored done files middle → Stored (done ++ f ∷ []) files (insert middle f.name f.content)
 stored_push [] f files middle s = ap (λ (m : NamedFiles). insert m f.name f.content) s
 stored_push (d ∷ done) f files middle s = stored_push done f (insert files d.name d.content) middle s
 
@@ -121,3 +122,10 @@ leaves_none (Some bad) result before now is same = subst (λ (end : End). Leaves
 
 pub leaves_since : (result : End) (first before now : ℕ) → before ≡ first → LeavesUnfinished before now result → LeavesUnfinished first now result
 leaves_since result first before now same leaves = subst (λ (n : ℕ). LeavesUnfinished n now result) same leaves
+
+-- each file that was created is given up or finished
+pub leaves_same : (result : End) (before now : ℕ) → now ≡ before → LeavesUnfinished before now result
+leaves_same code.Done before now same = same
+leaves_same (code.Malformed cpu page) before now same = same
+leaves_same code.Read before now same = same
+leaves_same code.Write before now same = (omega (arith, same), omega (arith, same))

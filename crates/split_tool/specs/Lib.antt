@@ -3,6 +3,7 @@ pub mod Lists
 pub mod Made
 pub mod Measured
 pub mod NewFiles
+pub mod Numbered
 pub mod Reads
 pub mod Rules
 pub mod Started

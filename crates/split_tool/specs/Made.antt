@@ -1,5 +1,5 @@
 -- One new file on its way.
-use Rattle.std.specs.Prelude.{◌≡◌, ◌≤◌, ℕ, true, false, ◌&&◌, List, ◌++◌, map, IfErr, IfSome, MatchResult, Option, Result, Some, Ok, Err}
+use Rattle.std.specs.Prelude.{◌≡◌, ◌≤◌, ◌⊎◌, ℕ, true, false, ◌&&◌, List, [], ◌∷◌, ◌++◌, map, IfErr, IfSome, MatchResult, Option, Result, Some, Ok, Err}
 use Rattle.std.specs.List.{All}
 use Rattle.std.specs.FinMap.{insert}
 use Rattle.trace_base.specs.declared.layout.Layout.{Layout}
@@ -20,10 +20,11 @@ use Rattle.time_merge.specs.declared.ending.End.{End}
 use Rattle.time_merge.specs.declared.ending.End.TheVariants as code
 use Rattle.split_pieces.specs.declared.rules.Rules.{Rules}
 use Rattle.split_pieces.specs.Pieces.{is_some_left, joined_lists, behind_file}
-use Rattle.split_passes.specs.AllAgain.{AreFronts, owns}
+use Rattle.split_passes.specs.AllAgain.{AreFronts, TellsHeld, owns}
 use Rattle.split_passes.specs.Outputs.{LanesOutput}
 use Rattle.split_passes.specs.declared.tally.Tally.{Tally}
 use Rattle.dat_header.specs.Tables.{in_table}
+use Rattle.new_files.specs.Requested.{AskedAll}
 use Rattle.new_files.specs.Stored.{IsUnmade, KeepsCounts}
 use Rattle.split_file.specs.NewFile.{file_text, front_text, table_of}
 use Rattle.split_tool.specs.declared.lists.Ends.{Ends}
@@ -81,15 +82,33 @@ pub record Made (plan : FilePlan) (file : List ℕ) (first now : List Lane) (old
   pub left : FileLeft plan.header.layout file plan.rules first now ends
   pub stored : IfSome old (λ files. new ≡ Some (insert files plan.name (next_text plan.header file plan.rules first)))
 
--- Over a file with these bytes: a file was finished; after a fault of reading the folder is as it was, and after one of writing
--- the name is unless finishing it failed.
-abbrev pub IsMade : FilePlan → List ℕ → List Lane → List Lane → FolderSeen → FolderSeen → Result Ends End → Type 0
-IsMade plan file first now before after (Ok ends) = Made plan file first now before.files after.files ends
-IsMade plan file first now before after (Err code.Done) = ⊥
-IsMade plan file first now before after (Err (code.Malformed cpu page)) = ⊥
-IsMade plan file first now before after (Err code.Read) = after.files ≡ before.files
-IsMade plan file first now before after (Err code.Write) =
-    IsUnmade before.counts.unfinished after.counts.unfinished plan.name before.files after.files
+-- Over a file with these bytes: a file was finished, or a call of the outside failed.
+abbrev pub IsMade : FilePlan → List ℕ → List Lane → List Lane → Option NamedFiles → Option NamedFiles → Result Ends End → Type 0
+IsMade plan file first now old new (Ok ends) = Made plan file first now old new ends
+IsMade plan file first now old new (Err code.Done) = ⊥
+IsMade plan file first now old new (Err (code.Malformed cpu page)) = ⊥
+IsMade plan file first now old new (Err code.Read) = Unit {0}
+IsMade plan file first now old new (Err code.Write) = Unit {0}
+
+-- some file of this name was finished, and every other name is as before
+abbrev pub IsFinished : List ℕ → Option NamedFiles → Option NamedFiles → Type 0
+IsFinished name old new = (content : List ℕ) × IfSome old (λ files. new ≡ Some (insert files name content))
+
+-- What making one file leaves, whatever the bytes of the input are: it is finished, or it is cut off and every name is as it
+-- was, unless finishing it failed. A malformed sub-buffer that is told is the one that a lane holds.
+abbrev pub LeavesFile : List ℕ → List Lane → FolderSeen → FolderSeen → Result Ends End → Type 0
+LeavesFile name lanes before now (Ok ends) = IsFinished name before.files now.files
+LeavesFile name lanes before now (Err code.Done) = ⊥
+LeavesFile name lanes before now (Err (code.Malformed cpu page)) =
+    (now.files ≡ before.files) × TellsHeld lanes (code.Malformed cpu page)
+LeavesFile name lanes before now (Err code.Read) = now.files ≡ before.files
+LeavesFile name lanes before now (Err code.Write) =
+    IsUnmade before.counts.unfinished now.counts.unfinished name before.files now.files
+
+-- its name was asked for, unless a read failed before
+abbrev pub AsksForIt : List ℕ → List (List ℕ) → List (List ℕ) → Result Ends End → Type 0
+AsksForIt name before now (Err code.Read) = (now ≡ before) ⊎ AskedAll (name ∷ []) before now
+AsksForIt name before now result = AskedAll (name ∷ []) before now
 
 -- What making one file does to the counts of a folder: a file is created, or after a fault maybe none, and only a fault of
 -- writing leaves one unfinished.

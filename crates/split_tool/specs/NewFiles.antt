@@ -15,6 +15,7 @@ use Rattle.split_file.specs.Names.{file_name}
 use Rattle.split_file.specs.NewFile.{ReadsBack, file_text}
 use Rattle.split_tool.specs.Counted.{lists_of}
 use Rattle.split_tool.specs.Rules.{rules_of}
+use Rattle.new_files.specs.Requested.{AskedAll, AskedFirst, names_of}
 use Rattle.new_files.specs.Stored.{NewFile, FilesStored, FirstFilesStored}
 
 -- the files of these items, numbered from n on; their tables tell numbers modulo 2^64
@@ -47,6 +48,12 @@ abbrev pub Creates : ℕ → ℕ → ℕ → End → Type 0
 Creates count before now code.Read = now ≤ raised before count
 Creates count before now code.Write = now ≤ raised before count
 Creates count before now answer = now ≡ raised before count
+
+-- their names were asked for, after a fault the first few of them
+abbrev pub AsksFor : List NewFile → List (List ℕ) → List (List ℕ) → End → Type 0
+AsksFor news before now code.Read = AskedFirst (names_of news) before now
+AsksFor news before now code.Write = AskedFirst (names_of news) before now
+AsksFor news before now answer = AskedAll (names_of news) before now
 
 -- how many files could not be finished: none, and after a fault of writing at most one
 abbrev pub LeavesUnfinished : ℕ → ℕ → End → Type 0

@@ -3,13 +3,15 @@
 ghost use Rattle.std.specs.Prelude.{◌≡◌, ◌+◌, ◌<◌, ◌≤◌, ◌^◌, All, IfErr, IfOk, IfSome, List, length};
 ghost use Rattle.trace_outside.specs.Causes.{HasCause, Rose, raised};
 ghost use Rattle.trace_outside.specs.Keeping.{KeepsFile, KeepsSink};
+ghost use Rattle.trace_outside.specs.Seen.{folder_seen};
 ghost use Rattle.subpage.specs.ItemData.{ItemData};
 ghost use Rattle.event_cursor.specs.Standing.{IsInOrder, Stands};
 ghost use Rattle.time_merge.specs.LaneRows.{parts_of};
-ghost use Rattle.split_passes.specs.AllAgain.{AreFronts};
+ghost use Rattle.split_passes.specs.AllAgain.{AreFronts, TellsHeld};
+ghost use Rattle.split_passes.specs.Packs.{GainsSome};
 ghost use Rattle.split_passes.specs.Reads.{all_packing};
 ghost use Rattle.split_file.specs.Names.{file_name};
-ghost use Rattle.split_tool.specs.Made.{CountsOne, IsMade, IsWritten, Prepared};
+ghost use Rattle.split_tool.specs.Made.{AsksForIt, CountsOne, IsMade, IsWritten, LeavesFile, Prepared};
 ghost use Rattle.split_tool.specs.Reads.{Spends, to_read};
 ghost use Rattle.split_tool.specs.Work.{CanCut, IsWorkFor};
 
@@ -88,6 +90,8 @@ fn write_file<F: File, O: Sink>(
         → (lists : List (List ItemData)) → AreFronts plan.now.header.now.layout bytes lanes.old work.old.fronts.items work.old.tallies.items lists
         → IsWritten plan.now.header.now bytes work.old.table.items lists
         (record { lanes = lanes.old; written = O.written out.old }) (record { lanes = lanes.new; written = O.written out.new }) result) }
+    ensures malformed { TellsHeld lanes.new result }
+    ensures gains { result ≡ End.Done → GainsSome (O.written out.old) (O.written out.new) }
     ensures reads { F.reads file.new ≤ raised (F.reads file.old)
         (all_packing plan.now.header.now.layout (F.size file.old) lanes.old work.old.fronts.items work.old.tallies.items) }
     ensures left { result ≡ End.Done → to_read plan.now.header.now.layout (F.size file.old) lanes.new
@@ -133,9 +137,10 @@ pub(crate) fn make_file<F: File, D: Folder>(
     ensures told { IfSome (F.bytes file.old) (λ bytes. All (Stands plan.now.header.now.layout bytes) lanes.old
         → length bytes < 2 ^ 64
         → IsMade (record { header = plan.now.header.now; rules = rules.now; name = file_name plan.now.words.now.base.now number })
-        bytes lanes.old lanes.new
-        (record { files = D.files folder.old; counts = D.counts folder.old })
-        (record { files = D.files folder.new; counts = D.counts folder.new }) result) }
+        bytes lanes.old lanes.new (D.files folder.old) (D.files folder.new) result) }
+    ensures leaves { LeavesFile (file_name plan.now.words.now.base.now number) lanes.new
+        (folder_seen D.Folder folder.old) (folder_seen D.Folder folder.new) result }
+    ensures requested { AsksForIt (file_name plan.now.words.now.base.now number) (D.requested folder.old) (D.requested folder.new) result }
     ensures counts { CountsOne (D.counts folder.old) (D.counts folder.new) result }
     ensures reads { Spends (to_read plan.now.header.now.layout (F.size file.old) lanes.old)
         (to_read plan.now.header.now.layout (F.size file.old) lanes.new) (F.reads file.old) (F.reads file.new) result }
@@ -154,17 +159,9 @@ pub(crate) fn make_file<F: File, D: Folder>(
             Ok(()) => Ok(ends),
             Err(Failed) => Err(End::Write),
         },
-        End::Malformed { cpu, page } => {
+        end => {
             folder.drop_file(out);
-            Err(End::Malformed { cpu, page })
-        }
-        End::Read => {
-            folder.drop_file(out);
-            Err(End::Read)
-        }
-        End::Write => {
-            folder.drop_file(out);
-            Err(End::Write)
+            Err(end)
         }
     }
 }

@@ -2,6 +2,7 @@ ghost use Rattle.std.specs.Prelude.{◌≡◌, ◌*◌, ◌<◌, ◌≤◌, ◌&
 ghost use Rattle.trace_base.specs.declared.part.Part.{Part};
 ghost use Rattle.trace_outside.specs.Causes.{Rose, raised};
 ghost use Rattle.trace_outside.specs.Keeping.{KeepsFile};
+ghost use Rattle.trace_outside.specs.Seen.{folder_seen};
 ghost use Rattle.dat_header.specs.Allowed.{IsHeader};
 ghost use Rattle.subpage.specs.Arrangement.{CpusRise};
 ghost use Rattle.page_pool.specs.Fresh.{IsFresh};
@@ -10,7 +11,8 @@ ghost use Rattle.time_merge.specs.LaneRows.{parts_of};
 ghost use Rattle.split_pieces.specs.Pieces.{IsUnit};
 ghost use Rattle.trace_args.specs.Command.{split_view};
 ghost use Rattle.new_files.specs.Stored.{KeepsCounts};
-ghost use Rattle.split_tool.specs.NewFiles.{Creates, IsSplit, LeavesUnfinished, end_by, end_of, new_files};
+ghost use Rattle.split_tool.specs.NewFiles.{AsksFor, Creates, IsSplit, LeavesUnfinished, end_by, end_of, new_files};
+ghost use Rattle.split_tool.specs.Numbered.{LeavesFiles};
 ghost use Rattle.split_tool.specs.Work.{IsWorkFor};
 
 use crate::files::make_file;
@@ -55,6 +57,9 @@ fn end_by(ends: Ends) -> End
 /// There is always a first file. `Malformed` exactly where a list that nothing closed ends before a malformed sub-buffer;
 /// the last file is finished then. After `Read` and `Write` the finished files are the first few, and the file in work has
 /// no name, unless finishing it failed. Nothing here takes memory.
+///
+/// A file that gives other bytes as a piece is packed than as it was measured is `Malformed` too, at the sub-buffer that the
+/// lane holds; the new file in work has no name then.
 pub fn split<F: File, D: Folder>(
     plan: &SplitPlan<'_>,
     file: &mut F,
@@ -77,6 +82,12 @@ pub fn split<F: File, D: Folder>(
     ensures created { IfSome (F.bytes file.old) (λ bytes. Creates
         (length (new_files (split_view plan.now.words.now) plan.now.header.now bytes (parts_of lanes.old)))
         (D.counts folder.old).created (D.counts folder.new).created result) }
+    ensures requested { IfSome (F.bytes file.old) (λ bytes. AsksFor
+        (new_files (split_view plan.now.words.now) plan.now.header.now bytes (parts_of lanes.old))
+        (D.requested folder.old) (D.requested folder.new) result) }
+    // Of any file, also of one whose bytes change between the passes.
+    ensures leaves { LeavesFiles plan.now.words.now.base.now lanes.new
+        (folder_seen D.Folder folder.old) (folder_seen D.Folder folder.new) result }
     ensures counts { KeepsCounts (D.counts folder.old) (D.counts folder.new) }
     ensures unfinished { LeavesUnfinished (D.counts folder.old).unfinished (D.counts folder.new).unfinished result }
     // Each sub-buffer is read at most three times: to measure the pieces, to pack the one that ends in it, and to pack the

@@ -1,7 +1,11 @@
-// Folders in which a call fails: the files before it stand, and an older one of the next name stands as it was.
+// Folders in which a call fails, and files that give other bytes when their pieces are packed: the files before stand, and an
+// older one of the next name stands as it was.
 
-use super::splits::{put_end, put_file, split_into, words_of};
+use super::splits::{put_end, put_file, split_into, split_under, words_of};
 use super::traces::file_of;
+use super::watched::{Then, WatchedFile};
+use dat_header::read_header;
+use split_tool::End;
 use std::alloc::Global;
 use std::test::Fail;
 use trace_args::{Command, read_words};
@@ -10,6 +14,14 @@ use trace_samples::Page;
 use trace_samples::Page::Of;
 
 const FIVE: &[&[Page]] = &[&[Of(&[10_000, 20_000, 30_000, 40_000, 50_000])]];
+
+/// Two events a piece: to measure the first one its first two sub-buffers are read, and to pack it both again; for the second one the
+/// third, and then the second and the third again; for the third one the third again, since the lane is at its end by then.
+const SIX: &[&[Page]] = &[&[
+    Of(&[10_000, 20_000]),
+    Of(&[30_000]),
+    Of(&[40_000, 50_000, 60_000]),
+]];
 
 // What stands under the name of the second file before.
 const OLDER: &[u8] = b"an older file";
@@ -23,26 +35,54 @@ fn put_name(alloc: Global, text: &mut String, folder: &MemFolder, name: &str) ->
     Ok(())
 }
 
-// The files that stand after a split into three, how it ends, and how many were created. Each write takes so many bytes.
-fn text_of(alloc: Global, most: u32, fault: MemFault) -> Result<String, Fail> {
+// The files that stand after a split into three, how it ends, and how many were created.
+fn text_left(alloc: Global, folder: &MemFolder, end: End) -> Result<String, Fail> {
     let mut text = String::new(alloc);
+    for name in ["part.1", "part.2", "part.3"] {
+        put_name(alloc, &mut text, folder, name)?;
+    }
+    put_end(&mut text, end)?;
+    let created = folder.counts().created;
+    write!(text, " {created}")?;
+    Ok(text)
+}
+
+// After a split in a folder where this fails. Each write takes so many bytes.
+fn text_of(alloc: Global, most: u32, fault: MemFault) -> Result<String, Fail> {
     let mut folder = MemFolder::new(alloc);
     folder.put("part.2", OLDER)?;
     folder.short(most);
     folder.fail(fault);
     let words = words_of(alloc, "-e 2 -r")?;
     let Ok(Command::Split(words)) = read_words(alloc, &words) else {
-        return Ok(text);
+        return Ok(String::new(alloc));
     };
     let bytes = file_of(alloc, FIVE)?;
     let end = split_into(alloc, &words, bytes, &mut folder)?;
-    for name in ["part.1", "part.2", "part.3"] {
-        put_name(alloc, &mut text, &folder, name)?;
-    }
-    put_end(&mut text, end)?;
-    let created = folder.counts().created;
-    write!(text, " {created}")?;
-    Ok(text)
+    text_left(alloc, &folder, end)
+}
+
+// After a split of a file of which so many sub-buffers are read before it changes.
+fn text_of_changed(alloc: Global, good: u64, then: Then) -> Result<String, Fail> {
+    let mut folder = MemFolder::new(alloc);
+    folder.put("part.2", OLDER)?;
+    let words = words_of(alloc, "-e 2 -r")?;
+    let Ok(Command::Split(words)) = read_words(alloc, &words) else {
+        return Ok(String::new(alloc));
+    };
+    let mut file = WatchedFile {
+        bytes: file_of(alloc, SIX)?,
+        good: u64::MAX,
+        then,
+        faults: 0,
+        reads: 0,
+    };
+    let Ok(header) = read_header(alloc, &mut file) else {
+        return Ok(String::new(alloc));
+    };
+    file.good = good;
+    let end = split_under(alloc, &words, &header, &mut file, &mut folder)?;
+    text_left(alloc, &folder, end)
 }
 
 fn leaves(alloc: Global, most: u32, fault: MemFault, told: &str) -> Result<bool, Fail> {
@@ -59,10 +99,24 @@ const FAULTS: &[(MemFault, &str)] = &[
     (MemFault::Finish(3), "10 20 |/30 40 |/-/write 3"),
 ];
 
+/// How many sub-buffers are read before the file changes, and what comes then.
+const CHANGES: &[(u64, Then, &str)] = &[
+    (2, Then::Zeros, "-/older/-/malformed 0 1 1"),
+    (2, Then::Fails, "-/older/-/read 1"),
+    (5, Then::Zeros, "10 20 |/older/-/malformed 0 2 2"),
+    (5, Then::Fails, "10 20 |/older/-/read 2"),
+    (7, Then::Zeros, "10 20 |/30 40 |/-/malformed 0 2 3"),
+    (8, Then::Zeros, "10 20 |/30 40 |/50 60 |/done 3"),
+];
+
 #[test]
 fn an_older_file_stands_after_a_fault(rt: HostRuntime) -> Result<(), Fail> {
     for (fault, told) in FAULTS {
         assert!(rt; leaves(rt.alloc(), u32::MAX, *fault, told)?, "{told}");
+    }
+    for (good, then, told) in CHANGES {
+        let text = text_of_changed(rt.alloc(), *good, *then)?;
+        assert!(rt; text.as_str() == *told, "{good}: {text}");
     }
     Ok(())
 }

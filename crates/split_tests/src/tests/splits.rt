@@ -7,14 +7,14 @@ ghost use Rattle.split_pieces.specs.Pieces.{IsUnit};
 
 use super::items::put_sub_buffers;
 use super::lanes::set_lanes;
-use dat_header::{Body, read_header};
+use dat_header::{Body, Header, read_header};
 use page_pool::Pool;
 use split_tool::{End, SplitPlan, SplitWork, split};
 use std::alloc::{AllocError, Global};
 use std::test::Fail;
 use trace_args::SplitWords;
 use trace_base::{ByteText, Layout, Part, Words};
-use trace_outside::{Folder, MemFile};
+use trace_outside::{File, Folder, MemFile};
 use word_values::PieceUnit;
 
 // The items of a part, and `|`.
@@ -75,10 +75,10 @@ fn is_allowed(words: &SplitWords<'_>) -> bool
 }
 
 // Splits the parts of processors that are numbered from a first one on.
-fn split_parts<D: Folder>(
+fn split_parts<F: File, D: Folder>(
     alloc: Global,
     plan: &SplitPlan<'_>,
-    file: &mut MemFile,
+    file: &mut F,
     first: u32,
     parts: &[Part],
     folder: &mut D,
@@ -97,7 +97,28 @@ fn split_parts<D: Folder>(
     Ok(split(plan, file, lanes, &mut work, folder))
 }
 
-// Splits a file into a folder.
+// Splits a file with this header into a folder.
+pub(super) fn split_under<F: File, D: Folder>(
+    alloc: Global,
+    words: &SplitWords<'_>,
+    header: &Header,
+    file: &mut F,
+    folder: &mut D,
+) -> Result<End, Fail>
+    requires { IsHeader header.now }
+{
+    let Body::Fly(parts) = &header.body else {
+        return Ok(End::Read);
+    };
+    if !is_allowed(words) {
+        return Ok(End::Read);
+    }
+    let plan = SplitPlan { words, header };
+    let (first, parts) = selected(words.cpu, parts.as_slice());
+    split_parts(alloc, &plan, file, first, parts, folder)
+}
+
+// Splits a file of these bytes into a folder.
 pub(super) fn split_into<D: Folder>(
     alloc: Global,
     words: &SplitWords<'_>,
@@ -108,18 +129,7 @@ pub(super) fn split_into<D: Folder>(
     let Ok(header) = read_header(alloc, &mut file) else {
         return Ok(End::Read);
     };
-    let Body::Fly(parts) = &header.body else {
-        return Ok(End::Read);
-    };
-    if !is_allowed(words) {
-        return Ok(End::Read);
-    }
-    let plan = SplitPlan {
-        words,
-        header: &header,
-    };
-    let (first, parts) = selected(words.cpu, parts.as_slice());
-    split_parts(alloc, &plan, &mut file, first, parts, folder)
+    split_under(alloc, words, &header, &mut file, folder)
 }
 
 // How a split ended, in a word of the rows.

@@ -1,6 +1,7 @@
-use Rattle.std.proofs.Common.{refl, arith, ◌∙◌, ◌≡◌, ◌<◌}
+use Rattle.std.proofs.Common.{refl, arith, ◌∙◌, ◌≡◌, ◌<◌, []}
 use Rattle.std.proofs.lemmas.Result.{err_from_is_err_and}
 use Rattle.trace_outside.specs.Causes.{Rose}
+use Rattle.trace_outside.proofs.Gains.{gained_nothing}
 use Rattle.page_pool.proofs.Keeping.{lane_kept}
 use Rattle.event_cursor.proofs.Told.{told_all, told_map, told_again}
 use Rattle.split_passes.proofs.PackingLaws.{causes_later, causes_of_reach}
@@ -118,3 +119,6 @@ returns-in_err-pack_items-clause-reads g c =
     no_way_back c.args.layout.now (g.F.File.size c.args.file.now) c.args.lane.now c.args.front.now c.args.count _ _ c.requires.in_order (omega (arith, c.requires.allowed.page_least))
     c.if-count-eq0.false c.if-front-back.false c.seek_to.ensures.reads c.seek_to.ensures.held _
     (from_there c.args.layout.now (g.F.File.size c.args.file.now) (g.F.File.size c.seek_to.new.file) c.args.lane.now.part c.args.front.now.page c.seek_to.new.lane _ _ _ c.seek_to.ensures.keeps.size c.seek_to.ensures.part.part at c.pack_items.ensures.goes.reads)
+
+pub returns-then-count-eq0-clause-gains : goal.returns-then-count-eq0-clause-gains
+returns-then-count-eq0-clause-gains g c = ([], gained_nothing (g.O.Sink.written c.args.out.now))

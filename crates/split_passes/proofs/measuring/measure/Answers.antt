@@ -28,6 +28,7 @@ loop-i-init g c = record {
   reads = omega arith;
   unread = omega arith;
   keeps = file_still _ _;
+  faults = refl;
 }
 
 pub loop-i-preserved : goal.loop-i-preserved
@@ -60,6 +61,7 @@ loop-i-preserved g c =
       reads = reads.0;
       unread = reads.1;
       keeps = file_kept c.loop-i.invariant.keeps c.next_lane_by.ensures.loads.keeps;
+      faults = c.in_ok-i.ensures.cause.kept ∙ c.loop-i.invariant.faults;
     }
 
 pub returns-in-Past-clause-measured : goal.returns-in-Past-clause-measured

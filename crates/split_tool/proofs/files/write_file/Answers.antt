@@ -8,6 +8,7 @@ use Rattle.event_cursor.proofs.Told.{told_map}
 use Rattle.split_passes.specs.AllAgain.{AreFronts}
 use Rattle.split_passes.specs.Reads.{all_packing}
 use Rattle.split_passes.specs.declared.tally.Tally.{Tally}
+use Rattle.split_passes.proofs.AllPacked.{gains_more}
 use Rattle.split_file.specs.NewFile.{front_text}
 use Rattle.split_tool.proofs.Preparing.{written_all}
 use Rattle.split_tool.proofs.Spending.{same_to_read}
@@ -39,3 +40,8 @@ returns-clause-reads g c =
 
 pub returns-clause-left : goal.returns-clause-left
 returns-clause-left g c = λ done. same_to_read c.args.plan.now.header.now.layout (g.F.File.size c.args.file.now) c.args.lanes.now c.pack_all.new.lanes (c.pack_all.ensures.numbers done)
+
+pub returns-clause-gains : goal.returns-clause-gains
+returns-clause-gains g c = λ done.
+    gains_more (g.O.Sink.written c.args.out.now) (g.O.Sink.written c.write_front.new.out) (g.O.Sink.written c.pack_all.new.out)
+    (front_text c.args.plan.now.header.now c.as_slice.result.now, c.in-Ok.ensures.gained) (c.pack_all.ensures.gains done)

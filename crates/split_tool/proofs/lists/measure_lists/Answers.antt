@@ -36,6 +36,7 @@ loop-i-init g c = record {
   reads = omega arith;
   unread = omega arith;
   keeps = file_still _ _;
+  faults = refl;
 }
 
 pub measure_list-requires-in-loop-i-clause-slots : goal.measure_list-requires-in-loop-i-clause-slots
@@ -69,6 +70,7 @@ loop-i-preserved g c =
       reads = on_reads c.loop-i.i c.loop-i.lanes c.measure_list-in-loop-i.new.lanes lt one c.args.layout.now (g.F.File.size c.args.file.now) (g.F.File.size c.loop-i.file) _ _ _ _ c.loop-i.invariant.keeps.size c.loop-i.invariant.reads c.loop-i.invariant.unread c.measure_list-in-loop-i.ensures.through.unread c.in_ok-ends.ensures.reads_done;
       unread = on_unread c.loop-i.i c.loop-i.lanes c.measure_list-in-loop-i.new.lanes lt one c.args.layout.now (g.F.File.size c.args.file.now) (g.F.File.size c.loop-i.file) _ _ 0 _ c.loop-i.invariant.keeps.size c.loop-i.invariant.reads c.loop-i.invariant.unread c.measure_list-in-loop-i.ensures.through.unread;
       keeps = file_kept c.loop-i.invariant.keeps c.measure_list-in-loop-i.ensures.through.keeps;
+      faults = c.in_ok-ends.ensures.cause.kept ∙ c.loop-i.invariant.faults;
     }
 
 pub returns-clause-told : goal.returns-clause-told

@@ -2,10 +2,12 @@ use Rattle.std.proofs.Common.{◌≡◌, ◌-◌, ◌^◌, ◌≤◌}
 use Rattle.std.specs.Option.{IfSome}
 use Rattle.trace_outside.specs.Causes.{raised}
 use Rattle.trace_outside.specs.Keeping.{KeepsFile}
+use Rattle.trace_outside.specs.Seen.{folder_seen}
 use Rattle.trace_args.specs.Command.{split_view}
 use Rattle.time_merge.specs.LaneRows.{parts_of}
 use Rattle.split_pieces.specs.Cuts.{bad_reached}
 use Rattle.split_tool.specs.NewFiles.{new_files}
+use Rattle.split_tool.specs.Numbered.{Numbered}
 use Rattle.split_tool.specs.Reads.{Spent, to_read}
 use Rattle.split_tool.specs.Rules.{rules_of}
 use Rattle.new_files.specs.Stored.{KeepsCounts}
@@ -23,6 +25,7 @@ invariant-loop-number g l = record {
   keeps : KeepsFile g.F.File l.fn.file l.file;
   counts : KeepsCounts (g.D.Folder.counts l.fn.folder) (g.D.Folder.counts l.folder);
   unfinished : (g.D.Folder.counts l.folder).unfinished ≡ (g.D.Folder.counts l.fn.folder).unfinished;
+  numbered : Numbered l.plan.words.now.base.now (l.number - 1) 0 (folder_seen g.D.Folder l.fn.folder) (folder_seen g.D.Folder l.folder);
   created : (g.D.Folder.counts l.folder).created ≡ raised (g.D.Folder.counts l.fn.folder).created (l.number - 1);
   least : 1 ≤ l.number;
 }

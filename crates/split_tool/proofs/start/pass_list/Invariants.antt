@@ -25,6 +25,7 @@ invariant-loop-i g l = record {
       (all_unread l.layout (g.F.File.size l.fn.file) l.fn.lanes - all_unread l.layout (g.F.File.size l.fn.file) l.lanes);
   unread : all_unread l.layout (g.F.File.size l.fn.file) l.lanes ≤ all_unread l.layout (g.F.File.size l.fn.file) l.fn.lanes;
   keeps : KeepsFile g.F.File l.fn.file l.file;
+  faults : g.F.File.faults l.file ≡ g.F.File.faults l.fn.file;
 }
 
 abbrev pub decreases-loop-i : goal.decreases-loop-i

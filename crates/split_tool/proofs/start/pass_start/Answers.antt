@@ -33,6 +33,7 @@ loop-i-preserved g c =
       reads = on_reads c.loop-i.i c.loop-i.lanes c.pass_list-in-loop-i.new.lanes lt one c.args.layout.now (g.F.File.size c.args.file.now) (g.F.File.size c.loop-i.file) _ _ _ _ c.loop-i.invariant.keeps.size c.loop-i.invariant.reads c.loop-i.invariant.unread c.pass_list-in-loop-i.ensures.through.unread (c.in_ok-pass_list.ensures.reads_done);
       unread = on_unread c.loop-i.i c.loop-i.lanes c.pass_list-in-loop-i.new.lanes lt one c.args.layout.now (g.F.File.size c.args.file.now) (g.F.File.size c.loop-i.file) _ _ 0 _ c.loop-i.invariant.keeps.size c.loop-i.invariant.reads c.loop-i.invariant.unread c.pass_list-in-loop-i.ensures.through.unread;
       keeps = file_kept c.loop-i.invariant.keeps c.pass_list-in-loop-i.ensures.through.keeps;
+      faults = c.in_ok-pass_list.ensures.cause.kept ∙ c.loop-i.invariant.faults;
     }
 
 pub returns-clause-told : goal.returns-clause-told

@@ -1,0 +1,196 @@
+-- Files in the order of their numbers, of an input whose bytes may change.
+use Rattle.std.proofs.Common.{◌≡◌, ◌≤◌, ℕ, ◌+◌, List, [], ◌∷◌, ◌++◌, inl, inr, length, map, take, Option, Some, None, Err, refl, sym, ap, subst, ◌∙◌, append_assoc, append-nil, arith}
+use Rattle.std.specs.List.{range_with_len}
+use Rattle.std.specs.Option.{IfSome, IsSomeAnd}
+use Rattle.std.specs.FinMap.{insert}
+use Rattle.std.proofs.lemmas.List.{length-append}
+use Rattle.std.proofs.lemmas.List.FromFn.{map-range_with_len_more, take-map-range_with_len}
+use Rattle.trace_base.specs.declared.part.Part.{Part}
+use Rattle.trace_outside.specs.Folders.{IsEmptySink, Stores}
+use Rattle.trace_outside.specs.Names.{NamedFiles}
+use Rattle.trace_outside.specs.Seen.{FolderSeen}
+use Rattle.dat_header.specs.declared.header.Header.{Header}
+use Rattle.subpage.specs.ItemData.{ItemData}
+use Rattle.subpage.specs.Arrangement.{Keyed}
+use Rattle.page_pool.specs.declared.lane.Lane.{Lane}
+use Rattle.time_merge.specs.declared.ending.End.{End}
+use Rattle.time_merge.specs.declared.ending.End.TheVariants as code
+use Rattle.new_files.specs.Requested.{AskedAll, AskedFirst, names_of}
+use Rattle.new_files.specs.Stored.{FilesStored, IsUnmade, NewFile, Stored}
+use Rattle.split_file.specs.Names.{file_name}
+use Rattle.split_passes.specs.AllAgain.{TellsHeld}
+use Rattle.split_passes.specs.Outputs.{LanesOutput}
+use Rattle.split_passes.specs.Packs.{GainsSome}
+use Rattle.split_tool.specs.Made.{AsksForIt, FilePlan, IsFinished, IsMade, IsWritten, LeavesFile}
+use Rattle.split_tool.specs.NewFiles.{AsksFor, end_by, files_from}
+use Rattle.split_tool.specs.Numbered.{LeavesFiles, Numbered, first_names, numbered}
+use Rattle.split_tool.proofs.Making.{stored_is}
+use Rattle.split_tool.proofs.Storing.{stored_push, unmade_since}
+
+-- ONE FILE
+
+pub finished_is : (old old1 new : Option NamedFiles) (w0 w : Option (List ℕ)) (name name1 : List ℕ) → old1 ≡ old → name1 ≡ name → IsEmptySink old w0 → GainsSome w0 w → Stores old1 new name1 w → IsFinished name old new
+finished_is old old1 new w0 w name name1 e n empty gains stores = (gains.0, stored_is old1 old new w0 w name name1 gains.0 e n empty gains.1 stores)
+
+pub cut_off : (name : List ℕ) (lanes : List Lane) (before now : FolderSeen) (end : End) → (end ≡ code.Done → ⊥) → TellsHeld lanes end → now.files ≡ before.files → LeavesFile name lanes before now (Err end)
+cut_off name lanes before now code.Done some held same = absurd (some refl)
+cut_off name lanes before now (code.Malformed cpu page) some held same = (same, held)
+cut_off name lanes before now code.Read some held same = same
+cut_off name lanes before now code.Write some held same = inl same
+
+pub asks_for_it : (name : List ℕ) (before now : List (List ℕ)) (end : End) → AskedAll (name ∷ []) before now → AsksForIt name before now (Err end)
+asks_for_it name before now code.Done asked = asked
+asks_for_it name before now (code.Malformed cpu page) asked = asked
+asks_for_it name before now code.Read asked = inr asked
+asks_for_it name before now code.Write asked = asked
+
+pub asked_by : (name own : List ℕ) (old mid new : List (List ℕ)) → own ≡ name → mid ≡ old ++ own ∷ [] → new ≡ mid → AskedAll (name ∷ []) old new
+asked_by name own old mid new named one same = same ∙ one ∙ ap (λ (n : List ℕ). old ++ n ∷ []) named
+
+-- over a file with these bytes
+pub stopped_by : (plan : FilePlan) (header : Header) (file : List ℕ) (table : List Part) (lists : List (List ItemData)) (before after : LanesOutput) (first now : List Lane) (old new : Option NamedFiles) (end : End) → (end ≡ code.Done → ⊥)
+    → IsWritten header file table lists before after end → IsMade plan file first now old new (Err end)
+stopped_by plan header file table lists before after first now old new code.Done some written = absurd (some refl)
+stopped_by plan header file table lists before after first now old new (code.Malformed cpu page) some written = written
+stopped_by plan header file table lists before after first now old new code.Read some written = tt
+stopped_by plan header file table lists before after first now old new code.Write some written = tt
+
+-- NAMES BY THEIR NUMBERS
+
+next_name : (base : List ℕ) (n : ℕ) → first_names base (n + 1) ≡ first_names base n ++ file_name base (n + 1) ∷ []
+next_name base n = map-range_with_len_more (file_name base) 1 n (n + 1) (omega arith)
+
+names_from : (header : Header) (base : List ℕ) (n : ℕ) (items : List (List Keyed)) → names_of (files_from header base n items) ≡ map (file_name base) (range_with_len n (length (files_from header base n items)))
+names_from header base n [] = refl
+names_from header base n (xs ∷ more) = ap (λ (names : List (List ℕ)). file_name base n ∷ names) (names_from header base (n + 1) more)
+
+pub names_new : (header : Header) (base : List ℕ) (items : List (List Keyed)) → names_of (files_from header base 1 items) ≡ first_names base (length (files_from header base 1 items))
+names_new header base items = names_from header base 1 items
+
+-- one name more was asked for
+asked_more : (base : List ℕ) (count all number most : ℕ) (before mid now : List (List ℕ)) → all ≡ count → count + 1 ≡ number → most ≡ number → mid ≡ before ++ first_names base all → AskedAll (file_name base number ∷ []) mid now
+    → now ≡ before ++ first_names base most
+asked_more base count all number most before mid now none next is so_far one =
+    let names : first_names base all ++ file_name base number ∷ [] ≡ first_names base most =
+    ap (λ (n : ℕ). first_names base n ++ file_name base number ∷ []) none ∙ ap (λ (n : ℕ). first_names base count ++ file_name base n ∷ []) (sym next)
+    ∙ sym (next_name base count) ∙ ap (first_names base) (next ∙ sym is) in
+    one ∙ ap (λ (names : List (List ℕ)). names ++ file_name base number ∷ []) so_far ∙ append_assoc before (first_names base all) (file_name base number ∷ [])
+    ∙ ap (λ (names : List (List ℕ)). before ++ names) names
+
+-- FILE AFTER FILE
+
+abbrev file_at : List ℕ → ℕ → List ℕ → NewFile
+file_at base n content = record { name = file_name base n; content = content }
+
+numbered_push : (base : List ℕ) (n m : ℕ) (contents : List (List ℕ)) (content : List ℕ) → n + length contents ≡ m → numbered base n (contents ++ content ∷ []) ≡ numbered base n contents ++ file_at base m content ∷ []
+numbered_push base n m [] content is = ap (λ (k : ℕ). file_at base k content ∷ []) (omega (arith, is))
+numbered_push base n m (first ∷ contents) content is = ap (λ (files : List NewFile). file_at base n first ∷ files) (numbered_push base (n + 1) m contents content (omega (arith, is)))
+
+stored_more : (base : List ℕ) (number : ℕ) (contents : List (List ℕ)) (content : List ℕ) (old mid new : Option NamedFiles) → number ≡ 1 + length contents → FilesStored (numbered base 1 contents) old mid
+    → IfSome mid (λ files. new ≡ Some (insert files (file_name base number) content)) → FilesStored (numbered base 1 (contents ++ content ∷ [])) old new
+stored_more base number contents content None mid new is stored one = tt
+stored_more base number contents content (Some files) None new is stored one = absurd stored
+stored_more base number contents content (Some files) (Some middle) new is stored one =
+    let file = file_at base number content in
+    subst (λ (o : Option NamedFiles). IsSomeAnd o (λ after. Stored (numbered base 1 (contents ++ content ∷ [])) files after)) (sym one)
+    (subst (λ (news : List NewFile). Stored news files (insert middle file.name file.content)) (sym (numbered_push base 1 number contents content (sym is))) (stored_push (numbered base 1 contents) file files middle stored))
+
+stored_still : (news : List NewFile) (old mid new : Option NamedFiles) → new ≡ mid → FilesStored news old mid → FilesStored news old new
+stored_still news old mid new same stored = subst (FilesStored news old) (sym same) stored
+
+none_stored : (old : Option NamedFiles) → FilesStored [] old old
+none_stored None = tt
+none_stored (Some files) = refl
+
+pub numbered_none : (base : List ℕ) (none : ℕ) (seen : FolderSeen) → none ≡ 0 → Numbered base none 0 seen seen
+numbered_none base none seen is =
+    let all : 0 ≡ none + 0 = omega (arith, is) in
+    record {
+      contents = [];
+      long = sym is;
+      stored = none_stored seen.files;
+      requested = sym (append-nil seen.requested) ∙ ap (λ (n : ℕ). seen.requested ++ first_names base n) all;
+    }
+
+pub numbered_more : (base : List ℕ) (count number after : ℕ) (before mid now : FolderSeen) → count + 1 ≡ number → after ≡ number → IsFinished (file_name base number) mid.files now.files
+    → AskedAll (file_name base number ∷ []) mid.requested now.requested → Numbered base count 0 before mid → Numbered base after 0 before now
+numbered_more base count number after before mid now next is finished asked so_far = record {
+  contents = so_far.contents ++ finished.0 ∷ [];
+  long = omega (arith, length-append so_far.contents (finished.0 ∷ []), so_far.long, next, is);
+  stored = stored_more base number so_far.contents finished.0 before.files mid.files now.files (omega (arith, so_far.long, next)) so_far.stored finished.1;
+  requested = asked_more base count (count + 0) number (after + 0) before.requested mid.requested now.requested (omega arith) next (omega (arith, is)) so_far.requested asked;
+}
+
+-- THE END OF A SPLIT
+
+pub finished_all : (base : List ℕ) (lanes : List Lane) (count : ℕ) (before now : FolderSeen) (bad : Option (ℕ × ℕ)) (result : End) → result ≡ end_by bad → Numbered base count 0 before now → LeavesFiles base lanes before now result
+finished_all base lanes count before now None result is all = subst (LeavesFiles base lanes before now) (sym is) (count, all)
+finished_all base lanes count before now (Some bad) result is all = subst (LeavesFiles base lanes before now) (sym is) (inl (count, all))
+
+pub stops_there : (base : List ℕ) (lanes : List Lane) (count number : ℕ) (before mid now : FolderSeen) (end : End) → count + 1 ≡ number → before.counts.unfinished ≤ mid.counts.unfinished → Numbered base count 0 before mid
+    → LeavesFile (file_name base number) lanes mid now (Err end) → AsksForIt (file_name base number) mid.requested now.requested (Err end) → LeavesFiles base lanes before now end
+stops_there base lanes count number before mid now end next since so_far leaves asks = by_end end leaves asks
+  where
+    begun : (seen : FolderSeen) → seen.files ≡ mid.files → AskedAll (file_name base number ∷ []) mid.requested seen.requested → Numbered base count 1 before seen
+    begun seen same asked = record {
+      contents = so_far.contents;
+      long = so_far.long;
+      stored = stored_still (numbered base 1 so_far.contents) before.files mid.files seen.files same so_far.stored;
+      requested = asked_more base count (count + 0) number (count + 1) before.requested mid.requested seen.requested (omega arith) next next so_far.requested asked;
+    }
+
+    still : now.files ≡ mid.files → now.requested ≡ mid.requested → Numbered base count 0 before now
+    still same asked = record {
+      contents = so_far.contents;
+      long = so_far.long;
+      stored = stored_still (numbered base 1 so_far.contents) before.files mid.files now.files same so_far.stored;
+      requested = asked ∙ so_far.requested;
+    }
+
+    by_end : (e : End) → LeavesFile (file_name base number) lanes mid now (Err e) → AsksForIt (file_name base number) mid.requested now.requested (Err e) → LeavesFiles base lanes before now e
+    by_end code.Done leaves asks = absurd leaves
+    by_end (code.Malformed cpu page) leaves asks = inr ((count, begun now leaves.0 asks), leaves.1)
+    by_end code.Read leaves (inl none) = inl (count, still leaves none)
+    by_end code.Read leaves (inr asked) = inr (count, begun now leaves asked)
+    by_end code.Write leaves asks = record {
+      count = count;
+      files = mid.files;
+      others = begun (record now { files = mid.files }) refl asks;
+      last = unmade_since before.counts.unfinished mid.counts.unfinished now.counts.unfinished (file_name base (count + 1)) mid.files now.files since
+          (subst (λ (n : ℕ). IsUnmade mid.counts.unfinished now.counts.unfinished (file_name base n) mid.files now.files) (sym next) leaves);
+    }
+
+-- WHAT WAS ASKED FOR, OF AN INPUT WHOSE BYTES ARE KNOWN
+
+pub asked_none : (names before : List (List ℕ)) → AskedFirst names before before
+asked_none names before = (0, sym (append-nil before))
+
+pub asked_few : (base : List ℕ) (news : List NewFile) (count : ℕ) (before now : List (List ℕ)) → names_of news ≡ first_names base (length news) → count ≤ length news → now ≡ before ++ first_names base count → AskedFirst (names_of news) before now
+asked_few base news count before now names few asked =
+    (count, asked ∙ ap (λ (ns : List (List ℕ)). before ++ ns) (sym (ap (take count) names ∙ take-map-range_with_len (file_name base) 1 (length news) count few)))
+
+pub asked_all : (base : List ℕ) (news : List NewFile) (count : ℕ) (before now : List (List ℕ)) (bad : Option (ℕ × ℕ)) (result : End) → result ≡ end_by bad → names_of news ≡ first_names base (length news) → length news ≡ count
+    → now ≡ before ++ first_names base count → AsksFor news before now result
+asked_all base news count before now bad result is names long asked = by_bad bad is
+  where
+    all : AskedAll (names_of news) before now
+    all = asked ∙ ap (λ (n : ℕ). before ++ first_names base n) (sym long) ∙ ap (λ (ns : List (List ℕ)). before ++ ns) (sym names)
+
+    by_bad : (o : Option (ℕ × ℕ)) → result ≡ end_by o → AsksFor news before now result
+    by_bad None is = subst (AsksFor news before now) (sym is) all
+    by_bad (Some place) is = subst (AsksFor news before now) (sym is) all
+
+pub asked_stops : (plan : FilePlan) (file : List ℕ) (first last : List Lane) (old new : Option NamedFiles) (base : List ℕ) (news : List NewFile) (count number : ℕ) (before mid now : List (List ℕ)) (end : End)
+    → IsMade plan file first last old new (Err end) → names_of news ≡ first_names base (length news) → count + 1 ≡ number → number ≤ length news → mid ≡ before ++ first_names base (count + 0)
+    → AsksForIt (file_name base number) mid now (Err end) → AsksFor news before now end
+asked_stops plan file first last old new base news count number before mid now end made names next few so_far asks = by_end end made asks
+  where
+    begun : AskedAll (file_name base number ∷ []) mid now → AskedFirst (names_of news) before now
+    begun asked = asked_few base news number before now names few (asked_more base count (count + 0) number number before mid now (omega arith) next refl so_far asked)
+
+    by_end : (e : End) → IsMade plan file first last old new (Err e) → AsksForIt (file_name base number) mid now (Err e) → AsksFor news before now e
+    by_end code.Done made asks = absurd made
+    by_end (code.Malformed cpu page) made asks = absurd made
+    by_end code.Read made (inl none) = asked_few base news (count + 0) before now names (omega (arith, next, few)) (none ∙ so_far)
+    by_end code.Read made (inr asked) = begun asked
+    by_end code.Write made asks = begun asks
