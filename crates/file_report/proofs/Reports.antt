@@ -12,7 +12,7 @@ use Rattle.trace_args.specs.Command.{ReportData}
 use Rattle.word_values.specs.declared.listing.Listing.{Listing}
 use Rattle.run_endings.specs.declared.status.Status.{Status}
 use Rattle.run_endings.specs.declared.status.Status.TheVariants.{NoMemory, ReadFault}
-use Rattle.run_endings.specs.Ending.{Prints}
+use Rattle.run_endings.specs.Ending.{IfNoMemory, Prints}
 use Rattle.report_context.specs.Context.{context_of}
 use Rattle.file_report.specs.Due.{ReadsDue, parts_share, report_share}
 use Rattle.run_endings.specs.Progress.{parts_size}
@@ -21,7 +21,7 @@ use Rattle.run_endings.specs.Outside.{SinkSeen}
 use Rattle.file_report.specs.Report.{events_on, listed_events, listed_calls}
 use Rattle.file_report.specs.Reported.{AtWork, Reported, Task, body_task, chosen_task, file_task, parts_task, progress_of}
 use Rattle.run_endings.specs.Selection.{chosen, set_or_all}
-use Rattle.run_endings.proofs.Endings.{if_known, prints_always, unprinted}
+use Rattle.run_endings.proofs.Endings.{if_known, if_no_memory, prints_always, unprinted}
 
 -- there was no memory, and nothing was done
 pub not_begun : (task : Task) (told : Option (List ℕ)) (seen : AtWork) → Reported task told NoMemory seen seen
@@ -30,6 +30,7 @@ not_begun task told seen = record {
   reads = omega arith;
   due = if_known _ told (λ bytes. if_known _ (task.events bytes) (λ events. ([], (gained_nothing seen.out.written, omega arith))));
   gathers = λ calls unread. refl;
+  kept = refl;
 }
 
 module _ (words : ReportData) (header : Header) (told : Option (List ℕ)) (status : Status) where
@@ -46,7 +47,7 @@ module _ (words : ReportData) (header : Header) (told : Option (List ℕ)) (stat
       → Reported (body_task words header header.body size) told status before now → Reported (file_task words header size) told status before now
   events_reported size before now none did =
       subst (λ (list : Option Listing). Reported (by_list list size) told status before now) (sym none)
-      (record { prints = did.prints; reads = did.reads; due = did.due; gathers = did.gathers })
+      (record { prints = did.prints; reads = did.reads; due = did.due; gathers = did.gathers; kept = did.kept })
 
   pub list_reported : (list : Listing) (size faults reads : ℕ) (before now : SinkSeen) → words.list ≡ Some list
       → Prints ⊥ (Some (list_report header list)) status before now
@@ -58,14 +59,16 @@ module _ (words : ReportData) (header : Header) (told : Option (List ℕ)) (stat
         reads = omega arith;
         due = if_known _ told (λ bytes. tt);
         gathers = λ calls unread. absurd cc;
+        kept = if_no_memory (faults ≡ faults) status refl;
       })
 
   pub latency_reported : (size : ℕ) (before now : AtWork) → header.body ≡ Latency
       → Prints (Rose before.faults now.faults) (option_map (latency_report header.cpus header.end) told) status before.out now.out
-      → now.reads ≤ raised before.reads (size - header.end) → Reported (body_task words header header.body size) told status before now
-  latency_reported size before now is prints reads =
+      → now.reads ≤ raised before.reads (size - header.end) → IfNoMemory status (now.faults ≡ before.faults)
+      → Reported (body_task words header header.body size) told status before now
+  latency_reported size before now is prints reads kept =
       subst (λ (body : Body). Reported (body_task words header body size) told status before now) (sym is)
-      (record { prints = prints; reads = reads; due = if_known _ told (λ bytes. tt); gathers = λ calls unread. absurd cc })
+      (record { prints = prints; reads = reads; due = if_known _ told (λ bytes. tt); gathers = λ calls unread. absurd cc; kept = kept })
 
   pub fly_reported : (size : ℕ) (slice own : List Part) (before now : AtWork) → header.body ≡ Fly own → slice ≡ own
       → Reported (chosen_task words header slice) told status before now → Reported (body_task words header header.body size) told status before now
@@ -73,7 +76,7 @@ module _ (words : ReportData) (header : Header) (told : Option (List ℕ)) (stat
       let there : Reported (chosen_task words header own) told status before now =
       subst (λ (parts : List Part). Reported (chosen_task words header parts) told status before now) same did in
       subst (λ (body : Body). Reported (body_task words header body size) told status before now) (sym is)
-      (record { prints = there.prints; reads = there.reads; due = there.due; gathers = there.gathers })
+      (record { prints = there.prints; reads = there.reads; due = there.due; gathers = there.gathers; kept = there.kept })
 
   -- what is shown is what the words choose
   pub chosen_reported : (parts : List Part) (given : ContextData) (shown : List (ℕ × Part)) (before now : AtWork) → given ≡ context_of words header → shown ≡ chosen (set_or_all words.cpus) parts
@@ -91,11 +94,11 @@ module _ (given : ContextData) (shown : List (ℕ × Part)) (header : Header) (t
   pub calls_reported : (calls wakeups : Bool) (status : Status) → calls ≡ true
       → Prints (Rose before.faults now.faults) (option_map (λ bytes. calls_report (events_on given shown header bytes)) told) status before.out now.out
       → now.reads ≤ raised before.reads (parts_size shown)
-      → (status ≡ ReadFault → now.out ≡ before.out)
+      → (status ≡ ReadFault → now.out ≡ before.out) → IfNoMemory status (now.faults ≡ before.faults)
       → Reported (parts_task calls wakeups given shown header) told status before now
-  calls_reported calls wakeups status is prints reads kept =
+  calls_reported calls wakeups status is prints reads gathers kept =
       subst (λ (asked : Bool). Reported (parts_task asked wakeups given shown header) told status before now) (sym is)
-      (record { prints = prints; reads = calls_share wakeups reads; due = if_known _ told (λ bytes. tt); gathers = λ calls. kept })
+      (record { prints = prints; reads = calls_share wakeups reads; due = if_known _ told (λ bytes. tt); gathers = λ calls. gathers; kept = kept })
 
   -- of lines, with or without the latencies behind them
   by_words : (calls wakeups asked : Bool) (status : Status) → calls ≡ false → wakeups ≡ asked → Reported (parts_task false asked given shown header) told status before now
@@ -106,15 +109,16 @@ module _ (given : ContextData) (shown : List (ℕ × Part)) (header : Header) (t
 
   pub waits_reported : (calls wakeups : Bool) (status : Status) → calls ≡ false → wakeups ≡ true
       → Prints (Rose before.faults now.faults) (option_map (λ bytes. shown_report true (events_on given shown header bytes)) told) status before.out now.out
-      → now.reads ≤ raised before.reads (2 * parts_size shown)
+      → now.reads ≤ raised before.reads (2 * parts_size shown) → IfNoMemory status (now.faults ≡ before.faults)
       → Reported (parts_task calls wakeups given shown header) told status before now
-  waits_reported calls wakeups status is behind prints reads =
-      by_words calls wakeups true status is behind (record { prints = prints; reads = reads; due = if_known _ told (λ bytes. tt); gathers = λ calls unread. absurd cc })
+  waits_reported calls wakeups status is behind prints reads kept =
+      by_words calls wakeups true status is behind (record { prints = prints; reads = reads; due = if_known _ told (λ bytes. tt); gathers = λ calls unread. absurd cc; kept = kept })
 
   pub lines_reported : (calls wakeups : Bool) (status : Status) → calls ≡ false → wakeups ≡ false
       → Prints (Rose before.faults now.faults) (option_map (λ bytes. events_report (events_on given shown header bytes)) told) status before.out now.out
       → now.reads ≤ raised before.reads (parts_size shown)
       → IfSome told (λ bytes. ReadsDue (events_on given shown header bytes) 0 (progress_of before) (progress_of now))
+      → IfNoMemory status (now.faults ≡ before.faults)
       → Reported (parts_task calls wakeups given shown header) told status before now
-  lines_reported calls wakeups status is behind prints reads due =
-      by_words calls wakeups false status is behind (record { prints = prints; reads = reads; due = due; gathers = λ calls unread. absurd cc })
+  lines_reported calls wakeups status is behind prints reads due kept =
+      by_words calls wakeups false status is behind (record { prints = prints; reads = reads; due = due; gathers = λ calls unread. absurd cc; kept = kept })

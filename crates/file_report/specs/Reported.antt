@@ -18,7 +18,7 @@ use Rattle.file_report.specs.declared.report.Shown.{Shown}
 use Rattle.run_endings.specs.declared.status.Status.{Status}
 use Rattle.run_words.specs.Allowed.{IsWorkers}
 use Rattle.report_context.specs.Context.{context_of}
-use Rattle.run_endings.specs.Ending.{Prints}
+use Rattle.run_endings.specs.Ending.{IfNoMemory, Prints}
 use Rattle.run_endings.specs.Progress.{Progress, progress_at}
 use Rattle.file_report.specs.Due.{ReadsDue, body_share, parts_share, report_share}
 use Rattle.run_endings.specs.Meaning.{Meaning}
@@ -102,9 +102,11 @@ at_work i o file out = record { faults = i.faults file; reads = i.reads file; ou
 abbrev pub progress_of : AtWork → Progress
 progress_of seen = progress_at seen.out.written seen.reads
 
--- a report with this task, of a file that tells these bytes, ended like a run, and read no more than it needs
+-- a report with this task, of a file that tells these bytes, ended like a run, and read no more than it needs; where it found no
+-- memory, none of its reads had failed
 pub record Reported (task : Task) (told : Option (List ℕ)) (status : Status) (before now : AtWork) : Type 0 where
   pub prints : Prints (Rose before.faults now.faults) (option_map task.means told) status before.out now.out
   pub reads : now.reads ≤ raised before.reads task.share
   pub due : IfSome told (λ bytes. IfSome (task.events bytes) (λ events. ReadsDue events 0 (progress_of before) (progress_of now)))
   pub gathers : GathersFirst task.calls status before.out now.out
+  pub kept : IfNoMemory status (now.faults ≡ before.faults)

@@ -9,7 +9,8 @@ ghost use Rattle.subpage.specs.Arrangement.{CpusRise};
 ghost use Rattle.subpage.specs.Cut.{cut_of};
 ghost use Rattle.multi_report.specs.Pieces.{text_of};
 ghost use Rattle.graph_report.specs.Gathered.{cut_place, reached_calls};
-ghost use Rattle.run_endings.specs.Ending.{Prints};
+ghost use Rattle.item_pass.specs.Faults.{KeptUnlessRead};
+ghost use Rattle.run_endings.specs.Ending.{IfNoMemory, Prints};
 ghost use Rattle.run_endings.specs.Progress.{parts_size};
 ghost use Rattle.file_report.specs.Meaning.{calls_report};
 ghost use Rattle.run_endings.specs.Outside.{sink_seen};
@@ -44,6 +45,7 @@ pub(crate) fn print_calls<I: File, O: Sink>(
         (option_map (λ bytes. calls_report (events_shown plan.now shown.now bytes)) (I.bytes file.old)) result
         (sink_seen O.Sink out.old) (sink_seen O.Sink out.new) }
     ensures gathers { result ≡ Status.ReadFault → sink_seen O.Sink out.new ≡ sink_seen O.Sink out.old }
+    ensures kept { IfNoMemory result (I.faults file.new ≡ I.faults file.old) }
     ensures reads { I.reads file.new ≤ raised (I.reads file.old) (parts_size shown.now.parts.now) }
 {
     let header = plan.header;
@@ -76,6 +78,7 @@ fn gathered<I: File>(
     ensures list { IfSome (I.bytes file.old) (λ bytes. IfOk result (λ calls. calls.list.items ≡ reached_calls context.now layout.now bytes chosen.now)) }
     ensures cut { IfSome (I.bytes file.old) (λ bytes. IfOk result (λ calls. calls.cut ≡ cut_place (cut_of layout.now bytes chosen.now))) }
     ensures read { result ≡ Err PassFault.Read → Rose (I.faults file.old) (I.faults file.new) }
+    ensures kept { KeptUnlessRead (I.faults file.old) (I.faults file.new) result }
     ensures reads { I.reads file.new ≤ raised (I.reads file.old) (parts_size chosen.now) }
 {
     // No lines are kept.

@@ -4,7 +4,7 @@ ghost use Rattle.std.specs.Option.{option_map};
 ghost use Rattle.std.specs.Prelude.{◌≡◌, ◌≤◌, ◌*◌, [], length, true, IfNone, IfSome, OnOk};
 ghost use Rattle.trace_outside.specs.Causes.{Rose, raised};
 ghost use Rattle.wakeup_lat.specs.Section.{section};
-ghost use Rattle.run_endings.specs.Ending.{Prints};
+ghost use Rattle.run_endings.specs.Ending.{IfNoMemory, Prints};
 ghost use Rattle.run_endings.specs.Ends.{status_of_end};
 ghost use Rattle.file_report.specs.Due.{ReadsDue};
 ghost use Rattle.run_endings.specs.Progress.{parts_size, progress_at};
@@ -43,6 +43,7 @@ pub(crate) fn print_lines<R: Threads + Sync, I: File, O: Sink, G: Gate>(
     ensures shows { IfSome result (λ end. Shows (Rose (I.faults file.old) (I.faults file.new)) (status_of_end end)
         (sink_seen O.Sink out.old) (sink_seen O.Sink out.new)) }
     ensures untouched { IfNone result (sink_seen O.Sink out.new ≡ sink_seen O.Sink out.old) }
+    ensures kept { IfNone result (I.faults file.new ≡ I.faults file.old) }
     ensures out_later { O.faults out.old ≤ O.faults out.new }
     ensures reads { I.reads file.new ≤ raised (I.reads file.old) (parts_size shown.now.parts.now) }
     ensures due { IfSome (I.bytes file.old) (λ bytes. ReadsDue (events_shown plan.now shown.now bytes) 0
@@ -83,6 +84,9 @@ pub(crate) fn print_lines<R: Threads + Sync, I: File, O: Sink, G: Gate>(
 
 /// Prints the same, and behind it how long woken tasks waited. This is gathered before, in a pass of its own over the file,
 /// and all memory is taken before the first line.
+///
+/// The pass that gathers is not lent the output, so a read that fails in it leaves the output as it was. The lines are printed in
+/// a second pass: a read that fails there ends the output behind the lines that were printed by then.
 pub(crate) fn print_waits<R: Threads + Sync, I: File, O: Sink, G: Gate>(
     resources: &Resources<'_, R, G>,
     plan: &ReportPlan<'_, '_>,
@@ -94,6 +98,7 @@ pub(crate) fn print_waits<R: Threads + Sync, I: File, O: Sink, G: Gate>(
     ensures prints { Prints (Rose (I.faults file.old) (I.faults file.new))
         (option_map (λ bytes. shown_report true (events_shown plan.now shown.now bytes)) (I.bytes file.old)) result
         (sink_seen O.Sink out.old) (sink_seen O.Sink out.new) }
+    ensures kept { IfNoMemory result (I.faults file.new ≡ I.faults file.old) }
     ensures reads { I.reads file.new ≤ raised (I.reads file.old) (2 * parts_size shown.now.parts.now) }
 {
     let alloc = resources.alloc;

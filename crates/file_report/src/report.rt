@@ -3,7 +3,7 @@ ghost use Rattle.std.specs.Prelude.{◌≡◌, ◌≤◌, ◌-◌, length, IfOk}
 ghost use Rattle.trace_outside.specs.Causes.{Rose, raised};
 ghost use Rattle.dat_header.specs.Allowed.{IsBody};
 ghost use Rattle.trace_args.specs.Command.{report_view};
-ghost use Rattle.run_endings.specs.Ending.{Prints};
+ghost use Rattle.run_endings.specs.Ending.{IfNoMemory, Prints};
 ghost use Rattle.file_report.specs.Meaning.{latency_report};
 ghost use Rattle.run_endings.specs.Outside.{sink_seen};
 ghost use Rattle.file_report.specs.Reported.{IsAsked, IsShown, Reported, at_work, chosen_task, file_task, shown_task};
@@ -125,6 +125,7 @@ fn print_latency<I: File, O: Sink>(
     ensures prints { Prints (Rose (I.faults file.old) (I.faults file.new))
         (option_map (latency_report cpus end) (I.bytes file.old)) result
         (sink_seen O.Sink out.old) (sink_seen O.Sink out.new) }
+    ensures kept { IfNoMemory result (I.faults file.new ≡ I.faults file.old) }
     ensures reads { I.reads file.new ≤ raised (I.reads file.old) (I.size file.old - end) }
 {
     let (Ok(mut buffer), Ok(mut pending)) = (copy_buffer(alloc), Pending::new(alloc)) else {

@@ -2,24 +2,30 @@
 use Rattle.std.proofs.Common.{◌≡◌, ◌≢◌, ◌≤◌, ◌+◌, ◌∙◌, ℕ, List, [], ◌∷◌, length, Option, None, Some, IfSome, inl, inr, refl, sym, subst, arith}
 use Rattle.std.specs.Option.{IsSomeAnd, option_map}
 use Rattle.trace_outside.specs.Causes.{Rose, raised}
+use Rattle.trace_outside.specs.Memory.{KeepsFaults}
 use Rattle.trace_outside.specs.Names.{NamedFiles, SameBut}
 use Rattle.trace_outside.proofs.Gains.{gained_nothing}
+use Rattle.new_files.specs.Requested.{AskedFirst}
 use Rattle.new_files.specs.Stored.{FilesStored, FirstFilesStored, IsUnmade, NewFile}
 use Rattle.dat_options.specs.declared.fault.OpenFault.{OpenFault}
 use Rattle.restore_tool.specs.declared.named.Answer.{Answer}
 use Rattle.restore_tool.specs.declared.named.Answer.TheVariants as code
-use Rattle.restore_tool.specs.Answers.{Causes, ClosesAll, Created, KeepsFiles}
+use Rattle.restore_tool.specs.Answers as tool
+use Rattle.restore_tool.specs.Answers.{Causes, ClosesAll, Created, IfMade, KeepsFiles}
+use Rattle.restore_tool.specs.Asked.{AsksFor}
 use Rattle.restore_tool.specs.Meaning.{IsDone, IsToMake, Task, files_in, missing, refused, made, task_of}
 use Rattle.trace_args.specs.Command.{RestoreData}
 use Rattle.run_endings.specs.declared.status.Status.{Status}
 use Rattle.run_endings.specs.declared.status.Status.TheVariants.{Done, Refused, ReadFault, WriteFault, NoMemory}
-use Rattle.run_endings.specs.Ending.{Ended, Ends, Finished, IsCaused, LeavesAll}
+use Rattle.run_endings.specs.Ending.{CountsNoFault, Ended, Ends, Finished, IfNoMemory, IsCaused, LeavesAll}
 use Rattle.run_endings.specs.Meaning.{Meaning, on_folder, only}
-use Rattle.restore_run.specs.Restore.{names_of, restore_meaning, task_means, status_of_restore}
+use Rattle.restore_run.specs.Restore.{RestoreReads, names_of, restore_asks, restore_meaning, task_means, status_of_restore}
 use Rattle.run_endings.specs.Outside.{FolderSeen, SinkSeen, beside}
+use Rattle.run_endings.specs.Progress.{BehindHeader}
 use Rattle.run_endings.specs.Ran.{MissesNothingElse}
 use Rattle.restore_run.specs.Ran.{RestoreRan}
 use Rattle.run_endings.proofs.Endings.{ended_complete, not_usage, stored_none}
+use Rattle.run_endings.proofs.Requesting.{asked_few}
 
 module _ (output : List ℕ) (named : NamedFiles) (before now : FolderSeen) (out : SinkSeen) (is : before.files ≡ Some named) where
   -- the new file stands
@@ -109,6 +115,22 @@ task_misses missing before now some other = absurd (other refl)
 task_misses (refused fault) before now some other = some (λ is. cc)
 task_misses (made file) before now some other = some (λ is. cc)
 
+-- the first few of the names were asked for, or all
+asked_by : (answer : Answer) (names before now : List (List ℕ)) → AsksFor names before now answer → AskedFirst names before now
+asked_by code.Done names before now asked = asked_few names before now asked
+asked_by (code.Refused fault) names before now asked = asked
+asked_by (code.Read source) names before now asked = asked
+asked_by code.Write names before now asked = asked_few names before now asked
+asked_by code.NoMemory names before now asked = asked
+
+-- what holds where the new file was finished, or could not be made
+made_behind : (claim : Type 0) (answer : Answer) → IfMade answer claim → BehindHeader (status_of_restore answer) claim
+made_behind claim code.Done holds = holds
+made_behind claim (code.Refused fault) holds = tt
+made_behind claim (code.Read source) holds = tt
+made_behind claim code.Write holds = holds
+made_behind claim code.NoMemory holds = tt
+
 -- what a restoring by names promises is what a run of it promises
 pub restored_ran : (words : RestoreData) (answer : Answer) (status : Status) (out : SinkSeen) (before now : FolderSeen) → status ≡ status_of_restore answer
     → IfSome before.files (λ named. IsDone (task_of named (names_of words)) words.output before.counts now.counts named now.files answer)
@@ -116,9 +138,12 @@ pub restored_ran : (words : RestoreData) (answer : Answer) (status : Status) (ou
     → KeepsFiles answer before.files now.files
     → Created answer before.counts.created now.counts.created
     → IfSome before.files (λ named. task_of named (names_of words) ≢ missing → now.counts.misses ≡ before.counts.misses)
+    → AsksFor (restore_asks words) before.requested now.requested answer
+    → tool.IfNoMemory answer (KeepsFaults before.counts now.counts)
+    → IfMade answer (IfSome before.files (λ named. RestoreReads words named before.counts.bytes now.counts.bytes))
     → ClosesAll (length words.files + 1) before.counts now.counts
     → RestoreRan words status (beside before out) (beside now out)
-restored_ran words answer status out before now told done causes kept created misses counts =
+restored_ran words answer status out before now told done causes kept created misses asks memory reads counts =
     subst (λ (s : Status). RestoreRan words s (beside before out) (beside now out)) (sym told) (record {
       ran = record {
         ended = ended;
@@ -127,6 +152,8 @@ restored_ran words answer status out before now told done causes kept created mi
         closes = λ opened closed. omega (arith, counts.opened, counts.closed);
         opens = omega (arith, counts.opened, counts.few);
       };
+      requested = asked_by answer (restore_asks words) before.requested now.requested asks;
+      reads = made_behind _ answer reads;
       usage = (not_usage on_folder unread (status_of_restore answer) (beside before out) (beside now out) (λ unasked. unasked) ended.causes, refl, as_before answer kept);
     })
   where
@@ -156,8 +183,15 @@ restored_ran words answer status out before now told done causes kept created mi
     caused code.Write cause = cause
     caused code.NoMemory cause = tt
 
+    faultless : (a : Answer) → tool.IfNoMemory a (KeepsFaults before.counts now.counts) → IfNoMemory (status_of_restore a) (CountsNoFault (beside before out) (beside now out))
+    faultless code.Done same = tt
+    faultless (code.Refused fault) same = tt
+    faultless (code.Read source) same = tt
+    faultless code.Write same = tt
+    faultless code.NoMemory same = record { folder = same; out = refl }
+
     ended : Ended on_folder (Rose before.counts.reading now.counts.reading) (option_map (restore_meaning words) before.files) (status_of_restore answer) (beside before out) (beside now out)
-    ended = record { ends = ends before.files refl done; untouched = leaves answer kept created; causes = caused answer causes }
+    ended = record { ends = ends before.files refl done; untouched = leaves answer kept created; causes = caused answer causes; kept = faultless answer memory }
 
     missed : (known : Option NamedFiles) → IfSome known (λ named. task_of named (names_of words) ≢ missing → now.counts.misses ≡ before.counts.misses)
         → IfSome (option_map (restore_meaning words) known) (λ m. MissesNothingElse m before.counts now.counts)

@@ -3,6 +3,7 @@ use Rattle.std.proofs.Common.{◌≡◌, ◌≢◌, ◌≤◌, inl, inr, arith, 
 use Rattle.std.specs.Option.{IsSomeAnd, option_map}
 use Rattle.trace_outside.specs.Causes.{Rose, raised}
 use Rattle.trace_outside.specs.declared.counts.Counts.{Counts}
+use Rattle.trace_outside.specs.Memory.{KeepsFaults}
 use Rattle.trace_outside.specs.Names.{NamedFiles}
 use Rattle.trace_outside.proofs.Gains.{gained_nothing}
 use Rattle.trace_outside.specs.Writing.{Gained, GainedPrefix}
@@ -15,7 +16,7 @@ use Rattle.dat_header.specs.declared.header.Header.{Header}
 use Rattle.dat_header.specs.Header.{IsRefusal}
 use Rattle.run_endings.specs.declared.status.Status.{Status}
 use Rattle.run_endings.specs.declared.status.Status.TheVariants.{Done, Usage, Refused, Malformed, ReadFault, WriteFault, NoMemory}
-use Rattle.run_endings.specs.Ending.{Ended, Ends, Finished, IsCaused, IsComplete, IsUnasked, LeavesAll, Prints, Untouched, Unwritten, KeepsOut}
+use Rattle.run_endings.specs.Ending.{CountsNoFault, Ended, Ends, Finished, IfNoMemory, IsCaused, IsComplete, IsUnasked, LeavesAll, Prints, Untouched, Unwritten, KeepsOut}
 use Rattle.run_endings.specs.Meaning.{Meaning, Target, on_nothing, on_out, on_folder, only}
 use Rattle.run_endings.specs.Outside.{Outside, SinkSeen, beside}
 use Rattle.run_endings.specs.Ran.{JobRan, MissesNothingElse}
@@ -65,11 +66,45 @@ keeps_out on_nothing out = tt
 keeps_out on_out out = tt
 keeps_out on_folder out = refl
 
+-- a fault is counted nowhere
+pub faultless : (seen : Outside) → CountsNoFault seen seen
+faultless seen = record { folder = record { reading = refl; writing = refl }; out = refl }
+
+-- what holds of any answer holds where there was no memory
+pub if_no_memory : (claim : Type 0) (status : Status) → claim → IfNoMemory status claim
+if_no_memory claim NoMemory holds = holds
+if_no_memory claim Done holds = tt
+if_no_memory claim Usage holds = tt
+if_no_memory claim (Refused fault) holds = tt
+if_no_memory claim (Malformed cpu page) holds = tt
+if_no_memory claim ReadFault holds = tt
+if_no_memory claim WriteFault holds = tt
+
+-- what follows from a claim for where there was none, and from two
+pub no_memory_map : {one two : Type 0} → (status : Status) → (one → two) → IfNoMemory status one → IfNoMemory status two
+no_memory_map NoMemory follows claim = follows claim
+no_memory_map Done follows claim = tt
+no_memory_map Usage follows claim = tt
+no_memory_map (Refused fault) follows claim = tt
+no_memory_map (Malformed cpu page) follows claim = tt
+no_memory_map ReadFault follows claim = tt
+no_memory_map WriteFault follows claim = tt
+
+pub both_no_memory : {one two three : Type 0} → (status : Status) → (one → two → three) → IfNoMemory status one → IfNoMemory status two → IfNoMemory status three
+both_no_memory NoMemory follows a b = follows a b
+both_no_memory Done follows a b = tt
+both_no_memory Usage follows a b = tt
+both_no_memory (Refused fault) follows a b = tt
+both_no_memory (Malformed cpu page) follows a b = tt
+both_no_memory ReadFault follows a b = tt
+both_no_memory WriteFault follows a b = tt
+
 pub unheld : (target : Target) (unread : Type 0) (means : Option Meaning) (seen : Outside) → Ended target unread means NoMemory seen seen
 unheld target unread means seen = record {
   ends = if_known (λ m. Ends m NoMemory seen seen) means (λ m. untouched seen);
   untouched = untouched seen;
   causes = tt;
+  kept = faultless seen;
 }
 
 pub unprinted : (unread : Type 0) (means : Option Meaning) (out : SinkSeen) → Prints unread means NoMemory out out
@@ -91,6 +126,7 @@ because target unread other means status before now so ended = record {
   ends = ended.ends;
   untouched = ended.untouched;
   causes = caused_by target unread other status before now so ended.causes;
+  kept = ended.kept;
 }
 
 -- of what means the same whatever the file's bytes are
@@ -100,6 +136,7 @@ means_always target unread m told status before now ended = record {
   ends = by_told told;
   untouched = ended.untouched;
   causes = ended.causes;
+  kept = ended.kept;
 }
   where
     by_told : (known : Option (List ℕ)) → IfSome (option_map (λ bytes. m) known) (λ means. Ends means status before now)
@@ -149,6 +186,11 @@ pub record Around (before opened worked now : Outside) : Type 0 where
   pub unfinished_then : now.folder.counts.unfinished ≡ worked.folder.counts.unfinished
   pub writing_first : before.folder.counts.writing ≤ opened.folder.counts.writing
   pub writing_then : worked.folder.counts.writing ≤ now.folder.counts.writing
+
+-- opening the file and closing it moved no count of faults
+pub record CleanAround (before opened worked now : Outside) : Type 0 where
+  pub first : KeepsFaults before.folder.counts opened.folder.counts
+  pub last : KeepsFaults worked.folder.counts now.folder.counts
 
 module _ (before opened worked now : Outside) (around : Around before opened worked now) where
   unwritten_around : (target : Target) → Unwritten target opened worked → Unwritten target before now
@@ -232,13 +274,23 @@ module _ (before opened worked now : Outside) (around : Around before opened wor
   caused_around target unread other WriteFault so caused = unwritten_around target caused
   caused_around target unread other NoMemory so caused = tt
 
+  faultless_around : CleanAround before opened worked now → CountsNoFault opened worked → CountsNoFault before now
+  faultless_around well was = record {
+    folder = record {
+      reading = well.last.reading ∙ was.folder.reading ∙ well.first.reading;
+      writing = well.last.writing ∙ was.folder.writing ∙ well.first.writing;
+    };
+    out = around.out_then ∙ was.out ∙ around.out_first;
+  }
+
   pub ended_around : (target : Target) (unread other : Type 0) (means : Option Meaning) (status : Status) → (unread → other)
-      → Ended target unread means status opened worked → Ended target other means status before now
-  ended_around target unread other means status so ended = record {
+      → IfNoMemory status (CleanAround before opened worked now) → Ended target unread means status opened worked → Ended target other means status before now
+  ended_around target unread other means status so well ended = record {
     ends = known_so (λ m. Ends m status opened worked) (λ m. Ends m status before now) means
         (λ m ends. ends_around m status ends) ended.ends;
     untouched = leaves_around status ended.untouched;
     causes = caused_around target unread other status so ended.causes;
+    kept = both_no_memory status faultless_around well ended.kept;
   }
 
 -- what ends in one of the four ways is complete

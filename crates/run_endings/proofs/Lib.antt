@@ -4,3 +4,5 @@ pub mod Chosen
 pub mod Endings
 pub mod Reading
 pub mod Names
+pub mod Faultless
+pub mod Requesting

@@ -12,7 +12,7 @@ use Rattle.time_merge.specs.declared.ending.End.{End}
 use Rattle.time_merge.specs.declared.ending.End.TheVariants as end
 use Rattle.run_endings.specs.declared.status.Status.{Status}
 use Rattle.run_endings.specs.declared.status.Status.TheVariants.{Done, Usage, Refused, Malformed, ReadFault, WriteFault, NoMemory}
-use Rattle.run_endings.specs.Ending.{Ends, IsCaused, LeavesAll, Prints}
+use Rattle.run_endings.specs.Ending.{CountsNoFault, Ends, IfNoMemory, IsCaused, LeavesAll, Prints}
 use Rattle.run_endings.specs.Meaning.{Meaning, on_out, prints}
 use Rattle.run_endings.specs.Outside.{FolderSeen, Outside, SinkSeen, beside}
 use Rattle.run_endings.specs.Output.{Shows, Writes, WritesFor}
@@ -72,6 +72,15 @@ module _ (unread : Type 0) (folder : FolderSeen) (before now : SinkSeen) where
   caused (Refused fault) shows = absurd shows
   caused NoMemory shows = absurd shows
 
+  kept : (status : Status) → Shows unread status before now → IfNoMemory status (CountsNoFault was is)
+  kept Done shows = tt
+  kept (Malformed cpu page) shows = tt
+  kept ReadFault shows = tt
+  kept WriteFault shows = tt
+  kept Usage shows = absurd shows
+  kept (Refused fault) shows = absurd shows
+  kept NoMemory shows = absurd shows
+
   told_ends : (means : List ℕ → Meaning) (told : Option (List ℕ)) (status : Status) → ((bytes : List ℕ) → (means bytes).files ≡ [])
       → WritesFor means told status before.written now.written → Shows unread status before now
       → IfSome (option_map means told) (λ m. Ends m status was is)
@@ -85,6 +94,7 @@ printed_of unread means told status before now none writes shows = λ folder. re
   ends = told_ends unread folder before now means told status none writes shows;
   untouched = leaves unread folder before now status shows;
   causes = caused unread folder before now status shows;
+  kept = kept unread folder before now status shows;
 }
 
 -- a pass in front of all output ended early
@@ -104,6 +114,7 @@ printed unread m status before now none writes shows = λ folder. record {
   ends = ends unread folder before now m status none writes shows;
   untouched = leaves unread folder before now status shows;
   causes = caused unread folder before now status shows;
+  kept = kept unread folder before now status shows;
 }
 
 -- by what is meant, where that is known
@@ -114,6 +125,7 @@ printed_known unread means status before now writes shows = λ folder. record {
       (λ m written. ends unread folder before now m status written.0 written.1 shows) writes;
   untouched = leaves unread folder before now status shows;
   causes = caused unread folder before now status shows;
+  kept = kept unread folder before now status shows;
 }
 
 one_piece : (piece : List ℕ) → text_of (piece ∷ []) ≡ piece

@@ -2,6 +2,7 @@
 -- read failed, a write failed. There is no other.
 use Rattle.std.specs.Prelude.{Option, ◌≡◌, ◌⊎◌, ℕ, ◌≤◌, length, take, IfSome}
 use Rattle.trace_outside.specs.Causes.{Rose, raised}
+use Rattle.trace_outside.specs.Memory.{KeepsFaults}
 use Rattle.trace_outside.specs.Writing.{Gained, GainedPrefix}
 use Rattle.dat_header.specs.Header.{IsRefusal}
 use Rattle.new_files.specs.Stored.{FilesStored, FirstFilesStored}
@@ -81,12 +82,23 @@ abbrev pub KeepsOut : Target → SinkSeen → SinkSeen → Type 0
 KeepsOut on_folder before now = now ≡ before
 KeepsOut target before now = Unit {0}
 
+-- this holds where there was no memory
+abbrev pub IfNoMemory : Status → Type 0 → Type 0
+IfNoMemory NoMemory claim = claim
+IfNoMemory status claim = Unit {0}
+
+-- no call of the outside failed that the folder or the output counts, and nothing was written to the output
+pub record CountsNoFault (before now : Outside) : Type 0 where
+  pub folder : KeepsFaults before.folder.counts now.folder.counts
+  pub out : now.out ≡ before.out
+
 -- How a run, or a part of it, ended that means this, where its meaning is known, and writes to this. A read of it failed
--- only with this reason.
+-- only with this reason, and a fault that was counted is never told as want of memory.
 pub record Ended (target : Target) (unread : Type 0) (means : Option Meaning) (status : Status) (before now : Outside) : Type 0 where
   pub ends : IfSome means (λ m. Ends m status before now)
   pub untouched : LeavesAll status before now
   pub causes : IsCaused target unread status before now
+  pub kept : IfNoMemory status (CountsNoFault before now)
 
 -- a command that only prints, beside any folder
 abbrev pub Prints : Type 0 → Option Meaning → Status → SinkSeen → SinkSeen → Type 0

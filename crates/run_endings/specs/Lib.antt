@@ -3,6 +3,7 @@ pub mod Ends
 pub mod Meaning
 pub mod Outside
 pub mod Ending
+pub mod Requested
 pub mod Output
 pub mod Progress
 pub mod Ran

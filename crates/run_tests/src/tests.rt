@@ -1,6 +1,7 @@
 // Whole runs over objects in memory: the words, the file's sub-buffers, and what must come of them.
 
 mod calls;
+mod changes;
 mod differences;
 mod faults;
 mod filters;
@@ -46,6 +47,8 @@ enum Input {
     Bytes(&'static [u8]),
     /// The sub-buffers of each processor, in a file that carries this.
     Processors(Carried, &'static [&'static [Page]]),
+    /// So many processors with an event each, at the times 10, 20 and so on.
+    Rising(u32),
     /// One processor whose part begins at this place and should have so many bytes.
     PartAt(u64, u64),
     /// The file of `ONE` taken apart: so many bytes of its header under the name p.dat, its sub-buffer under c0, and 100 zero
@@ -597,6 +600,18 @@ fn with_one(alloc: Global, page_text: &[u8], bytes: &[u8]) -> Result<Vec<u8>, Al
     trace.bytes(alloc)
 }
 
+fn with_rising(alloc: Global, count: u32) -> Result<Vec<u8>, AllocError> {
+    const RECORDS: &[Record] = &[Record::Event(0, 58, 1, 0, 0)];
+    let mut trace = TraceFile::new(alloc);
+    for place in 0..count {
+        let mut bytes = Vec::new(alloc);
+        put_data(alloc, &mut bytes, (u64::from(place) + 1) * 10, 0, RECORDS)?;
+        bytes.resize(PAGE, 0)?;
+        trace.add_processor(&bytes)?;
+    }
+    trace.bytes(alloc)
+}
+
 // The header of one processor with this header_page text, whose table has this part, up to the length of a sub-buffer.
 fn with_part(
     alloc: Global,
@@ -647,6 +662,7 @@ fn put_input(alloc: Global, folder: &mut MemFolder, file: &Input) -> Result<(), 
         Input::Missing => Ok(()),
         Input::Bytes(bytes) => folder.put("trace.dat", bytes),
         Input::Processors(carried, processors) => put_trace(alloc, folder, carried, processors),
+        Input::Rising(count) => folder.put("trace.dat", &with_rising(alloc, *count)?),
         Input::PartAt(offset, size) => {
             folder.put("trace.dat", &with_part(alloc, b"", *offset, *size)?)
         }

@@ -1,6 +1,7 @@
 -- All that is said of a run that is a report of several files.
 use Rattle.std.proofs.Common.{inl, inr, ◌≡◌, ◌≤◌, ◌+◌, length, ℕ, List, Option, Some, None, Result, Ok, Err, IfSome, refl, ◌∙◌, arith}
 use Rattle.std.specs.Prelude.{sum_by, ◌⊎◌, IfOk}
+use Rattle.std.specs.List.{All}
 use Rattle.std.specs.Option.{option_map}
 use Rattle.trace_outside.specs.Causes.{Rose, raised}
 use Rattle.trace_outside.specs.Names.{NamedFiles}
@@ -19,7 +20,8 @@ use Rattle.run_endings.specs.Ran.{MissesNothingElse}
 use Rattle.run_endings.specs.Ran.{JobRan}
 use Rattle.several_report.specs.Ran.{FilesRan}
 use Rattle.several_report.specs.Sources.{FilesReported}
-use Rattle.run_endings.proofs.Endings.{Around, ended_around, ended_complete, not_usage, unbegun}
+use Rattle.run_endings.proofs.Endings.{Around, CleanAround, ended_around, ended_complete, no_memory_map, not_usage, unbegun}
+use Rattle.run_endings.proofs.Requesting.{asked_none, asked_still}
 use Rattle.run_endings.proofs.Reading.{both_behind}
 
 no_file : FileSeen
@@ -39,8 +41,8 @@ module _ (words : ReportData) (held : List FileSeen) (status : Status) (name : L
 
   -- a report came to its end, and the files that were open still were closed
   pub shown_ran : FilesReported words held status name (beside before out) (beside mid out_now) → ClosesMany held mid.counts now.counts → now.files ≡ mid.files
-      → FilesRan words status (beside before out) (beside now out_now)
-  shown_ran shown closed files =
+      → now.requested ≡ mid.requested → FilesRan words status (beside before out) (beside now out_now)
+  shown_ran shown closed files requested =
       let around : Around (beside before out) (beside before out) (beside mid out_now) (beside now out_now) = record {
         files_first = refl;
         files_then = files;
@@ -51,10 +53,10 @@ module _ (words : ReportData) (held : List FileSeen) (status : Status) (name : L
         unfinished_first = refl;
         unfinished_then = closed.unfinished;
         writing_first = omega arith;
-        writing_then = closed.writing;
+        writing_then = omega (arith, closed.writing);
       } in
       let ended = ended_around (beside before out) (beside before out) (beside mid out_now) (beside now out_now) around on_out
-      (Rose before.counts.reading mid.counts.reading ⊎ SomeFaulty held) (Rose before.counts.reading now.counts.reading) (option_map (files_meaning words) before.files) status why shown.ended in
+      (Rose before.counts.reading mid.counts.reading ⊎ SomeFaulty held) (Rose before.counts.reading now.counts.reading) (option_map (files_meaning words) before.files) status why (no_memory_map status clean shown.faultless) shown.ended in
       record {
         ran = record {
           ended = ended;
@@ -63,10 +65,14 @@ module _ (words : ReportData) (held : List FileSeen) (status : Status) (name : L
           closes = λ opened_few closed_few. omega (arith, shown.counts.opened, shown.counts.closed, closed.opened, closed.closed);
           opens = omega (arith, shown.counts.opened, shown.counts.few, closed.opened);
         };
+        requested = asked_still (names_in words) before.requested mid.requested now.requested requested shown.requested;
         usage = (not_usage on_out (Rose before.counts.reading now.counts.reading) status (beside before out) (beside now out_now) (λ unasked. unasked) ended.causes, files ∙ shown.files);
         reads = both_behind status (read_all before.files closed.bytes) shown.bytes shown.reads;
       }
     where
+      clean : All (λ file. file.faults ≡ 0) held → CleanAround (beside before out) (beside before out) (beside mid out_now) (beside now out_now)
+      clean faultless = record { first = record { reading = refl; writing = refl }; last = record { reading = closed.clean faultless; writing = closed.writing } }
+
       why : (Rose before.counts.reading mid.counts.reading ⊎ SomeFaulty held) → Rose before.counts.reading now.counts.reading
       why (inl rose) = omega (arith, rose, closed.reading)
       why (inr faulty) =
@@ -81,4 +87,4 @@ module _ (words : ReportData) (held : List FileSeen) (status : Status) (name : L
 -- there was no memory to begin
 pub files_unbegun : (words : ReportData) (before : Outside) → FilesRan words NoMemory before before
 files_unbegun words before =
-    record { ran = unbegun on_out _ (option_map (files_meaning words) before.folder.files) (length words.more + 1) before; usage = ((λ is. cc), refl); reads = tt }
+    record { ran = unbegun on_out _ (option_map (files_meaning words) before.folder.files) (length words.more + 1) before; requested = asked_none (names_in words) before.folder.requested; usage = ((λ is. cc), refl); reads = tt }

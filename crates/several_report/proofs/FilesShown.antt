@@ -22,7 +22,7 @@ use Rattle.restore_tool.specs.Answers.{SomeFaulty}
 use Rattle.dat_header.specs.Seen.{FileSeen}
 use Rattle.trace_args.specs.Command.{ReportData}
 use Rattle.run_endings.specs.declared.status.Status.TheVariants.{Malformed, NoMemory}
-use Rattle.run_endings.specs.Ending.{Ends}
+use Rattle.run_endings.specs.Ending.{Ends, IfNoMemory}
 use Rattle.several_report.specs.Inputs.{input_share, NamedInput, WrongInput, inputs_in, names_in}
 use Rattle.run_endings.specs.Meaning.{Meaning, on_out}
 use Rattle.several_report.specs.Meaning.{ended_in, files_meaning, files_report, inputs_mean}
@@ -34,6 +34,7 @@ use Rattle.several_report.specs.Sources.{AreInputs, AreOpened, FilesReported, fi
 use Rattle.report_context.specs.declared.lines.ItemLines.{ItemLines}
 use Rattle.report_context.proofs.LineLength.{line_short}
 use Rattle.run_endings.proofs.Endings.{Around, ended_around, known_so, if_known}
+use Rattle.run_endings.proofs.Requesting.{asked_few}
 use Rattle.several_report.proofs.InputNames.{named_any}
 use Rattle.run_endings.proofs.Printed.{printed_known}
 use Rattle.run_endings.proofs.Reading.{any_answer}
@@ -95,6 +96,13 @@ faulty_at xs i lt each =
 
 -- THE END
 
+-- a report that began did not end for want of memory
+begun : (claim : Type 0) (answer : FilesEnd) → IfNoMemory (status_of_files answer) claim
+begun claim end.Done = tt
+begun claim (end.Malformed source cpu page) = tt
+begun claim (end.Read source) = tt
+begun claim end.Write = tt
+
 module _ (words : ReportData) (old new : List Seen) (before now : FolderSeen) (out out_now : SinkSeen) (answer : FilesEnd) (name : List ℕ) (opened : AreOpened words (names_in words) old before now) where
   abbrev all_shown : List several.ShownFile
   all_shown = map shown_of old
@@ -135,7 +143,7 @@ module _ (words : ReportData) (old new : List Seen) (before now : FolderSeen) (o
     created_then = refl;
     unfinished_first = opened.counts.unfinished;
     unfinished_then = refl;
-    writing_first = opened.counts.writing;
+    writing_first = omega (arith, opened.counts.writing);
     writing_then = omega arith;
   }
 
@@ -204,7 +212,7 @@ module _ (words : ReportData) (old new : List Seen) (before now : FolderSeen) (o
         → ReadRose answer old new → WriteRose answer out.faults out_now.faults → AllReadTheirParts old new → AreSame old new
         → FilesReported words (map file_in new) (status_of_files answer) name (beside before out) (beside now out_now)
     files_shown report read write reads same = record {
-      ended = ended_around (beside before out) (beside now out) (beside now out_now) (beside now out_now) around on_out unread unread (option_map (files_meaning words) before.files) (status_of_files answer) (λ why. why)
+      ended = ended_around (beside before out) (beside now out) (beside now out_now) (beside now out_now) around on_out unread unread (option_map (files_meaning words) before.files) (status_of_files answer) (λ why. why) (begun _ answer)
           (printed_known unread (option_map (files_meaning words) before.files) (status_of_files answer) out out_now
           (written before.files opened.inputs report) (shows answer read write same.count) now);
       misses = known_so (λ files. now.counts.misses ≡ before.counts.misses) (λ files. MissesNothingElse (files_meaning words files) before.counts now.counts) before.files
@@ -218,6 +226,8 @@ module _ (words : ReportData) (old new : List Seen) (before now : FolderSeen) (o
         opened = omega (arith, length-map new file_in, same.count, opened.counts.opened);
         closed = omega (arith, opened.counts.closed);
       };
+      faultless = begun _ answer;
+      requested = asked_few (names_in words) before.requested now.requested opened.requested;
       bytes = any_answer (status_of_files answer) opened.counts.bytes;
       reads = any_answer (status_of_files answer) (reads_within before.files same.count reads opened.inputs);
       named = (named, named_told before.files answer opened.inputs place report);
@@ -233,6 +243,7 @@ module _ (words : ReportData) (old new : List Seen) (before now : FolderSeen) (o
               (λ m. record { output = refl; files = opened.files; created = opened.counts.created });
           untouched = record { output = refl; files = opened.files; created = opened.counts.created };
           causes = tt;
+          kept = record { folder = opened.kept; out = refl };
         };
         misses = known_so (λ files. now.counts.misses ≡ before.counts.misses) (λ files. MissesNothingElse (files_meaning words files) before.counts now.counts) before.files
             (λ files missed other. missed) opened.misses;
@@ -245,6 +256,9 @@ module _ (words : ReportData) (old new : List Seen) (before now : FolderSeen) (o
           opened = omega (arith, length-map new file_in, ap length kept, opened.counts.opened);
           closed = omega (arith, opened.counts.closed);
         };
+        faultless = subst (λ (ss : List Seen). All (λ (file : FileSeen). file.faults ≡ 0) (map file_in ss)) (sym kept)
+            (All-map (λ (file : FileSeen). file.faults ≡ 0) file_in old opened.faultless);
+        requested = asked_few (names_in words) before.requested now.requested opened.requested;
         bytes = tt;
         reads = tt;
         named = named_any words before.files name NoMemory named (λ inputs. tt);

@@ -3,17 +3,20 @@ use Rattle.std.proofs.Common.{inl, ◌≡◌, ◌≢◌, ◌<◌, ◌+◌, ℕ, 
 use Rattle.std.specs.Prelude.{IsSome, is_none, sum_by, Contains, if◌then◌else◌}
 use Rattle.std.specs.FinMap.{get}
 use Rattle.std.specs.Option.{option_map}
-use Rattle.std.proofs.lemmas.List.{length-append, length-map, map-append, take-append-drop, take_more}
-use Rattle.std.proofs.lemmas.List.Elements.{All-nil, All-push}
+use Rattle.std.proofs.lemmas.List.{append-nil, append_assoc, length-append, length-map, map-append, take-append-drop, take_more}
+use Rattle.std.proofs.lemmas.List.Elements.{All-map, All-nil, All-push}
 use Rattle.std.proofs.lemmas.List.Sums.{sum_by-append, sum_by-cons}
 use Rattle.std.proofs.lemmas.Option.{slice_get-get_or}
 use Rattle.std.proofs.Math.Seq.{drop-cons, get_or-append_seam}
 use Rattle.trace_outside.specs.Causes.{raised}
 use Rattle.trace_outside.specs.Folders.{misses_after}
+use Rattle.trace_outside.specs.Memory.{KeepsFaults}
 use Rattle.trace_outside.specs.Names.{NamedFiles}
 use Rattle.trace_outside.proofs.Gains.{gained_nothing}
 use Rattle.dat_options.specs.declared.fault.OpenFault.{OpenFault}
 use Rattle.multi_report.specs.Sources.{IsFreshSource, IsUsable, Seen, shown_of}
+use Rattle.new_files.specs.Requested.{AskedFirst}
+use Rattle.dat_header.specs.Seen.{FileSeen}
 use Rattle.restore_tool.specs.Open.{ClosesMany}
 use Rattle.restore_tool.proofs.OpenFiles.{opens_more}
 use Rattle.trace_outside.specs.declared.counts.Counts.{Counts}
@@ -27,8 +30,9 @@ use Rattle.run_endings.specs.Meaning.{only}
 use Rattle.several_report.specs.Naming.{IsInputOf}
 use Rattle.run_endings.specs.Outside.{FolderSeen, SinkSeen, beside}
 use Rattle.run_endings.specs.Ran.{MissesNothingElse}
-use Rattle.several_report.specs.Sources.{AreInputs, AreOpened, IsInput, IsOpened, IsUnopened, LeavesHeld, FilesReported, StandsAt, file_in, reads_due}
+use Rattle.several_report.specs.Sources.{AreInputs, AreOpened, IsFaultless, IsInput, IsOpened, IsUnopened, LeavesHeld, FilesReported, StandsAt, file_in, reads_due}
 use Rattle.run_endings.proofs.Endings.{if_known, stored_none, known_so}
+use Rattle.run_endings.proofs.Requesting.{asked_front, asked_more}
 use Rattle.run_words.proofs.Readings.{readings_fault, readings_more}
 use Rattle.several_report.proofs.InputNames.{named_any}
 use Rattle.several_report.proofs.Unread.{WereRead, found_there, name_at, next_named, there_is, unread_next}
@@ -76,6 +80,9 @@ module _ (words : ReportData) (names : List (List ℕ)) (name : List ℕ) (sourc
     count = omega (arith, length-append sources (source ∷ []), length-append names (name ∷ []), all.count);
     files = one.files ∙ all.files;
     counts = opens_more before.counts mid.counts now.counts (length sources) 1 (length (sources ++ source ∷ [])) all.counts one.counts (length-append sources (source ∷ []));
+    faultless = All-push IsFaultless sources source all.faultless one.faultless;
+    kept = record { reading = one.kept.reading ∙ all.kept.reading; writing = one.kept.writing ∙ all.kept.writing };
+    requested = asked_more names before.requested mid.requested now.requested name all.requested one.requested;
     inputs = inputs_told before.files mid.files source all.files all.inputs one.input;
     misses = misses_told before.files mid.files source before.counts.misses mid.counts.misses now.counts.misses all.files all.misses one.input one.misses;
   }
@@ -123,6 +130,13 @@ module _ (words : ReportData) (names : List (List ℕ)) (name : List ℕ) (sourc
       kept : now.files ≡ before.files
       kept = one.files ∙ all.files
 
+      -- the names so far and this one, and none behind it
+      asked : AskedFirst (names_in words) before.requested now.requested
+      asked =
+          let so_far = asked_more names before.requested mid.requested now.requested name all.requested one.requested in
+          subst (λ (ns : List (List ℕ)). AskedFirst ns before.requested now.requested) (append_assoc names (name ∷ []) rest ∙ sym are)
+          (asked_front (names ++ name ∷ []) rest before.requested now.requested so_far)
+
       created_kept : now.counts.created ≡ before.counts.created
       created_kept = one.counts.created ∙ all.counts.created
 
@@ -148,6 +162,9 @@ module _ (words : ReportData) (names : List (List ℕ)) (name : List ℕ) (sourc
         wrong_meaning files (record { name = name; status = Refused fault }) inputs
         (subst (λ (t : Option NamedFiles). IfSome t (λ fs. input_named fs name ≡ Err (record { name = name; status = Refused fault }))) is wrong)
 
+    faults_kept : IsUnopened name NoMemory mid now → KeepsFaults before.counts now.counts
+    faults_kept one = record { reading = one.reason.reading ∙ all.kept.reading; writing = one.reason.writing ∙ all.kept.writing }
+
     -- an input could not be shown
     pub unopened_shown : (status : Status) → IsUnopened name status mid now → FilesReported words (map file_in sources) status name (beside before out) (beside now out)
     unopened_shown (Refused fault) one =
@@ -157,10 +174,13 @@ module _ (words : ReportData) (names : List (List ℕ)) (name : List ℕ) (sourc
             ends = by_told before.files meaning;
             untouched = nothing_done (Refused fault) one;
             causes = one.reason.0;
+            kept = tt;
           };
           misses = reads_kept (Refused fault) one;
           files = kept (Refused fault) one;
           counts = held_counts (Refused fault) one;
+          faultless = tt;
+          requested = asked (Refused fault) one;
           bytes = tt;
           reads = tt;
           named = (is_one, named_told before.files meaning);
@@ -188,10 +208,13 @@ module _ (words : ReportData) (names : List (List ℕ)) (name : List ℕ) (sourc
         });
         untouched = tt;
         causes = inl (omega (arith, all.counts.reading, one.reason));
+        kept = tt;
       };
       misses = reads_kept ReadFault one;
       files = kept ReadFault one;
       counts = held_counts ReadFault one;
+      faultless = tt;
+      requested = asked ReadFault one;
       bytes = tt;
       reads = tt;
       named = named_any words before.files name ReadFault is_one (λ inputs. tt);
@@ -211,10 +234,13 @@ module _ (words : ReportData) (names : List (List ℕ)) (name : List ℕ) (sourc
         ends = if_known (λ m. Ends m NoMemory (beside before out) (beside now out)) (option_map (files_meaning words) before.files) (λ m. nothing_done NoMemory one);
         untouched = nothing_done NoMemory one;
         causes = tt;
+        kept = record { folder = faults_kept one; out = refl };
       };
       misses = reads_kept NoMemory one;
       files = kept NoMemory one;
       counts = held_counts NoMemory one;
+      faultless = All-map (λ (file : FileSeen). file.faults ≡ 0) file_in sources all.faultless;
+      requested = asked NoMemory one;
       bytes = tt;
       reads = tt;
       named = named_any words before.files name NoMemory is_one (λ inputs. tt);
@@ -249,6 +275,9 @@ none_opened words folder = record {
     unfinished = refl;
     bytes = refl;
   };
+  faultless = All-nil IsFaultless;
+  kept = record { reading = refl; writing = refl };
+  requested = sym (append-nil folder.requested);
   inputs = if_known (λ files. AreInputs words files [] []) folder.files (λ files. record { inputs = []; read = refl; told = All-nil (λ (s : Seen). IsSome s.told); shown = refl; reads = omega arith });
   misses = if_known (λ files. folder.counts.misses ≡ folder.counts.misses) folder.files (λ files. refl);
 }

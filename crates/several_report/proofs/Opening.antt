@@ -1,5 +1,5 @@
 -- One input: what is known of it once it is open, and where it could not be shown.
-use Rattle.std.proofs.Common.{◌≡◌, ◌≤◌, ℕ, List, [], Option, Some, None, Result, Ok, Err, IfSome, refl, sym, ap, ◌∙◌, subst, arith}
+use Rattle.std.proofs.Common.{◌≡◌, ◌≤◌, ℕ, List, [], ◌∷◌, Option, Some, None, Result, Ok, Err, IfSome, refl, sym, ap, ◌∙◌, subst, arith}
 use Rattle.std.specs.Prelude.{Bool, IsSome, unwrap_or}
 use Rattle.std.specs.FinMap.{get}
 use Rattle.std.specs.List.{All}
@@ -9,6 +9,7 @@ use Rattle.trace_base.specs.Layout.{IsLayout}
 use Rattle.trace_outside.specs.Causes.{Rose, raised}
 use Rattle.trace_outside.specs.declared.counts.Counts.{Counts}
 use Rattle.trace_outside.specs.Folders.{Closes, IsFileOf, Opens, misses_after}
+use Rattle.trace_outside.specs.Memory.{KeepsFaults}
 use Rattle.trace_outside.specs.Names.{NamedFiles}
 use Rattle.dat_options.specs.declared.fault.OpenFault.{OpenFault}
 use Rattle.dat_header.specs.declared.header.Header.{Header}
@@ -23,6 +24,7 @@ use Rattle.multi_report.specs.Order as several
 use Rattle.multi_report.specs.Sources.{IsFreshSource, IsUsable, shown_of}
 use Rattle.dat_header.specs.Seen.{FileSeen}
 use Rattle.restore_tool.specs.Open.{OpensMany}
+use Rattle.new_files.specs.Requested.{AskedAll}
 use Rattle.trace_args.specs.Command.{ReportData}
 use Rattle.several_report.specs.declared.sources.Basis.{Basis}
 use Rattle.run_endings.specs.declared.status.Status.{Status}
@@ -107,13 +109,17 @@ opened_refused (Some files) name bytes fault is refusal read = by_found (get fil
 -- the folder opened a file, whose header was read
 pub source_opened : (words : ReportData) (name : List ℕ) (file : FileSeen) (bytes : Option (List ℕ)) (reads : ℕ) (basis : Basis) (before now : FolderSeen)
     → now.files ≡ before.files → IsFileOf before.files name bytes → file.bytes ≡ bytes → reads ≡ 0 → IsRead words bytes reads file.reads basis
-    → OpensMany before.counts now.counts 1 → IfSome before.files (λ files. now.counts.misses ≡ misses_after files name before.counts.misses)
+    → OpensMany before.counts now.counts 1 → file.faults ≡ 0 → KeepsFaults before.counts now.counts → AskedAll (name ∷ []) before.requested now.requested
+    → IfSome before.files (λ files. now.counts.misses ≡ misses_after files name before.counts.misses)
     → IsOpened words name (seen_with name file basis) before now
-source_opened words name file bytes reads basis before now files is kept none read counts misses = record {
+source_opened words name file bytes reads basis before now files is kept none read counts faultless same requested misses = record {
   usable = basis_usable words read.header basis read.stands name file read.layout;
   fresh = basis_fresh words read.header basis read.stands name file;
   files = files;
   counts = counts;
+  faultless = faultless;
+  kept = same;
+  requested = requested;
   input = opened_input words before.files name bytes file reads basis is kept none read;
   misses = misses;
 }
@@ -132,8 +138,9 @@ opens_one told name before now result opens opened = record {
 
 -- the folder could not open it
 pub missing_unopened : {I E : Type 0} (name : List ℕ) (before now : FolderSeen) (result : Result I E) → now.files ≡ before.files → Opens before.files name before.counts now.counts result
-    → now.counts.opened ≡ before.counts.opened → Rose before.counts.reading now.counts.reading → IsUnopened name ReadFault before now
-missing_unopened name before now result files opens opened rose = record {
+    → now.counts.opened ≡ before.counts.opened → Rose before.counts.reading now.counts.reading → AskedAll (name ∷ []) before.requested now.requested
+    → IsUnopened name ReadFault before now
+missing_unopened name before now result files opens opened rose requested = record {
   files = files;
   counts = record {
     reading = opens.reading;
@@ -143,6 +150,7 @@ missing_unopened name before now result files opens opened rose = record {
     opened = omega (arith, opened);
     closed = omega (arith, opens.closed);
   };
+  requested = requested;
   reason = rose;
   misses = opens.misses;
 }
@@ -150,24 +158,25 @@ missing_unopened name before now result files opens opened rose = record {
 module _ {I E : Type 0} (name : List ℕ) (bytes : Option (List ℕ)) (faults faults_now reads : ℕ) (before mid now : FolderSeen) (result : Result I E)
     (first : mid.files ≡ before.files) (then : now.files ≡ mid.files) (is : IsFileOf before.files name bytes)
     (opens : Opens before.files name before.counts mid.counts result) (opened : mid.counts.opened ≡ raised before.counts.opened 1) (none : faults ≡ 0)
-    (closes : Closes faults_now reads mid.counts now.counts) where
+    (kept : KeepsFaults before.counts mid.counts) (closes : Closes faults_now reads mid.counts now.counts)
+    (asked : AskedAll (name ∷ []) before.requested mid.requested) (still : now.requested ≡ mid.requested) where
   missed_then : (told : Option NamedFiles) → IfSome told (λ files. mid.counts.misses ≡ misses_after files name before.counts.misses) → IfSome told (λ files. now.counts.misses ≡ misses_after files name before.counts.misses)
   missed_then None misses = tt
   missed_then (Some files) misses = closes.misses ∙ misses
 
-  reason_of : (status : Status) → WhyUnread bytes (Rose faults faults_now) status → WhyUnopened name status before now
+  reason_of : (status : Status) → WhyUnread bytes faults faults_now status → WhyUnopened name status before now
   reason_of (Refused fault) why = (why.0, opened_refused before.files name bytes fault is why.0 why.1)
   reason_of ReadFault why =
       let faulty : Rose mid.counts.reading now.counts.reading = closes.faulty (omega (arith, why, none)) in
       omega (arith, faulty, opens.reading)
-  reason_of NoMemory why = tt
+  reason_of NoMemory why = record { reading = closes.clean (why ∙ none) ∙ kept.reading; writing = closes.writing ∙ kept.writing }
   reason_of Done why = absurd why
   reason_of Usage why = absurd why
   reason_of (Malformed cpu page) why = absurd why
   reason_of WriteFault why = absurd why
 
   -- the folder opened a file that cannot be shown, and closed it
-  pub closed_unopened : (status : Status) → WhyUnread bytes (Rose faults faults_now) status → IsUnopened name status before now
+  pub closed_unopened : (status : Status) → WhyUnread bytes faults faults_now status → IsUnopened name status before now
   closed_unopened status why = record {
     files = then ∙ first;
     counts = record {
@@ -178,6 +187,7 @@ module _ {I E : Type 0} (name : List ℕ) (bytes : Option (List ℕ)) (faults fa
       opened = closes.opened ∙ opened;
       closed = closes.closed ∙ ap (λ (n : ℕ). raised n 1) opens.closed;
     };
+    requested = still ∙ asked;
     reason = reason_of status why;
     misses = missed_then before.files opens.misses;
   }

@@ -2,6 +2,7 @@
 use Rattle.std.specs.Prelude.{ℕ, length, ◌≡◌, ◌≢◌, ◌+◌, ◌≤◌, IfOk, IfSome, sum_by}
 use Rattle.std.specs.Option.{option_map}
 use Rattle.trace_outside.specs.Causes.{Rose, raised}
+use Rattle.new_files.specs.Requested.{AskedFirst}
 use Rattle.trace_args.specs.Command.{ReportData}
 use Rattle.run_endings.specs.declared.status.Status.{Status}
 use Rattle.run_endings.specs.declared.status.Status.TheVariants.{Usage}
@@ -14,5 +15,6 @@ use Rattle.several_report.specs.Meaning.{files_meaning}
 
 pub record FilesRan (words : ReportData) (status : Status) (before now : Outside) : Type 0 where
   pub ran : JobRan on_out (Rose before.folder.counts.reading now.folder.counts.reading) (option_map (files_meaning words) before.folder.files) (length words.more + 1) status before now
+  pub requested : AskedFirst (names_in words) before.folder.requested now.folder.requested
   pub usage : (status ≢ Usage) × (now.folder.files ≡ before.folder.files)
   pub reads : BehindHeader status (IfSome before.folder.files (λ files. IfOk (inputs_in files (names_in words)) (λ inputs. (progress now).reads ≤ raised (progress before).reads (sum_by (input_share words) inputs))))

@@ -5,6 +5,7 @@ use Rattle.std.specs.Option.{option_map}
 use Rattle.trace_outside.specs.declared.counts.Counts.{Counts}
 use Rattle.trace_outside.specs.Causes.{Rose, raised}
 use Rattle.trace_outside.specs.Folders.{misses_after}
+use Rattle.trace_outside.specs.Memory.{KeepsFaults}
 use Rattle.trace_outside.specs.declared.outside.File as outside_file
 use Rattle.trace_outside.specs.Names.{NamedFiles}
 use Rattle.trace_base.specs.Layout.{IsLayout}
@@ -18,6 +19,7 @@ use Rattle.multi_report.specs.Sources.{Seen, seen, shown_of, IsFreshSource, IsUs
 use Rattle.restore_tool.specs.Answers.{SomeFaulty}
 use Rattle.dat_header.specs.Seen.{FileSeen}
 use Rattle.restore_tool.specs.Open.{OpensMany}
+use Rattle.new_files.specs.Requested.{AskedAll, AskedFirst}
 use Rattle.trace_args.specs.Command.{ReportData}
 use Rattle.run_endings.specs.declared.outcome.Outcome.{Outcome}
 use Rattle.report_context.specs.declared.lines.ItemLines.{ItemLines}
@@ -25,7 +27,7 @@ use Rattle.several_report.specs.declared.sources.Basis.{Basis}
 use Rattle.run_endings.specs.declared.status.Status.{Status}
 use Rattle.run_endings.specs.declared.status.Status.TheVariants.{Done, Refused, Malformed, ReadFault, WriteFault, NoMemory}
 use Rattle.report_context.specs.Context.{context_of}
-use Rattle.run_endings.specs.Ending.{Ended}
+use Rattle.run_endings.specs.Ending.{Ended, IfNoMemory}
 use Rattle.run_endings.specs.Progress.{BehindHeader, parts_size}
 use Rattle.several_report.specs.Inputs.{input_share, NamedInput, shown_in, input_named, inputs_in, names_in, shown_parts}
 use Rattle.time_merge.specs.Unused.{IsUnused}
@@ -76,12 +78,13 @@ pub record IsRead (words : ReportData) (told : Option (List ℕ)) (before now : 
   pub stands : IsBasis words header basis
   pub reads : now ≤ raised before header.end
 
--- why a file cannot be shown: its bytes begin with no header, a read failed, or there was no memory
-abbrev pub WhyUnread : Option (List ℕ) → Type 0 → Status → Type 0
-WhyUnread told rose (Refused fault) = IsRefusal fault × ReadsHeader told (Err fault)
-WhyUnread told rose ReadFault = rose
-WhyUnread told rose NoMemory = Unit {0}
-WhyUnread told rose status = ⊥
+-- why a file cannot be shown: its bytes begin with no header, a read failed, which its count shows, or there was no memory, and
+-- then the count is as it was
+abbrev pub WhyUnread : Option (List ℕ) → ℕ → ℕ → Status → Type 0
+WhyUnread told faults now_faults (Refused fault) = IsRefusal fault × ReadsHeader told (Err fault)
+WhyUnread told faults now_faults ReadFault = Rose faults now_faults
+WhyUnread told faults now_faults NoMemory = now_faults ≡ faults
+WhyUnread told faults now_faults status = ⊥
 
 -- what was read of it, and what its parts have
 abbrev pub reads_due : Seen → ℕ
@@ -103,12 +106,19 @@ pub record AreInputs (words : ReportData) (files : NamedFiles) (names : List (Li
   pub shown : map shown_of sources ≡ map (shown_in words) inputs
   pub reads : sum_by reads_due sources ≤ sum_by (input_share words) inputs
 
--- an input was opened and stands before its first item
+-- no read of it failed since it was opened
+abbrev pub IsFaultless : Seen → Type 0
+IsFaultless source = source.faults ≡ 0
+
+-- an input was opened and stands before its first item; of all names just its own was asked for
 pub record IsOpened (words : ReportData) (name : List ℕ) (source : Seen) (before now : FolderSeen) : Type 0 where
   pub usable : IsUsable source
   pub fresh : IsFreshSource source
   pub files : now.files ≡ before.files
   pub counts : OpensMany before.counts now.counts 1
+  pub faultless : IsFaultless source
+  pub kept : KeepsFaults before.counts now.counts
+  pub requested : AskedAll (name ∷ []) before.requested now.requested
   pub input : IfSome before.files (λ files. IsInput words files name source)
   pub misses : IfSome before.files (λ files. now.counts.misses ≡ misses_after files name before.counts.misses)
 
@@ -117,7 +127,7 @@ abbrev pub WhyUnopened : List ℕ → Status → FolderSeen → FolderSeen → T
 WhyUnopened name (Refused fault) before now =
     IsRefusal fault × IfSome before.files (λ files. input_named files name ≡ Err (record { name = name; status = Refused fault }))
 WhyUnopened name ReadFault before now = Rose before.counts.reading now.counts.reading
-WhyUnopened name NoMemory before now = Unit {0}
+WhyUnopened name NoMemory before now = KeepsFaults before.counts now.counts
 WhyUnopened name status before now = ⊥
 
 -- no file is open that was not before: as many were closed as were opened, and those were at most so many
@@ -133,6 +143,7 @@ pub record ClosesAgain (most : ℕ) (before now : Counts) : Type 0 where
 pub record IsUnopened (name : List ℕ) (status : Status) (before now : FolderSeen) : Type 0 where
   pub files : now.files ≡ before.files
   pub counts : ClosesAgain 1 before.counts now.counts
+  pub requested : AskedAll (name ∷ []) before.requested now.requested
   pub reason : WhyUnopened name status before now
   pub misses : IfSome before.files (λ files. now.counts.misses ≡ misses_after files name before.counts.misses)
 
@@ -143,6 +154,9 @@ pub record AreOpened (words : ReportData) (names : List (List ℕ)) (sources : L
   pub count : length sources ≡ length names
   pub files : now.files ≡ before.files
   pub counts : OpensMany before.counts now.counts (length sources)
+  pub faultless : All IsFaultless sources
+  pub kept : KeepsFaults before.counts now.counts
+  pub requested : AskedAll names before.requested now.requested
   pub inputs : IfSome before.files (λ files. AreInputs words files names sources)
   pub misses : IfSome before.files (λ files. now.counts.misses ≡ before.counts.misses)
 
@@ -155,13 +169,15 @@ pub record LeavesHeld (held most : ℕ) (before now : Counts) : Type 0 where
   pub opened : now.opened ≡ raised before.opened (held + count)
   pub closed : now.closed ≡ raised before.closed count
 
--- A report of several files came to its end, and these are open still.
+-- A report of several files came to its end, and these are open still. Where there was no memory, no read of them had failed.
 pub record FilesReported (words : ReportData) (held : List FileSeen) (status : Status) (name : List ℕ) (before now : Outside) : Type 0 where
   pub ended : Ended on_out (Rose before.folder.counts.reading now.folder.counts.reading ⊎ SomeFaulty held)
       (option_map (files_meaning words) before.folder.files) status before now
   pub misses : IfSome before.folder.files (λ files. MissesNothingElse (files_meaning words files) before.folder.counts now.folder.counts)
   pub files : now.folder.files ≡ before.folder.files
   pub counts : LeavesHeld (length held) (length words.more + 1) before.folder.counts now.folder.counts
+  pub faultless : IfNoMemory status (All (λ file. file.faults ≡ 0) held)
+  pub requested : AskedFirst (names_in words) before.folder.requested now.folder.requested
   pub bytes : BehindHeader status (now.folder.counts.bytes ≡ before.folder.counts.bytes)
   pub reads : BehindHeader status (IfSome before.folder.files (λ files. IfOk (inputs_in files (names_in words)) (λ inputs. sum_by (λ file. file.reads) held ≤ sum_by (input_share words) inputs)))
   pub named : IsNameIn words before.folder.files status name

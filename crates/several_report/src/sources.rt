@@ -2,7 +2,6 @@
 
 ghost use Rattle.std.specs.Prelude.{◌≡◌, ◌≤◌, ◌<◌, ◌+◌, [], List, ℕ, All, Contains, IfErr, IfOk, OnOk, length, map, vec_capacity, vec_len};
 ghost use Rattle.trace_base.specs.Layout.{IsLayout};
-ghost use Rattle.trace_outside.specs.Causes.{Rose};
 ghost use Rattle.trace_outside.specs.Folders.{Closes};
 ghost use Rattle.dat_header.specs.Allowed.{IsBody};
 ghost use Rattle.trace_outside.specs.Keeping.{KeepsFile};
@@ -98,7 +97,8 @@ fn read_basis<I: File>(
     file: &mut I,
 ) -> Result<Basis, Status>
     ensures read { IfOk result (λ basis. IsRead (report_view words.now) (I.bytes file.old) (I.reads file.old) (I.reads file.new) basis) }
-    ensures unread { IfErr result (λ status. WhyUnread (I.bytes file.old) (Rose (I.faults file.old) (I.faults file.new)) status) }
+    ensures kept { OnOk result (I.faults file.new ≡ I.faults file.old) }
+    ensures unread { IfErr result (λ status. WhyUnread (I.bytes file.old) (I.faults file.old) (I.faults file.new) status) }
     ensures keeps { KeepsFile I.File file.old file.new }
 {
     match read_header(alloc, file) {
@@ -224,6 +224,7 @@ pub(crate) fn open_sources<'a, F: Folder>(
 fn close_source<F: Folder>(source: Source<'_, F::In, ItemLines>, folder: &mut F)
     ensures counts { Closes (F.In.faults source.entry.file) (F.In.reads source.entry.file) (F.counts folder.old) (F.counts folder.new) }
     ensures files { F.files folder.new ≡ F.files folder.old }
+    ensures requested { F.requested folder.new ≡ F.requested folder.old }
 {
     let Source {
         name: _,
@@ -244,6 +245,7 @@ pub(crate) fn close_sources<F: Folder>(
 )
     ensures counts { ClosesMany (map file_in (map (source_seen F.In.File) sources.entry.items)) (F.counts folder.old) (F.counts folder.new) }
     ensures files { F.files folder.new ≡ F.files folder.old }
+    ensures requested { F.requested folder.new ≡ F.requested folder.old }
 {
     while let Some(source) = sources.pop() {
         close_source(source, folder);

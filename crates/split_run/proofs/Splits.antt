@@ -16,6 +16,7 @@ use Rattle.run_endings.specs.Meaning.{on_folder}
 use Rattle.split_run.specs.Split.{split_by, split_end, split_files, taken_of}
 use Rattle.run_endings.specs.Outside.{FolderSeen, SinkSeen, beside}
 use Rattle.run_endings.specs.Ends.{status_of_end}
+use Rattle.run_endings.proofs.Faultless.{end_kept}
 
 module _ (words : SplitData) (header : Header) (before now : FolderSeen) (out : SinkSeen) where
   -- the four answers of a split
@@ -42,7 +43,7 @@ module _ (words : SplitData) (header : Header) (before now : FolderSeen) (out : 
   split_caused unread end.Write read write = write refl
 
 -- a split of the header that was read, and of the parts that are taken
-cut_told : (words : SplitData) (header dropped : Header) (parts : List (ℕ × Part)) (bytes : List ℕ) (fact : List NewFile → End → Type 0)
+pub cut_told : (words : SplitData) (header dropped : Header) (parts : List (ℕ × Part)) (bytes : List ℕ) (fact : List NewFile → End → Type 0)
     → dropped ≡ without_instances header → parts ≡ taken_of words.cpu header.body
     → fact (new_files words dropped bytes parts) (end_of words dropped bytes parts) → fact (split_files words header bytes) (split_end words header bytes)
 cut_told words header dropped parts bytes fact dropped_is parts_are told =
@@ -59,6 +60,7 @@ cut unread words header dropped parts told before now answer dropped_is parts_ar
   ends = by_told told out split creates;
   untouched = split_leaves words header before now out answer;
   causes = split_caused words header before now out unread answer read write;
+  kept = end_kept _ answer;
 }
   where
     by_told : (known : Option (List ℕ)) (out : SinkSeen)

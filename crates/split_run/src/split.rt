@@ -8,7 +8,10 @@ ghost use Rattle.dat_header.specs.Header.{ReadsHeader};
 ghost use Rattle.trace_args.specs.Command.{split_view};
 ghost use Rattle.new_files.specs.Stored.{KeepsCounts};
 ghost use Rattle.run_words.specs.Allowed.{IsAllowedSplit};
-ghost use Rattle.run_endings.specs.Ending.{MakesFiles};
+ghost use Rattle.split_tool.specs.Numbered.{first_names};
+ghost use Rattle.run_endings.specs.Ending.{IfNoMemory, MakesFiles};
+ghost use Rattle.run_endings.specs.Requested.{AsksFor};
+ghost use Rattle.split_run.specs.Leaves.{LeavesFolder};
 ghost use Rattle.split_run.specs.Split.{split_share};
 ghost use Rattle.split_run.specs.Split.{split_by};
 ghost use Rattle.run_endings.specs.Outside.{folder_seen};
@@ -38,6 +41,10 @@ pub fn cut_file<F: Folder>(
     ensures makes { MakesFiles (Rose (F.In.faults file.old) (F.In.faults file.new))
         (option_map (split_by (split_view words.now) header) (F.In.bytes file.old)) result
         (folder_seen F.Folder folder.old) (folder_seen F.Folder folder.new) }
+    ensures kept { IfNoMemory result (F.In.faults file.new ≡ F.In.faults file.old) }
+    ensures leaves { LeavesFolder words.now.base.now result (folder_seen F.Folder folder.old) (folder_seen F.Folder folder.new) }
+    ensures requested { AsksFor (first_names words.now.base.now)
+        (option_map (split_by (split_view words.now) header) (F.In.bytes file.old)) (F.requested folder.old) (F.requested folder.new) }
     ensures counts { KeepsCounts (F.counts folder.old) (F.counts folder.new) }
     ensures reads { F.In.reads file.new ≤ raised (F.In.reads file.old) (split_share words.now.cpu header.body) }
 {

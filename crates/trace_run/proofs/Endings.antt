@@ -1,12 +1,12 @@
 -- From what the parts of a run did to how it ended.
-use Rattle.std.proofs.Common.{◌≡◌, inl, inr, arith, ℕ, List, Option, None, Some, IfSome, IsSome, refl, sym, ap, ◌∙◌, subst, Result, Ok, Err}
+use Rattle.std.proofs.Common.{◌≡◌, inl, inr, arith, ℕ, List, [], ◌∷◌, ◌++◌, length, Option, None, Some, IfSome, IsSome, refl, sym, ap, ◌∙◌, subst, Result, Ok, Err}
 use Rattle.std.specs.FinMap.{get}
 use Rattle.std.specs.Option.{option_map}
 use Rattle.trace_outside.specs.Causes.{raised}
 use Rattle.trace_outside.specs.declared.counts.Counts.{Counts}
 use Rattle.trace_outside.specs.Names.{NamedFiles}
 use Rattle.trace_outside.proofs.Gains.{gained_nothing}
-use Rattle.trace_outside.specs.Folders.{IsFileOf, misses_after}
+use Rattle.trace_outside.specs.Folders.{Closes, IsFileOf, misses_after}
 use Rattle.std.specs.Prelude.{is_none, if◌then◌else◌}
 use Rattle.dat_options.specs.declared.fault.OpenFault.{OpenFault}
 use Rattle.dat_header.specs.declared.header.Header.{Header}
@@ -14,7 +14,7 @@ use Rattle.dat_header.specs.Header.{header_of, IsRefusal, ReadsHeader}
 use Rattle.run_endings.specs.declared.status.Status.{Status}
 use Rattle.run_endings.specs.declared.status.Status.TheVariants.{Usage, Refused, ReadFault, NoMemory}
 use Rattle.run_words.specs.declared.usage.UsageFault.{UsageFault}
-use Rattle.run_endings.specs.Ending.{Ended, Ends, IsUnasked, Prints, KeepsOut}
+use Rattle.run_endings.specs.Ending.{Ended, Ends, IfNoMemory, IsUnasked, Prints, KeepsOut}
 use Rattle.trace_run.specs.Input.{ReadsInputs, input_of_run}
 use Rattle.run_endings.specs.Progress.{progress}
 use Rattle.run_words.specs.Job.{FileCommand, Report, Dump, Split, Job, OnFile, OnFiles, SelfTest, Restore, About}
@@ -23,10 +23,18 @@ use Rattle.trace_run.specs.Meaning.{header_means, file_means, input_means, comma
 use Rattle.run_endings.specs.Outside.{FolderSeen, Outside, SinkSeen, beside}
 use Rattle.trace_run.specs.Ran.{KeepsOff, Ran, Unread}
 use Rattle.run_endings.specs.Ran.{MissesNothingElse}
+use Rattle.run_endings.specs.Requested.{AsksFor}
+use Rattle.trace_run.specs.Requested.{Asks, names_of, new_names}
 use Rattle.trace_run.specs.Work.{Worked}
-use Rattle.run_endings.proofs.Endings.{if_known, stored_none, unmoved, untouched, unheld, because, refused_by, finished_nothing, Around, ended_complete, ended_around, keeps_out}
+use Rattle.run_endings.proofs.Endings.{if_known, stored_none, unmoved, untouched, unheld, because, refused_by, finished_nothing, Around, CleanAround, ended_complete, ended_around, keeps_out, no_memory_map}
+use Rattle.run_endings.proofs.Requesting.{asked_first, asked_none, asked_still, asks_for}
 
 -- BEHIND A HEADER
+
+-- no name was asked for
+unasked : (command : FileCommand) (means : Option Meaning) (seen : Outside) → AsksFor (new_names command) means seen.folder.requested seen.folder.requested
+unasked command means seen =
+    asks_for (new_names command) means seen.folder.requested seen.folder.requested (λ news. asked_none (new_names command news) seen.folder.requested)
 
 -- a command that only prints leaves the folder alone
 pub printed_worked : (command : FileCommand) (unread : Type 0) (means : Option Meaning) (status : Status) (folder : FolderSeen) (before now : SinkSeen)
@@ -34,6 +42,7 @@ pub printed_worked : (command : FileCommand) (unread : Type 0) (means : Option M
 printed_worked command unread means status folder before now on prints = record {
   ended = subst (λ (t : Target). Ended t unread means status (beside folder before) (beside folder now)) (sym on) (prints folder);
   counts = unmoved folder.counts;
+  requested = unasked command means (beside folder before);
   out = subst (λ (t : Target). KeepsOut t before now) (sym on) tt;
 }
 
@@ -46,14 +55,17 @@ header_meaning command header (Some bytes) found = ap (λ (read : Result Header 
 pub behind_header : (command : FileCommand) (header : Header) (told same : Option (List ℕ)) (unread other : Type 0) (status : Status) (before now : Outside) → same ≡ told
     → ReadsHeader told (Ok header) → (unread → other) → Worked command unread (option_map (header_means command header) same) status before now
     → Worked command other (option_map (input_means command) told) status before now
-behind_header command header told same unread other status before now is found so worked = record {
-  ended =
-      because (target_of command) unread other (option_map (input_means command) told) status before now so
-      (subst (λ (means : Option Meaning). Ended (target_of command) unread means status before now)
-      (ap (option_map (header_means command header)) is ∙ header_meaning command header told found) worked.ended);
-  counts = worked.counts;
-  out = worked.out;
-}
+behind_header command header told same unread other status before now is found so worked =
+    let meant : option_map (header_means command header) same ≡ option_map (input_means command) told =
+    ap (option_map (header_means command header)) is ∙ header_meaning command header told found in
+    record {
+      ended =
+          because (target_of command) unread other (option_map (input_means command) told) status before now so
+          (subst (λ (means : Option Meaning). Ended (target_of command) unread means status before now) meant worked.ended);
+      counts = worked.counts;
+      requested = subst (λ (means : Option Meaning). AsksFor (new_names command) means before.folder.requested now.folder.requested) meant worked.requested;
+      out = worked.out;
+    }
 
 -- the header could not be read
 pub header_unread : (command : FileCommand) (means : Option Meaning) (unread : Type 0) (seen : Outside) → unread → Worked command unread means ReadFault seen seen
@@ -66,22 +78,29 @@ header_unread command means unread seen rose = record {
     });
     untouched = tt;
     causes = rose;
+    kept = tt;
   };
   counts = unmoved seen.folder.counts;
+  requested = unasked command means seen;
   out = keeps_out (target_of command) seen.out;
 }
 
 -- there was no memory for the header
 pub header_unheld : (command : FileCommand) (means : Option Meaning) (unread : Type 0) (seen : Outside) → Worked command unread means NoMemory seen seen
-header_unheld command means unread seen =
-    record { ended = unheld (target_of command) unread means seen; counts = unmoved seen.folder.counts; out = keeps_out (target_of command) seen.out }
+header_unheld command means unread seen = record {
+  ended = unheld (target_of command) unread means seen;
+  counts = unmoved seen.folder.counts;
+  requested = unasked command means seen;
+  out = keeps_out (target_of command) seen.out;
+}
 
 -- the file has no header
 pub header_refused : (command : FileCommand) (fault : OpenFault) (told : Option (List ℕ)) (unread : Type 0) (seen : Outside) → IsRefusal fault
     → ReadsHeader told (Err fault) → Worked command unread (option_map (input_means command) told) (Refused fault) seen seen
 header_refused command fault told unread seen refusal found = record {
-  ended = record { ends = refused told found; untouched = untouched seen; causes = refusal };
+  ended = record { ends = refused told found; untouched = untouched seen; causes = refusal; kept = tt };
   counts = unmoved seen.folder.counts;
+  requested = unasked command (option_map (input_means command) told) seen;
   out = keeps_out (target_of command) seen.out;
 }
   where
@@ -95,12 +114,12 @@ header_refused command fault told unread seen refusal found = record {
 module _ (before opened worked now : Outside) (around : Around before opened worked now) where
   -- what a command did with an opened file is what it means of the file's name
   pub command_ended : (command : FileCommand) (told : Option NamedFiles) (bytes : Option (List ℕ)) (unread other : Type 0) (status : Status)
-      → IsFileOf told (input_of command) bytes → (unread → other)
+      → IsFileOf told (input_of command) bytes → (unread → other) → IfNoMemory status (CleanAround before opened worked now)
       → Ended (target_of command) unread (option_map (input_means command) bytes) status opened worked
       → Ended (target_of command) other (option_map (command_meaning command) told) status before now
-  command_ended command told bytes unread other status file so ended =
-      let here = ended_around before opened worked now around (target_of command) unread other (option_map (input_means command) bytes) status so ended in
-      record { ends = by_told told file here.ends; untouched = here.untouched; causes = here.causes }
+  command_ended command told bytes unread other status file so clean ended =
+      let here = ended_around before opened worked now around (target_of command) unread other (option_map (input_means command) bytes) status so clean ended in
+      record { ends = by_told told file here.ends; untouched = here.untouched; causes = here.causes; kept = here.kept }
     where
       by_found : (found : Option (List ℕ)) → IsSome found → bytes ≡ found
           → IfSome (option_map (input_means command) bytes) (λ m. Ends m status before now)
@@ -124,7 +143,7 @@ command_asked (Split words) unasked = unasked
 pub ran_unasked : (fault : UsageFault) (before : Outside) → Ran (Err fault) Usage before before
 ran_unasked fault before =
     let how : Ended on_nothing ⊥ (Some (only Usage)) Usage before before =
-    record { ends = finished_nothing Usage before; untouched = untouched before; causes = tt } in
+    record { ends = finished_nothing Usage before; untouched = untouched before; causes = tt; kept = tt } in
     record {
       ended = how;
       complete = ended_complete on_nothing ⊥ (Some (only Usage)) Usage before before how;
@@ -132,6 +151,7 @@ ran_unasked fault before =
       misses = λ other. refl;
       closes = λ opened closed. omega arith;
       opens = omega arith;
+      requested = refl;
       reads = tt;
       gathers = tt;
       reads_all = tt;
@@ -148,11 +168,18 @@ ran_unread read before =
       misses = if_known (λ m. MissesNothingElse m before.folder.counts before.folder.counts) (meaning_read read before.folder.files) (λ m other. refl);
       closes = λ opened closed. omega arith;
       opens = omega arith;
+      requested = asks_nothing read;
       reads = tt;
       gathers = if_known _ (input_of_run read before.folder.files) (λ input calls unread. refl);
       reads_all = nothing read;
     }
   where
+    asks_nothing : (r : Result Job UsageFault) → Asks r (meaning_read r before.folder.files) before.folder.requested before.folder.requested
+    asks_nothing (Ok job) =
+        asks_for (names_of job) (meaning_read (Ok job) before.folder.files) before.folder.requested before.folder.requested
+        (λ news. asked_none (names_of job news) before.folder.requested)
+    asks_nothing (Err fault) = refl
+
     nothing : (r : Result Job UsageFault) → ReadsInputs r before.folder.files NoMemory (progress before) (progress before)
     nothing (Ok (OnFile command)) = tt
     nothing (Ok (OnFiles words)) = tt
@@ -181,6 +208,7 @@ unopened_ended command told unread before now rose output files created = record
   });
   untouched = tt;
   causes = rose;
+  kept = tt;
 }
 
 misses_unless_found : (command : FileCommand) (found : Option (List ℕ)) (before now : Counts) → now.misses ≡ (if is_none found then raised before.misses 1 else before.misses)
@@ -196,3 +224,44 @@ command_misses command None name before mid now is asked same = tt
 command_misses command (Some files) name before mid now is asked same =
     misses_unless_found command (get files (input_of command)) before now
     (same ∙ subst (λ (n : List ℕ). mid.misses ≡ misses_after files n before.misses) is asked)
+
+-- THE FILE OF A COMMAND
+
+-- where there was no memory, no read of the file failed while it was open
+pub clean_around : (status : Status) (faults faults_now reads : ℕ) (before opened worked now : Outside) → opened.folder.counts.reading ≡ before.folder.counts.reading
+    → opened.folder.counts.writing ≡ before.folder.counts.writing → faults ≡ 0 → Closes faults_now reads worked.folder.counts now.folder.counts
+    → IfNoMemory status (faults_now ≡ faults) → IfNoMemory status (CleanAround before opened worked now)
+clean_around status faults faults_now reads before opened worked now reading writing none closes = no_memory_map status clean
+  where
+    clean : faults_now ≡ faults → CleanAround before opened worked now
+    clean same = record {
+      first = record { reading = reading; writing = writing };
+      last = record { reading = closes.clean (same ∙ none); writing = closes.writing };
+    }
+
+-- the input's name was asked for, and behind it those of new files
+pub command_asks : (command : FileCommand) (told : Option NamedFiles) (bytes : Option (List ℕ)) (name : List ℕ) (before opened worked now : List (List ℕ)) → name ≡ input_of command
+    → IsFileOf told (input_of command) bytes → opened ≡ before ++ name ∷ [] → AsksFor (new_names command) (option_map (input_means command) bytes) opened worked → now ≡ worked
+    → AsksFor (names_of (OnFile command)) (option_map (command_meaning command) told) before now
+command_asks command told bytes name before opened worked now is file one did still = record {
+  news = did.news;
+  meant = by_told told file;
+  asked = asked_still (input_of command ∷ new_names command did.news) before worked now still
+      (asked_first (new_names command did.news) before opened worked (input_of command) (one ∙ ap (λ (n : List ℕ). before ++ n ∷ []) is) did.asked);
+}
+  where
+    by_found : (found : Option (List ℕ)) → IsSome found → bytes ≡ found → did.news ≡ length (command_means command found).files
+    by_found None there is = absurd (let bad : ⊥ = cc in bad)
+    by_found (Some known) there is =
+        subst (λ (b : Option (List ℕ)). IfSome (option_map (input_means command) b) (λ m. did.news ≡ length m.files)) is did.meant
+
+    by_told : (known : Option NamedFiles) → IsFileOf known (input_of command) bytes → IfSome (option_map (command_meaning command) known) (λ m. did.news ≡ length m.files)
+    by_told None is = tt
+    by_told (Some files) is = by_found (get files (input_of command)) is.0 is.1
+
+-- or its name alone
+pub unopened_asks : (command : FileCommand) (means : Option Meaning) (name : List ℕ) (before now : List (List ℕ)) → name ≡ input_of command → now ≡ before ++ name ∷ []
+    → AsksFor (names_of (OnFile command)) means before now
+unopened_asks command means name before now is one =
+    asks_for (names_of (OnFile command)) means before now
+    (λ news. asked_first (new_names command news) before now now (input_of command) (one ∙ ap (λ (n : List ℕ). before ++ n ∷ []) is) (asked_none (new_names command news) now))

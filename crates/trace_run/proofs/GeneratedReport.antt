@@ -102,7 +102,7 @@ pub generated_printed : (seed events workers : ℕ) (told same : Option (List �
     → IfSome told (IsGenerated seed events) → same ≡ told → ReadsHeader told (Ok header) → words ≡ record plain_report { workers = workers }
     → Prints unread (option_map (report_by words.list words header) same) Done before now → Gained before.written now.written (generated_report seed events)
 generated_printed seed events workers told same bytes header words unread before now is generated kept found plain prints =
-    let none : FolderSeen = record { files = None; counts = no_counts } in
+    let none : FolderSeen = record { files = None; counts = no_counts; requested = [] } in
     let ended = prints none in
     told_reported seed events workers told same bytes header words before.written now.written is generated kept found plain
     (known_so (λ m. Ends m Done (beside none before) (beside none now)) (Written before.written now.written)

@@ -11,8 +11,10 @@ use Rattle.run_endings.specs.Meaning.{on_out}
 use Rattle.trace_run.specs.Meaning.{self_test}
 use Rattle.run_endings.specs.Outside.{FolderSeen, SinkSeen, beside}
 use Rattle.trace_run.specs.Ran.{Ran}
+use Rattle.trace_run.specs.Requested.{names_of}
 use Rattle.trace_run.specs.Selftest.{generated_report, self_test_line, plain_report}
 use Rattle.run_endings.proofs.Endings.{ended_complete, not_usage}
+use Rattle.run_endings.proofs.Requesting.{asked_none, asks_for}
 use Rattle.trace_run.proofs.Reading.{no_input}
 use Rattle.filter_truth.specs.SelectionView.{use_of}
 use Rattle.filter_truth.specs.declared.select.FilterUse.{FilterUse}
@@ -43,6 +45,7 @@ self_tested words status folder before now prints =
       misses = λ other. refl;
       closes = λ opened closed. omega arith;
       opens = omega arith;
+      requested = asks_for (names_of (SelfTest words)) (Some (self_test words)) folder.requested folder.requested (λ news. asked_none [] folder.requested);
       reads = no_input status (progress (beside folder before)) (progress (beside folder now));
       gathers = tt;
       reads_all = tt;

@@ -1,5 +1,5 @@
 -- All that is said of a run that prints what the program tells of itself.
-use Rattle.std.proofs.Common.{Some, Ok, refl, arith}
+use Rattle.std.proofs.Common.{[], Some, Ok, refl, arith}
 use Rattle.trace_args.specs.declared.topic.Topic.{Topic}
 use Rattle.run_endings.specs.declared.status.Status.{Status}
 use Rattle.run_endings.specs.Ending.{Prints}
@@ -9,7 +9,9 @@ use Rattle.run_endings.specs.Meaning.{on_out}
 use Rattle.trace_run.specs.Meaning.{topic_means}
 use Rattle.run_endings.specs.Outside.{FolderSeen, SinkSeen, beside}
 use Rattle.trace_run.specs.Ran.{Ran}
+use Rattle.trace_run.specs.Requested.{names_of}
 use Rattle.run_endings.proofs.Endings.{ended_complete, not_usage}
+use Rattle.run_endings.proofs.Requesting.{asked_none, asks_for}
 use Rattle.trace_run.proofs.Reading.{no_input}
 
 pub topic_told : (topic : Topic) (status : Status) (folder : FolderSeen) (before now : SinkSeen) → Prints ⊥ (Some (topic_means topic)) status before now
@@ -23,6 +25,7 @@ topic_told topic status folder before now prints =
       misses = λ other. refl;
       closes = λ opened closed. omega arith;
       opens = omega arith;
+      requested = asks_for (names_of (About topic)) (Some (topic_means topic)) folder.requested folder.requested (λ news. asked_none [] folder.requested);
       reads = no_input status (progress (beside folder before)) (progress (beside folder now));
       gathers = tt;
       reads_all = tt;

@@ -15,6 +15,7 @@ use Rattle.trace_run.specs.Meaning.{input_of}
 use Rattle.file_report.specs.Report.{Events, listed_events, listed_calls}
 use Rattle.file_report.specs.Due.{report_share, ReadsDue}
 use Rattle.split_run.specs.Split.{split_share}
+use Rattle.restore_run.specs.Restore.{RestoreReads}
 use Rattle.run_endings.specs.Progress.{Progress, BehindHeader}
 use Rattle.run_endings.specs.Outside.{SinkSeen}
 use Rattle.run_endings.specs.Output.{GathersFirst}
@@ -80,8 +81,9 @@ pub record ReadsNoMore (first : ℕ) (input : Input) (before now : Progress) : T
 abbrev pub ReadsInput : Option Input → Status → Progress → Progress → Type 0
 ReadsInput known status before now = BehindHeader status (IfSome known (λ input. ReadsNoMore input.header.end input before now))
 
--- then no more is read of several files than each of them needs
+-- then no more is read of several files than each of them needs, nor of a partial file than its header, and each data file once
 abbrev pub ReadsInputs : Result Job UsageFault → Option NamedFiles → Status → Progress → Progress → Type 0
 ReadsInputs (Ok (OnFiles words)) told status before now = BehindHeader status
     (IfSome told (λ files. IfOk (inputs_in files (names_in words)) (λ inputs. now.reads ≤ raised before.reads (sum_by (input_share words) inputs))))
+ReadsInputs (Ok (Restore words)) told status before now = BehindHeader status (IfSome told (λ files. RestoreReads words files before.reads now.reads))
 ReadsInputs read told status before now = Unit {0}

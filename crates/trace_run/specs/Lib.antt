@@ -1,5 +1,6 @@
 pub mod Selftest
 pub mod Meaning
+pub mod Requested
 pub mod Work
 pub mod Input
 pub mod Ran

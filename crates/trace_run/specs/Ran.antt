@@ -9,6 +9,7 @@ use Rattle.trace_run.specs.Input.{ReadsInput, ReadsInputs, input_of_run, Gathers
 use Rattle.run_endings.specs.Progress.{progress}
 use Rattle.run_words.specs.Job.{Job, OnFile, OnFiles, SelfTest, Restore, About}
 use Rattle.trace_run.specs.Meaning.{meaning_read, target_read, target_of}
+use Rattle.trace_run.specs.Requested.{Asks}
 use Rattle.run_endings.specs.Outside.{Outside}
 use Rattle.run_endings.specs.Ran.{MissesNothingElse, ClosesAll}
 
@@ -48,6 +49,7 @@ pub record Ran (read : Result Job UsageFault) (status : Status) (before now : Ou
   pub misses : IfSome (meaning_read read before.folder.files) (λ m. MissesNothingElse m before.folder.counts now.folder.counts)
   pub closes : ClosesAll before.folder.counts now.folder.counts
   pub opens : now.folder.counts.opened ≤ raised before.folder.counts.opened (most_opened read)
+  pub requested : Asks read (meaning_read read before.folder.files) before.folder.requested now.folder.requested
   pub reads : ReadsInput (input_of_run read before.folder.files) status (progress before) (progress now)
   pub gathers : GathersInput (input_of_run read before.folder.files) status before.out now.out
   pub reads_all : ReadsInputs read before.folder.files status (progress before) (progress now)

@@ -21,6 +21,7 @@ ghost use Rattle.run_words.specs.Usage.{command_filters, job_filters, uses_in};
 ghost use Rattle.trace_run.specs.Work.{Worked};
 ghost use Rattle.filter_truth.specs.SelectionView.{use_of};
 ghost use Rattle.run_endings.specs.Output.{GathersFirst};
+ghost use Rattle.run_endings.specs.Ending.{IfNoMemory};
 
 use crate::dump::print_dump;
 use crate::selftest::print_self_test;
@@ -117,6 +118,7 @@ fn run_on_file<R: Threads + Sync, F: Folder, O: Sink, G: Gate>(
     ensures worked { Worked (command_view command.now) (Rose (F.In.faults file.old) (F.In.faults file.new))
         (option_map (input_means (command_view command.now)) (F.In.bytes file.old)) result
         (outside_seen F.Folder O.Sink folder.old out.old) (outside_seen F.Folder O.Sink folder.new out.new) }
+    ensures kept { IfNoMemory result (F.In.faults file.new ≡ F.In.faults file.old) }
     ensures gathers { GathersInput (input_told (command_view command.now) (F.In.bytes file.old)) result (sink_seen O.Sink out.old) (sink_seen O.Sink out.new) }
     ensures reads { ReadsInput (input_told (command_view command.now) (F.In.bytes file.old)) result
         (progress_at (O.written out.old) (F.In.reads file.old)) (progress_at (O.written out.new) (F.In.reads file.new)) }
@@ -149,6 +151,7 @@ fn run_on_header<R: Threads + Sync, F: Folder, O: Sink, G: Gate>(
     ensures worked { Worked (command_view command.now) (Rose (F.In.faults file.old) (F.In.faults file.new))
         (option_map (header_means (command_view command.now) header) (F.In.bytes file.old)) result
         (outside_seen F.Folder O.Sink folder.old out.old) (outside_seen F.Folder O.Sink folder.new out.new) }
+    ensures kept { IfNoMemory result (F.In.faults file.new ≡ F.In.faults file.old) }
     ensures gathers { GathersFirst (command_calls (command_view command.now) header) result (sink_seen O.Sink out.old) (sink_seen O.Sink out.new) }
     ensures reads { F.In.reads file.new ≤ raised (F.In.reads file.old) (share (command_view command.now) header (F.In.size file.old)) }
     ensures due { IfSome (F.In.bytes file.old) (λ bytes. IfSome (events_of (command_view command.now) header bytes)

@@ -18,6 +18,9 @@ use trace_outside::{Folder, Gate, Sink};
 /// `out`, and for every answer but `Done` one line of message to `err`. All memory is taken before the first byte of
 /// output.
 ///
+/// Of the folder only the names in the words are asked for, each once and in their order, and behind the input of a split the
+/// names of its new files. A fault that the folder or the output counted is never told as want of memory.
+///
 /// A report's lines are formed on as many threads as the words ask for, with the same bytes for any number of them. Each
 /// lane passes the gate before its lines are formed.
 pub fn run<R: Threads + Sync, F: Folder, O: Sink, E: Sink, G: Gate>(

@@ -215,6 +215,26 @@ const ROWS: &[Row] = &[
         files: &[("p.1", 4096, "cpus=1\n")],
         absent: "p.2",
     },
+    // many processors, of which the last two have what was asked for
+    Row {
+        words: &["split", "0.000001990", "-e", "1", "-r", "-o", "p"],
+        file: Input::Rising(200),
+        status: Status::Done,
+        err: "",
+        files: &[
+            (
+                "p.1",
+                8192,
+                "cpus=200\n           <...>-1     [198]     0.000001990: [UNKNOWN EVENT 58]\n",
+            ),
+            (
+                "p.2",
+                8192,
+                "cpus=200\n           <...>-1     [199]     0.000002000: [UNKNOWN EVENT 58]\n",
+            ),
+        ],
+        absent: "p.3",
+    },
     // nothing is created before the input has a header
     Row {
         words: &["split", "-o", "p"],

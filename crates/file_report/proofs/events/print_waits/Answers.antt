@@ -2,6 +2,7 @@ use Rattle.std.proofs.Common.{List, ℕ, Option, Err, refl, ap, sym, subst, ◌�
 use Rattle.run_endings.specs.declared.status.Status.TheVariants.{WriteFault}
 use Rattle.run_endings.specs.Output.{WritesFor}
 use Rattle.run_endings.specs.Ends.{status_of_end}
+use Rattle.run_endings.proofs.Faultless.{end_kept, pass_kept}
 use Rattle.run_endings.proofs.Printed.{pass_printed, printed_of}
 use Rattle.file_report.proofs.Waits.{both, lines, stopped_shows, waits_shows, waits_stopped, waits_unwritten, waits_written}
 use Rattle.file_report.proofs.events.print_waits.Goals as goal
@@ -11,6 +12,15 @@ returns-in-Err-clause-prints g c =
     rw c.status_of_pass.ensures
     (pass_printed _ (both c.args.shown.now.form.now.context c.args.shown.now.parts.now c.args.plan.now.header.now) _ c.in-Err.fault _ (λ bytes. refl)
     (λ is. c.in-Err.ensures.read (ap Err is)))
+
+pub returns-in-Err-clause-kept : goal.returns-in-Err-clause-kept
+returns-in-Err-clause-kept g c = rw c.status_of_pass.ensures (pass_kept _ _ c.in-Err.fault c.in-Err.ensures.kept)
+
+pub returns-then-not-is_whole-clause-kept : goal.returns-then-not-is_whole-clause-kept
+returns-then-not-is_whole-clause-kept g c = rw c.status_of_end.ensures (end_kept _ c.in-Some.end)
+
+pub returns-in-Ok-print_section-clause-kept : goal.returns-in-Ok-print_section-clause-kept
+returns-in-Ok-print_section-clause-kept g c = rw c.status_of_end-in-Ok-print_section.ensures (end_kept _ c.in-Some.end)
 
 pub returns-then-not-is_whole-clause-prints : goal.returns-then-not-is_whole-clause-prints
 returns-then-not-is_whole-clause-prints g c =

@@ -18,7 +18,7 @@ returns-in-Latency g c =
     events_reported words header _ status _ _ _ c.in-None.is
     (latency_reported words header _ status _
     (at_work g.I.File g.O.Sink c.args.file.now c.args.out.now) (at_work g.I.File g.O.Sink c.print_latency.new.file c.print_latency.new.out)
-    c.in-Latency.is c.print_latency.ensures.prints c.print_latency.ensures.reads)
+    c.in-Latency.is c.print_latency.ensures.prints c.print_latency.ensures.reads c.print_latency.ensures.kept)
 
 pub returns-in-Fly : goal.returns-in-Fly
 returns-in-Fly g c =

@@ -22,7 +22,7 @@ returns-clause-ran g c = λ out.
     let now = folder_seen g.F.Folder c.restore_named-answer.new.folder in
     subst (λ (files : List (Bor (List ℕ))). RestoreRan (of words.input.now words.output.now files) c.status_of_restore.result (beside before out) (beside now out)) c.as_slice.ensures.value
     (restored_ran (of words.input.now words.output.now files) c.restore_named-answer.result c.status_of_restore.result out before now c.status_of_restore.ensures
-    did.done did.causes did.kept did.created did.misses
+    did.done did.causes did.kept did.created did.misses did.requested did.memory did.reads
     (subst (λ (n : ℕ). ClosesAll (n + 1) (g.F.Folder.counts c.args.folder.now) (g.F.Folder.counts c.restore_named-answer.new.folder)) (sym (length-map files (λ name. name.now))) did.counts))
 
 pub returns-clause-named : goal.returns-clause-named

@@ -17,7 +17,7 @@ returns-in_default-clause-named g c = named_any (report_view c.args.words.now) _
 pub returns-clause-ran : goal.returns-clause-ran
 returns-clause-ran g c =
     shown_ran (report_view c.args.words.now) (map file_in (map (source_seen g.F.In.File) c.print_opened-outcome.new.sources.items)) c.print_opened-outcome.result.status c.print_opened-outcome.result.file.now
-    _ _ _ _ _ c.print_opened-outcome.ensures c.close_sources.ensures.counts c.close_sources.ensures.files
+    _ _ _ _ _ c.print_opened-outcome.ensures c.close_sources.ensures.counts c.close_sources.ensures.files c.close_sources.ensures.requested
 
 pub returns-clause-named : goal.returns-clause-named
 returns-clause-named g c = c.print_opened-outcome.ensures.named

@@ -6,7 +6,7 @@ use Rattle.several_report.proofs.OpenInputs.{inputs_closed}
 use Rattle.several_report.proofs.sources.close_sources.Goals as goal
 
 pub loop-source-init : goal.loop-source-init
-loop-source-init g c = record { closed = ([], (sym (append-nil c.args.sources.items), closes_none (g.F.Folder.counts c.args.folder.now))); files = refl }
+loop-source-init g c = record { closed = ([], (sym (append-nil c.args.sources.items), closes_none (g.F.Folder.counts c.args.folder.now))); files = refl; requested = refl }
 
 pub loop-source-preserved : goal.loop-source-preserved
 loop-source-preserved g c =
@@ -23,6 +23,7 @@ loop-source-preserved g c =
         ),
       );
       files = c.close_source.ensures.files ∙ before.files;
+      requested = c.close_source.ensures.requested ∙ before.requested;
     }
 
 pub returns-clause-counts : goal.returns-clause-counts

@@ -10,6 +10,7 @@ invariant-loop-source g l = record {
   closed : (tail : List (Source g.row.F-In.Denot ItemLines)) × ((l.fn.sources.items ≡ l.sources.items ++ tail)
       × ClosesMany (map file_in (map (source_seen g.F.In.File) tail)) (g.F.Folder.counts l.fn.folder) (g.F.Folder.counts l.folder));
   files : g.F.Folder.files l.folder ≡ g.F.Folder.files l.fn.folder;
+  requested : g.F.Folder.requested l.folder ≡ g.F.Folder.requested l.fn.folder;
 }
 
 abbrev pub decreases-loop-source : goal.decreases-loop-source

@@ -8,6 +8,9 @@ use Rattle.dat_header.specs.declared.header.Header.{Header}
 use Rattle.subpage.specs.Arrangement.{CpusRise}
 use Rattle.page_pool.specs.declared.lane.Lane.{Lane}
 use Rattle.time_merge.proofs.UnusedLanes.{new_unused, unused_fresh, unused_in_order}
+use Rattle.run_endings.proofs.Faultless.{end_kept}
+use Rattle.run_endings.specs.Outside.{folder_seen}
+use Rattle.split_run.proofs.Requested.{asks_cut, folder_left, unbegun}
 use Rattle.split_run.proofs.Splits.{cut}
 use Rattle.split_run.proofs.Taken.{lanes_below, taken_rise}
 use Rattle.split_run.proofs.split.cut_file.Goals as goal
@@ -38,6 +41,24 @@ returns-clause-makes g c =
     rw c.status_of_end.ensures
     (cut _ (split_view c.args.words.now) c.args.header c.drop_instances.new.self _ _ _ _ c.split.result
     c.drop_instances.ensures.dropped are c.split.ensures.told c.split.ensures.created c.split.ensures.read c.split.ensures.write)
+
+pub returns-clause-kept : goal.returns-clause-kept
+returns-clause-kept g c = rw c.status_of_end.ensures (end_kept _ c.split.result)
+
+pub returns-clause-leaves : goal.returns-clause-leaves
+returns-clause-leaves g c = rw c.status_of_end.ensures (folder_left c.args.words.now.base.now _ _ _ c.split.result c.split.ensures.leaves)
+
+pub returns-in_default-clause-requested : goal.returns-in_default-clause-requested
+returns-in_default-clause-requested g c = unbegun c.args.words.now.base.now _ _
+
+pub returns-in_default-2-clause-requested : goal.returns-in_default-2-clause-requested
+returns-in_default-2-clause-requested g c = unbegun c.args.words.now.base.now _ _
+
+pub returns-clause-requested : goal.returns-clause-requested
+returns-clause-requested g c =
+    let are = c.set_lanes.ensures.parts ∙ c.deref.ensures.value ∙ c.in-Ok.ensures.taken in
+    asks_cut (split_view c.args.words.now) c.args.header c.drop_instances.new.self _ _ _ (folder_seen g.F.Folder c.args.folder.now) (folder_seen g.F.Folder c.split.new.folder) c.split.result
+    c.drop_instances.ensures.dropped are c.split.ensures.requested c.split.ensures.leaves
 
 pub returns-clause-reads : goal.returns-clause-reads
 returns-clause-reads g c =

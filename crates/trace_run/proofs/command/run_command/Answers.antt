@@ -8,7 +8,7 @@ use Rattle.trace_run.specs.Meaning.{meaning_read, target_of}
 use Rattle.run_endings.specs.Outside.{beside, folder_seen, sink_seen}
 use Rattle.trace_run.specs.Ran.{Unread}
 use Rattle.run_endings.proofs.Endings.{Around, ended_complete, not_usage, keeps_out}
-use Rattle.trace_run.proofs.Endings.{command_asked, command_ended, command_misses, unopened_ended}
+use Rattle.trace_run.proofs.Endings.{clean_around, command_asked, command_asks, command_ended, command_misses, unopened_asks, unopened_ended}
 use Rattle.trace_run.proofs.Reading.{command_reads, command_gathers, gathers_nothing}
 use Rattle.trace_run.proofs.command.run_command.Goals as goal
 
@@ -28,6 +28,7 @@ returns-in-Err g c =
       misses = command_misses command _ _ before.folder.counts now.folder.counts now.folder.counts c.input_of.ensures opens.misses refl;
       closes = λ opened closed. omega (arith, c.in-Err.ensures.counts.opened, opens.closed);
       opens = omega (arith, c.in-Err.ensures.counts.opened);
+      requested = unopened_asks command (meaning_read (Ok (OnFile command)) before.folder.files) _ before.folder.requested now.folder.requested c.input_of.ensures c.open_file.ensures.requested;
       reads = tt;
       gathers = gathers_nothing (input_of_run (Ok (OnFile command)) before.folder.files) ReadFault out;
       reads_all = tt;
@@ -64,7 +65,9 @@ returns-in-Ok g c =
     let risen : Rose (g.F.In.File.faults c.in-Ok.file) (g.F.In.File.faults c.run_on_file-status.new.file) → unread = λ rose.
     let faulty = closes.faulty (omega (arith, rose)) in
     omega (arith, faulty, work.counts.reading, opens.reading) in
-    let ended = command_ended before opened worked now around command before.folder.files (g.F.In.File.bytes c.in-Ok.file) _ unread status given risen work.ended in
+    let clean = clean_around status (g.F.In.File.faults c.in-Ok.file) (g.F.In.File.faults c.run_on_file-status.new.file) reads before opened worked now
+    c.in-Ok.ensures.counts.kept opens.writing c.in-Ok.ensures.no_faults closes c.run_on_file-status.ensures.kept in
+    let ended = command_ended before opened worked now around command before.folder.files (g.F.In.File.bytes c.in-Ok.file) _ unread status given risen clean work.ended in
     record {
       ended = ended;
       complete = ended_complete (target_of command) unread (meaning_read (Ok (OnFile command)) before.folder.files) status before now ended;
@@ -72,6 +75,8 @@ returns-in-Ok g c =
       misses = command_misses command _ _ before.folder.counts opened.folder.counts now.folder.counts c.input_of.ensures opens.misses (closes.misses ∙ work.counts.misses);
       closes = λ last_opened last_closed. omega (arith, c.in-Ok.ensures.counts.opened, opens.closed, work.counts.opened, work.counts.closed, closes.opened, closes.closed);
       opens = omega (arith, c.in-Ok.ensures.counts.opened, work.counts.opened, closes.opened);
+      requested = command_asks command before.folder.files (g.F.In.File.bytes c.in-Ok.file) _ before.folder.requested opened.folder.requested worked.folder.requested now.folder.requested
+          c.input_of.ensures given c.open_file.ensures.requested work.requested c.close_file.ensures.requested;
       reads = command_reads command _ _ status out.written out_now.written reads _ _ given
           (closes.bytes ∙ ap (λ (b : ℕ). raised b reads) (work.counts.bytes ∙ opens.bytes))
           (subst (λ (n : ℕ). ReadsInput (input_told command (g.F.In.File.bytes c.in-Ok.file)) status (progress_at out.written n) (progress_at out_now.written reads)) c.in-Ok.ensures.no_reads c.run_on_file-status.ensures.reads);

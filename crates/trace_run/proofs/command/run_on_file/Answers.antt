@@ -1,7 +1,8 @@
-use Rattle.std.proofs.Common.{◌≡◌, length, rules, arith, List, ℕ, IfSome, Option, Ok, subst, sym}
+use Rattle.std.proofs.Common.{◌≡◌, ◌∙◌, length, rules, arith, List, ℕ, IfSome, Option, Ok, subst, sym}
 use Rattle.dat_header.specs.Header.{ReadsHeader}
 use Rattle.run_words.specs.Job.{command_view}
-use Rattle.trace_run.proofs.Endings.{behind_header, header_unread}
+use Rattle.run_endings.proofs.Endings.{no_memory_map}
+use Rattle.trace_run.proofs.Endings.{behind_header, header_refused, header_unheld, header_unread}
 use Rattle.trace_run.proofs.Reading.{read_behind_header, gathers_behind_header, gathers_nothing}
 use Rattle.trace_run.proofs.command.run_on_file.Goals as goal
 use Rattle.trace_run.specs.Input.{input_told}
@@ -23,6 +24,22 @@ returns-in-Ok-clause-reads g c =
 
 pub returns-in-Err-Read-clause-worked : goal.returns-in-Err-Read-clause-worked
 returns-in-Err-Read-clause-worked g c = header_unread (command_view c.args.command.now) _ _ _ (search rules)
+
+pub returns-in-Err-Memory-clause-worked : goal.returns-in-Err-Memory-clause-worked
+returns-in-Err-Memory-clause-worked g c = header_unheld (command_view c.args.command.now) _ _ _
+
+pub returns : goal.returns
+returns g c = record {
+  worked = header_refused (command_view c.args.command.now) c.in-Err.fault _ _ _ (search rules) c.in-Err.ensures.answer;
+  kept = tt;
+  gathers = gathers_nothing (input_told (command_view c.args.command.now) (g.F.In.File.bytes c.args.file.now)) _ _;
+  reads = tt;
+}
+
+pub returns-in-Ok-clause-kept : goal.returns-in-Ok-clause-kept
+returns-in-Ok-clause-kept g c =
+    let joined = λ (same : g.F.In.File.faults c.run_on_header.new.file ≡ g.F.In.File.faults c.read_header.new.file). same ∙ c.in-Ok.ensures.kept in
+    no_memory_map c.run_on_header.result joined c.run_on_header.ensures.kept
 
 pub returns-in-Ok-clause-gathers : goal.returns-in-Ok-clause-gathers
 returns-in-Ok-clause-gathers g c =

@@ -1,7 +1,7 @@
-use Rattle.std.proofs.Common.{refl}
+use Rattle.std.proofs.Common.{◌≡◌, refl}
 use Rattle.run_words.specs.Job.{Dump, Report}
 use Rattle.trace_run.proofs.Endings.{printed_worked}
-use Rattle.run_endings.proofs.Endings.{prints_always}
+use Rattle.run_endings.proofs.Endings.{if_no_memory, prints_always}
 use Rattle.trace_run.proofs.command.run_on_header.Goals as goal
 
 pub returns-in-Report-clause-worked : goal.returns-in-Report-clause-worked
@@ -14,7 +14,10 @@ returns-in-Dump-clause-worked g c =
 
 pub returns-in-Split-clause-worked : goal.returns-in-Split-clause-worked
 returns-in-Split-clause-worked g c =
-    rw c.in-Split.is record { ended = c.cut_file.ensures.makes _; counts = c.cut_file.ensures.counts; out = refl }
+    rw c.in-Split.is record { ended = c.cut_file.ensures.makes _; counts = c.cut_file.ensures.counts; requested = c.cut_file.ensures.requested; out = refl }
+
+pub returns-in-Dump-clause-kept : goal.returns-in-Dump-clause-kept
+returns-in-Dump-clause-kept g c = if_no_memory (g.F.In.File.faults c.args.file.now ≡ g.F.In.File.faults c.args.file.now) c.print_dump.result refl
 
 pub returns-in-Report-clause-gathers : goal.returns-in-Report-clause-gathers
 returns-in-Report-clause-gathers g c = rw c.in-Report.is c.print_report.ensures.gathers
