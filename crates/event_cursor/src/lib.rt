@@ -6,14 +6,15 @@
 //! what its cursor says of the held sub-buffer is so.
 //!
 //! Going on: [`load`] reads the next sub-buffers until one holds an item, [`head`] tells the item at the lane's place (or
-//! [`head_key`] its key alone), and [`step`] uses it up. Going back, for a second pass: [`Place`] notes where a lane stands,
-//! and [`seek`] takes it there again.
+//! [`head_key`] its key alone), and [`step`] uses it up; [`step_run`] uses up a run of events at once. Going back, for a second
+//! pass: [`Place`] notes where a lane stands, and [`seek`] takes it there again.
 #![tactic(auto)]
 
 mod fetching;
 mod laws;
 mod loading;
 mod places;
+mod running;
 mod seeking;
 mod stepping;
 
@@ -21,5 +22,6 @@ pub use fetching::is_there;
 pub use laws::used_items;
 pub use loading::{Loaded, load};
 pub use places::Place;
+pub use running::step_run;
 pub use seeking::{Sought, seek};
 pub use stepping::{head, head_at, head_key, key_behind, step};

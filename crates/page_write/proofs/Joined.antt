@@ -1,10 +1,11 @@
 -- A packing goes on.
-use Rattle.std.proofs.Common.{◌≡◌, ◌≢◌, true, false, List, [], ◌∷◌, ◌++◌, refl, sym, ap, ◌∙◌, append_assoc, append-nil}
+use Rattle.std.proofs.Common.{◌≡◌, ◌≢◌, true, false, List, [], ◌∷◌, ◌++◌, refl, sym, ap, subst, ◌∙◌, append_assoc, append-nil}
 use Rattle.trace_base.specs.declared.layout.Layout.{Layout}
 use Rattle.subpage.specs.ItemData.{ItemData}
 use Rattle.page_write.specs.PageBytes.{one_page}
 use Rattle.page_write.specs.Pack.{packed, packed_behind}
 use Rattle.page_write.specs.SoFar.{open_page, packed_on, IsSoFar}
+use Rattle.page_write.proofs.Packing.{front_one}
 
 pub nothing_so_far : (layout : Layout) → IsSoFar layout [] [] []
 unfolding packed_on
@@ -48,3 +49,15 @@ ends_so_far layout xs closed held far =
 pub not_empty_after : (held : List ItemData) (x : ItemData) → held ++ x ∷ [] ≢ []
 not_empty_after [] x e = absurd cc
 not_empty_after (h ∷ hs) x e = absurd cc
+
+-- items that one sub-buffer can tell besides go into the open one
+pub all_added_so_far : (layout : Layout) (xs : List ItemData) (closed : List (List ItemData)) (held ys : List ItemData) → IsSoFar layout xs closed held → one_page layout (held ++ ys) ≡ true → IsSoFar layout (xs ++ ys) closed (held ++ ys)
+all_added_so_far layout xs closed held [] far one =
+    subst (λ (h : List ItemData). IsSoFar layout (xs ++ []) closed h) (sym (append-nil held)) (subst (λ (zs : List ItemData). IsSoFar layout zs closed held) (sym (append-nil xs)) far)
+all_added_so_far layout xs closed held (y ∷ ys) far one =
+    let swap : (held ++ y ∷ []) ++ ys ≡ held ++ y ∷ ys = append_assoc held (y ∷ []) ys in
+    let whole : one_page layout ((held ++ y ∷ []) ++ ys) ≡ true = subst (λ (h : List ItemData). one_page layout h ≡ true) (sym swap) one in
+    let step = added_so_far layout xs closed held y far (front_one layout (held ++ y ∷ []) ys whole) in
+    let all = all_added_so_far layout (xs ++ y ∷ []) closed (held ++ y ∷ []) ys step whole in
+    subst (λ (h : List ItemData). IsSoFar layout (xs ++ y ∷ ys) closed h) swap
+    (subst (λ (zs : List ItemData). IsSoFar layout zs closed ((held ++ y ∷ []) ++ ys)) (append_assoc xs (y ∷ []) ys) all)

@@ -1,15 +1,16 @@
 // An item added to an open sub-buffer, whose bytes stand in a buffer.
 
-ghost use Rattle.std.specs.Prelude.{◌≡◌, ◌+◌, ◌≤◌, ℕ, List, [], ◌∷◌, length, Some};
+ghost use Rattle.std.specs.Prelude.{◌≡◌, ◌+◌, ◌≤◌, ℕ, List, [], ◌∷◌, ◌++◌, length, Some};
 ghost use Rattle.trace_base.specs.Layout.{IsLayout};
 ghost use Rattle.subpage.specs.ItemData.{ItemData, EventAt, LossAt};
 ghost use Rattle.subpage.specs.ItemView.{item_view};
+ghost use Rattle.subpage.specs.Run.{IsRun};
 ghost use Rattle.page_write.specs.Held.{lost_of, lost_text, told, HoldsAll, Holds, AddsTo};
 ghost use Rattle.page_write.specs.PageBytes.{area_len, IsPackable};
 
 use crate::bits::STEP_BITS;
 use crate::open_page::{Lost, OpenPage};
-use crate::put::{end_of_record, put_record};
+use crate::put::{end_of_record, put_piece, put_record};
 use subpage::Item;
 use trace_base::Layout;
 
@@ -23,9 +24,9 @@ fn lost_of_loss(count: Option<u64>) -> Lost
     }
 }
 
-// How many bytes the number of a loss has behind the records.
+/// How many bytes the number of a loss has after the records.
 #[tactic(auto, using(crate::proofs::Holding::counted_len))]
-fn len_of_lost(layout: &Layout, lost: Lost) -> usize
+pub fn len_of_lost(layout: &Layout, lost: Lost) -> usize
     ensures { result ≡ length (lost_text layout.now lost) }
 {
     match lost {
@@ -117,5 +118,28 @@ pub fn add_to(
             }),
             Some(_) => None,
         },
+    }
+}
+
+/// Adds a run of plain records, the last of whose events is at `end`, to an open sub-buffer: their bytes go in as they stand.
+pub fn add_run_to(
+    layout: &Layout,
+    page: OpenPage,
+    run: &[u8],
+    end: u64,
+    into: &mut [u8],
+) -> OpenPage
+    requires allowed { IsLayout layout.now }
+    requires whole { length into.old ≡ layout.now.page }
+    requires room { page.used + length (lost_text layout.now page.lost) + length run.now ≤ area_len layout.now }
+    ensures { (y : ItemData) (ys xs : List ItemData) → HoldsAll layout.now page into.old y ys
+        → IsRun layout.now.order page.time xs run.now end → HoldsAll layout.now result into.new y (ys ++ xs) }
+{
+    put_piece(layout.data_at as usize + page.used, run, into);
+    OpenPage {
+        start: page.start,
+        time: end,
+        used: page.used + run.len(),
+        lost: page.lost,
     }
 }

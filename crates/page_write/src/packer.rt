@@ -1,14 +1,14 @@
-ghost use Rattle.std.specs.Prelude.{◌≡◌, ◌≢◌, ◌↔◌, IsTrue, List, [], Some, length};
+ghost use Rattle.std.specs.Prelude.{◌≡◌, ◌≢◌, ◌↔◌, ◌+◌, ◌++◌, IsTrue, List, [], Some, length, true};
 ghost use Rattle.trace_base.specs.Layout.{IsLayout};
-ghost use Rattle.subpage.specs.ItemData.{ItemData};
+ghost use Rattle.subpage.specs.ItemData.{ItemData, last_time};
 ghost use Rattle.subpage.specs.ItemView.{item_view};
 ghost use Rattle.subpage.specs.Page.{items};
-ghost use Rattle.page_write.specs.Adding.{Adds};
+ghost use Rattle.page_write.specs.Adding.{Adds, HasRoom, HasRunAfter, IsRunAfter};
 ghost use Rattle.page_write.specs.Held.{LostFits, HoldsAll};
-ghost use Rattle.page_write.specs.PageBytes.{page_of, IsPackable};
+ghost use Rattle.page_write.specs.PageBytes.{area_len, data_text, one_page, page_of, IsPackable};
 
 use crate::added::Added;
-use crate::adding::add_to;
+use crate::adding::{add_run_to, add_to, len_of_lost};
 use crate::closing::finish;
 use crate::open_page::OpenPage;
 use std::marker::Model;
@@ -78,6 +78,43 @@ impl<'a> Packer<'a> {
                 Added::Added
             }
             None => Added::Full,
+        }
+    }
+
+    /// The time of the last item that was added, where a sub-buffer is open.
+    pub fn last_time(&self) -> Option<u64>
+        ensures { result ≡ last_time self.now.held }
+    {
+        match self.page {
+            None => None,
+            Some(page) => Some(page.time),
+        }
+    }
+
+    /// For how many bytes more there is room.
+    pub fn room(&self) -> usize
+        ensures { length (data_text self.now.layout self.now.held) + result ≡ area_len self.now.layout }
+    {
+        let area = (self.layout.page - self.layout.data_at) as usize;
+        match self.page {
+            None => area,
+            Some(page) => area - (page.used + len_of_lost(&self.layout, page.lost)),
+        }
+    }
+
+    /// Adds the events of a run of plain records, which follows the last item that was added, to the open sub-buffer: their
+    /// bytes go in as they stand. The last of the events is at `end`.
+    pub fn add_run(&mut self, run: &[u8], end: u64)
+        requires run { HasRunAfter self.old.layout self.old.held run.now end }
+        requires room { HasRoom self.old.layout self.old.held (length run.now) }
+        ensures layout { self.new.layout ≡ self.old.layout }
+        ensures adds { (xs : List ItemData) → IsRunAfter self.old.layout self.old.held run.now end xs
+            → self.new.held ≡ self.old.held ++ xs }
+        ensures one { one_page self.old.layout self.new.held ≡ true }
+    {
+        if let Some(page) = self.page {
+            let page = add_run_to(&self.layout, page, run, end, self.into);
+            self.page = Some(page);
         }
     }
 

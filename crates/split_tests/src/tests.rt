@@ -4,6 +4,7 @@ mod faults;
 mod items;
 mod lanes;
 mod passes;
+mod runs;
 mod splits;
 mod traces;
 mod watched;

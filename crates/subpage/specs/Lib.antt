@@ -14,3 +14,5 @@ pub mod ItemsView
 pub mod Summary
 pub mod PageView
 pub mod Marks
+pub mod Run
+pub mod PlainRecord

@@ -1,9 +1,12 @@
 //! Sub-buffers of a trace.dat file: what stands in one, and the items that it tells.
 //!
-//! [`check_page`] finds whether a sub-buffer is well formed, and [`Page`] then gives its items, which borrow their
-//! payloads from it. [`open_page`] gives the [`Mark`] before the first item instead: plain numbers that a cursor keeps
-//! beside the bytes. [`pass_item`] passes over an item and tells where its payload stands, by which [`item_between`] gives
-//! it again without decoding it. Nothing here takes memory, and no size that stands in the page is trusted.
+//! [`open_page`] finds whether a sub-buffer is well formed, and gives the [`Mark`] before its first item: plain numbers that
+//! a cursor keeps beside the bytes. [`pass_item`] passes over an item and tells where its payload stands, by which
+//! [`item_between`] gives it again without decoding it. [`plain_run`] passes over events whose records can be copied as they
+//! stand, and [`run_between`] gives their bytes. Nothing here takes memory, and no size that stands in the page is trusted.
+//!
+//! [`check_page`] is the plain way to the same items, for whoever keeps nothing beside the bytes: a [`Page`] gives them by an
+//! iterator, with their number and times. Tests call it; the program opens each sub-buffer by [`open_page`].
 //!
 //! The definitions go further than the code: `specs/` also says what the items of a whole processor are
 //! (`Processor.antt`), in which order those of several processors stand (`Arrangement.antt`), and where a malformed
@@ -19,6 +22,7 @@ mod mark;
 mod next;
 mod page;
 mod reading;
+mod run;
 mod running_time;
 mod summary;
 
@@ -27,3 +31,4 @@ pub use items::Items;
 pub use mark::{Mark, Span, first_at, item_between, pass_item};
 pub use page::{Page, check_page, open_page};
 pub use reading::filled_up;
+pub use run::{RunLimits, plain_run, run_between};

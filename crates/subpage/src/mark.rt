@@ -1,6 +1,7 @@
 ghost use Rattle.std.specs.Prelude.{◌≡◌, ◌≤◌, None, length};
 ghost use Rattle.subpage.specs.ItemView.{item_view};
 ghost use Rattle.subpage.specs.Marks.{bytes_from, item_between, items_from, IsMark, IsFirst, IsInside, IsPassed, past_loss};
+ghost use Rattle.subpage.specs.Run.{time_at};
 
 use crate::item::Item;
 use crate::loss::Loss;
@@ -30,6 +31,14 @@ impl Mark {
         to: 0,
     };
 
+    /// The running time there. After an event it is the event's.
+    #[inline(always)]
+    pub fn time(&self) -> u64
+        ensures { result ≡ time_at self.now }
+    {
+        self.time
+    }
+
     /// The place behind the loss, where one is told there. Behind an item none is, and it is this very place.
     #[inline(always)]
     pub fn past_loss(&self) -> Mark
@@ -45,7 +54,7 @@ impl Mark {
 }
 
 /// The committed bytes behind a mark.
-fn bytes_behind(page: &[u8], mark: Mark) -> &[u8]
+pub(crate) fn bytes_behind(page: &[u8], mark: Mark) -> &[u8]
     requires forward { mark.from ≤ mark.to }
     requires within { mark.to ≤ length page.now }
     ensures { result.now ≡ bytes_from page.now mark }

@@ -4,6 +4,7 @@ ghost use Rattle.std.specs.Prelude.{◌≡◌, ◌-◌, ◌^◌, ◌<◌, ◌≤
 ghost use Rattle.subpage.specs.Element.{round4, type_len, time_delta};
 ghost use Rattle.subpage.specs.ElementView.{split_view};
 ghost use Rattle.subpage.specs.NextEvent.{IsShort};
+ghost use Rattle.subpage.specs.PlainRecord.{IsPlainFront};
 ghost use Rattle.subpage.specs.Reading.{word_at, counted_at, short_event_at, long_event_at, discarded_at, extend_at, stamp_at, rest_at, element_at};
 
 use crate::element::Element;
@@ -152,7 +153,8 @@ pub fn split_element(order: Order, bytes: &[u8]) -> Option<(Element<'_>, &[u8])>
 /// The running time behind the event at the front and its payload's length, where its first word tells the length.
 #[inline(always)]
 pub fn short_event(order: Order, time: u64, bytes: &[u8]) -> Option<(u64, u32)>
-    ensures { IsShort order time bytes.now result }
+    ensures told { IsShort order time bytes.now result }
+    ensures plain { IsPlainFront order time bytes.now result }
 {
     if bytes.len() < 4 {
         return None;

@@ -1,10 +1,12 @@
-ghost use Rattle.std.specs.Prelude.{◌≡◌, ◌<◌, ◌^◌, ◌++◌, length, option_map};
+ghost use Rattle.std.specs.Prelude.{◌≡◌, ◌<◌, ◌^◌, ◌≤◌, ◌+◌, ◌-◌, ◌++◌, drop, length, option_map, Some};
+ghost use Rattle.std.specs.Option.{option_or};
 ghost use Rattle.subpage.specs.Left.{loss_items};
 ghost use Rattle.subpage.specs.Reading.{walk};
 ghost use Rattle.subpage.specs.Summary.{summary_of};
 
 use crate::loss::Loss;
 use crate::next::{Next, next_event};
+use crate::reading::short_event;
 use trace_base::Order;
 
 /// How many items there are, and when the first and the last are.
@@ -32,7 +34,32 @@ fn summary_of_loss(loss: Option<Loss>) -> Summary
     }
 }
 
-/// The items in short, where the bytes can be read.
+/// One event more, after all others.
+#[inline(always)]
+fn with_event(summary: Summary, time: u64) -> Summary
+    requires { summary.count < 2 ^ 32 - 1 }
+    ensures count { result.count ≡ summary.count + 1 }
+    ensures first { result.first ≡ option_or summary.first (Some time) }
+    ensures last { result.last ≡ Some time }
+{
+    Summary {
+        count: summary.count + 1,
+        first: summary.first.or(Some(time)),
+        last: Some(time),
+    }
+}
+
+/// The bytes after the first `len`.
+#[inline(always)]
+fn bytes_past(bytes: &[u8], len: usize) -> &[u8]
+    requires { len ≤ length bytes.now }
+    ensures { result.now ≡ drop len bytes.now }
+{
+    let (_, rest) = bytes.split_at(len);
+    rest
+}
+
+/// The items in short, where the bytes can be read. Most events have their length in their first word.
 pub fn summarize(loss: Option<Loss>, order: Order, start: u64, bytes: &[u8]) -> Option<Summary>
     requires { length bytes.now < 2 ^ 31 }
     ensures { result
@@ -42,22 +69,24 @@ pub fn summarize(loss: Option<Loss>, order: Order, start: u64, bytes: &[u8]) -> 
     let mut time = start;
     let mut rest = bytes;
     loop {
-        match next_event(order, time, rest) {
-            Next::Event {
-                time: after,
-                rest: behind,
-                ..
-            } => {
-                summary = Summary {
-                    count: summary.count + 1,
-                    first: summary.first.or(Some(after)),
-                    last: Some(after),
-                };
-                time = after;
-                rest = behind;
+        if let Some((after, len)) = short_event(order, time, rest) {
+            summary = with_event(summary, after);
+            time = after;
+            rest = bytes_past(rest, 4 + len as usize);
+        } else {
+            match next_event(order, time, rest) {
+                Next::Event {
+                    time: after,
+                    rest: behind,
+                    ..
+                } => {
+                    summary = with_event(summary, after);
+                    time = after;
+                    rest = behind;
+                }
+                Next::Done => return Some(summary),
+                Next::Malformed => return None,
             }
-            Next::Done => return Some(summary),
-            Next::Malformed => return None,
         }
     }
 }

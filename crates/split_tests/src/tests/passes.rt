@@ -98,14 +98,15 @@ fn stop_of(words: &str) -> Option<Moment> {
 }
 
 // The first processor's sub-buffers are followed by the other's.
-fn set_parts(layout: &Layout, lanes: &mut [Lane], cpus: [&[Page<'_>]; 2])
+pub(super) fn set_parts(layout: &Layout, lanes: &mut [Lane], counts: [usize; 2])
     requires two { length lanes.old ≡ 2 }
     requires new { All (IsNew layout.now.page 0) lanes.old }
     ensures in_order { All (IsInOrder layout.now) lanes.new }
     ensures rise { CpusRise (parts_of lanes.new) }
 {
-    let size = (cpus[0].len() as u64).wrapping_mul(PAGE as u64);
-    let other = (cpus[1].len() as u64).wrapping_mul(PAGE as u64);
+    let page = u64::from(layout.page);
+    let size = (counts[0] as u64).wrapping_mul(page);
+    let other = (counts[1] as u64).wrapping_mul(page);
     let first = Part { offset: 0, size };
     let second = Part {
         offset: size,
@@ -124,24 +125,25 @@ fn bytes_of(alloc: Global, cpus: [&[Page<'_>]; 2]) -> Result<Vec<u8>, Fail> {
 
 /// How the passes over a piece ended, and how many sub-buffers each processor's items take.
 #[derive(Clone, Copy)]
-struct Passed {
-    end: PieceEnd,
-    packed: End,
-    pages: [u64; 2],
+pub(super) struct Passed {
+    pub(super) end: PieceEnd,
+    pub(super) packed: End,
+    pub(super) pages: [u64; 2],
 }
 
 // Both passes over the next piece.
-fn pass_piece<F: File, O: Sink>(
+pub(super) fn pass_piece<F: File, O: Sink>(
     layout: &Layout,
     file: &mut F,
     lanes: &mut [Lane],
     unit: PieceUnit,
     stop: Option<Moment>,
     nexts: &mut LeastTree,
+    page: &mut [u8],
     out: &mut O,
 ) -> Result<Passed, Failed>
     requires allowed { IsLayout layout.now }
-    requires page { layout.now.page ≡ 4096 }
+    requires whole { length page.old ≡ layout.now.page }
     requires two { length lanes.old ≡ 2 }
     requires slots { length nexts.old ≡ 2 }
     requires in_order { All (IsInOrder layout.now) lanes.old }
@@ -157,13 +159,12 @@ fn pass_piece<F: File, O: Sink>(
     };
     let mut fronts = [place; 2];
     let mut tallies = [Tally::new(), Tally::new()];
-    let mut page = [0; 4096];
     make_all_ready(layout, file, lanes)?;
     note_fronts(lanes, &mut fronts);
     clear(&mut tallies);
     let mut gauge = Gauge::new(unit);
     let end = measure(layout, file, lanes, stop, &mut gauge, &mut tallies, nexts)?;
-    let packed = pack_all(layout, file, lanes, &fronts, &tallies, &mut page, out);
+    let packed = pack_all(layout, file, lanes, &fronts, &tallies, page, out);
     Ok(Passed {
         end,
         packed,
@@ -210,7 +211,10 @@ fn put_pieces<F: File>(
     for _ in 0..8 {
         let mut nexts = LeastTree::new(alloc, 2)?;
         let mut out = MemSink::new(alloc);
-        let Ok(passed) = pass_piece(layout, file, lanes, unit, stop, &mut nexts, &mut out) else {
+        let mut page = [0; PAGE];
+        let Ok(passed) = pass_piece(
+            layout, file, lanes, unit, stop, &mut nexts, &mut page, &mut out,
+        ) else {
             text.push_str("unread")?;
             return Ok(Done);
         };
@@ -245,7 +249,7 @@ fn text_of(alloc: Global, name: &str, words: &str) -> Result<String, Fail> {
     let layout = layout();
     let mut pool = Pool::new(alloc, 2, layout.page, 0)?;
     let lanes = pool.lanes();
-    set_parts(&layout, lanes, cpus);
+    set_parts(&layout, lanes, [cpus[0].len(), cpus[1].len()]);
     let mut text = String::new(alloc);
     let end = put_pieces(alloc, &layout, &mut file, lanes, words, &mut text)?;
     put_end(&mut text, end)?;
@@ -294,9 +298,12 @@ fn passes(
     let layout = layout();
     let mut pool = Pool::new(alloc, 2, layout.page, 0)?;
     let lanes = pool.lanes();
-    set_parts(&layout, lanes, THREE);
+    set_parts(&layout, lanes, [THREE[0].len(), THREE[1].len()]);
     let mut nexts = LeastTree::new(alloc, 2)?;
-    match pass_piece(&layout, &mut file, lanes, All, None, &mut nexts, &mut out) {
+    let mut page = [0; PAGE];
+    match pass_piece(
+        &layout, &mut file, lanes, All, None, &mut nexts, &mut page, &mut out,
+    ) {
         Ok(passed) => Ok(Ok((passed.end, passed.packed))),
         Err(Failed) => Ok(Err(Failed)),
     }
