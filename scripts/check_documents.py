@@ -12,7 +12,7 @@ samples/ it is checked that
 - a law (law `name`, law `name` of `crate`) is a call that its crate exports;
 - a file (`crates/NAME/src/lib.rt`, `Ran.antt`, `Cut.antt` of `subpage`) and a link's target stand on disk, an anchor is a heading, and
   a script knows the words that it is called with;
-- an edit of a row (| `crate` | `edit` | ..) stands in its crate's must-fail/, and the clause of that row is there;
+- an edit of a row (| `crate` | `edit` | ..) stands in its crate's must-fail/, the clause of that row is there, and each edit has a row;
 - a row of definitions (| .. | `name`, .. | `crate` File, .. | ..) names files of the crate's specs/ that have these names;
 - any other name in quotes that is written as names of code are stands somewhere in the code;
 - README.md has at most 150 lines of at most 120 characters.
@@ -167,7 +167,9 @@ class Repository:
             return any(self.top.glob(f"crates/*/{pattern}"))
         if "/" in pattern:
             return any(any(folder.glob(pattern)) for folder in (self.top, beside))
-        return any(beside.glob(pattern)) or any(any(self.top.glob(f"{folder}/**/{pattern}")) for folder in ("crates", "docs", "scripts", "samples"))
+        if any(any(folder.glob(pattern)) for folder in (self.top, beside)):
+            return True
+        return any(any(self.top.glob(f"{folder}/**/{pattern}")) for folder in ("crates", "docs", "scripts", "samples"))
 
 
 class Document:
@@ -373,10 +375,18 @@ def size_of(readme: Path) -> list[Finding]:
     return found + [Finding("README.md", number, f"{len(line)} characters, more than {MOST_CHARACTERS}") for number, line in long]
 
 
+def edits_without_a_row(top: Path) -> list[Finding]:
+    testing = (top / "docs/TESTING.md").read_text()
+    edits = [(edit.parent.parent.name, edit.stem) for edit in sorted(top.glob("crates/*/must-fail/*.edit"))]
+    missing = [(crate, edit) for crate, edit in edits if f"| `{crate}` | `{edit}` |" not in testing]
+    return [Finding("docs/TESTING.md", 1, f"no row for the edit {edit} of {crate}") for crate, edit in missing]
+
+
 def check(top: Path) -> bool:
     repository = Repository(top)
     documents = repository.documents()
-    found = [it for file in documents for it in Document(repository, file).check()] + size_of(top / "README.md")
+    found = [it for file in documents for it in Document(repository, file).check()]
+    found += size_of(top / "README.md") + edits_without_a_row(top)
     for document, line, what in found:
         print(f"{document}:{line}: {what}")
     if not found:

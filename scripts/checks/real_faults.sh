@@ -98,12 +98,44 @@ says "trace-cmd: write failed"
 begins_whole
 
 begins "names that are none"
-for name in "" missing.dat missing/trace.dat new trace.dat/x "$(printf 'x%.0s' $(seq 5000))"; do
+for name in "" missing.dat missing/trace.dat trace.dat/x "$(printf 'x%.0s' $(seq 5000))"; do
     "$program" report "$name" >out 2>err
     status_is 4 $?
     says "trace-cmd: $name: read failed"
     [ ! -s out ] || wrong "an output"
 done
+
+# cannot_read WORD ..: the last word names what cannot be read.
+cannot_read() {
+    tail -c +1 trace.dat | timeout 20 "$program" "$@" >out 2>err
+    status_is 4 $?
+    says "trace-cmd: ${!#}: read failed"
+    [ ! -s out ] || wrong "an output"
+    [ -z "$(ls new)" ] || wrong "new files"
+}
+begins "what is no regular file: a folder, a pipe without and with a writer, a device"
+mkfifo pipe
+for name in new pipe /dev/stdin /dev/null /dev/zero; do
+    cannot_read report "$name"
+    cannot_read dump "$name"
+    cannot_read split -o new/p -i "$name"
+    cannot_read restore -o new/r -i trace.dat "$name"
+done
+rm -f pipe
+
+begins "a terminal"
+python3 - "$program" >out 2>err <<'END'
+import os, pty, subprocess, sys
+_, terminal = pty.openpty()
+name = os.ttyname(terminal)
+with open("terminal", "w") as file:
+    file.write(name)
+sys.exit(subprocess.run([sys.argv[1], "report", name], timeout=20).returncode)
+END
+status_is 4 $?
+says "trace-cmd: $(cat terminal): read failed"
+[ ! -s out ] || wrong "an output"
+rm -f terminal
 
 begins "new names that are none"
 for base in missing/p trace.dat/p "$(printf 'x%.0s' $(seq 300))"; do

@@ -12,7 +12,7 @@ installed() {
     echo "644 docs/trace_cmd.1 share/man/man1/trace_cmd.1"
     echo "644 scripts/completions/trace_cmd.bash share/bash-completion/completions/$name"
     echo "644 scripts/completions/_trace_cmd share/zsh/site-functions/_trace_cmd"
-    (cd "$top" && ls README.md LICENSE CHANGELOG.md docs/*.md docs/*.svg samples/*) | while read -r file; do
+    (cd "$top" && ls README.md LICENSE CHANGELOG.md CONTRIBUTING.md docs/*.md docs/*.svg samples/*) | while read -r file; do
         echo "644 $file share/doc/$name/$file"
     done
 }
