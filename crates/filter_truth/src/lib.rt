@@ -5,8 +5,8 @@
 //! names costs a look-up for each filter.
 //!
 //! A report takes [`Filters`]: [`Filters::bind`] binds all its filters, [`Filters::settled`] tells of a format once whether all
-//! of its events are shown or none, and `show` decides where neither is so. [`bind`] and [`holds`] are for one filter alone. The
-//! functions of [`laws`] do nothing.
+//! of its events are shown or none, and `show` decides where neither is so. [`bind`] and [`holds`] are for one filter alone;
+//! tests call them. The functions of [`laws`] do nothing.
 #![tactic(auto)]
 
 mod binding;

@@ -8,7 +8,6 @@ use Rattle.dat_header.specs.declared.header.Header.{Header}
 use Rattle.dat_header.specs.Header.{header_of}
 use Rattle.run_endings.specs.declared.status.Status.TheVariants.{Done, Usage, Refused, ReadFault}
 use Rattle.run_words.specs.declared.usage.UsageFault.{UsageFault}
-use Rattle.run_words.specs.Usage.{asked}
 use Rattle.trace_args.specs.declared.topic.Topic.{Topic}
 use Rattle.trace_args.specs.Topics.{topic_text}
 use Rattle.trace_args.specs.Command.{DumpData, SelfData}
@@ -87,6 +86,3 @@ meaning_read (Ok (SelfTest words)) told = Some (self_test words)
 meaning_read (Ok (Restore words)) told = option_map (restore_meaning words) told
 meaning_read (Ok (About topic)) told = Some (topic_means topic)
 meaning_read (Err fault) told = Some (only Usage)
-
-abbrev pub meaning : List (List ℕ) → Option NamedFiles → Option Meaning
-meaning words told = meaning_read (asked words) told
