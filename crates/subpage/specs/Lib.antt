@@ -16,3 +16,4 @@ pub mod PageView
 pub mod Marks
 pub mod Run
 pub mod PlainRecord
+pub mod WithBytes

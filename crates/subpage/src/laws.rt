@@ -1,6 +1,6 @@
 //! Laws of this crate's definitions. Each is the contract of a function that does nothing.
 
-ghost use Rattle.std.specs.Prelude.{◌≡◌, ◌+◌, ◌%◌, ◌^◌, ◌<◌, ◌≤◌, max, List, [], ℕ, map, length, take, slice_index, fold, take_while, Some, None, IfSome, IfNone, ◌↔◌};
+ghost use Rattle.std.specs.Prelude.{◌≡◌, ◌+◌, ◌%◌, ◌^◌, ◌<◌, ◌≤◌, max, List, [], ℕ, map, length, take, slice_index, fold, take_while, sum_by, Some, None, IfSome, IfNone, ◌↔◌};
 ghost use Rattle.std.specs.List.{last_or};
 ghost use Rattle.trace_base.specs.declared.layout.Layout.{Layout};
 ghost use Rattle.trace_base.specs.declared.order.Order.{Order};
@@ -10,7 +10,9 @@ ghost use Rattle.subpage.specs.Cut.{IsLeast, cut_of, cuts_of, is_up_to, last_key
 ghost use Rattle.subpage.specs.Element.{ElementData, Spelled};
 ghost use Rattle.subpage.specs.ItemData.{ItemData, item_time};
 ghost use Rattle.subpage.specs.Page.{AreItems, items};
+ghost use Rattle.subpage.specs.Processor.{page_count};
 ghost use Rattle.subpage.specs.RunningTime.{stamped};
+ghost use Rattle.subpage.specs.WithBytes.{with_bytes};
 
 /// At most one list of elements spells the same bytes.
 pub fn one_spelling()
@@ -73,4 +75,17 @@ pub fn reached_items()
         → IfSome (cut_of layout file parts) (λ cut.
         with_key cpu_of cut.cpu (reached_of layout file parts)
         ≡ with_key cpu_of cut.cpu (all_keyed (lists_of layout file parts))) }
+{}
+
+/// Processors whose part has no bytes may be left out: the cut, the reached items and the size of all parts stay, and the
+/// numbers of those that are left rise. Such a part has no sub-buffer that could be read.
+pub fn empty_parts()
+    ensures cut { (layout : Layout) (file : List ℕ) (parts : List (ℕ × Part))
+        → cut_of layout file (with_bytes parts) ≡ cut_of layout file parts }
+    ensures reached { (layout : Layout) (file : List ℕ) (parts : List (ℕ × Part))
+        → reached_of layout file (with_bytes parts) ≡ reached_of layout file parts }
+    ensures size { (parts : List (ℕ × Part))
+        → sum_by (λ part. part.1.size) (with_bytes parts) ≡ sum_by (λ part. part.1.size) parts }
+    ensures pages { (layout : Layout) (part : Part) → part.size ≡ 0 → page_count layout part ≡ 0 }
+    ensures rise { (parts : List (ℕ × Part)) → CpusRise parts → CpusRise (with_bytes parts) }
 {}

@@ -10,7 +10,8 @@
 //!
 //! The definitions go further than the code: `specs/` also says what the items of a whole processor are
 //! (`Processor.antt`), in which order those of several processors stand (`Arrangement.antt`), and where a malformed
-//! sub-buffer ends them (`Cut.antt`). [`laws`] tells what these definitions come to.
+//! sub-buffer ends them (`Cut.antt`). [`laws`] tells what these definitions come to; by one of them a report goes without the
+//! processors that [`drop_empty`] drops.
 #![tactic(auto)]
 
 mod element;
@@ -21,6 +22,7 @@ mod loss;
 mod mark;
 mod next;
 mod page;
+mod parts;
 mod reading;
 mod run;
 mod running_time;
@@ -30,5 +32,6 @@ pub use item::Item;
 pub use items::Items;
 pub use mark::{Mark, Span, first_at, item_between, pass_item};
 pub use page::{Page, check_page, open_page};
+pub use parts::drop_empty;
 pub use reading::filled_up;
 pub use run::{RunLimits, plain_run, run_between};
