@@ -6,3 +6,4 @@ pub mod Waits
 pub mod Reports
 pub mod DueReading
 pub mod UnusedLanes
+pub mod EmptyParts

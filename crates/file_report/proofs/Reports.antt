@@ -7,6 +7,7 @@ use Rattle.trace_outside.proofs.Gains.{gained_nothing}
 use Rattle.dat_header.specs.declared.header.Header.{Header}
 use Rattle.dat_header.specs.declared.header.Body.{Body}
 use Rattle.dat_header.specs.declared.header.Body.TheVariants.{Fly, Latency}
+use Rattle.subpage.specs.WithBytes.{with_bytes}
 use Rattle.report_print.specs.ContextData.{ContextData}
 use Rattle.trace_args.specs.Command.{ReportData}
 use Rattle.word_values.specs.declared.listing.Listing.{Listing}
@@ -22,6 +23,7 @@ use Rattle.file_report.specs.Report.{events_on, listed_events, listed_calls}
 use Rattle.file_report.specs.Reported.{AtWork, Reported, Task, body_task, chosen_task, file_task, parts_task, progress_of}
 use Rattle.run_endings.specs.Selection.{chosen, set_or_all}
 use Rattle.run_endings.proofs.Endings.{if_known, if_no_memory, prints_always, unprinted}
+use Rattle.file_report.proofs.EmptyParts.{with_empty_parts}
 
 -- there was no memory, and nothing was done
 pub not_begun : (task : Task) (told : Option (List ℕ)) (seen : AtWork) → Reported task told NoMemory seen seen
@@ -78,12 +80,13 @@ module _ (words : ReportData) (header : Header) (told : Option (List ℕ)) (stat
       subst (λ (body : Body). Reported (body_task words header body size) told status before now) (sym is)
       (record { prints = there.prints; reads = there.reads; due = there.due; gathers = there.gathers; kept = there.kept })
 
-  -- what is shown is what the words choose
-  pub chosen_reported : (parts : List Part) (given : ContextData) (shown : List (ℕ × Part)) (before now : AtWork) → given ≡ context_of words header → shown ≡ chosen (set_or_all words.cpus) parts
+  -- what is shown is what the words choose, without the parts that have no bytes
+  pub chosen_reported : (parts : List Part) (given : ContextData) (shown : List (ℕ × Part)) (before now : AtWork) → given ≡ context_of words header → shown ≡ with_bytes (chosen (set_or_all words.cpus) parts)
       → Reported (parts_task words.calls words.wakeups given shown header) told status before now → Reported (chosen_task words header parts) told status before now
   chosen_reported parts given shown before now given_is shown_is did =
       subst (λ (by : ContextData). Reported (parts_task words.calls words.wakeups by (chosen (set_or_all words.cpus) parts) header) told status before now) given_is
-      (subst (λ (ps : List (ℕ × Part)). Reported (parts_task words.calls words.wakeups given ps header) told status before now) shown_is did)
+      (with_empty_parts given (chosen (set_or_all words.cpus) parts) header words.calls words.wakeups told status before now
+      (subst (λ (ps : List (ℕ × Part)). Reported (parts_task words.calls words.wakeups given ps header) told status before now) shown_is did))
 
 module _ (given : ContextData) (shown : List (ℕ × Part)) (header : Header) (told : Option (List ℕ)) (before now : AtWork) where
   -- calls are gathered in one pass

@@ -15,7 +15,7 @@ ghost use Rattle.report_context.specs.Lines.{cpus_line};
 ghost use Rattle.file_report.specs.Reported.{IsShown, events_shown};
 
 use crate::report::{ReportPlan, Shown};
-use cpu_workers::Workers;
+use cpu_workers::{SHARED_FROM, Workers};
 use least_tree::LeastTree;
 use page_pool::Pool;
 use report_context::{LINES_ROOM, line_buffer, put_cpus};
@@ -71,6 +71,7 @@ pub(crate) fn print_lines<R: Threads + Sync, I: File, O: Sink, G: Gate>(
     let workers = Workers {
         rt: resources.rt,
         count: plan.words.workers,
+        shared_from: SHARED_FROM,
         gate: resources.gate,
     };
     let mut work = RoundWork {

@@ -29,7 +29,7 @@ pub struct ReportPlan<'a, 'w> {
     pub header: &'a Header,
 }
 
-/// What is shown of a file: the form of its lines, and the parts of the chosen processors with their numbers.
+/// What is shown of a file: the form of its lines, and the parts that have bytes of the chosen processors, with their numbers.
 #[derive(Clone, Copy)]
 pub(crate) struct Shown<'a> {
     pub(crate) form: &'a ItemLines,
@@ -79,7 +79,7 @@ fn print_parts<R: Threads + Sync, I: File, O: Sink, G: Gate>(
     let Ok(context) = context_of(alloc, plan.words, filters, plan.header) else {
         return Status::NoMemory;
     };
-    let Ok(chosen) = Selection::set_or_all(&plan.words.cpus).chosen(alloc, parts) else {
+    let Ok(chosen) = Selection::set_or_all(&plan.words.cpus).chosen_with_bytes(alloc, parts) else {
         return Status::NoMemory;
     };
     let form = ItemLines { context };

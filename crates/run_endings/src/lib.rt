@@ -1,7 +1,7 @@
 //! What every job of a run shares: how it may end, beside what it means, and what it is lent.
 //!
 //! [`Status`] is the answer of a run, and [`Outcome`] an answer with the file that its message names; the functions of `ends` give the
-//! answer for how lanes, a pass over them or a cut ended. A command takes its processors by [`Selection::chosen`], and is lent
+//! answer for how lanes, a pass over them or a cut ended. A command takes its processors by [`Selection::chosen`] or [`Selection::chosen_with_bytes`], and is lent
 //! [`Resources`]. The four endings stand in `specs/Ending.antt`, over the record of `specs/Meaning.antt`.
 #![tactic(auto)]
 

@@ -1,10 +1,12 @@
 // The processors that a command takes.
 
 ghost use Rattle.std.specs.Prelude.{◌≡◌, ◌≤◌, ◌++◌, [], ◌∷◌, filter, length, IfOk, OnOk};
+ghost use Rattle.subpage.specs.WithBytes.{with_bytes};
 ghost use Rattle.run_endings.specs.Selection as spec;
 ghost use Rattle.run_endings.specs.Selection.{selection_of};
 
 use std::alloc::{AllocError, Global};
+use subpage::drop_empty;
 use trace_base::Part;
 use word_values::CpuSet;
 
@@ -59,6 +61,22 @@ impl<'a> Selection<'a> {
             self.push(&mut taken, (cpu, *part))?;
             cpu += 1;
         }
+        Ok(taken)
+    }
+
+    /// Those of them whose part has bytes. A report has the same lines and the same end without the others, which would cost
+    /// it a lane each.
+    pub fn chosen_with_bytes(
+        &self,
+        alloc: Global,
+        parts: &[Part],
+    ) -> Result<Vec<(u32, Part)>, AllocError>
+        requires { length parts.now ≤ 1024 }
+        ensures chosen { IfOk result (λ taken. taken.items ≡ with_bytes (spec.chosen (selection_of self.now) parts.now)) }
+        ensures few { IfOk result (λ taken. length taken.items ≤ 1024) }
+    {
+        let mut taken = self.chosen(alloc, parts)?;
+        drop_empty(&mut taken);
         Ok(taken)
     }
 

@@ -23,7 +23,7 @@ use Rattle.dat_header.specs.Seen.{FileSeen}
 use Rattle.trace_args.specs.Command.{ReportData}
 use Rattle.run_endings.specs.declared.status.Status.TheVariants.{Malformed, NoMemory}
 use Rattle.run_endings.specs.Ending.{Ends, IfNoMemory}
-use Rattle.several_report.specs.Inputs.{input_share, NamedInput, WrongInput, inputs_in, names_in}
+use Rattle.several_report.specs.Inputs.{input_share, NamedInput, WrongInput, inputs_in, names_in, shown_in}
 use Rattle.run_endings.specs.Meaning.{Meaning, on_out}
 use Rattle.several_report.specs.Meaning.{ended_in, files_meaning, files_report, inputs_mean}
 use Rattle.several_report.specs.Naming.{IsInputOf, IsHeldNamed}
@@ -35,6 +35,7 @@ use Rattle.report_context.specs.declared.lines.ItemLines.{ItemLines}
 use Rattle.report_context.proofs.LineLength.{line_short}
 use Rattle.run_endings.proofs.Endings.{Around, ended_around, known_so, if_known}
 use Rattle.run_endings.proofs.Requesting.{asked_few}
+use Rattle.several_report.proofs.EmptyParts.{cut_same, report_same}
 use Rattle.several_report.proofs.InputNames.{named_any}
 use Rattle.run_endings.proofs.Printed.{printed_known}
 use Rattle.run_endings.proofs.Reading.{any_answer}
@@ -123,7 +124,7 @@ module _ (words : ReportData) (old new : List Seen) (before now : FolderSeen) (o
   shows end.Write read write same = write
 
   meant : (files : NamedFiles) → AreInputs words files (names_in words) old → files_report all_shown ≡ files_meaning words files
-  meant files inputs = ap files_report inputs.shown ∙ sym (ap (inputs_mean words) inputs.read)
+  meant files inputs = ap files_report inputs.shown ∙ report_same (map (shown_in words) inputs.inputs) ∙ sym (ap (inputs_mean words) inputs.read)
 
   written : (told : Option NamedFiles) → IfSome told (λ files. AreInputs words files (names_in words) old)
       → (All (λ source. IsSome source.told) old → IsFilesReport all_shown out.written out_now.written answer)
@@ -177,8 +178,7 @@ module _ (words : ReportData) (old new : List Seen) (before now : FolderSeen) (o
         let inside : source < length all_shown = cut_below all_shown (Some whole) cut.1 in
         let lt : source < length (names_in words) = omega (arith, inside, length-map old shown_of, opened.count) in
         subst (λ (r : Result (List NamedInput) WrongInput). IsInputOf words r (Malformed cpu page) name) (sym inputs.read)
-        (subst (λ (gs : List several.ShownFile). IfSome (cut_of_files gs) (λ c. slice_get (names_in words) c.file ≡ Some name)) inputs.shown
-        (subst (λ (o : Option FileCut). IfSome o (λ c. slice_get (names_in words) c.file ≡ Some name)) (sym cut.1) (there source lt is)))
+        (subst (λ (o : Option FileCut). IfSome o (λ c. slice_get (names_in words) c.file ≡ Some name)) (sym cut.1 ∙ ap cut_of_files inputs.shown ∙ cut_same (map (shown_in words) inputs.inputs)) (there source lt is))
 
     named_told : (told : Option NamedFiles) (e : FilesEnd) → IfSome told (λ files. AreInputs words files (names_in words) old)
         → IfSome (source_of e) (λ source. IfSome (slice_get (names_in words) source) (λ n. n ≡ name))

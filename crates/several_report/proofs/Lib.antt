@@ -5,3 +5,4 @@ pub mod FilesShown
 pub mod FilesRan
 pub mod LentLanes
 pub mod Unread
+pub mod EmptyParts

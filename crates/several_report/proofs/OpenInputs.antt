@@ -30,7 +30,7 @@ use Rattle.run_endings.specs.Meaning.{only}
 use Rattle.several_report.specs.Naming.{IsInputOf}
 use Rattle.run_endings.specs.Outside.{FolderSeen, SinkSeen, beside}
 use Rattle.run_endings.specs.Ran.{MissesNothingElse}
-use Rattle.several_report.specs.Sources.{AreInputs, AreOpened, IsFaultless, IsInput, IsOpened, IsUnopened, LeavesHeld, FilesReported, StandsAt, file_in, reads_due}
+use Rattle.several_report.specs.Sources.{AreInputs, AreOpened, IsFaultless, IsInput, IsOpened, IsUnopened, LeavesHeld, FilesReported, StandsAt, file_in, reads_due, without_empty}
 use Rattle.run_endings.proofs.Endings.{if_known, stored_none, known_so}
 use Rattle.run_endings.proofs.Requesting.{asked_front, asked_more}
 use Rattle.run_words.proofs.Readings.{readings_fault, readings_more}
@@ -52,8 +52,9 @@ module _ (words : ReportData) (names : List (List ℕ)) (name : List ℕ) (sourc
     shown =
         map-append shown_of sources (source ∷ [])
         ∙ ap (λ gs. gs ++ shown_of source ∷ []) all.shown
-        ∙ ap (λ g. map (shown_in words) all.inputs ++ g ∷ []) one.shown
-        ∙ sym (map-append (shown_in words) all.inputs (one.input ∷ []));
+        ∙ ap (λ g. map without_empty (map (shown_in words) all.inputs) ++ g ∷ []) one.shown
+        ∙ sym (map-append without_empty (map (shown_in words) all.inputs) (shown_in words one.input ∷ []))
+        ∙ ap (map without_empty) (sym (map-append (shown_in words) all.inputs (one.input ∷ [])));
     reads = omega (arith, sum_push reads_due sources source, sum_push (input_share words) all.inputs one.input, all.reads, one.reads);
   }
 

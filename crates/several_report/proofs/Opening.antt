@@ -20,6 +20,8 @@ use Rattle.event_cursor.specs.Standing.{IsInOrder}
 use Rattle.line_holes.specs.Holes.{LineText}
 use Rattle.subpage.specs.ItemData.{ItemData}
 use Rattle.subpage.specs.Arrangement.{CpusRise}
+use Rattle.subpage.specs.WithBytes.{with_bytes}
+use Rattle.subpage.proofs.EmptyParts.{rise_same, sum_same}
 use Rattle.multi_report.specs.Order as several
 use Rattle.multi_report.specs.Sources.{IsFreshSource, IsUsable, shown_of}
 use Rattle.dat_header.specs.Seen.{FileSeen}
@@ -34,7 +36,7 @@ use Rattle.several_report.specs.Inputs.{shown_in, input_found, input_named, inpu
 use Rattle.run_endings.specs.Outside.{FolderSeen}
 use Rattle.report_context.specs.Lines.{item_line}
 use Rattle.run_endings.specs.Selection.{has, set_or_all}
-use Rattle.several_report.specs.Sources.{IsBasis, IsInput, IsOpened, IsRead, WhyUnopened, IsUnopened, WhyUnread, seen_with}
+use Rattle.several_report.specs.Sources.{IsBasis, IsInput, IsOpened, IsRead, WhyUnopened, IsUnopened, WhyUnread, seen_with, without_empty}
 use Rattle.run_endings.proofs.Chosen.{chosen_rise}
 use Rattle.run_endings.proofs.Endings.{refused_by}
 use Rattle.time_merge.proofs.UnusedLanes.{unused_fresh, unused_in_order}
@@ -43,12 +45,15 @@ shown_rise : (cpus : Option (List Bool)) (body : Body) → CpusRise (shown_parts
 shown_rise cpus Latency = tt
 shown_rise cpus (Fly parts) = (chosen_rise (λ part. has (set_or_all cpus) part.0) 0 parts).1
 
+size_same : (parts : List (ℕ × Part)) → parts_size (with_bytes parts) ≡ parts_size parts
+size_same parts = sum_same (λ (part : ℕ × Part). part.1.size) parts (λ part none. none)
+
 module _ (words : ReportData) (header : Header) (basis : Basis) (is : IsBasis words header basis) where
   pub basis_usable : (name : List ℕ) (file : FileSeen) → IsLayout header.layout → IsUsable (seen_with name file basis)
   basis_usable name file allowed = record {
     layout = subst IsLayout (sym is.layout) allowed;
     in_order = subst (λ (l : Layout). All (IsInOrder l) basis.pool) (sym is.layout) (unused_in_order header.layout 0 basis.pool is.unused);
-    rise = subst (λ (ps : List (ℕ × Part)). CpusRise ps) (sym is.parts) (shown_rise words.cpus header.body);
+    rise = subst (λ (ps : List (ℕ × Part)). CpusRise ps) (sym is.parts) (rise_same (shown_parts words.cpus header.body) (shown_rise words.cpus header.body));
     slots = is.slots;
   }
 
@@ -56,7 +61,7 @@ module _ (words : ReportData) (header : Header) (basis : Basis) (is : IsBasis wo
   basis_fresh name file = unused_fresh header.layout.page 0 basis.pool is.unused
 
   basis_shown : (name bytes : List ℕ) (file : FileSeen) → file.bytes ≡ Some bytes
-      → shown_of (seen_with name file basis) ≡ shown_in words (record { name = name; header = header; bytes = bytes })
+      → shown_of (seen_with name file basis) ≡ without_empty (shown_in words (record { name = name; header = header; bytes = bytes }))
   basis_shown name bytes file told =
       same_shown name is.cpus is.layout (ap (λ (t : Option (List ℕ)). unwrap_or t []) told) is.parts (ap item_line is.context)
     where
@@ -77,7 +82,7 @@ module _ (words : ReportData) (header : Header) (basis : Basis) (is : IsBasis wo
     read = ap (input_found name) found ∙ ap (input_with name bytes) read;
     told = subst (λ (t : Option (List ℕ)). IsSome t) (sym told) refl;
     shown = basis_shown name bytes file told;
-    reads = omega (arith, reads, ap parts_size is.parts);
+    reads = omega (arith, reads, ap parts_size is.parts ∙ size_same (shown_parts words.cpus header.body));
   }
 
 -- the same where it is not known whether the files are told

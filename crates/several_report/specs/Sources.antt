@@ -11,10 +11,12 @@ use Rattle.trace_outside.specs.Names.{NamedFiles}
 use Rattle.trace_base.specs.Layout.{IsLayout}
 use Rattle.dat_header.specs.declared.header.Header.{Header}
 use Rattle.dat_header.specs.Header.{IsRefusal, ReadsHeader}
+use Rattle.subpage.specs.WithBytes.{with_bytes}
 use Rattle.time_merge.specs.LaneRows.{parts_of}
 use Rattle.multi_report.specs.declared.report.FilesEnd.{FilesEnd}
 use Rattle.multi_report.specs.declared.report.FilesEnd.TheVariants as end
 use Rattle.multi_report.specs.declared.source.Source.{Source}
+use Rattle.multi_report.specs.Order.{ShownFile}
 use Rattle.multi_report.specs.Sources.{Seen, seen, shown_of, IsFreshSource, IsUsable}
 use Rattle.restore_tool.specs.Answers.{SomeFaulty}
 use Rattle.dat_header.specs.Seen.{FileSeen}
@@ -61,12 +63,17 @@ seen_with name opened basis = record {
 abbrev pub file_in : Seen → FileSeen
 file_in source = record { bytes = source.told; size = source.size; faults = source.faults; reads = source.reads }
 
--- what the lines of a file with this header stand on, and lanes over the parts that are shown of it, of which nothing was used up
+-- a file without the parts that have no bytes, for which there are no lanes
+abbrev pub without_empty : ShownFile → ShownFile
+without_empty file = record file { parts = with_bytes file.parts }
+
+-- what the lines of a file with this header stand on, and lanes over the parts with bytes that are shown of it, of which nothing
+-- was used up
 pub record IsBasis (words : ReportData) (header : Header) (basis : Basis) : Type 0 where
   pub layout : basis.layout ≡ header.layout
   pub cpus : basis.cpus ≡ header.cpus
   pub context : basis.form.context ≡ context_of words header
-  pub parts : parts_of basis.pool ≡ shown_parts words.cpus header.body
+  pub parts : parts_of basis.pool ≡ with_bytes (shown_parts words.cpus header.body)
   pub unused : All (IsUnused header.layout.page 0) basis.pool
   pub slots : length basis.nexts ≡ length basis.pool
 
@@ -95,7 +102,7 @@ pub record IsInput (words : ReportData) (files : NamedFiles) (name : List ℕ) (
   pub input : NamedInput
   pub read : input_named files name ≡ Ok input
   pub told : IsSome source.told
-  pub shown : shown_of source ≡ shown_in words input
+  pub shown : shown_of source ≡ without_empty (shown_in words input)
   pub reads : reads_due source ≤ input_share words input
 
 -- they are the inputs of these names, in their order
@@ -103,7 +110,7 @@ pub record AreInputs (words : ReportData) (files : NamedFiles) (names : List (Li
   pub inputs : List NamedInput
   pub read : inputs_in files names ≡ Ok inputs
   pub told : All (λ source. IsSome source.told) sources
-  pub shown : map shown_of sources ≡ map (shown_in words) inputs
+  pub shown : map shown_of sources ≡ map without_empty (map (shown_in words) inputs)
   pub reads : sum_by reads_due sources ≤ sum_by (input_share words) inputs
 
 -- no read of it failed since it was opened

@@ -4,6 +4,7 @@ ghost use Rattle.std.specs.Prelude.{◌≡◌, ◌≤◌, ◌<◌, ◌+◌, [], 
 ghost use Rattle.trace_base.specs.Layout.{IsLayout};
 ghost use Rattle.trace_outside.specs.Folders.{Closes};
 ghost use Rattle.dat_header.specs.Allowed.{IsBody};
+ghost use Rattle.subpage.specs.WithBytes.{with_bytes};
 ghost use Rattle.trace_outside.specs.Keeping.{KeepsFile};
 ghost use Rattle.time_merge.specs.LaneRows.{parts_of};
 ghost use Rattle.trace_args.specs.Command.{report_view};
@@ -28,7 +29,7 @@ use trace_base::{Layout, Part};
 use trace_outside::{Failed, File, Folder};
 use word_values::CpuSet;
 
-/// What the lines of a file stand on, and the lanes over the parts that are shown of it.
+/// What the lines of a file stand on, and the lanes over the parts that are shown of it and have bytes.
 #[derive(Drop)]
 struct Basis {
     layout: Layout,
@@ -38,7 +39,7 @@ struct Basis {
     nexts: LeastTree,
 }
 
-// The parts that are shown of a file.
+// The parts that are shown of a file and have bytes.
 fn shown_parts(
     alloc: Global,
     cpus: &Option<CpuSet>,
@@ -46,12 +47,12 @@ fn shown_parts(
 ) -> Result<Vec<(u32, Part)>, AllocError>
     requires few { header.now.cpus ≤ 1024 }
     requires parts { IsBody header.now.cpus header.now.body }
-    ensures parts { IfOk result (λ shown. shown.items ≡ spec.shown_parts cpus.now header.now.body) }
+    ensures parts { IfOk result (λ shown. shown.items ≡ with_bytes (spec.shown_parts cpus.now header.now.body)) }
     ensures few { IfOk result (λ shown. length shown.items ≤ 1024) }
 {
     match &header.body {
         Body::Latency => Ok(Vec::new(alloc)),
-        Body::Fly(parts) => Selection::set_or_all(cpus).chosen(alloc, parts.as_slice()),
+        Body::Fly(parts) => Selection::set_or_all(cpus).chosen_with_bytes(alloc, parts.as_slice()),
     }
 }
 
