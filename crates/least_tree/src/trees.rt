@@ -1,4 +1,4 @@
-ghost use Rattle.std.specs.Prelude.{◌≡◌, ℕ, ◌+◌, ◌*◌, ◌/◌, ◌<◌, ◌≤◌, length, take, replicate, slice_set, Option, None, IfOk, IfSome, if◌then◌else◌};
+ghost use Rattle.std.specs.Prelude.{◌≡◌, ◌≢◌, ℕ, ◌+◌, ◌*◌, ◌/◌, ◌<◌, ◌≤◌, length, take, replicate, slice_set, Option, Some, None, IfOk, IfSome, if◌then◌else◌};
 ghost use Rattle.least_tree.specs.Least.{rank, IsLeastAt};
 ghost use Rattle.least_tree.specs.Nodes.{AllBut, HasLeaves, IsSettled, mark_of, most, node, nothing};
 
@@ -61,6 +61,38 @@ fn settle(nodes: &mut [u128], slots: usize, place: usize)
     }
 }
 
+/// The least mark of the places of slots but one.
+fn least_but(nodes: &[u128], slots: usize, place: usize) -> u128
+    requires size { length nodes.now ≡ 2 * slots }
+    requires small { slots ≤ most }
+    requires inside { (slots ≤ place) × (place < 2 * slots) }
+    requires settled { (q : ℕ) → 1 ≤ q → q < slots → IsSettled nodes.now q }
+    ensures least { (q : ℕ) → slots ≤ q → q < 2 * slots → q ≢ place → result ≤ node nodes.now q }
+    ensures most { result ≤ nothing * most }
+{
+    let mut at = place;
+    let mut least = NOTHING;
+    while at > 1 {
+        let beside = if at % 2 == 0 { at + 1 } else { at - 1 };
+        least = least.min(nodes[beside]);
+        at /= 2;
+    }
+    least
+}
+
+/// The greatest key of which a slot's mark stands before this one.
+fn key_before(slot: usize, mark: u128) -> Option<u64>
+    requires slot { slot < most }
+    requires mark { mark ≤ nothing * most }
+    ensures { IfSome result (λ key. mark_of slot (Some (Some key)) < mark) }
+{
+    let first = MOST + slot as u128;
+    if mark <= first {
+        return None;
+    }
+    Some(((mark - first - 1) / MOST) as u64)
+}
+
 impl LeastTree {
     /// So many slots, with nothing in them.
     pub fn new(alloc: Global, slots: u32) -> Result<LeastTree, AllocError>
@@ -99,5 +131,15 @@ impl LeastTree {
         } else {
             Some((first % MOST) as usize)
         }
+    }
+
+    /// The greatest key with which a slot would have the least, and would be the first of several such: with each key up to it
+    /// the slot has. `None`: with no key.
+    pub fn up_to(&self, slot: usize) -> Option<u64>
+        requires { slot < length self.now }
+        ensures { IfSome result (λ most. (key : ℕ) → key ≤ most → IsLeastAt (slice_set self.now slot (Some (Some key))) (Some slot)) }
+    {
+        let slots = self.keys.len();
+        key_before(slot, least_but(self.nodes.as_slice(), slots, slots + slot))
     }
 }
