@@ -1,5 +1,5 @@
 -- One item more, in the pass for the size and in the pass for the bytes.
-use Rattle.std.proofs.Common.{◌≡◌, ℕ, ◌+◌, true, false, List, [], ◌∷◌, ◌++◌, length, Option, None, refl, sym, ap, subst, ◌∙◌, append-nil, arith}
+use Rattle.std.proofs.Common.{◌≡◌, ℕ, ◌+◌, true, false, List, [], ◌∷◌, ◌++◌, length, Option, None, Some, refl, sym, ap, subst, ◌∙◌, append-nil, arith}
 use Rattle.std.specs.List.{flat_map}
 use Rattle.std.specs.Io.KnownBytes.{append_known}
 use Rattle.std.proofs.lemmas.List.{length-append}
@@ -7,16 +7,16 @@ use Rattle.std.proofs.lemmas.Grind.{flat_map-append}
 use Rattle.trace_base.specs.declared.layout.Layout.{Layout}
 use Rattle.trace_outside.specs.Writing.{Gained, GainedPrefix}
 use Rattle.trace_outside.proofs.Gains.{gained_both, prefix_behind, gained_nothing}
-use Rattle.subpage.specs.ItemData.{ItemData}
+use Rattle.subpage.specs.ItemData.{ItemData, last_time}
 use Rattle.page_write.specs.declared.fill.Fill.{Fill}
 use Rattle.page_write.specs.declared.added.Added.{Added}
 use Rattle.page_write.specs.declared.added.Added.TheVariants as code
-use Rattle.page_write.specs.Adding.{Adds}
+use Rattle.page_write.specs.Adding.{Adds, IsRunAfter}
 use Rattle.page_write.specs.PageBytes.{one_page, page_of}
 use Rattle.page_write.specs.Fill.{IsFill}
 use Rattle.page_write.specs.Pack.{packed, pack}
 use Rattle.page_write.specs.SoFar.{open_page, IsSoFar, packed_on}
-use Rattle.page_write.proofs.Joined.{nothing_so_far, added_so_far, full_so_far, full_goes_on, ends_so_far, not_empty_after}
+use Rattle.page_write.proofs.Joined.{nothing_so_far, added_so_far, full_so_far, full_goes_on, ends_so_far, not_empty_after, all_added_so_far}
 use Rattle.page_passes.specs.declared.count.PageCount.{PageCount}
 use Rattle.page_passes.specs.Passes.{IsPageCount, HasPages}
 
@@ -100,6 +100,31 @@ size_full l old new xs x alone add fill more s =
     counted : (held : List ItemData) → one_page l (held ++ x ∷ []) ≡ false → length (packed l xs) ≡ length s.closed + length (open_page held) → length (packed l (xs ++ x ∷ [])) ≡ length (s.closed ++ s.held ∷ []) + 1 → new.pages ≡ length (packed l (xs ++ x ∷ []))
     counted [] never here there = let no_way : true ≡ false = sym alone ∙ never in absurd cc
     counted (h ∷ hs) never here there = omega (arith, more, s.pages, here, there, length-append s.closed (s.held ∷ []))
+
+-- a run after the last item goes into the open sub-buffer
+pub size_run : (l : Layout) (old new : PageCount) (xs ys : List ItemData) (run : List ℕ) (end : ℕ) → (count : IsPageCount l old xs) → IsRunAfter l count.held run end ys → IsFill l new.room (count.held ++ ys) → new.pages ≡ old.pages
+    → IsPageCount l new (xs ++ ys)
+size_run l old new xs ys run end count after fill same =
+    let far = all_added_so_far l xs count.closed count.held ys count.so_far fill.one in
+    record {
+      closed = count.closed;
+      held = count.held ++ ys;
+      so_far = far;
+      fill = fill;
+      pages = same ∙ count.pages ∙ count_of l xs count.closed count.held count.so_far ∙ more count.held (no_last count.held after.start after.last) (count_of l (xs ++ ys) count.closed (count.held ++ ys) far);
+      none = λ e. absurd (none_of count.held (no_last count.held after.start after.last) e);
+    }
+  where
+    no_last : (held : List ItemData) (start : ℕ) → last_time held ≡ Some start → held ≡ [] → ⊥
+    no_last held start is none = let e : None ≡ Some start = ap last_time (sym none) ∙ is in absurd cc
+
+    none_of : (held : List ItemData) → (held ≡ [] → ⊥) → held ++ ys ≡ [] → ⊥
+    none_of [] some e = some refl
+    none_of (h ∷ hs) some e = absurd cc
+
+    more : (held : List ItemData) → (held ≡ [] → ⊥) → length (packed l (xs ++ ys)) ≡ length count.closed + length (open_page (held ++ ys)) → length count.closed + length (open_page held) ≡ length (packed l (xs ++ ys))
+    more [] some there = absurd (some refl)
+    more (h ∷ hs) some there = omega (arith, there)
 
 -- the end, where no sub-buffer is open and where one is
 pub none_left : (l : Layout) (before now : Option (List ℕ)) (xs : List ItemData) → HasPages l before now xs [] → Gained before now (pack l xs)

@@ -3,10 +3,11 @@
 ghost use Rattle.std.specs.Prelude.{◌≡◌, ◌<◌, ◌≤◌, ◌+◌, ◌^◌, List, [], ◌∷◌, ◌++◌, length};
 ghost use Rattle.trace_base.specs.declared.layout.Layout.{Layout};
 ghost use Rattle.trace_base.specs.Layout.{IsLayout};
-ghost use Rattle.subpage.specs.ItemData.{ItemData};
+ghost use Rattle.subpage.specs.ItemData.{ItemData, last_time};
 ghost use Rattle.subpage.specs.ItemView.{item_view};
 ghost use Rattle.page_write.specs.Pack.{packed};
-ghost use Rattle.page_write.specs.PageBytes.{IsPackable};
+ghost use Rattle.page_write.specs.Adding.{HasRoom, IsRunAfter};
+ghost use Rattle.page_write.specs.PageBytes.{area_len, data_text, IsPackable};
 ghost use Rattle.page_passes.specs.Passes.{IsPageCount};
 
 use page_write::{Added, Room};
@@ -53,6 +54,35 @@ impl PageCount {
                 let _ = self.room.add(layout, item);
             }
         }
+    }
+
+    /// The time of the last item that was counted, where a sub-buffer is open.
+    pub fn last_time(&self) -> Option<u64>
+        ensures { (layout : Layout) (xs : List ItemData) → (count : IsPageCount layout self.now xs) → result ≡ last_time count.held }
+    {
+        self.room.last_time()
+    }
+
+    /// For how many bytes more the open sub-buffer has room.
+    pub fn room(&self, layout: &Layout) -> usize
+        requires { IsLayout layout.now }
+        ensures most { result ≤ area_len layout.now }
+        ensures room { (xs : List ItemData) → (count : IsPageCount layout.now self.now xs)
+            → length (data_text layout.now count.held) + result ≡ area_len layout.now }
+    {
+        self.room.room(layout)
+    }
+
+    /// Counts the events of a run of plain records, which follows the last item that was counted, and for which the open
+    /// sub-buffer has room. The last of the events is at `end`.
+    pub fn add_run(&mut self, layout: &Layout, run: &[u8], end: u64)
+        requires { IsLayout layout.now }
+        ensures counts { (xs ys : List ItemData) → (count : IsPageCount layout.now self.old xs)
+            → IsRunAfter layout.now count.held run.now end ys → HasRoom layout.now count.held (length run.now)
+            → IsPageCount layout.now self.new (xs ++ ys) }
+        ensures same { self.new.pages ≡ self.old.pages }
+    {
+        self.room.add_run(layout, run, end);
     }
 
     /// How many sub-buffers the items take that were counted.

@@ -1,7 +1,7 @@
 -- What packing writes for a run of plain records is their own bytes.
 use Rattle.std.proofs.Common.{◌≡◌, ℕ, suc, ◌+◌, ◌-◌, ◌*◌, ◌/◌, ◌%◌, ◌^◌, ◌<◌, ◌≤◌, true, ltb, leb, List, [], ◌∷◌, ◌++◌, map, length, take, drop, reverse, Option, Some, None, refl, sym, ap, subst, ◌∙◌, ◌&&◌, arith}
 use Rattle.std.specs.List.{All, last_or}
-use Rattle.std.proofs.lemmas.Bool.{lt-ltb, le-leb, and_from, and_parts}
+use Rattle.std.proofs.lemmas.Bool.{lt-ltb, le-leb, leb-true, and_from, and_parts}
 use Rattle.std.proofs.lemmas.List.{length-append, length-reverse, reverse-reverse, take_at, drop_at}
 use Rattle.std.proofs.lemmas.List.Elements.{All-cons, All-nil, All-append}
 use Rattle.trace_base.specs.declared.layout.Layout.{Layout}
@@ -14,7 +14,8 @@ use Rattle.subpage.specs.ItemData.{ItemData, EventAt, LossAt, item_time, last_ti
 use Rattle.subpage.specs.Run.{IsPlain, IsRun, nothing, begins_with}
 use Rattle.page_write.specs.declared.open_page.OpenPage.{OpenPage}
 use Rattle.page_write.specs.PageBytes.{put_at, number_text, records, data_text, area_len, follow, one_page, IsPackable}
-use Rattle.page_write.specs.Fill.{event_len, end_from}
+use Rattle.page_write.specs.declared.fill.Fill.{Fill}
+use Rattle.page_write.specs.Fill.{event_len, end_from, IsFill}
 use Rattle.page_write.specs.Held.{lost_text, HoldsAll, Holds}
 use Rattle.page_write.specs.Adding.{IsRunAfter}
 use Rattle.page_write.specs.Record.{is_short, pair_word, first_word, event_text, record_text, records_text}
@@ -116,6 +117,34 @@ follow_join before (EventAt t p ∷ xs) ys f g =
     and_from (leb before t && ltb (t - before) (2 ^ 59)) (follow t (xs ++ ys)) q.0 (follow_join t xs ys q.1 g)
 follow_join before (LossAt t c ∷ xs) ys f g = absurd cc
 
+-- items that one sub-buffer tells, with a run after them, for which there is room
+pub record IsJoined (l : Layout) (y : ItemData) (ys xs : List ItemData) (run : List ℕ) (end : ℕ) : Type 0 where
+  pub all : records l (y ∷ ys ++ xs) ≡ records l (y ∷ ys) ++ run
+  pub one : one_page l (y ∷ ys ++ xs) ≡ true
+  pub long : length (data_text l (y ∷ ys ++ xs)) ≡ length (data_text l (y ∷ ys)) + length run
+  pub last : end_from (item_time y) (ys ++ xs) ≡ end
+
+pub run_joined : (l : Layout) (y : ItemData) (ys xs : List ItemData) (run : List ℕ) (end : ℕ) → IsBytes run → IsRun l.order (end_from (item_time y) ys) xs run end → one_page l (y ∷ ys) ≡ true
+    → length (data_text l (y ∷ ys)) + length run ≤ area_len l → IsJoined l y ys xs run end
+run_joined l y ys xs run end fit is one fits =
+    let before = item_time y in
+    let middle = end_from before ys in
+    let old = records l (y ∷ ys) in
+    let all : records l (y ∷ ys ++ xs) ≡ old ++ run = records_append l.order before (y ∷ ys) xs ∙ ap (λ (t : List ℕ). old ++ t) (records_are l.order middle end xs run fit is) in
+    let p = and_parts (follow before ys) (leb (length (data_text l (y ∷ ys))) (area_len l)) one in
+    let followed : follow before (ys ++ xs) ≡ true = follow_join before ys xs p.0 (follow_run l.order middle end xs run fit is) in
+    let number = number_text l (y ∷ ys) in
+    let parts : length (data_text l (y ∷ ys ++ xs)) ≡ length ((old ++ run) ++ number) =
+    ap length (ap (λ (t : List ℕ). t ++ number_text l (y ∷ ys ++ xs)) all ∙ ap (λ (t : List ℕ). (old ++ run) ++ t) (number_push l y ys xs)) in
+    let long : length (data_text l (y ∷ ys ++ xs)) ≡ length (data_text l (y ∷ ys)) + length run =
+    omega (arith, parts, length-append (old ++ run) number, length-append old run, length-append old number) in
+    record {
+      all = all;
+      one = and_from (follow before (ys ++ xs)) (leb (length (data_text l (y ∷ ys ++ xs))) (area_len l)) followed (le-leb _ _ (omega (arith, long, fits)));
+      long = long;
+      last = end_join before ys xs ∙ end_is l.order middle end xs run is;
+    }
+
 -- an open sub-buffer with a run after its items, whose bytes were put after its records
 pub holds_run : (l : Layout) (page next : OpenPage) (bytes new : List ℕ) (y : ItemData) (ys xs : List ItemData) (run : List ℕ) (end : ℕ) → IsLayout l → HoldsAll l page bytes y ys → length bytes ≡ l.page
     → IsBytes run → IsRun l.order page.time xs run end → page.used + length (lost_text l page.lost) + length run ≤ area_len l
@@ -127,25 +156,18 @@ holds_run l page next bytes new y ys xs run end allowed h whole fit is fits put 
     let here : IsRun l.order middle xs run end = subst (λ (n : ℕ). IsRun l.order n xs run end) h.time is in
     let r = held_room l page bytes y ys h in
     let old = records l (y ∷ ys) in
-    let all : records l (y ∷ ys ++ xs) ≡ old ++ run = records_append l.order before (y ∷ ys) xs ∙ ap (λ (t : List ℕ). old ++ t) (records_are l.order middle end xs run fit here) in
-    let p = and_parts (follow before ys) (leb (length (data_text l (y ∷ ys))) (area_len l)) h.one in
-    let followed : follow before (ys ++ xs) ≡ true = follow_join before ys xs p.0 (follow_run l.order middle end xs run fit here) in
-    let number = number_text l (y ∷ ys) in
-    let parts : length (data_text l (y ∷ ys ++ xs)) ≡ length ((old ++ run) ++ number) =
-    ap length (ap (λ (t : List ℕ). t ++ number_text l (y ∷ ys ++ xs)) all ∙ ap (λ (t : List ℕ). (old ++ run) ++ t) (number_push l y ys xs)) in
-    let room : length (data_text l (y ∷ ys ++ xs)) ≤ area_len l = omega (arith, parts, length-append (old ++ run) number, length-append old run, length-append old number, r.0, fits) in
-    let one : one_page l (y ∷ ys ++ xs) ≡ true = and_from (follow before (ys ++ xs)) (leb (length (data_text l (y ∷ ys ++ xs))) (area_len l)) followed (le-leb _ _ room) in
+    let joined = run_joined l y ys xs run end fit here h.one (omega (arith, r.0, fits)) in
     record {
       start = start ∙ h.start;
-      time = at ∙ sym (end_is l.order middle end xs run here) ∙ sym (end_join before ys xs);
+      time = at ∙ sym joined.last;
       lost = lost ∙ h.lost;
-      used = omega (arith, used, h.used, ap length all, length-append old run);
+      used = omega (arith, used, h.used, ap length joined.all, length-append old run);
       records_are = ap (λ (n : ℕ). take n (drop l.data_at new)) used
           ∙ ap (λ (t : List ℕ). take (page.used + length run) (drop l.data_at t)) put
           ∙ written_more l.data_at page.used run bytes (omega (arith, whole, fits, allowed.data_in_front, allowed.page_least))
           ∙ ap (λ (t : List ℕ). t ++ run) h.records_are
-          ∙ sym all;
-      one = one;
+          ∙ sym joined.all;
+      one = joined.one;
       packable = All-append (IsPackable l) (y ∷ ys) xs h.packable (run_packable l page.time end xs run (omega (arith, fits)) is);
     }
 
@@ -192,3 +214,33 @@ none_taken l held is = rw is refl
 
 pub no_last : (held : List ItemData) (start : ℕ) → held ≡ [] → last_time held ≡ Some start → ⊥
 no_last held start none is = let e : None ≡ Some start = ap last_time (sym none) ∙ is in absurd cc
+
+-- THE SAME IN NUMBERS
+
+pub no_fill : (l : Layout) (held : List ItemData) → IsFill l None held → held ≡ []
+no_fill l [] h = refl
+no_fill l (y ∷ ys) h = let e = h.fill_is in absurd cc
+
+pub fill_last : (l : Layout) (fill : Fill) (held : List ItemData) → IsFill l (Some fill) held → last_time held ≡ Some fill.time
+fill_last l fill [] h = let e = h.fill_is in absurd cc
+fill_last l fill (y ∷ ys) h = let e : fill ≡ record { time = end_from (item_time y) ys; used = length (data_text l (y ∷ ys)) } = let e = h.fill_is in cc in
+    last_from (item_time y) ys ∙ ap (λ (f : Fill). Some f.time) (sym e)
+
+pub fill_used : (l : Layout) (fill : Fill) (held : List ItemData) → IsFill l (Some fill) held → (length (data_text l held) ≡ fill.used) × (fill.used ≤ area_len l)
+fill_used l fill [] h = let e = h.fill_is in absurd cc
+fill_used l fill (y ∷ ys) h =
+    let e : fill ≡ record { time = end_from (item_time y) ys; used = length (data_text l (y ∷ ys)) } = let e = h.fill_is in cc in
+    let used : fill.used ≡ length (data_text l (y ∷ ys)) = ap (λ (f : Fill). f.used) e in
+    let p = and_parts (follow (item_time y) ys) (leb (length (data_text l (y ∷ ys))) (area_len l)) h.one in
+    (sym used, omega (arith, used, leb-true _ _ p.1))
+
+-- an open sub-buffer with a run after its items
+pub fill_run : (l : Layout) (fill : Fill) (held xs : List ItemData) (run : List ℕ) (end : ℕ) → IsBytes run → IsFill l (Some fill) held → IsRunAfter l held run end xs
+    → length (data_text l held) + length run ≤ area_len l → IsFill l (Some (record { time = end; used = fill.used + length run })) (held ++ xs)
+fill_run l fill [] xs run end fit h behind fits = let e = h.fill_is in absurd cc
+fill_run l fill (y ∷ ys) xs run end fit h behind fits =
+    let last : last_time (y ∷ ys) ≡ Some (end_from (item_time y) ys) = last_from (item_time y) ys in
+    let same : behind.start ≡ end_from (item_time y) ys = let e : Some behind.start ≡ Some (end_from (item_time y) ys) = sym behind.last ∙ last in cc in
+    let joined = run_joined l y ys xs run end fit (subst (λ (n : ℕ). IsRun l.order n xs run end) same behind.run) h.one fits in
+    let used : fill.used + length run ≡ length (data_text l (y ∷ ys ++ xs)) = omega (arith, (fill_used l fill (y ∷ ys) h).0, joined.long) in
+    record { one = joined.one; fill_is = cc (joined.last, used) }

@@ -1,10 +1,11 @@
-ghost use Rattle.std.specs.Prelude.{◌≡◌, ◌≤◌, List, None};
+ghost use Rattle.std.specs.Prelude.{◌≡◌, ◌+◌, ◌-◌, ◌++◌, ◌≤◌, List, None, IfSome, length};
 ghost use Rattle.trace_base.specs.Layout.{IsLayout};
-ghost use Rattle.subpage.specs.ItemData.{ItemData};
+ghost use Rattle.trace_base.specs.declared.layout.Layout.{Layout};
+ghost use Rattle.subpage.specs.ItemData.{ItemData, last_time};
 ghost use Rattle.subpage.specs.ItemView.{item_view};
-ghost use Rattle.page_write.specs.Adding.{Adds};
+ghost use Rattle.page_write.specs.Adding.{Adds, HasRoom, IsRunAfter};
 ghost use Rattle.page_write.specs.Fill.{filled, opened, gone_on, number_len, Fills, IsFill, IsSmall};
-ghost use Rattle.page_write.specs.PageBytes.{IsPackable};
+ghost use Rattle.page_write.specs.PageBytes.{area_len, data_text, IsPackable};
 
 use crate::added::Added;
 use crate::bits::STEP_BITS;
@@ -57,6 +58,48 @@ impl Room {
                 Added::Added
             }
             None => Added::Full,
+        }
+    }
+
+    /// The time of the last item that was added, where a sub-buffer is open.
+    pub fn last_time(&self) -> Option<u64>
+        ensures { (layout : Layout) (held : List ItemData) → IsFill layout self.now held → result ≡ last_time held }
+    {
+        match self.open {
+            None => None,
+            Some(fill) => Some(fill.time),
+        }
+    }
+
+    /// For how many bytes more there is room.
+    pub fn room(&self, layout: &Layout) -> usize
+        requires { IsLayout layout.now }
+        ensures most { result ≤ area_len layout.now }
+        ensures left { IfSome self.now (λ fill. result ≡ area_len layout.now - fill.used) }
+        ensures room { (held : List ItemData) → IsFill layout.now self.now held
+            → length (data_text layout.now held) + result ≡ area_len layout.now }
+    {
+        let area = (layout.page - layout.data_at) as usize;
+        match self.open {
+            None => area,
+            Some(fill) => area.saturating_sub(fill.used),
+        }
+    }
+
+    /// Adds the events of a run of plain records, which follows the last item that was added, and for which there is room. The
+    /// last of the events is at `end`.
+    pub fn add_run(&mut self, layout: &Layout, run: &[u8], end: u64)
+        requires { IsLayout layout.now }
+        ensures { (held xs : List ItemData) → IsFill layout.now self.old held → IsRunAfter layout.now held run.now end xs
+            → HasRoom layout.now held (length run.now) → IsFill layout.now self.new (held ++ xs) }
+    {
+        if let Some(fill) = self.open {
+            if run.len() <= self.room(layout) {
+                self.open = Some(Fill {
+                    time: end,
+                    used: fill.used + run.len(),
+                });
+            }
         }
     }
 }

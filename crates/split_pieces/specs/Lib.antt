@@ -3,3 +3,4 @@ pub mod Examples
 pub mod Gauging
 pub mod Moments
 pub mod Pieces
+pub mod Allowing

@@ -1,5 +1,6 @@
-ghost use Rattle.std.specs.Prelude.{◌≡◌, [], List, IsTrue, false};
+ghost use Rattle.std.specs.Prelude.{◌≡◌, [], List, IfSome, IsTrue, false};
 ghost use Rattle.subpage.specs.Arrangement.{Keyed};
+ghost use Rattle.split_pieces.specs.Allowing.{after_events, Allows};
 ghost use Rattle.split_pieces.specs.Pieces.{is_event, piece, unit_closes};
 ghost use Rattle.split_pieces.specs.Gauging.{EndsBefore, TakesItem, closes_by, piece_by};
 
@@ -16,6 +17,15 @@ pub enum Gauge {
     Below(u128),
     /// Items up to and including so many events.
     Events(u64),
+}
+
+/// Which events a piece takes.
+#[derive(Clone, Copy, Debug, PartialEq, Eq)]
+pub struct Allowance {
+    /// Up to this key.
+    pub until: u64,
+    /// So many.
+    pub events: u64,
 }
 
 impl Gauge {
@@ -56,6 +66,41 @@ impl Gauge {
                 }
                 true
             }
+        }
+    }
+
+    /// Which events the piece takes whatever they are: so many, with a key up to this one. `None`: its first item says.
+    pub fn allows(&self) -> Option<Allowance>
+        ensures { IfSome result (λ allowance. Allows self.now allowance) }
+    {
+        match *self {
+            Gauge::All => Some(Allowance {
+                until: u64::MAX,
+                events: u64::MAX,
+            }),
+            Gauge::Nanos(_) => None,
+            Gauge::Below(limit) => {
+                if limit == 0 {
+                    return None;
+                }
+                Some(Allowance {
+                    until: (limit - 1).min(u128::from(u64::MAX)) as u64,
+                    events: u64::MAX,
+                })
+            }
+            Gauge::Events(events) => Some(Allowance {
+                until: u64::MAX,
+                events,
+            }),
+        }
+    }
+
+    /// Takes so many events into the piece, which it allows.
+    pub fn takes_events(&mut self, count: u64)
+        ensures { self.new ≡ after_events self.old count }
+    {
+        if let Gauge::Events(events) = *self {
+            *self = Gauge::Events(events.saturating_sub(count));
         }
     }
 

@@ -12,6 +12,6 @@ mod rules;
 #[cfg(test)]
 mod tests;
 
-pub use gauge::Gauge;
-pub use moment::{is_before, is_past};
+pub use gauge::{Allowance, Gauge};
+pub use moment::{is_before, is_past, last_until};
 pub use rules::Rules;

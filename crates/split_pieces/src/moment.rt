@@ -1,4 +1,4 @@
-ghost use Rattle.std.specs.Prelude.{◌≡◌};
+ghost use Rattle.std.specs.Prelude.{◌≡◌, ◌≤◌, ℕ, false};
 ghost use Rattle.split_pieces.specs.Moments.{is_before, is_past, time_as};
 
 use trace_base::micros;
@@ -16,6 +16,20 @@ pub fn is_before(moment: Moment, key: u64) -> bool
     ensures { result ≡ is_before moment key }
 {
     u128::from(time_as(moment.micro, key)) < moment.value
+}
+
+/// The greatest key of 64 bits of an item that does not stand past the moment.
+pub fn last_until(moment: Moment) -> u64
+    ensures { (key : ℕ) → key ≤ result → is_past moment key ≡ false }
+{
+    if u128::from(u64::MAX) <= moment.value {
+        return u64::MAX;
+    }
+    if moment.micro {
+        (moment.value * 1000 + 499).min(u128::from(u64::MAX)) as u64
+    } else {
+        moment.value as u64
+    }
 }
 
 /// Whether an item of this key stands past the moment.

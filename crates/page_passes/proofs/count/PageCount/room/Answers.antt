@@ -1,0 +1,4 @@
+use Rattle.page_passes.proofs.count.PageCount.room.Goals as goal
+
+pub returns-clause-room : goal.returns-clause-room
+returns-clause-room c = λ xs count. c.room.ensures.room count.held count.fill
