@@ -8,6 +8,7 @@ ghost use Rattle.time_merge.specs.LaneRows.{IsReady, next_of, parts_of};
 ghost use Rattle.time_merge.specs.Loading.{LoadsLanes};
 ghost use Rattle.time_merge.specs.Nexts.{HoldsNext, IsInStep, IsInStepBut, IsNext};
 ghost use Rattle.time_merge.specs.Reads.{HasStopped};
+ghost use Rattle.time_merge.specs.Turns.{HasTurn};
 
 use crate::next_lanes::{Next, next_at, next_of};
 use crate::ready::{make_all_ready, make_one_ready};
@@ -83,4 +84,16 @@ pub fn next_lane_by<F: File>(
             Ok(next_in(layout, lanes, nexts))
         }
     }
+}
+
+/// The greatest key of items of a lane that come before those of all other lanes: its items up to this key come next, one after
+/// another. `None` where there may be none. The others are ready, and the tree is in step with them.
+pub fn turn_of(layout: &Layout, lanes: &[Lane], nexts: &LeastTree, i: usize) -> Option<u64>
+    requires in_step { IsInStepBut layout.now lanes.now nexts.now i }
+    requires slots { length nexts.now ≡ length lanes.now }
+    requires rise { CpusRise (parts_of lanes.now) }
+    ensures { IfSome result (λ until. (bytes : List ℕ) → All (Stands layout.now bytes) lanes.now
+        → HasTurn layout.now bytes lanes.now i until) }
+{
+    nexts.up_to(i)
 }

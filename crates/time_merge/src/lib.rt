@@ -24,7 +24,7 @@ mod setting;
 pub use ending::End;
 pub use highs::{high_of, horizon};
 pub use horizons::Horizon;
-pub use in_step::next_lane_by;
+pub use in_step::{next_lane_by, turn_of};
 pub use next_lanes::{Next, next_lane};
 pub use ready::{make_all_ready, make_moved_ready, wants_load};
 pub use setting::set_lanes;
