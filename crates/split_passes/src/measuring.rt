@@ -8,6 +8,7 @@ ghost use Rattle.split_passes.specs.Measures.{IsMeasured, SkipsOver, Tallied};
 ghost use Rattle.split_passes.specs.Through.{GoThrough};
 
 use crate::choice::{Choice, choose};
+use crate::taking::take_turn;
 use crate::tally::Tally;
 use event_cursor::step;
 use least_tree::LeastTree;
@@ -66,6 +67,7 @@ pub fn measure<F: File>(
             Next::Lane(i) => match choose(layout, &lanes[i], stop, gauge, &mut tallies[i]) {
                 Choice::Takes => {
                     step(layout, &mut lanes[i]);
+                    take_turn(layout, lanes, nexts, used, i, stop, gauge, &mut tallies[i]);
                     used = Some(i);
                 }
                 Choice::Past => return Ok(PieceEnd::Past),

@@ -7,7 +7,7 @@ ghost use Rattle.trace_outside.specs.Seen.{folder_seen};
 ghost use Rattle.subpage.specs.ItemData.{ItemData};
 ghost use Rattle.event_cursor.specs.Standing.{IsInOrder, Stands};
 ghost use Rattle.time_merge.specs.LaneRows.{parts_of};
-ghost use Rattle.split_passes.specs.AllAgain.{AreFronts, TellsHeld};
+ghost use Rattle.split_passes.specs.AllAgain.{AreFronts, TellsStop};
 ghost use Rattle.split_passes.specs.Packs.{GainsSome};
 ghost use Rattle.split_passes.specs.Reads.{all_packing};
 ghost use Rattle.split_file.specs.Names.{file_name};
@@ -90,7 +90,7 @@ fn write_file<F: File, O: Sink>(
         → (lists : List (List ItemData)) → AreFronts plan.now.header.now.layout bytes lanes.old work.old.fronts.items work.old.tallies.items lists
         → IsWritten plan.now.header.now bytes work.old.table.items lists
         (record { lanes = lanes.old; written = O.written out.old }) (record { lanes = lanes.new; written = O.written out.new }) result) }
-    ensures malformed { TellsHeld lanes.new result }
+    ensures malformed { TellsStop lanes.old lanes.new result }
     ensures gains { result ≡ End.Done → GainsSome (O.written out.old) (O.written out.new) }
     ensures reads { F.reads file.new ≤ raised (F.reads file.old)
         (all_packing plan.now.header.now.layout (F.size file.old) lanes.old work.old.fronts.items work.old.tallies.items) }

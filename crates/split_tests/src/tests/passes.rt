@@ -40,6 +40,9 @@ none;all;||/;done 0
 late;events 1;|7 |/;done 3
 two;all;10 30 50 |20 30 40 |/;done 8
 two;events 2;10 |20 |/30 |30 |/50 |40 |/;done 10
+visits;all;10 20 30 40 50 60 90 |35 36 37 38 39 70 80 |/;done 6
+visits;events 2;10 20 ||/30 |35 |/|36 37 |/|38 39 |/40 50 ||/60 |70 |/90 |80 |/;done 7
+visits;nanos 15;10 20 ||/30 40 |35 36 37 38 39 |/50 60 ||/|70 80 |/90 ||/;done 7
 loss;nanos 2;10 !11#2 |11 |/12 ||/;done 7
 loss;events 1;10 ||/!11#2 |11 |/12 ||/;done 7
 cut;all;10 |20 |/;malformed 1 1 4
@@ -62,6 +65,14 @@ const LOSS: [&[Page]; 2] = [
     &[Of(&[11_000])],
 ];
 
+const VISITS: [&[Page]; 2] = [
+    &[
+        Of(&[10_000, 20_000, 30_000, 40_000, 50_000, 60_000]),
+        Of(&[90_000]),
+    ],
+    &[Of(&[35_000, 36_000, 37_000, 38_000, 39_000, 70_000, 80_000])],
+];
+
 const CUT: [&[Page]; 2] = [&[Of(&[10_000, 30_000])], &[Of(&[20_000]), Malformed]];
 
 fn cpus_of(name: &str) -> [&'static [Page<'static>]; 2] {
@@ -70,6 +81,7 @@ fn cpus_of(name: &str) -> [&'static [Page<'static>]; 2] {
         "late" => LATE,
         "two" => TWO,
         "loss" => LOSS,
+        "visits" => VISITS,
         "cut" => CUT,
         _ => NONE,
     }

@@ -43,7 +43,7 @@ fn put_filled(
     file.extend_from_slice(page.as_slice())
 }
 
-// Whether all items of one processor's sub-buffers, which are these bytes, are packed into just those.
+// Whether all items of one processor's sub-buffers, which are these bytes, are packed into just those, as many as were counted before.
 fn packs(
     alloc: Global,
     layout: &Layout,
@@ -70,7 +70,10 @@ fn packs(
     match pass_piece(
         layout, &mut file, lanes, All, None, &mut nexts, page, &mut out,
     ) {
-        Ok(passed) => Ok(passed.packed == End::Done && out.bytes() == want),
+        Ok(passed) => {
+            let counted = passed.pages[0].saturating_mul(u64::from(layout.page));
+            Ok(passed.packed == End::Done && out.bytes() == want && counted == want.len() as u64)
+        }
         Err(Failed) => Ok(false),
     }
 }

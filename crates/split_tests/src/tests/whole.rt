@@ -39,6 +39,33 @@ const ENDS_IN_ONE: &[&[Page]] = &[&[Of(&[10_000, 30_000])], &[Of(&[20_000]), Pag
 
 const ENDS_AT_ONCE: &[&[Page]] = &[&[Page::Malformed], &[Of(&[1_000])]];
 
+// Each processor goes on for several events before the other has its turn.
+const VISITS: &[&[Page]] = &[
+    &[
+        Of(&[10_000, 20_000, 30_000, 40_000, 50_000, 60_000]),
+        Of(&[90_000]),
+    ],
+    &[Of(&[35_000, 36_000, 37_000, 38_000, 39_000, 70_000, 80_000])],
+];
+
+const TIES: &[&[Page]] = &[
+    &[Of(&[10_000, 20_000, 30_000, 40_000, 50_000])],
+    &[Of(&[30_000, 30_000, 31_000, 40_000, 60_000])],
+];
+
+// The first processor's second sub-buffer goes back in time.
+const BACK: &[&[Page]] = &[
+    &[Of(&[50_000]), Of(&[10_000, 20_000, 30_000, 60_000, 70_000])],
+    &[Of(&[45_000, 55_000, 65_000])],
+];
+
+const HALVES: &[&[Page]] = &[&[Of(&[10_000, 20_000, 36_000, 36_499, 36_500, 40_000])]];
+
+const LOST_BETWEEN: &[&[Page]] = &[&[
+    Of(&[10_000, 20_000, 30_000]),
+    Lossy(40_000, Some(2), &[41_000, 42_000, 43_000]),
+]];
+
 fn trace_of(name: &str) -> &'static [&'static [Page<'static>]] {
     match name {
         "five" => FIVE,
@@ -50,6 +77,11 @@ fn trace_of(name: &str) -> &'static [&'static [Page<'static>]] {
         "lost" => LOST,
         "lost last" => LOST_LAST,
         "lost within" => LOST_WITHIN,
+        "lost between" => LOST_BETWEEN,
+        "visits" => VISITS,
+        "ties" => TIES,
+        "back" => BACK,
+        "halves" => HALVES,
         "ends in one" => ENDS_IN_ONE,
         "ends at once" => ENDS_AT_ONCE,
         _ => NONE,
@@ -88,6 +120,26 @@ lost;;!1#3 2 |/;done
 lost last;-e 1 -r;10 |/!11 |/;done
 lost last;-e 1;10 |/;done
 lost within;-u 2 -r;10 !11#2 |/12 |/;done
+lost between;-e 4 -r;10 20 30 !40#2 41 |/42 43 |/;done
+lost between;-e 5 -r;10 20 30 !40#2 41 42 |/43 |/;done
+visits;-e 4 -r;10 20 30 |35 |/|36 37 38 39 |/40 50 60 |70 |/90 |80 |/;done
+visits;-e 5 -r;10 20 30 |35 36 |/40 50 |37 38 39 |/60 90 |70 80 |/;done
+visits;-u 3 -r 0.000035 0.000050;|35 36 37 |/40 |38 39 |/50 ||/;done
+visits;0 0.000037;10 20 30 |35 36 37 |/;done
+visits;0.000036 0.000050;40 50 |36 37 38 39 |/;done
+visits;-e 2 -r 0.000036 0.000038;|36 37 |/|38 |/;done
+visits;-C 1 -e 3 -r;|35 36 37 |/|38 39 70 |/|80 |/;done
+visits;-c -e 3 -r;10 20 30 |35 36 37 |/40 50 60 |38 39 70 |/90 |80 |/;done
+ties;-e 4 -r;10 20 30 |30 |/40 |30 31 40 |/50 |60 |/;done
+ties;-e 7 -r;10 20 30 40 |30 30 31 |/50 |40 60 |/;done
+ties;0 0.000030;10 20 30 |30 30 |/;done
+back;-e 3 -r;50 10 |45 |/20 30 |55 |/60 70 |65 |/;done
+back;-u 6 -r;50 10 20 30 |45 |/60 |55 |/70 |65 |/;done
+back;0 0.000050;50 10 20 30 |45 |/;done
+halves;0 0.000036;10 20 36 36.499 |/;done
+halves;0 0.000036498;10 20 36 |/;done
+halves;0 0.000036499;10 20 36 36.499 |/;done
+halves;-e 4 -r 0.000020;20 36 36.499 36.500 |/40 |/;done
 ends in one;;10 |20 |/;malformed 1 1
 ends in one;-e 1 -r;10 ||/|20 |/;malformed 1 1
 ends in one;-e 1;10 ||/;done

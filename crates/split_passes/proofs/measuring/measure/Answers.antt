@@ -1,18 +1,28 @@
-use Rattle.std.proofs.Common.{refl, arith, ◌≡◌, ◌<◌, length, get_or, set, sym, ◌∙◌}
-use Rattle.std.proofs.lemmas.List.{length-set}
+use Rattle.std.proofs.Common.{refl, arith, ◌≡◌, ℕ, ◌<◌, List, length, get_or, set, sum_by, sym, ap, subst, ◌∙◌}
+use Rattle.std.proofs.lemmas.List.{length-set, get_or-set_same}
+use Rattle.trace_base.specs.declared.part.Part.{Part}
+use Rattle.subpage.specs.Arrangement.{CpusRise}
+use Rattle.page_pool.specs.declared.lane.Lane.{Lane}
+use Rattle.page_pool.specs.declared.cursor.LaneState.TheVariants.{Held}
+use Rattle.time_merge.specs.LaneRows.{parts_of}
+use Rattle.time_merge.specs.Nexts.{IsInStepBut}
+use Rattle.time_merge.specs.Reads.{all_unread}
+use Rattle.time_merge.specs.Advancing.{Advances}
+use Rattle.time_merge.proofs.Readying.{set_parts}
 use Rattle.std.proofs.lemmas.List.Elements.{All-set}
 use Rattle.trace_outside.proofs.Keeping.{file_kept, file_still}
-use Rattle.event_cursor.specs.Standing.{IsInOrder}
+use Rattle.event_cursor.specs.Standing.{IsInOrder, most_left}
 use Rattle.event_cursor.proofs.Told.{told_all, told_map}
 use Rattle.time_merge.specs.declared.next_lanes.Next.TheVariants as code
 use Rattle.time_merge.proofs.Advancing.{advances_not}
-use Rattle.time_merge.proofs.Going.{holds_is, next_is, still_parts}
+use Rattle.time_merge.proofs.Going.{fewer, holds_is, next_is, still_parts}
 use Rattle.time_merge.proofs.OneLane.{in_step_but}
 use Rattle.split_passes.proofs.Going.{advances_on, advances_stepped, over_more}
-use Rattle.time_merge.proofs.Advancing.{same_length}
-use Rattle.time_merge.proofs.PartReads.{going_reads, stepping_unread}
+use Rattle.time_merge.proofs.Advancing.{same_length, advances_more}
+use Rattle.time_merge.proofs.PartReads.{going_reads, same_unread, set_unread, stepping_unread}
 use Rattle.split_passes.proofs.Running.{runs_none, runs_on, loaded, all_measured, past_measured, full_measured}
 use Rattle.split_passes.proofs.Through.{through_loaded}
+use Rattle.split_passes.proofs.TurnLaws.{in_step_again, kept_advances, kept_most, no_more, runs_turn}
 use Rattle.split_passes.proofs.measuring.measure.Goals as goal
 
 pub loop-i-init : goal.loop-i-init
@@ -31,33 +41,86 @@ loop-i-init g c = record {
   faults = refl;
 }
 
+pub take_turn-requires-clause-in_order : goal.take_turn-requires-clause-in_order
+take_turn-requires-clause-in_order g c = All-set (IsInOrder c.args.layout.now) c.next_lane_by.new.lanes c.in-Lane.i c.step.new.lane c.step.ensures.in_order c.next_lane_by.ensures.loads.in_order
+
+pub take_turn-requires-clause-rise : goal.take_turn-requires-clause-rise
+take_turn-requires-clause-rise g c =
+    let l = c.args.layout.now in
+    let came : List Lane = c.next_lane_by.new.lanes in
+    let lt : c.in-Lane.i < length came = (holds_is l came c.in-Lane.is c.in_ok-i.ensures.holds).0 in
+    let same : parts_of (set came c.in-Lane.i c.step.new.lane) ≡ parts_of c.args.lanes.now =
+    still_parts l came c.in-Lane.i c.index-lanes-i-in-Takes.result c.step.new.lane lt c.step.ensures.used ∙ c.next_lane_by.ensures.loads.parts ∙ c.loop-i.invariant.parts in
+    subst (λ (ps : List (ℕ × Part)). CpusRise ps) (sym same) c.requires.rise
+
+pub take_turn-requires-clause-in_step : goal.take_turn-requires-clause-in_step
+take_turn-requires-clause-in_step g c =
+    let l = c.args.layout.now in
+    let came : List Lane = c.next_lane_by.new.lanes in
+    let lt : c.in-Lane.i < length came = (holds_is l came c.in-Lane.is c.in_ok-i.ensures.holds).0 in
+    in_step_but l came c.next_lane_by.new.nexts c.in-Lane.i c.step.new.lane lt c.in_ok-i.ensures.ready c.in_ok-i.ensures.nexts
+
+pub loop-i-smaller : goal.loop-i-smaller
+loop-i-smaller g c =
+    let l = c.args.layout.now in
+    let i : ℕ = c.in-Lane.i in
+    let came : List Lane = c.next_lane_by.new.lanes in
+    let lt : i < length came = (holds_is l came c.in-Lane.is c.in_ok-i.ensures.holds).0 in
+    let now : Lane = c.step.new.lane in
+    let stepped : List Lane = set came i now in
+    let inside : i < length stepped = omega (arith, lt, length-set came i now) in
+    let turn = c.take_turn.ensures.taken now in
+    let before = sum_by (most_left l) c.loop-i.lanes in
+    let less : sum_by (most_left l) stepped < before = fewer l before came i c.index-lanes-i-in-Takes.result now lt c.step.ensures.most c.next_lane_by.ensures.loads.most in
+    subst (λ (ks : List Lane). sum_by (most_left l) ks < before) (sym turn.lanes_are)
+    (no_more l before stepped i now turn.lane inside (kept_most l (get_or stepped i now) turn.lane turn.keeps turn.forward) less)
+
 pub loop-i-preserved : goal.loop-i-preserved
 loop-i-preserved g c =
     let l = c.args.layout.now in
-    let lt : c.in-Lane.i < length c.next_lane_by.new.lanes = (holds_is c.args.layout.now c.next_lane_by.new.lanes c.in-Lane.is c.in_ok-i.ensures.holds).0 in
+    let i : ℕ = c.in-Lane.i in
+    let size = g.F.File.size c.args.file.now in
+    let came : List Lane = c.next_lane_by.new.lanes in
+    let lt : i < length came = (holds_is l came c.in-Lane.is c.in_ok-i.ensures.holds).0 in
     let parts = c.next_lane_by.ensures.loads.parts ∙ c.loop-i.invariant.parts in
     let long0 : length c.loop-i.tallies ≡ length c.args.lanes.now = c.loop-i.invariant.long ∙ same_length c.loop-i.lanes c.args.lanes.now c.loop-i.invariant.parts in
-    let long1 : length c.next_lane_by.new.lanes ≡ length c.loop-i.lanes = same_length c.next_lane_by.new.lanes c.loop-i.lanes c.next_lane_by.ensures.loads.parts in
+    let long1 : length came ≡ length c.loop-i.lanes = same_length came c.loop-i.lanes c.next_lane_by.ensures.loads.parts in
     let long2 = same_length c.loop-i.lanes c.args.lanes.now c.loop-i.invariant.parts in
-    let on = advances_on c.args.lanes.now c.loop-i.lanes c.next_lane_by.new.lanes long2 c.loop-i.invariant.advance c.next_lane_by.ensures.loads.advance in
-    let held = ((holds_is c.args.layout.now c.next_lane_by.new.lanes c.in-Lane.is c.in_ok-i.ensures.holds).1 c.index-lanes-i-in-Takes.result).0 in
-    let still = stepping_unread l (g.F.File.size c.args.file.now) c.next_lane_by.new.lanes c.in-Lane.i c.index-lanes-i-in-Takes.result c.step.new.lane lt c.step.ensures.used in
-    let reads = going_reads l (g.F.File.size c.args.file.now) (g.F.File.size c.loop-i.file) c.loop-i.lanes c.next_lane_by.new.lanes (set c.next_lane_by.new.lanes c.in-Lane.i c.step.new.lane) _ _ _ _
+    let on = advances_on c.args.lanes.now c.loop-i.lanes came long2 c.loop-i.invariant.advance c.next_lane_by.ensures.loads.advance in
+    let held = ((holds_is l came c.in-Lane.is c.in_ok-i.ensures.holds).1 c.index-lanes-i-in-Takes.result).0 in
+    let now : Lane = c.step.new.lane in
+    let stepped : List Lane = set came i now in
+    let inside : i < length stepped = omega (arith, lt, length-set came i now) in
+    let here : get_or stepped i now ≡ now = get_or-set_same came i now now lt in
+    let turn = c.take_turn.ensures.taken now in
+    let lanes_are : c.take_turn.new.lanes ≡ set stepped i turn.lane = turn.lanes_are in
+    let stepped_parts : parts_of stepped ≡ parts_of c.args.lanes.now = still_parts l came i c.index-lanes-i-in-Takes.result now lt c.step.ensures.used ∙ parts in
+    let advance = advances_stepped l c.args.lanes.now came i c.index-lanes-i-in-Takes.result now (long1 ∙ long2) lt held c.step.ensures.used on in
+    let state : (get_or stepped i now).cursor.state ≡ Held = ap (λ (a : Lane). a.cursor.state) here ∙ c.step.ensures.used.page.state ∙ held in
+    let unread : all_unread l size (set stepped i turn.lane) ≡ all_unread l size came =
+    set_unread l size stepped i now turn.lane inside (same_unread l size (get_or stepped i now) turn.lane turn.keeps.part turn.keeps.state turn.keeps.next)
+    ∙ stepping_unread l size came i c.index-lanes-i-in-Takes.result now lt c.step.ensures.used in
+    let still : all_unread l size c.take_turn.new.lanes ≡ all_unread l size came = ap (all_unread l size) lanes_are ∙ unread in
+    let reads = going_reads l size (g.F.File.size c.loop-i.file) c.loop-i.lanes came c.take_turn.new.lanes _ _ _ _
     c.loop-i.invariant.keeps.size still c.in_ok-i.ensures.ready c.loop-i.invariant.reads c.loop-i.invariant.unread c.next_lane_by.ensures.loads.reads c.next_lane_by.ensures.loads.unread in
     record {
-      in_order = All-set (IsInOrder l) c.next_lane_by.new.lanes c.in-Lane.i c.step.new.lane c.step.ensures.in_order c.next_lane_by.ensures.loads.in_order;
-      parts = still_parts l c.next_lane_by.new.lanes c.in-Lane.i c.index-lanes-i-in-Takes.result c.step.new.lane lt c.step.ensures.used ∙ parts;
-      long = length-set c.loop-i.tallies c.in-Lane.i c.choose.new.tally ∙ c.loop-i.invariant.long ∙ sym long1 ∙ sym (length-set c.next_lane_by.new.lanes c.in-Lane.i c.step.new.lane);
-      in_step = in_step_but l c.next_lane_by.new.lanes c.next_lane_by.new.nexts c.in-Lane.i c.step.new.lane lt c.in_ok-i.ensures.ready c.in_ok-i.ensures.nexts;
+      in_order = c.take_turn.ensures.in_order;
+      parts = ap parts_of lanes_are ∙ set_parts stepped i now turn.lane inside turn.keeps.cpu turn.keeps.part ∙ stepped_parts;
+      long = length-set _ i c.take_turn.new.tally ∙ length-set c.loop-i.tallies i c.choose.new.tally ∙ c.loop-i.invariant.long ∙ sym long1 ∙ sym (length-set came i now) ∙ sym (length-set stepped i turn.lane) ∙ ap length (sym lanes_are);
+      in_step = subst (λ (ks : List Lane). IsInStepBut l ks c.next_lane_by.new.nexts i) (sym lanes_are) (in_step_again l stepped c.next_lane_by.new.nexts i turn.lane (in_step_but l came c.next_lane_by.new.nexts i now lt c.in_ok-i.ensures.ready c.in_ok-i.ensures.nexts));
       slots = c.next_lane_by.ensures.slots ∙ c.loop-i.invariant.slots;
       runs = told_map _ _ (g.F.File.bytes c.args.file.now) (λ file h s t.
           let r = h s t in
-          runs_on l file c.args.stop c.args.gauge.now c.loop-i.gauge c.choose.new.gauge c.args.lanes.now c.next_lane_by.new.lanes c.loop-i.tallies c.in-Lane.i c.index-lanes-i-in-Takes.result c.index-lanes-i.result c.step.new.lane c.index-tallies-i.result c.choose.new.tally
-          c.requires.rise parts long0 lt r.1 c.step.ensures.used c.in-Takes.ensures r.0)
-          (loaded l (g.F.File.bytes c.args.file.now) (g.F.File.bytes c.loop-i.file) c.args.stop c.args.gauge.now c.loop-i.gauge c.args.lanes.now c.loop-i.lanes c.next_lane_by.new.lanes c.args.tallies.now c.loop-i.tallies (code.Lane c.in-Lane.i)
-          c.loop-i.invariant.keeps.bytes c.loop-i.invariant.parts c.next_lane_by.ensures.loads.parts c.loop-i.invariant.runs c.next_lane_by.ensures.loads.rows c.next_lane_by.ensures.loads.stands (next_is c.args.layout.now _ _ c.next_lane_by.new.lanes c.in-Lane.is c.in_ok-i.ensures.next));
-      advance = advances_stepped l c.args.lanes.now c.next_lane_by.new.lanes c.in-Lane.i c.index-lanes-i-in-Takes.result c.step.new.lane (long1 ∙ long2) lt held c.step.ensures.used on;
-      over = over_more c.args.lanes.now c.next_lane_by.new.lanes c.args.tallies.now c.loop-i.tallies c.in-Lane.i c.index-lanes-i-in-Takes.result c.choose.new.tally lt held on c.loop-i.invariant.over;
+          runs_turn l file c.args.stop c.args.gauge.now c.choose.new.gauge c.take_turn.new.gauge c.args.lanes.now stepped c.take_turn.new.lanes (set c.loop-i.tallies i c.choose.new.tally) i now c.index-tallies-i-in-Takes.result c.take_turn.new.tally
+          c.requires.rise stepped_parts (length-set c.loop-i.tallies i c.choose.new.tally ∙ long0) inside turn
+          (runs_on l file c.args.stop c.args.gauge.now c.loop-i.gauge c.choose.new.gauge c.args.lanes.now came c.loop-i.tallies i c.index-lanes-i-in-Takes.result c.index-lanes-i.result now c.index-tallies-i.result c.choose.new.tally
+          c.requires.rise parts long0 lt r.1 c.step.ensures.used c.in-Takes.ensures r.0))
+          (loaded l (g.F.File.bytes c.args.file.now) (g.F.File.bytes c.loop-i.file) c.args.stop c.args.gauge.now c.loop-i.gauge c.args.lanes.now c.loop-i.lanes came c.args.tallies.now c.loop-i.tallies (code.Lane i)
+          c.loop-i.invariant.keeps.bytes c.loop-i.invariant.parts c.next_lane_by.ensures.loads.parts c.loop-i.invariant.runs c.next_lane_by.ensures.loads.rows c.next_lane_by.ensures.loads.stands (next_is c.args.layout.now _ _ came c.in-Lane.is c.in_ok-i.ensures.next));
+      advance = subst (λ (ks : List Lane). (j : ℕ) (d : Lane) → j < length c.args.lanes.now → Advances (get_or c.args.lanes.now j d) (get_or ks j d)) (sym lanes_are)
+          (advances_more c.args.lanes.now stepped i now turn.lane (same_length stepped c.args.lanes.now stepped_parts) inside (kept_advances (get_or stepped i now) turn.lane state turn.keeps) advance);
+      over = over_more c.args.lanes.now stepped c.args.tallies.now (set c.loop-i.tallies i c.choose.new.tally) i now c.take_turn.new.tally inside state advance
+          (over_more c.args.lanes.now came c.args.tallies.now c.loop-i.tallies i c.index-lanes-i-in-Takes.result c.choose.new.tally lt held on c.loop-i.invariant.over);
       reads = reads.0;
       unread = reads.1;
       keeps = file_kept c.loop-i.invariant.keeps c.next_lane_by.ensures.loads.keeps;

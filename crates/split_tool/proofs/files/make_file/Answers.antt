@@ -3,6 +3,7 @@ use Rattle.trace_outside.specs.Seen.{folder_seen}
 use Rattle.event_cursor.proofs.Told.{told_all, told_again}
 use Rattle.split_file.specs.Names.{file_name}
 use Rattle.split_passes.specs.AllAgain.{owns}
+use Rattle.split_passes.proofs.Stopping.{tells_held}
 use Rattle.split_tool.specs.Measured.{taken_of}
 use Rattle.split_tool.proofs.Budget.{written_stops, written_spent}
 use Rattle.split_tool.proofs.Making.{finished, still_cut}
@@ -98,7 +99,7 @@ returns-in_default-write_file-clause-told g c =
 pub returns-in_default-write_file-clause-leaves : goal.returns-in_default-write_file-clause-leaves
 returns-in_default-write_file-clause-leaves g c =
     cut_off (file_name c.args.plan.now.words.now.base.now c.args.number) c.write_file.new.lanes (folder_seen g.D.Folder c.args.folder.now) (folder_seen g.D.Folder c.drop_file.new.self) c.write_file.result c.in_default-write_file.not-Done
-    c.write_file.ensures.malformed (c.drop_file.ensures.files ∙ c.in-Ok-create_file.ensures.files)
+    (tells_held c.measure_file.new.lanes c.write_file.new.lanes c.write_file.result c.write_file.ensures.malformed) (c.drop_file.ensures.files ∙ c.in-Ok-create_file.ensures.files)
 
 pub returns-in_default-write_file-clause-requested : goal.returns-in_default-write_file-clause-requested
 returns-in_default-write_file-clause-requested g c =

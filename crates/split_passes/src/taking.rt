@@ -1,0 +1,154 @@
+// Runs of plain records that a piece takes at once.
+
+ghost use Rattle.std.specs.Prelude.{◌≡◌, ◌≤◌, ℕ, All, IfSome, false, length, slice_index_or};
+ghost use Rattle.trace_base.specs.Layout.{IsLayout};
+ghost use Rattle.subpage.specs.Arrangement.{CpusRise};
+ghost use Rattle.page_pool.specs.Keeping.{KeepsLane, stepping};
+ghost use Rattle.page_pool.specs.declared.lane.Lane.{Lane};
+ghost use Rattle.event_cursor.specs.Standing.{IsInOrder};
+ghost use Rattle.time_merge.specs.LaneRows.{parts_of};
+ghost use Rattle.time_merge.specs.Nexts.{IsInStepBut};
+ghost use Rattle.split_passes.specs.Choices.{past_key};
+ghost use Rattle.split_passes.specs.Takings.{IsRunTaken, IsTurnTaken, LimitsAllow, RunAllowed};
+
+use crate::tally::Tally;
+use event_cursor::step_run;
+use least_tree::LeastTree;
+use page_pool::{Lane, LaneState};
+use split_pieces::{Gauge, last_until};
+use subpage::{Mark, RunLimits, plain_run, run_between};
+use time_merge::turn_of;
+use trace_base::Layout;
+use word_values::Moment;
+
+// More events no sub-buffer has.
+const MOST: u64 = 1 << 31;
+
+// The lesser of two keys, and no key past the end.
+fn until_of(turn: u64, allowed: u64, stop: Option<Moment>) -> u64
+    ensures turn { result ≤ turn }
+    ensures allowed { result ≤ allowed }
+    ensures inside { (key : ℕ) → key ≤ result → past_key stop key ≡ false }
+{
+    match stop {
+        None => turn.min(allowed),
+        Some(moment) => turn.min(allowed).min(last_until(moment)),
+    }
+}
+
+// How far a run may go that a piece takes: the unit, the end, and the lane's turn allow it, and the open sub-buffer has room.
+fn limits_of(
+    layout: &Layout,
+    turn: u64,
+    stop: Option<Moment>,
+    gauge: &Gauge,
+    tally: &Tally,
+) -> Option<RunLimits>
+    requires { IsLayout layout.now }
+    ensures { IfSome result (λ limits. LimitsAllow layout.now turn stop gauge.now tally.now limits) }
+{
+    let Some(allowance) = gauge.allows() else {
+        return None;
+    };
+    let until = until_of(turn, allowance.until, stop);
+    let bytes = tally.pages.room(layout) as u32;
+    let events = allowance.events.min(MOST) as u32;
+    Some(RunLimits {
+        bytes,
+        events,
+        until,
+    })
+}
+
+// The run of plain records at a lane's place that goes no further, where the item counted last stands right before it.
+fn next_taken(
+    layout: &Layout,
+    lane: &Lane,
+    limits: &RunLimits,
+    tally: &Tally,
+) -> Option<(Mark, u32)>
+    requires in_order { IsInOrder layout.now lane.now }
+    requires held { lane.now.cursor.state ≡ LaneState.Held }
+    ensures { IfSome result (λ run. RunAllowed layout.now lane.now limits.now tally.now run.0 run.1) }
+{
+    let Some(ahead) = lane.cursor.ahead else {
+        return None;
+    };
+    if limits.until < ahead.key {
+        return None;
+    }
+    let Some(time) = tally.pages.last_time() else {
+        return None;
+    };
+    if time != lane.cursor.mark.time() {
+        return None;
+    }
+    plain_run(layout, lane.page.bytes(), lane.cursor.mark, limits)
+}
+
+/// Takes the run of plain records at a lane's place into a piece and its tally, no further than to the key `turn`.
+pub(crate) fn take_run(
+    layout: &Layout,
+    lane: &mut Lane,
+    turn: u64,
+    stop: Option<Moment>,
+    gauge: &mut Gauge,
+    tally: &mut Tally,
+)
+    requires allowed { IsLayout layout.now }
+    requires in_order { IsInOrder layout.now lane.old }
+    requires held { lane.old.cursor.state ≡ LaneState.Held }
+    ensures in_order { IsInOrder layout.now lane.new }
+    ensures lane { KeepsLane stepping lane.old lane.new }
+    ensures taken { IsRunTaken layout.now stop turn (record { gauge = gauge.old; tally = tally.old })
+        (record { gauge = gauge.new; tally = tally.new }) lane.old lane.new }
+{
+    let Some(limits) = limits_of(layout, turn, stop, gauge, tally) else {
+        return;
+    };
+    let Some((next, count)) = next_taken(layout, lane, &limits, tally) else {
+        return;
+    };
+    let run = run_between(lane.page.bytes(), &lane.cursor.mark, &next);
+    tally.add_run(layout, run, next.time(), count);
+    gauge.takes_events(u64::from(count));
+    step_run(layout, lane, next, count);
+}
+
+// Whether an item of this lane was used before the last one too. Only then it pays to look how far the lane's turn goes.
+fn is_again(before: Option<usize>, i: usize) -> bool {
+    match before {
+        None => false,
+        Some(before) => before == i,
+    }
+}
+
+/// Takes the run of plain records at a lane's place into a piece and its tally, as far as its items come before those of all other
+/// lanes. These are ready, and the tree is in step with them.
+pub(crate) fn take_turn(
+    layout: &Layout,
+    lanes: &mut [Lane],
+    nexts: &LeastTree,
+    before: Option<usize>,
+    i: usize,
+    stop: Option<Moment>,
+    gauge: &mut Gauge,
+    tally: &mut Tally,
+)
+    requires allowed { IsLayout layout.now }
+    requires in_order { All (IsInOrder layout.now) lanes.old }
+    requires rise { CpusRise (parts_of lanes.old) }
+    requires in_step { IsInStepBut layout.now lanes.old nexts.now i }
+    requires slots { length nexts.now ≡ length lanes.old }
+    requires held { (d : Lane) → (slice_index_or lanes.old i d).cursor.state ≡ LaneState.Held }
+    ensures in_order { All (IsInOrder layout.now) lanes.new }
+    ensures taken { (d : Lane) → IsTurnTaken layout.now stop (record { gauge = gauge.old; tally = tally.old })
+        (record { gauge = gauge.new; tally = tally.new }) lanes.old i d lanes.new }
+{
+    if !is_again(before, i) {
+        return;
+    }
+    if let Some(turn) = turn_of(layout, lanes, nexts, i) {
+        take_run(layout, &mut lanes[i], turn, stop, gauge, tally);
+    }
+}
