@@ -3,7 +3,7 @@ use Rattle.std.proofs.Common.{◌≡◌, ℕ, zero, suc, ◌+◌, ◌<◌, ◌�
 use Rattle.std.specs.Prelude.{count_by}
 use Rattle.std.specs.List.{zip}
 use Rattle.std.proofs.lemmas.List.{get_or_default, take_all}
-use Rattle.std.proofs.lemmas.List.Sums.{count_by_more_no, count_by_more_yes, sum_by-take-drop}
+use Rattle.std.proofs.lemmas.List.Sums.{count_by-le-length, count_by_more_no, count_by_more_yes, sum_by-take-drop}
 use Rattle.std.proofs.lemmas.Slice.Zip.{get_or-zip, length-zip}
 use Rattle.trace_base.specs.declared.layout.Layout.{Layout}
 use Rattle.page_pool.specs.declared.lane.Lane.{Lane}
@@ -91,6 +91,10 @@ module _ (l : Layout) (lanes : List Lane) (moved : List Bool) where
       let all_moved : take (length moved) moved ≡ moved = take_all (length moved) moved (omega arith) in
       let whole : busy_lanes l (take (length moved) lanes) (take (length moved) moved) ≡ busy_lanes l lanes moved = rw (all_lanes, all_moved) refl in
       sym whole ∙ busy_passed from (length moved) marks within (omega arith) none
+
+  -- no more than all
+  pub busy_most : busy_lanes l lanes moved ≤ length lanes
+  busy_most = omega (arith, count_by-le-length (is_busy l) (zip lanes moved), length-zip lanes moved)
 
   -- before and behind a cut
   pub busy_parts : (cut : ℕ) → busy_lanes l (take cut lanes) (take cut moved) + busy_lanes l (drop cut lanes) (drop cut moved) ≡ busy_lanes l lanes moved

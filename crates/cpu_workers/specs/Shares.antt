@@ -1,5 +1,5 @@
 -- Lanes that are shared out to workers.
-use Rattle.std.specs.Prelude.{ℕ, ◌+◌, ◌*◌, ◌/◌, ◌%◌, min, Bool, not, ◌&&◌, nat_le, List, count_by, is_some}
+use Rattle.std.specs.Prelude.{ℕ, ◌+◌, ◌*◌, ◌/◌, ◌%◌, min, max, Bool, not, ◌&&◌, nat_le, if◌then◌else◌, List, count_by, is_some}
 use Rattle.std.specs.List.{zip}
 use Rattle.trace_base.specs.declared.layout.Layout.{Layout}
 use Rattle.page_pool.specs.Lines.{most_lines}
@@ -23,3 +23,16 @@ busy_lanes layout lanes moved = count_by (is_busy layout) (zip lanes moved)
 -- until none is left over.
 abbrev pub share_of : ℕ → ℕ → ℕ → ℕ
 share_of count workers first = count / workers * first + min (count % workers) first
+
+-- a lane's sub-buffer counts so many bytes at most
+abbrev pub most_counted : ℕ
+most_counted = 32768
+
+-- whether so many busy lanes hold, in sub-buffers of this length, as many bytes as are worth several threads
+abbrev pub are_worth : ℕ → ℕ → ℕ → Bool
+are_worth shared_from page busy = nat_le shared_from (busy * min page most_counted)
+
+-- On how many threads lanes are formatted of which so many are busy: as many as are asked for, where what these hold is
+-- worth them, but no more than are busy; and one in any case.
+abbrev pub threads_for : ℕ → ℕ → ℕ → ℕ → ℕ
+threads_for asked shared_from page busy = if are_worth shared_from page busy then max 1 (min busy asked) else 1

@@ -1,10 +1,13 @@
 ghost use Rattle.std.specs.Prelude.{◌≡◌, ◌-◌, ◌<◌, ◌≤◌, length, take, drop, All};
 ghost use Rattle.event_cursor.specs.Standing.{IsInOrder};
-ghost use Rattle.cpu_workers.specs.Shares.{busy_lanes, may_form, share_of};
+ghost use Rattle.cpu_workers.specs.Shares.{are_worth, busy_lanes, may_form, share_of, threads_for};
 
 use event_cursor::head_key;
 use page_pool::{Lane, next_marked};
 use trace_base::Layout;
+
+/// A lane's sub-buffer counts so many bytes at most: with events of 32 bytes they are the 1,024 lines that a region takes.
+const MOST_COUNTED: u32 = 32 * 1024;
 
 /// Whether a lane may form a line: it holds an item, and its region takes lines.
 fn may_form(layout: &Layout, lane: &Lane) -> bool
@@ -15,7 +18,7 @@ fn may_form(layout: &Layout, lane: &Lane) -> bool
 }
 
 /// How many lanes are busy, by their marks.
-pub(crate) fn busy_lanes(layout: &Layout, lanes: &[Lane], moved: &[bool]) -> usize
+fn busy_lanes(layout: &Layout, lanes: &[Lane], moved: &[bool]) -> usize
     requires in_order { All (IsInOrder layout.now) lanes.now }
     requires marks { length moved.now ≡ length lanes.now }
     ensures { result ≡ busy_lanes layout.now lanes.now moved.now }
@@ -29,6 +32,42 @@ pub(crate) fn busy_lanes(layout: &Layout, lanes: &[Lane], moved: &[bool]) -> usi
         from = i + 1;
     }
     busy
+}
+
+/// Whether so many busy lanes hold as many bytes as are worth several threads.
+fn are_worth(shared_from: u64, layout: &Layout, busy: usize) -> bool
+    ensures { result ≡ are_worth shared_from layout.now.page busy }
+{
+    let each = layout.page.min(MOST_COUNTED);
+    shared_from <= (busy as u64).saturating_mul(u64::from(each))
+}
+
+/// On how many threads lanes are formatted, by their marks.
+pub(crate) fn threads_for(
+    asked: u32,
+    shared_from: u64,
+    layout: &Layout,
+    lanes: &[Lane],
+    moved: &[bool],
+) -> usize
+    requires some { 1 ≤ asked }
+    requires in_order { All (IsInOrder layout.now) lanes.now }
+    requires marks { length moved.now ≡ length lanes.now }
+    ensures value { result
+        ≡ threads_for asked shared_from layout.now.page (busy_lanes layout.now lanes.now moved.now) }
+    ensures asked { result ≤ asked }
+    ensures busy { 1 < result → result ≤ busy_lanes layout.now lanes.now moved.now }
+{
+    // Where no number of busy ones would be worth several threads, they are not counted.
+    if asked == 1 || !are_worth(shared_from, layout, lanes.len()) {
+        return 1;
+    }
+    let busy = busy_lanes(layout, lanes, moved);
+    if are_worth(shared_from, layout, busy) {
+        busy.min(asked as usize).max(1)
+    } else {
+        1
+    }
 }
 
 /// The place behind the first so many busy lanes.

@@ -4,8 +4,8 @@
 //! The items of a sub-buffer's bytes are a row of `ROWS` in `sub_pages`, and items that are packed again one of `PACKED` in
 //! `packing`. Of one lane, `cursors` has the items of a part of a file in `PARTS` and places to go to in `PLACES`; of two,
 //! `merging` has their cuts in `ENDS`, and `rounds` what a round prints of kept lines in `HORIZONS`. `reports` has whole
-//! reports in `REPORTS`, and those in which a call fails in `FAILING`. Regions of lines are in `pools`, threads in `workers`,
-//! and generated files in `generated`.
+//! reports in `REPORTS`, and those in which a call fails in `FAILING`. Regions of lines are in `pools`, threads in `workers`
+//! and, round by round, in `reports::visits`, and generated files in `generated`.
 #![tactic(auto)]
 
 #[cfg(test)]

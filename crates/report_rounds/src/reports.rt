@@ -22,10 +22,12 @@ use trace_outside::{File, Gate, Sink};
 /// Writes the lines of the reached items of the lanes' processors, by key, then processor, then position: all items up to
 /// the first malformed sub-buffer in that order. `Malformed` tells that sub-buffer, `Done` that there is none.
 ///
-/// The lanes stand before their first items and keep no line, and each region has room for any line. Lines are formed on as
-/// many threads as `workers` tells, with the same bytes for any number of them. After `Read` the lines of the first few
-/// reached items are written, after `Write` a prefix of the text. It takes no memory: `work` has a slot in each tree and a
-/// mark for each lane, whatever is in them, and room in which nothing waits.
+/// The lanes stand before their first items and keep no line, and each region has room for any line. The first round forms
+/// its lines on as many threads as `workers.count` allows, whatever its lanes hold. A later one does so where they hold as
+/// much as `workers.shared_from` says, and on one thread elsewhere ([`cpu_workers::format_lanes`]). The bytes are the same for
+/// any number of threads. After `Read` the lines of the first few reached items are written, after `Write` a prefix of the
+/// text. It takes no memory: `work` has a slot in each tree and a mark for each lane, whatever is in them, and room in which
+/// nothing waits.
 ///
 /// No more bytes are read than the parts of the processors have, and none ahead of what is written: of the lines before
 /// a sub-buffer that is read no more than a region keeps were not written yet.
@@ -61,9 +63,15 @@ pub fn report_rounds<R: Threads + Sync, F: File, L: Form, G: Gate, O: Sink>(
 {
     mark_all(work.moved.as_mut_slice());
     let mut last = None;
+    let mut shared_from = 0;
     loop {
-        if let Outcome::Ends(end) = turn(workers, form, layout, file, lanes, work, &mut last, out) {
+        let round = Workers {
+            shared_from,
+            ..*workers
+        };
+        if let Outcome::Ends(end) = turn(&round, form, layout, file, lanes, work, &mut last, out) {
             return end;
         }
+        shared_from = workers.shared_from;
     }
 }

@@ -3,9 +3,10 @@
 mod entries;
 mod marks;
 mod pages;
+mod visits;
 
 use End::{Done, Malformed, Read, Write};
-use cpu_workers::Workers;
+use cpu_workers::{SHARED_FROM, Workers};
 use least_tree::LeastTree;
 use marks::{Marks, len_of, mark};
 use page_pool::Pool;
@@ -19,14 +20,14 @@ use trace_base::ByteText;
 use trace_outside::{File, Gate, MemFile, MemSink, NoGate, Pending, Sink};
 use trace_samples::layout;
 
-// Reports processors from number 3 on, each with so many of the file's sub-buffers, in regions of `room` bytes. `None`:
-// there is no such call.
+// Reports processors from number 3 on, each with so many of the file's sub-buffers, in regions of `room` bytes, on so many
+// workers, to whom lanes are shared out from so many bytes on. `None`: there is no such call.
 fn report<R: Threads + Sync, F: File, O: Sink>(
     rt: &R,
     alloc: Global,
     counts: &[u32],
     room: u32,
-    workers: u32,
+    workers: (u32, u64),
     file: &mut F,
     out: &mut O,
 ) -> Result<Option<End>, AllocError> {
@@ -40,7 +41,7 @@ fn report_behind<R: Threads + Sync, G: Gate, F: File, O: Sink>(
     gate: &G,
     counts: &[u32],
     room: u32,
-    workers: u32,
+    (workers, shared_from): (u32, u64),
     file: &mut F,
     out: &mut O,
 ) -> Result<Option<End>, AllocError> {
@@ -60,6 +61,7 @@ fn report_behind<R: Threads + Sync, G: Gate, F: File, O: Sink>(
     let workers = Workers {
         rt,
         count: workers,
+        shared_from,
         gate,
     };
     Ok(Some(report_rounds(&workers, &Marks, &layout, file, lanes, &mut work, out)))
@@ -72,7 +74,7 @@ fn reports<R: Threads + Sync>(
     counts: &[u32],
     pages: &[Page],
     room: u32,
-    workers: u32,
+    workers: (u32, u64),
     text: &[u8],
     end: End,
 ) -> Result<bool, AllocError> {
@@ -141,7 +143,7 @@ fn row_reports<R: Threads + Sync>(
     alloc: Global,
     row: &str,
     room: u32,
-    workers: u32,
+    workers: (u32, u64),
 ) -> Result<bool, AllocError> {
     let mut words = row.split(' ');
     let first = number(words.next().unwrap_or("")).min(4);
@@ -163,10 +165,14 @@ fn row_reports<R: Threads + Sync>(
     )
 }
 
-// The same for each size of a region and each number of workers.
+// How many workers there are, and from how many bytes on lanes are shared out to them: one; several in each round, in those
+// in which both lanes hold items, and in the first one alone.
+const WORKERS: [(u32, u64); 4] = [(1, 0), (3, 0), (3, 8192), (64, SHARED_FROM)];
+
+// The same for each size of a region and all these workers.
 fn always_reports<R: Threads + Sync>(rt: &R, alloc: Global, row: &str) -> Result<bool, AllocError> {
     for room in [2, 5, 65_537] {
-        for workers in [1, 3, 64] {
+        for workers in WORKERS {
             if !row_reports(rt, alloc, row, room, workers)? {
                 return Ok(false);
             }
@@ -201,7 +207,15 @@ fn lanes_of_like_rates_form_a_sub_buffer_each_in_a_round(rt: HostRuntime) -> Res
     let bytes = bytes_of(rt.alloc(), pages.as_slice())?;
     let mut file = MemFile::new(ByteText::from_vec(bytes));
     let mut out = MemSink::new(rt.alloc());
-    let end = report(&rt, rt.alloc(), &[20; 16], 65_537, 1, &mut file, &mut out)?;
+    let end = report(
+        &rt,
+        rt.alloc(),
+        &[20; 16],
+        65_537,
+        (1, 0),
+        &mut file,
+        &mut out,
+    )?;
     assert!(rt; end == Some(Done));
     assert!(rt; out.writes() <= 22, "{}", out.writes());
     Ok(())
@@ -246,7 +260,7 @@ fn often_reports<R: Threads + Sync>(
     alloc: Global,
     counts: &[u32],
     pages: &[Page],
-    rooms: &[(u32, u32)],
+    rooms: &[(u32, (u32, u64))],
     text: &[u8],
 ) -> Result<bool, AllocError> {
     for (room, workers) in rooms {
@@ -277,7 +291,7 @@ fn many_marks(alloc: Global) -> Result<Vec<u8>, AllocError> {
 fn many_events_of_one_processor_against_two_of_another(rt: HostRuntime) -> Result<(), Fail> {
     let pages = many_pages(rt.alloc())?;
     let text = many_marks(rt.alloc())?;
-    let rooms = [(2, 1), (9, 3), (65_537, 64)];
+    let rooms = [(2, (1, 0)), (9, (3, 8192)), (65_537, (64, SHARED_FROM))];
     assert!(rt; often_reports(&rt, rt.alloc(), &[9, 1], &pages, &rooms, &text)?);
     Ok(())
 }
@@ -300,32 +314,48 @@ fn two_processors(alloc: Global) -> Result<Vec<Page>, AllocError> {
 fn more_lines_wait_than_a_region_keeps(rt: HostRuntime) -> Result<(), Fail> {
     let pages = two_processors(rt.alloc())?;
     let text = waiting_marks(rt.alloc())?;
-    let rooms = [(65_537, 1), (65_537, 3), (65_537, 64)];
+    let rooms = [
+        (65_537, (1, 0)),
+        (65_537, (3, 8192)),
+        (65_537, (64, SHARED_FROM)),
+    ];
     assert!(rt; often_reports(&rt, rt.alloc(), &[9, 21], &pages, &rooms, &text)?);
     Ok(())
 }
 
+// Two sub-buffers of each, the later ones behind the earlier ones of all.
 fn pages_of_each(alloc: Global) -> Result<Vec<Page>, AllocError> {
     let mut pages = Vec::new(alloc);
     for i in 0..1024_u32 {
         pages.push(events(u64::from(5000 - i), 1, 0))?;
+        pages.push(events(u64::from(10_000 - i), 1, 0))?;
     }
     Ok(pages)
 }
 
 fn marks_of_each(alloc: Global) -> Result<Vec<u8>, AllocError> {
     let mut text = Vec::new(alloc);
-    for i in 0..1024_u32 {
-        put_mark(&mut text, 1026 - i, u64::from(3977 + i))?;
+    for first in [3977_u32, 8977] {
+        put_marks_of_each(&mut text, first)?;
     }
     Ok(text)
 }
 
+fn put_marks_of_each(text: &mut Vec<u8>, first: u32) -> Result<(), AllocError> {
+    for i in 0..1024_u32 {
+        put_mark(text, 1026 - i, u64::from(first) + u64::from(i))?;
+    }
+    Ok(())
+}
+
+// In the second round all hold an item of a sub-buffer again: 4 MiB, more than what lanes are shared out from. Where a region
+// has room for one line, most of them cannot form it yet.
 #[test]
-fn many_processors_with_an_event_each(rt: HostRuntime) -> Result<(), Fail> {
+fn many_processors_with_an_event_in_each_of_two_sub_buffers(rt: HostRuntime) -> Result<(), Fail> {
     let pages = pages_of_each(rt.alloc())?;
     let text = marks_of_each(rt.alloc())?;
-    assert!(rt; often_reports(&rt, rt.alloc(), &[1; 1024], &pages, &[(2, 64)], &text)?);
+    let rooms = [(2, (64, SHARED_FROM)), (9, (4, SHARED_FROM))];
+    assert!(rt; often_reports(&rt, rt.alloc(), &[2; 1024], &pages, &rooms, &text)?);
     Ok(())
 }
 
@@ -411,7 +441,7 @@ fn ends_so<R: Threads + Sync>(
 ) -> Result<bool, AllocError> {
     let mut file = failing_file(alloc, pages, byte)?;
     let mut out = sink_of(alloc, space);
-    let found = report(rt, alloc, counts, room, 2, &mut file, &mut out)?;
+    let found = report(rt, alloc, counts, room, (2, 0), &mut file, &mut out)?;
     let is_text = match text {
         Some(text) => out.bytes() == text.as_bytes(),
         None => true,

@@ -113,12 +113,12 @@ fn have(lanes: &[Lane], first: (&str, u32, u32), second: (&str, u32, u32)) -> bo
         && has(&lanes[2], "", 0, 0)
 }
 
-// What comes of the three lanes with so many bytes for lines, on so many threads.
+// What comes of the three lanes with so many bytes for lines, on so many threads, if they are shared out from so many bytes on.
 fn formats<R: Threads + Sync>(
     rt: &R,
     alloc: Global,
     room: u32,
-    workers: u32,
+    (workers, shared_from): (u32, u64),
     first: (&str, u32, u32),
     second: (&str, u32, u32),
 ) -> Result<bool, AllocError> {
@@ -133,6 +133,7 @@ fn formats<R: Threads + Sync>(
     let workers = Workers {
         rt,
         count: workers,
+        shared_from,
         gate: &NoGate,
     };
     format_lanes(&workers, &Letters, &layout, lanes, &[true; 3]);
@@ -148,10 +149,10 @@ fn lines_do_not_depend_on_the_workers(rt: HostRuntime) -> Result<(), Fail> {
         (1, ("a", 1, 1), ("", 0, 0)),
         (0, ("", 0, 0), ("", 0, 0)),
     ] {
-        for workers in [1, 2, 64] {
+        for (workers, shared_from) in [(1, 0), (2, 0), (64, 0), (64, 8192), (64, 8193)] {
             assert!(rt;
-                formats(&rt, rt.alloc(), room, workers, first, second)?,
-                "{workers} workers, {room} bytes"
+                formats(&rt, rt.alloc(), room, (workers, shared_from), first, second)?,
+                "{workers} workers from {shared_from} bytes, {room} bytes for lines"
             );
         }
     }

@@ -61,7 +61,7 @@ fn lines(alloc: Global) -> Result<Vec<u8>, AllocError> {
 fn entries<R: Threads + Sync>(
     rt: &R,
     alloc: Global,
-    workers: u32,
+    workers: (u32, u64),
 ) -> Result<Option<u64>, AllocError> {
     let bytes = bytes_of(alloc, sub_buffers(alloc)?.as_slice())?;
     let mut file = MemFile::new(ByteText::from_vec(bytes));
@@ -83,9 +83,12 @@ fn entries<R: Threads + Sync>(
 // A lane whose next line has no room passes again once a line of it was printed, and not in each round of the others.
 #[test]
 fn a_lane_that_waits_does_not_pass_the_gate_in_each_round(rt: HostRuntime) -> Result<(), Fail> {
-    for workers in [1, 3] {
-        let entries = entries(&rt, rt.alloc(), workers)?;
-        assert!(rt; entries == Some(200 + 2 * 15), "{workers} workers");
+    for (workers, shared_from) in [(1, 0), (3, 0), (3, 8192)] {
+        let entries = entries(&rt, rt.alloc(), (workers, shared_from))?;
+        assert!(rt;
+            entries == Some(200 + 2 * 15),
+            "{workers} workers from {shared_from} bytes"
+        );
     }
     Ok(())
 }

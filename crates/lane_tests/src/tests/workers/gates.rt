@@ -52,7 +52,7 @@ fn entries<R: Threads + Sync>(
     alloc: Global,
     pages: &[Page<'_>],
     again: &[bool; 6],
-    workers: u32,
+    (workers, shared_from): (u32, u64),
     wanted: u64,
     turns: u32,
 ) -> Result<(u64, bool), AllocError> {
@@ -74,6 +74,7 @@ fn entries<R: Threads + Sync>(
     let workers = Workers {
         rt,
         count: workers,
+        shared_from,
         gate: &gate,
     };
     format_lanes(&workers, &Letters, &layout, lanes, &[true; 6]);
@@ -81,24 +82,29 @@ fn entries<R: Threads + Sync>(
     Ok((gate.entries.load(SeqCst), gate.met.load(SeqCst) == 1))
 }
 
-// As many lanes are inside at once as there are workers, where there are so many, and never more.
+// As many lanes are inside at once as there are workers, where there are so many, and never more; and one where those that
+// hold items, five, hold fewer bytes than they are shared out from.
 #[test]
 fn each_lane_enters_once_and_no_more_at_once_than_workers(rt: HostRuntime) -> Result<(), Fail> {
     let (one, none) = (Of(&[4]), Of(&[]));
     let pages = [one, one, none, one, one, one];
     let (short, long) = (10_000_000, 1_000_000_000);
     for (workers, wanted, turns, met) in [
-        (1, 2, short, false),
-        (2, 2, long, true),
-        (2, 3, short, false),
-        (3, 3, long, true),
-        (3, 4, short, false),
-        (64, 5, long, true),
+        ((1, 0), 2, short, false),
+        ((2, 0), 2, long, true),
+        ((2, 0), 3, short, false),
+        ((3, 0), 3, long, true),
+        ((3, 0), 4, short, false),
+        ((64, 0), 5, long, true),
+        ((64, 20_480), 5, long, true),
+        ((2, 20_481), 2, short, false),
+        ((64, 20_481), 2, short, false),
     ] {
         let (entries, found) = entries(&rt, rt.alloc(), &pages, &NONE, workers, wanted, turns)?;
+        let (count, shared_from) = workers;
         assert!(rt;
             entries == 0x11_1011 && found == met,
-            "{workers} workers, {wanted} inside"
+            "{count} workers from {shared_from} bytes, {wanted} inside"
         );
     }
     Ok(())
@@ -113,7 +119,7 @@ fn two_lanes_with_items_enter_at_once(rt: HostRuntime) -> Result<(), Fail> {
         ([none, none, none, one, one, none], 0x1_1000),
         ([one, none, none, none, none, one], 0x10_0001),
     ] {
-        let (entries, met) = entries(&rt, rt.alloc(), &pages, &NONE, 2, 2, 1_000_000_000)?;
+        let (entries, met) = entries(&rt, rt.alloc(), &pages, &NONE, (2, 0), 2, 1_000_000_000)?;
         assert!(rt; entries == wanted && met, "{entries} entries");
     }
     Ok(())
@@ -129,9 +135,9 @@ fn lanes_without_a_mark_do_not_enter(rt: HostRuntime) -> Result<(), Fail> {
         ([false, true, true, false, false, true], 0x21_1221),
         ([true; 6], 0x22_2222),
     ] {
-        for workers in [1, 2, 64] {
+        for workers in [(1, 0), (2, 0), (64, 0), (64, u64::MAX)] {
             let (entries, _) = entries(&rt, rt.alloc(), &pages, &again, workers, 1, 0)?;
-            assert!(rt; entries == wanted, "{workers} workers, {entries} entries");
+            assert!(rt; entries == wanted, "{entries} entries");
         }
     }
     Ok(())
