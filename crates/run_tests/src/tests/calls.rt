@@ -1,6 +1,7 @@
 // Reports of the function graph's calls.
 
-use super::{Carried, Input, LATENCY, Page, Record, Row, run_all};
+use super::inputs::{Carried, Input, LATENCY, Page, Record};
+use super::{Row, run_all};
 use std::test::Fail;
 use trace_run::Status;
 

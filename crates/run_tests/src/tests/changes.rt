@@ -2,7 +2,8 @@
 
 ghost use Rattle.std.specs.Prelude.{None};
 
-use super::{Carried, Input, Page, Record, ends_as, folder_of, words_of};
+use super::inputs::{Carried, Input, Page, Record, folder_of};
+use super::{ends_as, words_of};
 use std::alloc::Global;
 use std::process::Abort;
 use std::test::Fail;

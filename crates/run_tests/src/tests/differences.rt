@@ -1,9 +1,10 @@
 // Reports with the differences between times.
 
-use super::{
-    Carried, FALLING, IN_INTERRUPT, Input, LATENCY, MALFORMED_LATER, ONE_REPORT, Page, Record, Row,
-    SWITCHES, TWO_AT_ONCE, run_all,
+use super::inputs::{
+    Carried, FALLING, IN_INTERRUPT, Input, LATENCY, MALFORMED_LATER, Page, Record, SWITCHES,
+    TWO_AT_ONCE,
 };
+use super::{ONE_REPORT, Row, run_all};
 use std::test::Fail;
 use trace_run::Status;
 

@@ -1,8 +1,9 @@
 // Runs over folders in which a call fails. No new file stands then, and an older one is as it was.
 
 use super::calls::LONE;
+use super::inputs::{Input, ONE, folder_of};
 use super::waits::WAITS;
-use super::{Input, ONE, ONE_REPORT, ends_of, folder_of};
+use super::{ONE_REPORT, ends_of};
 use std::alloc::{AllocError, Global};
 use std::process::Abort;
 use std::test::Fail;

@@ -1,7 +1,8 @@
 // Reports with filters, and words whose filters have no reading.
 
+use super::inputs::{Carried, Input, ONE, Page, Record, SWITCHES};
 use super::known::Task;
-use super::{Carried, Input, ONE, ONE_REPORT, Page, Record, Row, SWITCHES, run_all};
+use super::{ONE_REPORT, Row, run_all};
 use std::test::Fail;
 use trace_run::Status;
 

@@ -1,6 +1,7 @@
 // Gates that see which lanes are formatted, and when.
 
-use super::{TWO_AT_ONCE, folder_of, words_of};
+use super::inputs::{TWO_AT_ONCE, folder_of};
+use super::words_of;
 use sample_runs::run_words;
 use std::alloc::{AllocError, Global};
 use std::sync::atomic::AtomicU64;

@@ -1,6 +1,6 @@
 // The texts that files carry, and the payloads of their events.
 
-use super::{Carried, put_longs, put_words};
+use super::inputs::{Carried, put_longs, put_words};
 use std::alloc::{AllocError, Global};
 use trace_samples::{FUNCTION_FORMAT, SWITCH_FORMAT, SYMBOLS, TASKS, TraceFile};
 

@@ -1,6 +1,7 @@
 // Files that are not there or are no traces, words without a reading, and words that ask what the program tells of itself.
 
-use super::{HEADER, Input, Row, run_all};
+use super::inputs::{HEADER, Input};
+use super::{Row, run_all};
 use dat_header::OpenFault;
 use std::test::Fail;
 use trace_run::Status;

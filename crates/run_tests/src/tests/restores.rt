@@ -1,6 +1,7 @@
 // Restores of a file that was taken apart, whose new files are reported.
 
-use super::{Input, ends_of, folder_of, is_absent, is_made};
+use super::inputs::{Input, folder_of};
+use super::{ends_of, is_absent, is_made};
 use dat_header::OpenFault;
 use std::alloc::{AllocError, Global};
 use std::process::Abort;

@@ -1,7 +1,8 @@
 // Reports of many events and of long lines, on any number of threads.
 
+use super::inputs::{Carried, PAGE, common, head, put_longs, put_words};
 use super::known::carry;
-use super::{Carried, PAGE, common, head, put_longs, put_words, words_of};
+use super::words_of;
 use sample_runs::{folder_of, run_words};
 use std::alloc::{AllocError, Global};
 use std::process::Abort;

@@ -1,6 +1,7 @@
 // Runs of self-tests. Each line is that of `scripts/selftest_line.py`, which makes no file.
 
-use super::{Input, Row, run_all};
+use super::inputs::Input;
+use super::{Row, run_all};
 use std::test::Fail;
 use trace_run::Status;
 

@@ -1,9 +1,10 @@
 // Splits, whose new files are reported.
 
-use super::{
+use super::inputs::{
     BEFORE_A_SECOND, Carried, Input, LATENCY, MALFORMED_FIRST, MALFORMED_LATER, ONE, Page, Record,
-    ends_of, folder_of, is_absent, is_made,
+    folder_of,
 };
+use super::{ends_of, is_absent, is_made};
 use dat_header::OpenFault;
 use std::alloc::{AllocError, Global};
 use std::process::Abort;

@@ -1,6 +1,7 @@
 // Runs over files whose sub-buffers have several pages.
 
-use super::{common, ends_of, head, is_made, put_longs, put_words, with_part};
+use super::inputs::{common, head, put_longs, put_words, with_part};
+use super::{ends_of, is_made};
 use dat_header::OpenFault;
 use std::alloc::{AllocError, Global};
 use std::process::Abort;

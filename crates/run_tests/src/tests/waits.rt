@@ -1,7 +1,8 @@
 // Reports with the latencies behind the events.
 
+use super::inputs::{Carried, Input, LATENCY, Page, Record};
 use super::known::{NEXT, WOKEN};
-use super::{Carried, Input, LATENCY, Page, Record, Row, run_all};
+use super::{Row, run_all};
 use std::test::Fail;
 use trace_run::Status;
 
