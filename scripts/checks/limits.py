@@ -4,9 +4,12 @@ A trace of 1,024 processors, with sub-buffers of 4 KiB and an event on each, is 
 sub-buffer and a region of lines a processor, some 152 MB:
 
 - under 200,000 KiB, and 9,000 more a thread, it is whole, and the same on 1, 3 and 64 threads;
-- under 60,000 KiB there is no memory for it: status 6, its one message, and nothing on the output.
+- under 60,000 KiB there is no memory for it: status 6, its one message, and nothing on the output. A report reserves all memory before
+  its first line, though it touches it only as lines come.
 
 A long trace of one processor, 40 MB, is reported whole under 20,000 KiB: what a report holds does not hang on its length.
+
+A short trace of 256 processors, of which one has all events, is reported whole under 16,000 KiB: processors without data cost nothing.
 """
 
 from __future__ import annotations
@@ -20,6 +23,7 @@ from typing import Iterator, NamedTuple, Sequence
 from tracefile import header, payload, record, sub_buffer, write_trace
 
 WIDE, LONG, EVENTS = 1024, 10_000, 340
+IDLE, BUSY = 256, 200
 NO_FORMAT = 58
 
 
@@ -55,8 +59,16 @@ def long_trace(file: Path) -> bytes:
     return b"cpus=1\n" + b"".join(line(1, 0, 1000 * at) * EVENTS for at in range(LONG))
 
 
+def idle_trace(file: Path) -> bytes:
+    """A trace of many processors without data but for one; its report with nanoseconds."""
+    data = [b""] * IDLE
+    data[BUSY] = sub_buffer(1000, record(payload(NO_FORMAT, 1)) * EVENTS)
+    write_trace(file, header(), data)
+    return b"cpus=%d\n" % IDLE + line(1, BUSY, 1000) * EVENTS
+
+
 def faults(program: str, room: Path) -> Iterator[str]:
-    wide, long = room / "wide.dat", room / "long.dat"
+    wide, long, idle = room / "wide.dat", room / "long.dat", room / "idle.dat"
     report = wide_trace(wide)
     for workers in (1, 3, 64):
         found = run(program, ["report", "-t", "--workers", str(workers), wide], 200_000 + 9_000 * workers)
@@ -69,6 +81,10 @@ def faults(program: str, room: Path) -> Iterator[str]:
     found = run(program, ["report", "-t", long], 20_000)
     if found != (0, report, b""):
         yield f"a long trace: status {found.status}, {len(found.out)} bytes, {found.err!r}"
+    report = idle_trace(idle)
+    found = run(program, ["report", "-t", idle], 16_000)
+    if found != (0, report, b""):
+        yield f"{IDLE} processors of which one has events: status {found.status}, {len(found.out)} bytes, {found.err!r}"
 
 
 def check(program: str) -> bool:
@@ -77,5 +93,5 @@ def check(program: str) -> bool:
     for it in wrong:
         print(f"WRONG: {it}")
     if not wrong:
-        print("5 reports under limits of memory, each as it must be")
+        print("6 reports under limits of memory, each as it must be")
     return not wrong
