@@ -8,7 +8,7 @@ ghost use Rattle.split_passes.specs.Measures.{IsMeasured, SkipsOver, Tallied};
 ghost use Rattle.split_passes.specs.Through.{GoThrough};
 
 use crate::choice::{Choice, choose};
-use crate::taking::take_turn;
+use crate::pace::{Pace, take_more};
 use crate::tally::Tally;
 use event_cursor::step;
 use least_tree::LeastTree;
@@ -62,13 +62,13 @@ pub fn measure<F: File>(
     ensures cause { HasCause (F.faults file.old) (F.faults file.new) result }
 {
     let mut used = None;
+    let mut pace = Pace::new();
     loop {
         match next_lane_by(layout, file, lanes, nexts, used)? {
             Next::Lane(i) => match choose(layout, &lanes[i], stop, gauge, &mut tallies[i]) {
                 Choice::Takes => {
                     step(layout, &mut lanes[i]);
-                    take_turn(layout, lanes, nexts, used, i, stop, gauge, &mut tallies[i]);
-                    used = Some(i);
+                    used = take_more(layout, lanes, nexts, i, stop, gauge, tallies, &mut pace);
                 }
                 Choice::Past => return Ok(PieceEnd::Past),
                 Choice::Full => return Ok(PieceEnd::Full),

@@ -21,11 +21,11 @@ use time_merge::turn_of;
 use trace_base::Layout;
 use word_values::Moment;
 
-// More events no sub-buffer has.
-const MOST: u64 = 1 << 31;
+/// More events no sub-buffer has.
+pub(crate) const MOST: u64 = 1 << 31;
 
-// The lesser of two keys, and no key past the end.
-fn until_of(turn: u64, allowed: u64, stop: Option<Moment>) -> u64
+/// The lesser of two keys, and no key past the end.
+pub(crate) fn until_of(turn: u64, allowed: u64, stop: Option<Moment>) -> u64
     ensures turn { result ≤ turn }
     ensures allowed { result ≤ allowed }
     ensures inside { (key : ℕ) → key ≤ result → past_key stop key ≡ false }
@@ -115,21 +115,12 @@ pub(crate) fn take_run(
     step_run(layout, lane, next, count);
 }
 
-// Whether an item of this lane was used before the last one too. Only then it pays to look how far the lane's turn goes.
-fn is_again(before: Option<usize>, i: usize) -> bool {
-    match before {
-        None => false,
-        Some(before) => before == i,
-    }
-}
-
 /// Takes the run of plain records at a lane's place into a piece and its tally, as far as its items come before those of all other
 /// lanes. These are ready, and the tree is in step with them.
 pub(crate) fn take_turn(
     layout: &Layout,
     lanes: &mut [Lane],
     nexts: &LeastTree,
-    before: Option<usize>,
     i: usize,
     stop: Option<Moment>,
     gauge: &mut Gauge,
@@ -145,9 +136,6 @@ pub(crate) fn take_turn(
     ensures taken { (d : Lane) → IsTurnTaken layout.now stop (record { gauge = gauge.old; tally = tally.old })
         (record { gauge = gauge.new; tally = tally.new }) lanes.old i d lanes.new }
 {
-    if !is_again(before, i) {
-        return;
-    }
     if let Some(turn) = turn_of(layout, lanes, nexts, i) {
         take_run(layout, &mut lanes[i], turn, stop, gauge, tally);
     }

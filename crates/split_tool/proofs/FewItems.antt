@@ -11,11 +11,12 @@ use Rattle.subpage.specs.RunningTime.{time_after}
 use Rattle.subpage.specs.Element.{ElementData, Row, short_event, long_event, end, discarded, extend, stamp, Spelled, nothing, begins_with}
 use Rattle.subpage.specs.Page.{items, committed, committed_size, commit_word, data_area, page_losses, losses, has_missed, timestamp, behind_committed}
 use Rattle.subpage.specs.Processor.{items_at, is_there, page_end, page_bytes, page_count, pages_from, joined, list_of}
-use Rattle.subpage.specs.Arrangement.{Keyed, keyed_from, all_keyed, by_key, put, key_of, arranged}
+use Rattle.subpage.specs.Arrangement.{Keyed, keyed_from, all_keyed, by_key, key_of, arranged}
 use Rattle.subpage.specs.Cut.{lists_of, cut_of, is_up_to, reached_of}
 use Rattle.subpage.proofs.PageItems.{items_are}
 use Rattle.subpage.proofs.Joining.{joined-some, joined-none}
 use Rattle.split_passes.proofs.PieceLaws.{filter_few}
+use Rattle.split_passes.proofs.RoundLaws.{by_key_long}
 
 -- This many items stand in this many bytes: a sub-buffer of at most 2^18 bytes has less than 2^15 items, and takes four bytes more
 -- than eight an item.
@@ -149,17 +150,6 @@ few_keyed l file [] allowed = omega arith
 few_keyed l file (p ∷ parts) allowed =
     let mine = keyed_from p.0 0 (list_of l file p.1) in
     omega (arith, length-append mine (all_keyed (lists_of l file parts)), keyed_long p.0 0 (list_of l file p.1), few_in_list l file p.1 allowed, few_keyed l file parts allowed)
-
-put_long : (x : Keyed) (xs : List Keyed) → length (put key_of x xs) ≡ suc (length xs)
-put_long x [] = refl
-put_long x (y ∷ ys) = elim (cases_Bool (leb x.key y.key)) [
-  | inl b ↦ rw b refl
-  | inr b ↦ rw b (ap suc (put_long x ys))
-]
-
-by_key_long : (xs : List Keyed) → length (by_key key_of xs) ≡ length xs
-by_key_long [] = refl
-by_key_long (x ∷ xs) = put_long x (by_key key_of xs) ∙ ap suc (by_key_long xs)
 
 pub few_reached : (l : Layout) (file : List ℕ) (parts : List (ℕ × Part)) → IsLayout l → Few (length (reached_of l file parts)) (length parts * length file)
 unfolding reached_of arranged

@@ -2,8 +2,7 @@
 use Rattle.std.proofs.Common.{◌≡◌, ℕ, zero, suc, ◌+◌, ◌<◌, Bool, true, false, eqb, nat_lt, not, if◌then◌else◌, List, [], ◌∷◌, ◌++◌, length, get_or, map, Option, Some, None, refl, sym, ap, ◌∙◌, append-nil, inl, inr, arith}
 use Rattle.std.specs.List.{All, take_while}
 use Rattle.std.proofs.lemmas.Bool.{cases_Bool, ne_eqb}
-use Rattle.std.proofs.lemmas.List.{map-append}
-use Rattle.std.proofs.lemmas.List.Elements.{All-nil, All-cons, All-head, All-tail, All-append, All-filter, All-map, All-weaker, filter-append}
+use Rattle.std.proofs.lemmas.List.Elements.{All-nil, All-cons, All-head, All-tail, All-append, All-filter, All-map, All-weaker}
 use Rattle.trace_base.specs.declared.layout.Layout.{Layout}
 use Rattle.subpage.specs.ItemData.{ItemData}
 use Rattle.subpage.specs.Arrangement.{Keyed, CpusRise, key_of, cpu_of, with_key, by_key}
@@ -22,6 +21,7 @@ use Rattle.split_pieces.specs.Cuts.{items_of_cpu, is_apart}
 use Rattle.split_pieces.specs.Pieces.{up_to_event, is_event, up_to_end, piece, next_file}
 use Rattle.split_pieces.proofs.Cutting.{front_no, front_yes}
 use Rattle.split_tool.specs.Lists.{groups, come_of, left_in_rows, lists_left}
+use Rattle.split_passes.proofs.RoundRuns.{own_append}
 use Rattle.split_passes.proofs.Running.{rises_tail}
 
 module _ (P : Keyed → Type 0) where
@@ -99,9 +99,6 @@ none_with c (x ∷ xs) a = let b : eqb x.cpu c ≡ false = ne_eqb x.cpu c (All-h
 
 pub none_own : (c : ℕ) (xs : List Keyed) → All (IsNot c) xs → items_of_cpu c xs ≡ []
 none_own c xs a = ap (map (λ (x : Keyed). x.item)) (none_with c xs a)
-
-pub own_append : (c : ℕ) (xs ys : List Keyed) → items_of_cpu c (xs ++ ys) ≡ items_of_cpu c xs ++ items_of_cpu c ys
-own_append c xs ys = ap (map (λ (x : Keyed). x.item)) (filter-append (λ (y : Keyed). eqb y.cpu c) xs ys) ∙ map-append (λ (x : Keyed). x.item) (with_key cpu_of c xs) (with_key cpu_of c ys)
 
 -- a file takes no items of other processors
 pub none_else : (l : Layout) (file : List ℕ) (rules : Rules) (lanes : List Lane) (c : ℕ) → All (IsNotLane c) lanes → items_of_cpu c (next_file rules.unit (lists_left l file rules lanes)) ≡ []

@@ -5,10 +5,8 @@ use Rattle.subpage.specs.Arrangement.{CpusRise}
 use Rattle.page_pool.specs.declared.lane.Lane.{Lane}
 use Rattle.page_pool.specs.declared.cursor.LaneState.TheVariants.{Held}
 use Rattle.time_merge.specs.LaneRows.{parts_of}
-use Rattle.time_merge.specs.Nexts.{IsInStepBut}
 use Rattle.time_merge.specs.Reads.{all_unread}
-use Rattle.time_merge.specs.Advancing.{Advances}
-use Rattle.time_merge.proofs.Readying.{set_parts}
+use Rattle.time_merge.specs.Advancing.{IsOver}
 use Rattle.std.proofs.lemmas.List.Elements.{All-set}
 use Rattle.trace_outside.proofs.Keeping.{file_kept, file_still}
 use Rattle.event_cursor.specs.Standing.{IsInOrder, most_left}
@@ -18,11 +16,13 @@ use Rattle.time_merge.proofs.Advancing.{advances_not}
 use Rattle.time_merge.proofs.Going.{fewer, holds_is, next_is, still_parts}
 use Rattle.time_merge.proofs.OneLane.{in_step_but}
 use Rattle.split_passes.proofs.Going.{advances_on, advances_stepped, over_more}
-use Rattle.time_merge.proofs.Advancing.{same_length, advances_more}
-use Rattle.time_merge.proofs.PartReads.{going_reads, same_unread, set_unread, stepping_unread}
+use Rattle.time_merge.proofs.Advancing.{same_length}
+use Rattle.time_merge.proofs.PartReads.{going_reads, stepping_unread}
 use Rattle.split_passes.proofs.Running.{runs_none, runs_on, loaded, all_measured, past_measured, full_measured}
 use Rattle.split_passes.proofs.Through.{through_loaded}
-use Rattle.split_passes.proofs.TurnLaws.{in_step_again, kept_advances, kept_most, no_more, runs_turn}
+use Rattle.split_passes.specs.declared.tally.Tally.{Tally}
+use Rattle.split_passes.specs.Rounds.{Counts}
+use Rattle.split_passes.proofs.RoundRuns.{more_kept, more_runs}
 use Rattle.split_passes.proofs.measuring.measure.Goals as goal
 
 pub loop-i-init : goal.loop-i-init
@@ -41,11 +41,11 @@ loop-i-init g c = record {
   faults = refl;
 }
 
-pub take_turn-requires-clause-in_order : goal.take_turn-requires-clause-in_order
-take_turn-requires-clause-in_order g c = All-set (IsInOrder c.args.layout.now) c.next_lane_by.new.lanes c.in-Lane.i c.step.new.lane c.step.ensures.in_order c.next_lane_by.ensures.loads.in_order
+pub take_more-used-requires-clause-in_order : goal.take_more-used-requires-clause-in_order
+take_more-used-requires-clause-in_order g c = All-set (IsInOrder c.args.layout.now) c.next_lane_by.new.lanes c.in-Lane.i c.step.new.lane c.step.ensures.in_order c.next_lane_by.ensures.loads.in_order
 
-pub take_turn-requires-clause-rise : goal.take_turn-requires-clause-rise
-take_turn-requires-clause-rise g c =
+pub take_more-used-requires-clause-rise : goal.take_more-used-requires-clause-rise
+take_more-used-requires-clause-rise g c =
     let l = c.args.layout.now in
     let came : List Lane = c.next_lane_by.new.lanes in
     let lt : c.in-Lane.i < length came = (holds_is l came c.in-Lane.is c.in_ok-i.ensures.holds).0 in
@@ -53,74 +53,88 @@ take_turn-requires-clause-rise g c =
     still_parts l came c.in-Lane.i c.index-lanes-i-in-Takes.result c.step.new.lane lt c.step.ensures.used ∙ c.next_lane_by.ensures.loads.parts ∙ c.loop-i.invariant.parts in
     subst (λ (ps : List (ℕ × Part)). CpusRise ps) (sym same) c.requires.rise
 
-pub take_turn-requires-clause-in_step : goal.take_turn-requires-clause-in_step
-take_turn-requires-clause-in_step g c =
+pub take_more-used-requires-clause-in_step : goal.take_more-used-requires-clause-in_step
+take_more-used-requires-clause-in_step g c =
     let l = c.args.layout.now in
     let came : List Lane = c.next_lane_by.new.lanes in
     let lt : c.in-Lane.i < length came = (holds_is l came c.in-Lane.is c.in_ok-i.ensures.holds).0 in
     in_step_but l came c.next_lane_by.new.nexts c.in-Lane.i c.step.new.lane lt c.in_ok-i.ensures.ready c.in_ok-i.ensures.nexts
+
+pub take_more-used-requires-clause-held : goal.take_more-used-requires-clause-held
+take_more-used-requires-clause-held g c = λ d.
+    let l = c.args.layout.now in
+    let i : ℕ = c.in-Lane.i in
+    let came : List Lane = c.next_lane_by.new.lanes in
+    let holds = holds_is l came c.in-Lane.is c.in_ok-i.ensures.holds in
+    let held = (holds.1 c.index-lanes-i-in-Takes.result).0 in
+    ap (λ (a : Lane). a.cursor.state) (get_or-set_same came i c.step.new.lane d holds.0) ∙ c.step.ensures.used.page.state ∙ held
 
 pub loop-i-smaller : goal.loop-i-smaller
 loop-i-smaller g c =
     let l = c.args.layout.now in
     let i : ℕ = c.in-Lane.i in
     let came : List Lane = c.next_lane_by.new.lanes in
-    let lt : i < length came = (holds_is l came c.in-Lane.is c.in_ok-i.ensures.holds).0 in
+    let holds = holds_is l came c.in-Lane.is c.in_ok-i.ensures.holds in
     let now : Lane = c.step.new.lane in
     let stepped : List Lane = set came i now in
-    let inside : i < length stepped = omega (arith, lt, length-set came i now) in
-    let turn = c.take_turn.ensures.taken now in
-    let before = sum_by (most_left l) c.loop-i.lanes in
-    let less : sum_by (most_left l) stepped < before = fewer l before came i c.index-lanes-i-in-Takes.result now lt c.step.ensures.most c.next_lane_by.ensures.loads.most in
-    subst (λ (ks : List Lane). sum_by (most_left l) ks < before) (sym turn.lanes_are)
-    (no_more l before stepped i now turn.lane inside (kept_most l (get_or stepped i now) turn.lane turn.keeps turn.forward) less)
+    let held = ap (λ (a : Lane). a.cursor.state) (get_or-set_same came i now now holds.0) ∙ c.step.ensures.used.page.state ∙ (holds.1 c.index-lanes-i-in-Takes.result).0 in
+    let before : Counts = record { gauge = c.choose.new.gauge; lanes = stepped; tallies = set c.loop-i.tallies i c.choose.new.tally } in
+    let after : Counts = record { gauge = c.take_more-used.new.gauge; lanes = c.take_more-used.new.lanes; tallies = c.take_more-used.new.tallies } in
+    let but = in_step_but l came c.next_lane_by.new.nexts i now holds.0 c.in_ok-i.ensures.ready c.in_ok-i.ensures.nexts in
+    let kept = more_kept l c.args.stop c.next_lane_by.new.nexts i now c.choose.new.tally before after c.take_more-used.result but held c.take_more-used.ensures.taken in
+    let less : sum_by (most_left l) stepped < sum_by (most_left l) c.loop-i.lanes = fewer l (sum_by (most_left l) c.loop-i.lanes) came i c.index-lanes-i-in-Takes.result now holds.0 c.step.ensures.most c.next_lane_by.ensures.loads.most in
+    omega (arith, less, kept.most)
 
 pub loop-i-preserved : goal.loop-i-preserved
 loop-i-preserved g c =
     let l = c.args.layout.now in
     let i : ℕ = c.in-Lane.i in
+    let first : List Lane = c.args.lanes.now in
     let size = g.F.File.size c.args.file.now in
     let came : List Lane = c.next_lane_by.new.lanes in
-    let lt : i < length came = (holds_is l came c.in-Lane.is c.in_ok-i.ensures.holds).0 in
+    let holds = holds_is l came c.in-Lane.is c.in_ok-i.ensures.holds in
+    let lt : i < length came = holds.0 in
+    let held = (holds.1 c.index-lanes-i-in-Takes.result).0 in
     let parts = c.next_lane_by.ensures.loads.parts ∙ c.loop-i.invariant.parts in
-    let long0 : length c.loop-i.tallies ≡ length c.args.lanes.now = c.loop-i.invariant.long ∙ same_length c.loop-i.lanes c.args.lanes.now c.loop-i.invariant.parts in
+    let long0 : length c.loop-i.tallies ≡ length first = c.loop-i.invariant.long ∙ same_length c.loop-i.lanes first c.loop-i.invariant.parts in
     let long1 : length came ≡ length c.loop-i.lanes = same_length came c.loop-i.lanes c.next_lane_by.ensures.loads.parts in
-    let long2 = same_length c.loop-i.lanes c.args.lanes.now c.loop-i.invariant.parts in
-    let on = advances_on c.args.lanes.now c.loop-i.lanes came long2 c.loop-i.invariant.advance c.next_lane_by.ensures.loads.advance in
-    let held = ((holds_is l came c.in-Lane.is c.in_ok-i.ensures.holds).1 c.index-lanes-i-in-Takes.result).0 in
+    let long2 = same_length c.loop-i.lanes first c.loop-i.invariant.parts in
+    let on = advances_on first c.loop-i.lanes came long2 c.loop-i.invariant.advance c.next_lane_by.ensures.loads.advance in
     let now : Lane = c.step.new.lane in
     let stepped : List Lane = set came i now in
+    let tallied : List Tally = set c.loop-i.tallies i c.choose.new.tally in
     let inside : i < length stepped = omega (arith, lt, length-set came i now) in
-    let here : get_or stepped i now ≡ now = get_or-set_same came i now now lt in
-    let turn = c.take_turn.ensures.taken now in
-    let lanes_are : c.take_turn.new.lanes ≡ set stepped i turn.lane = turn.lanes_are in
-    let stepped_parts : parts_of stepped ≡ parts_of c.args.lanes.now = still_parts l came i c.index-lanes-i-in-Takes.result now lt c.step.ensures.used ∙ parts in
-    let advance = advances_stepped l c.args.lanes.now came i c.index-lanes-i-in-Takes.result now (long1 ∙ long2) lt held c.step.ensures.used on in
-    let state : (get_or stepped i now).cursor.state ≡ Held = ap (λ (a : Lane). a.cursor.state) here ∙ c.step.ensures.used.page.state ∙ held in
-    let unread : all_unread l size (set stepped i turn.lane) ≡ all_unread l size came =
-    set_unread l size stepped i now turn.lane inside (same_unread l size (get_or stepped i now) turn.lane turn.keeps.part turn.keeps.state turn.keeps.next)
-    ∙ stepping_unread l size came i c.index-lanes-i-in-Takes.result now lt c.step.ensures.used in
-    let still : all_unread l size c.take_turn.new.lanes ≡ all_unread l size came = ap (all_unread l size) lanes_are ∙ unread in
-    let reads = going_reads l size (g.F.File.size c.loop-i.file) c.loop-i.lanes came c.take_turn.new.lanes _ _ _ _
+    let stepped_parts : parts_of stepped ≡ parts_of first = still_parts l came i c.index-lanes-i-in-Takes.result now lt c.step.ensures.used ∙ parts in
+    let stepped_long : length stepped ≡ length first = same_length stepped first stepped_parts in
+    let tallied_long : length tallied ≡ length first = length-set c.loop-i.tallies i c.choose.new.tally ∙ long0 in
+    let advance = advances_stepped l first came i c.index-lanes-i-in-Takes.result now (long1 ∙ long2) lt held c.step.ensures.used on in
+    let state : (get_or stepped i now).cursor.state ≡ Held = ap (λ (a : Lane). a.cursor.state) (get_or-set_same came i now now lt) ∙ c.step.ensures.used.page.state ∙ held in
+    let before : Counts = record { gauge = c.choose.new.gauge; lanes = stepped; tallies = tallied } in
+    let after : Counts = record { gauge = c.take_more-used.new.gauge; lanes = c.take_more-used.new.lanes; tallies = c.take_more-used.new.tallies } in
+    let but = in_step_but l came c.next_lane_by.new.nexts i now lt c.in_ok-i.ensures.ready c.in_ok-i.ensures.nexts in
+    let more = c.take_more-used.ensures.taken in
+    let kept = more_kept l c.args.stop c.next_lane_by.new.nexts i now c.choose.new.tally before after c.take_more-used.result but state more in
+    let still : all_unread l size after.lanes ≡ all_unread l size came = kept.unread size ∙ stepping_unread l size came i c.index-lanes-i-in-Takes.result now lt c.step.ensures.used in
+    let reads = going_reads l size (g.F.File.size c.loop-i.file) c.loop-i.lanes came after.lanes _ _ _ _
     c.loop-i.invariant.keeps.size still c.in_ok-i.ensures.ready c.loop-i.invariant.reads c.loop-i.invariant.unread c.next_lane_by.ensures.loads.reads c.next_lane_by.ensures.loads.unread in
+    let over = over_more first came c.args.tallies.now c.loop-i.tallies i c.index-lanes-i-in-Takes.result c.choose.new.tally lt held on c.loop-i.invariant.over in
     record {
-      in_order = c.take_turn.ensures.in_order;
-      parts = ap parts_of lanes_are ∙ set_parts stepped i now turn.lane inside turn.keeps.cpu turn.keeps.part ∙ stepped_parts;
-      long = length-set _ i c.take_turn.new.tally ∙ length-set c.loop-i.tallies i c.choose.new.tally ∙ c.loop-i.invariant.long ∙ sym long1 ∙ sym (length-set came i now) ∙ sym (length-set stepped i turn.lane) ∙ ap length (sym lanes_are);
-      in_step = subst (λ (ks : List Lane). IsInStepBut l ks c.next_lane_by.new.nexts i) (sym lanes_are) (in_step_again l stepped c.next_lane_by.new.nexts i turn.lane (in_step_but l came c.next_lane_by.new.nexts i now lt c.in_ok-i.ensures.ready c.in_ok-i.ensures.nexts));
+      in_order = c.take_more-used.ensures.in_order;
+      parts = kept.parts ∙ stepped_parts;
+      long = kept.long ∙ tallied_long ∙ sym stepped_long ∙ sym (same_length after.lanes stepped kept.parts);
+      in_step = kept.in_step;
       slots = c.next_lane_by.ensures.slots ∙ c.loop-i.invariant.slots;
       runs = told_map _ _ (g.F.File.bytes c.args.file.now) (λ file h s t.
           let r = h s t in
-          runs_turn l file c.args.stop c.args.gauge.now c.choose.new.gauge c.take_turn.new.gauge c.args.lanes.now stepped c.take_turn.new.lanes (set c.loop-i.tallies i c.choose.new.tally) i now c.index-tallies-i-in-Takes.result c.take_turn.new.tally
-          c.requires.rise stepped_parts (length-set c.loop-i.tallies i c.choose.new.tally ∙ long0) inside turn
-          (runs_on l file c.args.stop c.args.gauge.now c.loop-i.gauge c.choose.new.gauge c.args.lanes.now came c.loop-i.tallies i c.index-lanes-i-in-Takes.result c.index-lanes-i.result now c.index-tallies-i.result c.choose.new.tally
+          more_runs l file c.args.stop c.args.gauge.now first i now c.choose.new.tally before after c.take_more-used.result c.requires.rise stepped_parts tallied_long inside more
+          (runs_on l file c.args.stop c.args.gauge.now c.loop-i.gauge c.choose.new.gauge first came c.loop-i.tallies i c.index-lanes-i-in-Takes.result c.index-lanes-i.result now c.index-tallies-i.result c.choose.new.tally
           c.requires.rise parts long0 lt r.1 c.step.ensures.used c.in-Takes.ensures r.0))
-          (loaded l (g.F.File.bytes c.args.file.now) (g.F.File.bytes c.loop-i.file) c.args.stop c.args.gauge.now c.loop-i.gauge c.args.lanes.now c.loop-i.lanes came c.args.tallies.now c.loop-i.tallies (code.Lane i)
+          (loaded l (g.F.File.bytes c.args.file.now) (g.F.File.bytes c.loop-i.file) c.args.stop c.args.gauge.now c.loop-i.gauge first c.loop-i.lanes came c.args.tallies.now c.loop-i.tallies (code.Lane i)
           c.loop-i.invariant.keeps.bytes c.loop-i.invariant.parts c.next_lane_by.ensures.loads.parts c.loop-i.invariant.runs c.next_lane_by.ensures.loads.rows c.next_lane_by.ensures.loads.stands (next_is c.args.layout.now _ _ came c.in-Lane.is c.in_ok-i.ensures.next));
-      advance = subst (λ (ks : List Lane). (j : ℕ) (d : Lane) → j < length c.args.lanes.now → Advances (get_or c.args.lanes.now j d) (get_or ks j d)) (sym lanes_are)
-          (advances_more c.args.lanes.now stepped i now turn.lane (same_length stepped c.args.lanes.now stepped_parts) inside (kept_advances (get_or stepped i now) turn.lane state turn.keeps) advance);
-      over = over_more c.args.lanes.now stepped c.args.tallies.now (set c.loop-i.tallies i c.choose.new.tally) i now c.take_turn.new.tally inside state advance
-          (over_more c.args.lanes.now came c.args.tallies.now c.loop-i.tallies i c.index-lanes-i-in-Takes.result c.choose.new.tally lt held on c.loop-i.invariant.over);
+      advance = advances_on first stepped after.lanes stepped_long advance kept.advance;
+      over = λ j d t jt is_over.
+          let there : get_or stepped j d ≡ get_or first j d = (advance j d jt).over is_over in
+          kept.over j d t (omega (arith, jt, stepped_long)) (subst (λ (a : Lane). IsOver a.cursor.state) (sym there) is_over) ∙ over j d t jt is_over;
       reads = reads.0;
       unread = reads.1;
       keeps = file_kept c.loop-i.invariant.keeps c.next_lane_by.ensures.loads.keeps;

@@ -2,9 +2,6 @@ use Rattle.split_passes.specs.Choices.{Counting}
 use Rattle.split_passes.proofs.TurnLaws.{turn_none, turn_taken}
 use Rattle.split_passes.proofs.taking.take_turn.Goals as goal
 
-pub returns-then-not-is_again-clause-taken : goal.returns-then-not-is_again-clause-taken
-returns-then-not-is_again-clause-taken c = λ d. turn_none c.args.layout.now c.args.stop (record { gauge = c.args.gauge.now; tally = c.args.tally.now }) c.args.lanes.now c.args.i d
-
 pub returns-in_default-clause-taken : goal.returns-in_default-clause-taken
 returns-in_default-clause-taken c = λ d. turn_none c.args.layout.now c.args.stop (record { gauge = c.args.gauge.now; tally = c.args.tally.now }) c.args.lanes.now c.args.i d
 

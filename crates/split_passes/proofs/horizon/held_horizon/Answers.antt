@@ -1,0 +1,51 @@
+use Rattle.std.proofs.Common.{◌-◌, ◌^◌, ℕ, List, refl, sym, subst, arith}
+use Rattle.subpage.specs.declared.run.RunLimits.{RunLimits}
+use Rattle.subpage.specs.Marks.{IsMark}
+use Rattle.subpage.specs.Run.{IsLongestRun}
+use Rattle.event_cursor.specs.Standing.{HasAhead, TellsAhead}
+use Rattle.split_passes.specs.Rounds.{HasLater, HoldsLater}
+use Rattle.split_passes.proofs.HorizonLaws.{behind_later, below_key, last_later, next_later}
+use Rattle.split_passes.proofs.horizon.held_horizon.Goals as goal
+
+pub plain_run-requires : goal.plain_run-requires
+plain_run-requires c =
+    let a = c.args.lane.now in
+    subst (λ (p : List ℕ). IsMark c.args.layout.now p a.cursor.mark) (sym c.bytes-page.ensures) (c.requires.in_order.held c.requires.held).mark
+
+pub is_later-requires : goal.is_later-requires
+is_later-requires c = c.in-Some-plain_run.ensures.run.there
+
+pub returns-then-until-ahead : goal.returns-then-until-ahead
+returns-then-until-ahead c =
+    let a = c.args.lane.now in
+    let has : HasAhead c.args.layout.now a.page a.cursor.mark a.cursor.high c.in-Some.ahead =
+    subst (TellsAhead c.args.layout.now a.page a.cursor.mark a.cursor.high) c.in-Some.is (c.requires.in_order.held c.requires.held).ahead in
+    (omega arith, next_later c.args.layout.now a c.requires.held c.in-Some.ahead c.args.until c.args.most c.args.until has c.if-until-ahead.true)
+
+pub returns-in_default-plain_run : goal.returns-in_default-plain_run
+returns-in_default-plain_run c =
+    let a = c.args.lane.now in
+    let has : HasAhead c.args.layout.now a.page a.cursor.mark a.cursor.high c.in-Some.ahead =
+    subst (TellsAhead c.args.layout.now a.page a.cursor.mark a.cursor.high) c.in-Some.is (c.requires.in_order.held c.requires.held).ahead in
+    below_key c.below.result c.in-Some.ahead.key c.args.until (λ n. HoldsLater c.args.layout.now n c.args.most a) c.below.ensures
+    (λ n less. next_later c.args.layout.now a c.requires.held c.in-Some.ahead c.args.until c.args.most n has less)
+
+pub returns-then-is_later : goal.returns-then-is_later
+returns-then-is_later c =
+    let l = c.args.layout.now in
+    let a = c.args.lane.now in
+    let limits : RunLimits = record { bytes = 2 ^ 32 - 1; events = c.args.most; until = c.args.until } in
+    let found : IsLongestRun l a.page a.cursor.mark limits c.in-Some-plain_run.next c.in-Some-plain_run.field-0-1 =
+    subst (λ (p : List ℕ). IsLongestRun l p a.cursor.mark limits c.in-Some-plain_run.next c.in-Some-plain_run.field-0-1) c.bytes-page.ensures c.in-Some-plain_run.ensures in
+    let later : HasLater l a.page c.in-Some-plain_run.next c.args.until = subst (λ (p : List ℕ). HasLater l p c.in-Some-plain_run.next c.args.until) c.bytes-page.ensures (c.if-is_later.ensures refl) in
+    (omega arith, behind_later l a c.requires.held limits c.in-Some-plain_run.next c.in-Some-plain_run.field-0-1 c.args.until c.args.most found (omega arith) later)
+
+pub returns : goal.returns
+returns c =
+    let l = c.args.layout.now in
+    let a = c.args.lane.now in
+    let limits : RunLimits = record { bytes = 2 ^ 32 - 1; events = c.args.most; until = c.args.until } in
+    let found : IsLongestRun l a.page a.cursor.mark limits c.in-Some-plain_run.next c.in-Some-plain_run.field-0-1 =
+    subst (λ (p : List ℕ). IsLongestRun l p a.cursor.mark limits c.in-Some-plain_run.next c.in-Some-plain_run.field-0-1) c.bytes-page.ensures c.in-Some-plain_run.ensures in
+    below_key c.below-2.result c.time.result c.args.until (λ n. HoldsLater l n c.args.most a) c.below-2.ensures
+    (λ n less. last_later l a c.requires.held limits c.in-Some-plain_run.next c.in-Some-plain_run.field-0-1 n c.args.most found (omega arith) (omega (arith, less, c.time.ensures)))
