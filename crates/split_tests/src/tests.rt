@@ -4,6 +4,7 @@ mod faults;
 mod items;
 mod lanes;
 mod passes;
+mod rounds;
 mod runs;
 mod splits;
 mod traces;

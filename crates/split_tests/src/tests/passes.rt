@@ -47,6 +47,18 @@ loss;nanos 2;10 !11#2 |11 |/12 ||/;done 7
 loss;events 1;10 ||/!11#2 |11 |/12 ||/;done 7
 cut;all;10 |20 |/;malformed 1 1 4
 cut;events 1;10 ||/|20 |/;malformed 1 1 4
+turns;all;10 12 14 16 18 20 30 |11 13 15 17 19 21 22 |/;done 8
+turns;events 4;10 12 |11 13 |/14 16 |15 17 |/18 20 |19 21 |/30 |22 |/;done 10
+turns;nanos 5;10 12 14 |11 13 |/16 18 |15 17 19 |/20 |21 22 |/30 ||/;done 9
+turns;to 15;10 12 14 |11 13 |/;past 2
+ties;all;10 20 30 40 50 |10 20 30 40 50 |/;done 4
+ties;events 3;10 20 |10 |/30 |20 30 |/40 50 |40 |/|50 |/;done 4
+back;all;50 60 10 20 70 |40 55 61 65 |/;done 6
+back;events 4;50 60 |40 55 |/10 20 |61 65 |/70 ||/;done 7
+mixed;all;10 12 14 !16#2 18 20 |11 13 15 17 19 21 |/;done 6
+mixed;events 5;10 12 14 |11 13 |/!16#2 18 20 |15 17 19 |/|21 |/;done 7
+turns cut;all;10 12 14 16 18 20 |11 13 15 17 19 21 |/;malformed 1 1 7
+cut early;all;10 12 |11 13 |/;malformed 1 1 4
 ";
 
 const NONE: [&[Page]; 2] = [&[], &[]];
@@ -75,6 +87,34 @@ const VISITS: [&[Page]; 2] = [
 
 const CUT: [&[Page]; 2] = [&[Of(&[10_000, 30_000])], &[Of(&[20_000]), Malformed]];
 
+const EVEN: &[u64] = &[10_000, 12_000, 14_000, 16_000, 18_000, 20_000];
+
+const ODD: &[u64] = &[11_000, 13_000, 15_000, 17_000, 19_000, 21_000];
+
+// Processors that take turns: a round takes their items up to the end of a sub-buffer.
+const TURNS: [&[Page]; 2] = [&[Of(EVEN), Of(&[30_000])], &[Of(ODD), Of(&[22_000])]];
+
+const TENS: &[u64] = &[10_000, 20_000, 30_000, 40_000, 50_000];
+
+const TIES: [&[Page]; 2] = [&[Of(TENS)], &[Of(TENS)]];
+
+const BACK: [&[Page]; 2] = [
+    &[Of(&[50_000, 60_000]), Of(&[10_000, 20_000, 70_000])],
+    &[Of(&[40_000, 55_000, 61_000, 65_000])],
+];
+
+const MIXED: [&[Page]; 2] = [
+    &[
+        Of(&[10_000, 12_000, 14_000]),
+        Lossy(16_000, Some(2), &[18_000, 20_000]),
+    ],
+    &[Of(ODD)],
+];
+
+const TURNS_CUT: [&[Page]; 2] = [&[Of(EVEN), Of(&[30_000])], &[Of(ODD), Malformed]];
+
+const CUT_EARLY: [&[Page]; 2] = [&[Of(EVEN)], &[Of(&[11_000, 13_000]), Malformed]];
+
 fn cpus_of(name: &str) -> [&'static [Page<'static>]; 2] {
     match name {
         "five" => FIVE,
@@ -83,6 +123,12 @@ fn cpus_of(name: &str) -> [&'static [Page<'static>]; 2] {
         "loss" => LOSS,
         "visits" => VISITS,
         "cut" => CUT,
+        "turns" => TURNS,
+        "ties" => TIES,
+        "back" => BACK,
+        "mixed" => MIXED,
+        "turns cut" => TURNS_CUT,
+        "cut early" => CUT_EARLY,
         _ => NONE,
     }
 }
@@ -91,7 +137,11 @@ fn unit_of(words: &str) -> PieceUnit {
     match words {
         "events 1" => Events(1),
         "events 2" | "events 2 to 35" => Events(2),
+        "events 3" => Events(3),
+        "events 4" => Events(4),
+        "events 5" => Events(5),
         "nanos 2" => Nanos(2_000),
+        "nanos 5" => Nanos(5_000),
         "nanos 15" => Nanos(15_000),
         _ => All,
     }
@@ -101,6 +151,7 @@ fn stop_of(words: &str) -> Option<Moment> {
     let value = match words {
         "events 2 to 35" => 35_000,
         "to 9" => 9_000,
+        "to 15" => 14_500,
         _ => return None,
     };
     Some(Moment {
@@ -251,13 +302,7 @@ fn put_end(text: &mut String, end: PieceEnd) -> Result<(), Fail> {
 // What the two passes make of these sub-buffers.
 fn text_of(alloc: Global, name: &str, words: &str) -> Result<String, Fail> {
     let cpus = cpus_of(name);
-    let mut file = WatchedFile {
-        bytes: bytes_of(alloc, cpus)?,
-        good: u64::MAX,
-        then: Then::Fails,
-        faults: 0,
-        reads: 0,
-    };
+    let mut file = WatchedFile::good(bytes_of(alloc, cpus)?);
     let layout = layout();
     let mut pool = Pool::new(alloc, 2, layout.page, 0)?;
     let lanes = pool.lanes();

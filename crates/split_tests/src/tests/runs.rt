@@ -6,7 +6,7 @@ ghost use Rattle.page_pool.specs.declared.cursor.LaneState.{LaneState};
 ghost use Rattle.event_cursor.specs.Standing.{IsInOrder, held_left};
 
 use super::passes::{pass_piece, set_parts};
-use super::watched::{Then, WatchedFile};
+use super::watched::WatchedFile;
 use Order::{Big, Little};
 use PieceUnit::All;
 use event_cursor::{Loaded, load, step};
@@ -53,13 +53,7 @@ fn packs(
 ) -> Result<bool, Fail>
     requires allowed { IsLayout layout.now }
 {
-    let mut file = WatchedFile {
-        bytes,
-        good: u64::MAX,
-        then: Then::Fails,
-        faults: 0,
-        reads: 0,
-    };
+    let mut file = WatchedFile::good(bytes);
     let mut pool = Pool::new(alloc, 2, layout.page, 0)?;
     let lanes = pool.lanes();
     set_parts(layout, lanes, [count, 0]);
@@ -320,13 +314,7 @@ fn run_of(alloc: Global, times: &[u64]) -> Result<u64, Fail> {
     let layout = layout();
     let mut bytes = Vec::new(alloc);
     put_pages(&mut bytes, &[Of(times)])?;
-    let mut file = WatchedFile {
-        bytes,
-        good: u64::MAX,
-        then: Then::Fails,
-        faults: 0,
-        reads: 0,
-    };
+    let mut file = WatchedFile::good(bytes);
     let mut page = [0xff; 4096];
     let mut packer = Packer::new(&layout, &mut page);
     let mut pool = Pool::new(alloc, 2, layout.page, 0)?;
