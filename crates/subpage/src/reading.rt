@@ -165,7 +165,7 @@ pub fn short_event(order: Order, time: u64, bytes: &[u8]) -> Option<(u64, u32)>
         return None;
     }
     let len = 4 * kind;
-    if bytes.len() - 4 < len as usize {
+    if bytes.len() < 4 + len as usize {
         return None;
     }
     let Some(after) = time_past(time, time_delta_of(order, word)) else {

@@ -59,8 +59,10 @@ fn bytes_past(bytes: &[u8], len: usize) -> &[u8]
     rest
 }
 
-/// The items in short, where the bytes can be read. Most events have their length in their first word.
-pub fn summarize(loss: Option<Loss>, order: Order, start: u64, bytes: &[u8]) -> Option<Summary>
+/// The items in short, where the bytes can be read. Most events have their length in their first word, and are passed over
+/// before anything else is looked for.
+#[inline(always)]
+fn summarize_in(order: Order, loss: Option<Loss>, start: u64, bytes: &[u8]) -> Option<Summary>
     requires { length bytes.now < 2 ^ 31 }
     ensures { result
         ≡ option_map (λ xs. summary_of (loss_items loss ++ xs)) (walk order start bytes.now) }
@@ -88,5 +90,18 @@ pub fn summarize(loss: Option<Loss>, order: Order, start: u64, bytes: &[u8]) -> 
                 Next::Malformed => return None,
             }
         }
+    }
+}
+
+/// The items in short, where the bytes can be read.
+pub fn summarize(loss: Option<Loss>, order: Order, start: u64, bytes: &[u8]) -> Option<Summary>
+    requires { length bytes.now < 2 ^ 31 }
+    ensures { result
+        ≡ option_map (λ xs. summary_of (loss_items loss ++ xs)) (walk order start bytes.now) }
+{
+    // A loop for each order, so that no event asks for it.
+    match order {
+        Order::Little => summarize_in(Order::Little, loss, start, bytes),
+        Order::Big => summarize_in(Order::Big, loss, start, bytes),
     }
 }

@@ -43,7 +43,7 @@ pub returns-then-bytes-len-clause-plain : goal.returns-then-bytes-len-clause-pla
 returns-then-bytes-len-clause-plain c = λ delta payload front back whole is.
     let p = plain_at c.args.order delta payload front back c.args.bytes.now whole is in
     let same : p.kind ≡ c.type_len_of-kind.result = sym p.kind_is ∙ ap (type_len c.args.order) (sym c.read_u32-word.ensures) ∙ sym c.type_len_of-kind.ensures.value in
-    let far : length c.args.bytes.now - 4 < 4 * c.type_len_of-kind.result = c.if-bytes-len.true in
+    let far : length c.args.bytes.now < 4 + 4 * c.type_len_of-kind.result = c.if-bytes-len.true in
     absurd (omega (arith, same, p.long, p.fits, far))
 
 pub returns-in_default-clause-plain : goal.returns-in_default-clause-plain

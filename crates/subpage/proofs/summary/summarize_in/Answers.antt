@@ -5,7 +5,7 @@ use Rattle.subpage.specs.Left.{loss_items}
 use Rattle.subpage.specs.Reading.{walk}
 use Rattle.subpage.specs.ItemData.{EventAt}
 use Rattle.subpage.proofs.Counting.{one_more}
-use Rattle.subpage.proofs.summary.summarize.Goals as goal
+use Rattle.subpage.proofs.summary.summarize_in.Goals as goal
 
 pub loop-after-preserved : goal.loop-after-preserved
 loop-after-preserved c =
