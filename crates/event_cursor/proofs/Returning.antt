@@ -1,8 +1,7 @@
 -- Going back to a place.
-use Rattle.std.proofs.Common.{◌≡◌, ℕ, suc, ◌+◌, ◌<◌, ◌≤◌, true, List, [], ◌∷◌, ◌++◌, length, drop, Option, Some, None, refl, sym, ap, subst, ◌∙◌, arith}
+use Rattle.std.proofs.Common.{◌≡◌, ℕ, ◌+◌, ◌<◌, ◌≤◌, true, List, [], ◌++◌, length, drop, Option, Some, None, refl, sym, ap, subst, ◌∙◌, arith}
 use Rattle.std.specs.Option.{unwrap_or}
 use Rattle.std.proofs.lemmas.Bool.{cond-true}
-use Rattle.std.proofs.lemmas.List.{drop-drop, length-drop}
 use Rattle.trace_base.specs.declared.layout.Layout.{Layout}
 use Rattle.trace_base.specs.declared.part.Part.{Part}
 use Rattle.subpage.specs.ItemData.{ItemData}
@@ -19,12 +18,6 @@ use Rattle.event_cursor.proofs.Leaving.{left_is, bad_is}
 pub items_held : (l : Layout) (file : List ℕ) (a : Lane) → HoldsOwn l file a → items_at l file a.part a.cursor.held ≡ items l a.page
 unfolding items_at
 items_held l file a h = cond-true _ _ _ h.there ∙ ap (items l) (sym h.page)
-
--- one item more is passed
-pub one_passed : (xs ys zs : List ItemData) (x : ItemData) (n : ℕ) → ys ≡ drop n xs → ys ≡ x ∷ zs → n ≤ length xs → (zs ≡ drop (n + 1) xs) × (n + 1 ≤ length xs)
-one_passed xs ys zs x n is first le =
-    let more : length (drop n xs) ≡ suc (length zs) = ap length (sym is ∙ first) in
-    (sym (ap (drop 1) (sym is ∙ first)) ∙ drop-drop 1 n xs, omega (arith, length-drop n xs, more))
 
 -- a sub-buffer with fewer items has no such place
 pub never_fewer : (l : Layout) (file : List ℕ) (part old : Part) (place : Place) (xs : List ItemData) → part ≡ old → HasPlace l file old place → items_at l file part place.page ≡ Some xs → length xs < place.at → ⊥

@@ -4,4 +4,5 @@ pub mod Unread
 pub mod Fetched
 pub mod Loading
 pub mod Stepping
+pub mod Passing
 pub mod Places

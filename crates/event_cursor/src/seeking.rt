@@ -1,10 +1,11 @@
-ghost use Rattle.std.specs.Prelude.{◌≡◌, ◌≤◌, ◌<◌, ◌↔◌, true, IsTrue, length, drop, IfNone, IfOk, IfSome, OnErr};
+ghost use Rattle.std.specs.Prelude.{◌≡◌, ◌≤◌, ◌<◌, ◌↔◌, true, IsTrue, [], length, drop, IfNone, IfOk, IfSome, OnErr};
 ghost use Rattle.trace_base.specs.Layout.{IsLayout};
 ghost use Rattle.trace_outside.specs.Causes.{HasCause, raised};
 ghost use Rattle.trace_outside.specs.Keeping.{KeepsFile};
 ghost use Rattle.subpage.specs.Marks.{IsMark, items_from};
 ghost use Rattle.page_pool.specs.Keeping.{KeepsLane, seeking};
 ghost use Rattle.event_cursor.specs.Fetched.{HoldsItems, IsFetched, IsOwnPage};
+ghost use Rattle.event_cursor.specs.Passing.{IsPassedBy};
 ghost use Rattle.event_cursor.specs.Places.{IsSought, SoughtIn};
 ghost use Rattle.event_cursor.specs.Standing.{IsInOrder, Stands};
 ghost use Rattle.event_cursor.specs.Unread.{is_there_in};
@@ -13,7 +14,7 @@ use crate::fetching::fetch;
 use crate::places::Place;
 use crate::stepping::ahead_at;
 use page_pool::{Cursor, Lane, LaneState};
-use subpage::{Mark, first_at, open_page};
+use subpage::{Mark, RunLimits, open_page, pass_item, plain_run};
 use trace_base::Layout;
 use trace_outside::{Failed, File};
 
@@ -26,6 +27,30 @@ pub enum Sought {
     Malformed,
 }
 
+/// The mark behind the run of plain records at a mark, or else behind its one item, and how many items these are: at most
+/// `most`. `None`: no item is left.
+fn pass_some(layout: &Layout, page: &[u8], mark: Mark, most: u32) -> Option<(Mark, u32)>
+    requires mark { IsMark layout.now page.now mark }
+    requires some { 0 < most }
+    ensures passed { IfSome result (λ passed. IsPassedBy layout.now page.now mark passed.0 passed.1) }
+    ensures some { IfSome result (λ passed. 0 < passed.1) }
+    ensures few { IfSome result (λ passed. passed.1 ≤ most) }
+    ensures none { IfNone result (items_from layout.now page.now mark ≡ []) }
+{
+    let limits = RunLimits {
+        bytes: u32::MAX,
+        events: most,
+        until: u64::MAX,
+    };
+    if let Some(run) = plain_run(layout, page, mark, &limits) {
+        return Some(run);
+    }
+    let Some((behind, _)) = pass_item(layout, page, mark) else {
+        return None;
+    };
+    Some((behind, 1))
+}
+
 /// The mark behind the first `count` items of a sub-buffer. `None`: it has fewer.
 fn pass(layout: &Layout, page: &[u8], first: Mark, count: u32) -> Option<Mark>
     requires { IsMark layout.now page.now first }
@@ -36,11 +61,13 @@ fn pass(layout: &Layout, page: &[u8], first: Mark, count: u32) -> Option<Mark>
     ensures few { IfNone result (length (items_from layout.now page.now first) < count) }
 {
     let mut mark = first;
-    for _ in 0..count {
-        let Some((_, behind)) = first_at(layout, page, mark) else {
+    let mut passed = 0;
+    while passed < count {
+        let Some((behind, more)) = pass_some(layout, page, mark, count - passed) else {
             return None;
         };
         mark = behind;
+        passed += more;
     }
     Some(mark)
 }

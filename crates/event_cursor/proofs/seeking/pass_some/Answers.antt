@@ -1,0 +1,15 @@
+use Rattle.event_cursor.proofs.Passing.{one_passed, run_passed}
+use Rattle.event_cursor.proofs.seeking.pass_some.Goals as goal
+
+pub returns-in-Some-clause-passed : goal.returns-in-Some-clause-passed
+returns-in-Some-clause-passed c = run_passed c.args.layout.now c.args.page.now c.args.mark _ _ c.in-Some.ensures.run
+
+pub returns-in-Some-clause-some : goal.returns-in-Some-clause-some
+returns-in-Some-clause-some c = c.in-Some.ensures.some
+
+pub returns-in-Some-clause-few : goal.returns-in-Some-clause-few
+returns-in-Some-clause-few c = c.in-Some.ensures.few
+
+pub returns-clause-passed : goal.returns-clause-passed
+returns-clause-passed c =
+    one_passed c.args.layout.now c.args.page.now c.args.mark c.in-Some-pass_item.behind _ c.in-Some-pass_item.ensures.1.0 c.in-Some-pass_item.ensures.0
