@@ -1,20 +1,15 @@
 -- Binding changes no truth.
-use Rattle.std.proofs.Common.{◌≡◌, ℕ, zero, suc, ◌≤◌, length, Bool, true, false, ◌&&◌, ◌||◌, if◌then◌else◌, List, [], ◌∷◌, map, take, Option, Some, None, slice_get, refl, ap, ◌∙◌}
+use Rattle.std.proofs.Common.{◌≡◌, ℕ, zero, suc, Bool, true, false, ◌&&◌, ◌||◌, if◌then◌else◌, List, [], ◌∷◌, map, Option, Some, None, slice_get, refl, ap, ◌∙◌}
 use Rattle.trace_base.specs.declared.field.Field.{Field}
 use Rattle.format_parse.specs.declared.format.EventFormat.{EventFormat}
 use Rattle.filter_lang.specs.Filter.{FilterData}
 use Rattle.std.specs.List.{list_any}
-use Rattle.std.proofs.lemmas.List.{take_all}
 use Rattle.filter_lang.specs.declared.filter.EventName.{EventName}
 use Rattle.filter_lang.specs.FilterView.{name_of}
 use Rattle.filter_lang.specs.Tree.{Tree}
 use Rattle.filter_truth.specs.Values.{is_true}
 use Rattle.filter_truth.specs.Naming.{EventData, is_named_by, names_format, condition_holds, filter_holds, holds_at}
 use Rattle.filter_truth.specs.BoundFilter.{BoundCondition, unnamed, condition_true, bound_holds, bind_cond, bind_format, bind_filter}
-use Rattle.filter_truth.specs.BoundView.{conditions_of}
-use Rattle.filter_truth.specs.NamedView.{formats_of}
-use Rattle.filter_truth.specs.declared.named_format.NamedFormat.{NamedFormat}
-use Rattle.filter_truth.specs.declared.bound_expr.Condition.{Condition}
 use Rattle.filter_truth.proofs.BoundRows.{same_value}
 
 same_cond : (cond : Option Tree) (fields : List Field) (e : EventData) → condition_true (bind_cond cond fields) e ≡ condition_holds cond fields e
@@ -37,15 +32,6 @@ at_each f (x ∷ formats) (suc i) e = at_each f formats i e
 pub same_truth : (f : FilterData) (formats : List EventFormat) (i : ℕ) (e : EventData) → bound_holds (bind_filter f formats) i e ≡ holds_at f (slice_get formats i) e
 unfolding bind_filter
 same_truth f formats i e = at_each f formats i e
-
-each_bound : (f : FilterData) (named : List NamedFormat) → map (λ n. bind_format f n.format.now) named ≡ map (bind_format f) (formats_of named)
-each_bound f [] = refl
-each_bound f (n ∷ named) = ap (λ (cs : List BoundCondition). bind_format f n.format.now ∷ cs) (each_bound f named)
-
-pub all_bound : (f : FilterData) (named : List NamedFormat) (i : ℕ) (done : List Condition) → length named ≤ i → conditions_of done ≡ map (λ n. bind_format f n.format.now) (take i named)
-    → conditions_of done ≡ bind_filter f (formats_of named)
-unfolding bind_filter
-all_bound f named i done le so_far = so_far ∙ ap (map (λ n. bind_format f n.format.now)) (take_all i named le) ∙ each_bound f named
 
 pub named_each : (format : EventFormat) (events : List EventName) → list_any (is_named_by format) (map name_of events) ≡ list_any (λ e. is_named_by format (name_of e)) events
 named_each format [] = refl

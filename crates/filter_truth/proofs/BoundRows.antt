@@ -13,9 +13,9 @@ use Rattle.filter_truth.specs.BoundView.{bound_of, bound_in, bound_row}
 use Rattle.filter_truth.specs.declared.bound_expr.BoundOperand.{BoundOperand}
 use Rattle.filter_truth.specs.declared.bound_expr.BoundExpr.{Row_of-BoundOperand, end_of-BoundOperand, more_of-BoundOperand, items-the_row-BoundOperand}
 
-pub bound_in_row : {n : _} (k : Row_of-BoundOperand n) → bound_in k ≡ bound_row (items-the_row-BoundOperand n k)
-bound_in_row end_of-BoundOperand = refl
-bound_in_row (more_of-BoundOperand op e rest) = ap (b_more op (bound_of e)) (bound_in_row rest)
+pub bound_in_row : (at : ℕ → Option Field) {n : _} (k : Row_of-BoundOperand n) → bound_in at k ≡ bound_row at (items-the_row-BoundOperand n k)
+bound_in_row at end_of-BoundOperand = refl
+bound_in_row at (more_of-BoundOperand op e rest) = ap (b_more op (bound_of at e)) (bound_in_row at rest)
 
 -- a name has the value of what it is bound to
 chosen : (b : Bool) (e : EventData) (x y : BoundTree) (v w : ValueData) → bound_value e x ≡ v → bound_value e y ≡ w → bound_value e (if b then x else y) ≡ (if b then v else w)
@@ -58,9 +58,9 @@ added_more : (ps : BoundRow) (op : BinaryOp) (t : BoundTree) (qs : BoundRow) →
 added_more b_end op t qs = refl
 added_more (b_more o u ps) op t qs = ap (b_more o u) (added_more ps op t qs)
 
-pub bound_pushed : (os : List BoundOperand) (o : BoundOperand) → bound_row (os ++ o ∷ []) ≡ added (bound_row os) (b_more o.op (bound_of o.value) b_end)
-bound_pushed [] o = refl
-bound_pushed (p ∷ os) o = ap (b_more p.op (bound_of p.value)) (bound_pushed os o)
+pub bound_pushed : (at : ℕ → Option Field) (os : List BoundOperand) (o : BoundOperand) → bound_row at (os ++ o ∷ []) ≡ added (bound_row at os) (b_more o.op (bound_of at o.value) b_end)
+bound_pushed at [] o = refl
+bound_pushed at (p ∷ os) o = ap (b_more p.op (bound_of at p.value)) (bound_pushed at os o)
 
 pub row_ends : (ps : BoundRow) → added ps b_end ≡ ps
 row_ends ps = added_none ps

@@ -4,6 +4,8 @@ pub mod Naming
 pub mod EventView
 pub mod Bound
 pub mod BoundFilter
+pub mod Columns
+pub mod Numbers
 pub mod BoundView
 pub mod NamedView
 pub mod Selection

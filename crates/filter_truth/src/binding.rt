@@ -1,113 +1,102 @@
-//! Conditions are bound to formats.
+//! Conditions are bound: their names get numbers.
 
-ghost use Rattle.std.specs.Prelude.{◌≡◌, IfOk};
-ghost use Rattle.std.specs.Option.{option_copied};
+ghost use Rattle.std.specs.Prelude.{◌≡◌, ℕ, Option, option_map, IfOk};
+ghost use Rattle.trace_base.specs.declared.field.Field.{Field};
 ghost use Rattle.filter_lang.specs.TreeView.{tree_of, operands_of};
-ghost use Rattle.filter_truth.specs.Bound.{bind_field, bind_name, bind_tree, bind_row, b_number, b_text, b_prefix, b_chain};
-ghost use Rattle.filter_truth.specs.BoundView.{bound_of, bound_row};
+ghost use Rattle.filter_truth.specs.Bound.{bind_name, bind_tree, bind_row, b_chain};
+ghost use Rattle.filter_truth.specs.BoundFilter.{bind_cond};
+ghost use Rattle.filter_truth.specs.BoundView.{bound_of, bound_row, asked};
+ghost use Rattle.filter_truth.specs.Numbers.{Keeps, IsBound};
 
 use crate::bound_expr::{BoundExpr, BoundOperand};
-use field_names::FieldNames;
-use filter_lang::{FilterExpr, FilterOperand, FilterPrefix};
+use crate::name_numbers::NameNumbers;
+use filter_lang::{FilterExpr, FilterOperand};
 use std::alloc::{AllocError, Global};
-use trace_base::{ByteText, Field};
+use trace_base::ByteText;
 
-fn bound_number(alloc: Global, n: u64) -> Result<Box<BoundExpr>, AllocError>
-    ensures { IfOk result (λ e. bound_of e.value ≡ b_number n) }
+/// What a name stands for, whatever the fields of an event are.
+fn bind_name<'a>(numbers: &mut NameNumbers<'a>, name: &'a [u8]) -> Result<BoundExpr, AllocError>
+    ensures kept { Keeps numbers.old numbers.new }
+    ensures bound { IfOk result (λ e. IsBound numbers.new (λ at. bound_of at e) (λ fields. bind_name fields name.now)) }
 {
-    Ok(Box::new(alloc, BoundExpr::Number(n))?)
-}
-
-fn bound_text(alloc: Global, bytes: &[u8]) -> Result<Box<BoundExpr>, AllocError>
-    ensures { IfOk result (λ e. bound_of e.value ≡ b_text bytes.now) }
-{
-    Ok(Box::new(alloc, BoundExpr::Text(ByteText::copy(alloc, bytes)?))?)
-}
-
-fn bound_prefix(
-    alloc: Global,
-    op: FilterPrefix,
-    of: Box<BoundExpr>,
-) -> Result<Box<BoundExpr>, AllocError>
-    ensures { IfOk result (λ e. bound_of e.value ≡ b_prefix op (bound_of of.value)) }
-{
-    Ok(Box::new(alloc, BoundExpr::Prefix { op, of })?)
-}
-
-fn bound_chain(
-    alloc: Global,
-    first: Box<BoundExpr>,
-    rest: Vec<BoundOperand>,
-) -> Result<Box<BoundExpr>, AllocError>
-    ensures { IfOk result (λ e. bound_of e.value ≡ b_chain (bound_of first.value) (bound_row rest.items)) }
-{
-    Ok(Box::new(alloc, BoundExpr::Chain { first, rest })?)
-}
-
-/// What a field stands for, or what none does.
-fn bind_field(alloc: Global, field: Option<&Field>) -> Result<BoundExpr, AllocError>
-    ensures { IfOk result (λ e. bound_of e ≡ bind_field (option_copied field.entry)) }
-{
-    match field {
-        Some(field) => Ok(BoundExpr::Field(field.copy(alloc)?)),
-        None => Ok(BoundExpr::Absent),
+    if name == b"COMM".as_slice() {
+        Ok(BoundExpr::Task)
+    } else if name == b"CPU".as_slice() {
+        Ok(BoundExpr::Cpu)
+    } else {
+        Ok(BoundExpr::Named(numbers.number(name)?))
     }
 }
 
-/// What a name stands for in the events with these fields.
-fn bind_name(
-    alloc: Global,
-    fields: &FieldNames<'_>,
-    name: &[u8],
-) -> Result<Box<BoundExpr>, AllocError>
-    ensures { IfOk result (λ e. bound_of e.value ≡ bind_name fields.now name.now) }
+fn bound_chain(first: Box<BoundExpr>, rest: Vec<BoundOperand>) -> BoundExpr
+    ensures { (at : ℕ → Option Field) → bound_of at result ≡ b_chain (bound_of at first.value) (bound_row at rest.items) }
 {
-    let expr = if name == b"COMM".as_slice() {
-        BoundExpr::Task
-    } else if name == b"CPU".as_slice() {
-        BoundExpr::Cpu
-    } else {
-        bind_field(alloc, fields.field(name))?
-    };
-    Ok(Box::new(alloc, expr)?)
+    BoundExpr::Chain { first, rest }
 }
 
-/// A condition for the events with these fields.
+/// A condition, with its names among the numbers.
 #[cycle(binder)]
-pub fn bind_expr(
+pub fn bind_expr<'a>(
     alloc: Global,
-    fields: &FieldNames<'_>,
-    expr: &FilterExpr,
-) -> Result<Box<BoundExpr>, AllocError>
-    ensures { IfOk result (λ e. bound_of e.value ≡ bind_tree fields.now (tree_of expr.now)) }
+    numbers: &mut NameNumbers<'a>,
+    expr: &'a FilterExpr,
+) -> Result<BoundExpr, AllocError>
+    ensures kept { Keeps numbers.old numbers.new }
+    ensures bound { IfOk result (λ e. IsBound numbers.new (λ at. bound_of at e) (λ fields. bind_tree fields (tree_of expr.now))) }
 {
     match expr {
-        FilterExpr::Number(n) => bound_number(alloc, *n),
-        FilterExpr::Text(bytes) => bound_text(alloc, bytes.as_bytes()),
-        FilterExpr::Field(name) => bind_name(alloc, fields, name.as_bytes()),
-        FilterExpr::Prefix { op, of } => bound_prefix(alloc, *op, bind_expr(alloc, fields, of)?),
+        FilterExpr::Number(n) => Ok(BoundExpr::Number(*n)),
+        FilterExpr::Text(bytes) => {
+            let bytes = ByteText::copy(alloc, bytes.as_bytes())?;
+            Ok(BoundExpr::Text(bytes))
+        }
+        FilterExpr::Field(name) => bind_name(numbers, name.as_bytes()),
+        FilterExpr::Prefix { op, of } => {
+            let of = Box::new(alloc, bind_expr(alloc, numbers, of)?)?;
+            Ok(BoundExpr::Prefix { op: *op, of })
+        }
         FilterExpr::Chain { first, rest } => {
-            let first = bind_expr(alloc, fields, first)?;
-            bound_chain(alloc, first, bind_operands(alloc, fields, rest)?)
+            let start = bind_expr(alloc, numbers, first)?;
+            let row = bind_operands(alloc, numbers, rest)?;
+            let boxed = Box::new(alloc, start)?;
+            Ok(bound_chain(boxed, row))
         }
     }
 }
 
 #[cycle(binder)]
-fn bind_operands(
+fn bind_operands<'a>(
     alloc: Global,
-    fields: &FieldNames<'_>,
-    rest: &[FilterOperand],
+    numbers: &mut NameNumbers<'a>,
+    rest: &'a [FilterOperand],
 ) -> Result<Vec<BoundOperand>, AllocError>
-    ensures { IfOk result (λ v. bound_row v.items ≡ bind_row fields.now (operands_of rest.now)) }
+    ensures kept { Keeps numbers.old numbers.new }
+    ensures bound { IfOk result (λ v. IsBound numbers.new (λ at. bound_row at v.items) (λ fields. bind_row fields (operands_of rest.now))) }
 {
     let mut bound = Vec::with_capacity(alloc, rest.len())?;
     for operand in rest {
-        let value = bind_expr(alloc, fields, &operand.value)?;
+        let value = bind_expr(alloc, numbers, &operand.value)?;
         bound.push(BoundOperand {
             op: operand.op,
-            value: Box::into_inner(value),
+            value,
         })?;
     }
     Ok(bound)
+}
+
+/// A filter's condition, with its names among the numbers.
+pub fn bind_cond<'a>(
+    alloc: Global,
+    numbers: &mut NameNumbers<'a>,
+    cond: &'a Option<FilterExpr>,
+) -> Result<Option<BoundExpr>, AllocError>
+    ensures { IfOk result (λ c. IsBound numbers.new (asked c) (bind_cond (option_map tree_of cond.now))) }
+{
+    match cond {
+        None => Ok(None),
+        Some(expr) => {
+            let bound = bind_expr(alloc, numbers, expr)?;
+            Ok(Some(bound))
+        }
+    }
 }

@@ -1,10 +1,10 @@
-//! Conditions for the events of one format, with its fields in the places of their names.
+//! Conditions whose names have numbers.
 
 use c_operators::BinaryOp;
 use filter_lang::FilterPrefix;
-use trace_base::{ByteText, Field};
+use trace_base::ByteText;
 
-/// A condition for the events of one format.
+/// A condition for the events of all formats.
 #[derive(Drop)]
 #[cycle(bound)]
 pub enum BoundExpr {
@@ -14,9 +14,8 @@ pub enum BoundExpr {
     Task,
     /// The processor.
     Cpu,
-    /// What no field of the event has.
-    Absent,
-    Field(Field),
+    /// What the name of this number stands for in the event's format.
+    Named(usize),
     Prefix {
         op: FilterPrefix,
         of: Box<BoundExpr>,
@@ -33,15 +32,4 @@ pub enum BoundExpr {
 pub struct BoundOperand {
     pub op: BinaryOp,
     pub value: BoundExpr,
-}
-
-/// What a filter asks of the events of one format.
-#[derive(Drop)]
-pub enum Condition {
-    /// The filter does not name them.
-    Unnamed,
-    /// It names them, and has no condition.
-    Always,
-    /// It names them, and this must be true.
-    Where(BoundExpr),
 }

@@ -11,9 +11,11 @@
 
 mod binding;
 mod bound_expr;
+mod column;
 mod evaluation;
 mod filter;
 pub mod laws;
+mod name_numbers;
 mod named;
 mod named_format;
 mod select;

@@ -4,4 +4,4 @@ use Rattle.filter_truth.proofs.BoundRows.{bound_in_row}
 use Rattle.filter_truth.proofs.binding.bound_chain.Goals as goal
 
 pub returns : goal.returns
-returns c = search (rules, the_lemmas, bound_in_row)
+returns c = λ at. search (rules, the_lemmas, bound_in_row)
