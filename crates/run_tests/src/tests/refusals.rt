@@ -1,9 +1,12 @@
 // Files that are not there or are no traces, words without a reading, and words that ask what the program tells of itself.
 
-use super::inputs::{HEADER, Input};
-use super::{Row, run_all};
+use super::inputs::{HEADER, Input, folder_of};
+use super::{Row, ends_of};
 use dat_header::OpenFault;
+use std::alloc::{AllocError, Global};
+use std::process::Abort;
 use std::test::Fail;
+use std::thread::Threads;
 use trace_run::Status;
 
 const ROWS: &[Row] = &[
@@ -92,7 +95,28 @@ Read more: man trace_cmd
     },
 ];
 
+fn len_of(file: &Input) -> u64 {
+    match file {
+        Input::Bytes(bytes) => bytes.len() as u64,
+        _ => 0,
+    }
+}
+
+// A row's run, which reads each byte of its file at most once.
+fn reads_once<R: Alloc<A = Global> + Abort + Threads + Sync>(
+    rt: &R,
+    row: &Row,
+) -> Result<(), AllocError> {
+    let mut folder = folder_of(rt.alloc(), &row.file)?;
+    ends_of(rt, row.words, &mut folder, (row.status, row.out, row.err))?;
+    assert!(rt; folder.counts().bytes <= len_of(&row.file), "{}", row.err);
+    Ok(())
+}
+
 #[test]
 fn no_trace_is_shown(rt: HostRuntime) -> Result<(), Fail> {
-    run_all(&rt, ROWS, &[])
+    for row in ROWS {
+        reads_once(&rt, row)?;
+    }
+    Ok(())
 }
