@@ -10,15 +10,17 @@ use itoa::Buffer;
 // its items are fewer.
 const LONGEST: usize = 4096 + 40;
 
-/// The name of a new file: the base, a point and its number in decimal (trace-cmd-split(1)).
-pub fn file_name(base: &str, number: u128) -> ArrayString<LONGEST>
+/// Room for the name of a new file.
+pub type FileName = ArrayString<LONGEST>;
+
+/// Puts the name of a new file there: the base, a point and its number in decimal (trace-cmd-split(1)).
+pub fn put_name(base: &str, number: u128, name: &mut FileName)
     requires { length base.now ≤ 4096 }
-    ensures { result.bytes ≡ file_name base.now number }
+    ensures { name.new.bytes ≡ file_name base.now number }
 {
     let mut digits = Buffer::new();
-    let mut name = ArrayString::new();
+    name.clear();
     name.push_str(base);
     name.push_str(".");
     name.push_str(digits.format(number));
-    name
 }

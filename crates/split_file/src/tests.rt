@@ -3,7 +3,7 @@
 ghost use Rattle.std.specs.Prelude.{IfOk};
 ghost use Rattle.dat_header.specs.Allowed.{IsHeader};
 
-use crate::{data_place, file_name, write_front};
+use crate::{FileName, data_place, put_name, write_front};
 use dat_header::{Body, Header, OpenFault, read_header};
 use std::alloc::Global;
 use std::test::Fail;
@@ -61,12 +61,14 @@ fn zero_bytes_stand_behind_the_header(rt: HostRuntime) -> Result<(), Fail> {
 #[test]
 fn names_and_faults(rt: HostRuntime) -> Result<(), Fail> {
     let alloc = rt.alloc();
+    let mut made = FileName::new();
     for (base, number, name) in [
         ("trace.dat", 1, "trace.dat.1"),
         ("part", 10, "part.10"),
         ("", u128::MAX, ".340282366920938463463374607431768211455"),
     ] {
-        assert_eq!(rt; file_name(base, number).as_str(), name);
+        put_name(base, number, &mut made);
+        assert_eq!(rt; made.as_str(), name);
     }
     let mut out = MemSink::new(alloc);
     out.fail_from(1);

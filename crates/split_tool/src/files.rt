@@ -20,7 +20,7 @@ use crate::splitting::SplitPlan;
 use crate::table::fill_table;
 use crate::work::SplitWork;
 use page_pool::Lane;
-use split_file::{data_place, file_name, write_front};
+use split_file::{FileName, data_place, put_name, write_front};
 use split_passes::{clear, note_fronts, pack_all};
 use split_pieces::Rules;
 use time_merge::{End, make_all_ready};
@@ -116,7 +116,7 @@ fn write_file<F: File, O: Sink>(
     )
 }
 
-/// Makes the file of this number, and tells what is left behind it.
+/// Makes the file of this number, and tells what is left behind it. `name` is room for its name.
 ///
 /// # Errors
 /// Why the split ends here: the file has no name then, unless finishing it failed.
@@ -125,6 +125,7 @@ pub(crate) fn make_file<F: File, D: Folder>(
     plan: &SplitPlan<'_>,
     rules: &Rules,
     number: u128,
+    name: &mut FileName,
     file: &mut F,
     lanes: &mut [Lane],
     work: &mut SplitWork,
@@ -150,7 +151,7 @@ pub(crate) fn make_file<F: File, D: Folder>(
     let Ok(ends) = measure_file(plan, rules, file, lanes, work) else {
         return Err(End::Read);
     };
-    let name = file_name(plan.words.base, number);
+    put_name(plan.words.base, number, name);
     let Ok(mut out) = folder.create_file(name.as_str()) else {
         return Err(End::Write);
     };

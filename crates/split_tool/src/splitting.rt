@@ -22,6 +22,7 @@ use crate::start::pass_start;
 use crate::work::SplitWork;
 use dat_header::Header;
 use page_pool::Lane;
+use split_file::FileName;
 use split_pieces::Rules;
 use time_merge::End;
 use trace_args::SplitWords;
@@ -111,8 +112,9 @@ pub fn split<F: File, D: Folder>(
     ) else {
         return End::Read;
     };
+    let mut name = FileName::new();
     for number in 1..u128::MAX {
-        match make_file(plan, &rules, number, file, lanes, work, folder) {
+        match make_file(plan, &rules, number, &mut name, file, lanes, work, folder) {
             Ok(ends) => {
                 if !goes_on(&rules, ends) {
                     return end_by(ends);

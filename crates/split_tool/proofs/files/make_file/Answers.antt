@@ -21,7 +21,7 @@ returns-in-Ok-finish_file-clause-told g c =
     finished header file c.args.rules.now (file_name c.args.plan.now.words.now.base.now c.args.number) (g.D.Out.Sink.name c.write_file.new.out) c.args.lanes.now c.measure_file.new.lanes c.write_file.new.lanes
     work.fronts.items work.tallies.items work.table.items (g.D.Folder.files c.args.folder.now) (g.D.Folder.files c.create_file.new.self) (g.D.Folder.files c.finish_file.new.self)
     (g.D.Out.Sink.written c.in-Ok-create_file.out) (g.D.Out.Sink.written c.write_file.new.out) c.in-Ok.ends
-    c.in-Ok-create_file.ensures.files (c.write_file.ensures.keeps_out.name ∙ c.in-Ok-create_file.ensures.named ∙ c.as_str.ensures.value ∙ c.file_name-name.ensures) c.in-Ok-create_file.ensures.empty c.in-Ok-finish_file.ensures.stored
+    c.in-Ok-create_file.ensures.files (c.write_file.ensures.keeps_out.name ∙ c.in-Ok-create_file.ensures.named ∙ c.as_str.ensures.value ∙ c.put_name.ensures) c.in-Ok-create_file.ensures.empty c.in-Ok-finish_file.ensures.stored
     p (w p.left.stands (owns c.args.lanes.now (taken_of header.layout file c.args.rules.now c.args.lanes.now)) p.fronts_are))
     c.in-Ok.ensures.told c.in-Done.ensures.told
 
@@ -32,28 +32,28 @@ pub returns-in-Ok-finish_file-clause-leaves : goal.returns-in-Ok-finish_file-cla
 returns-in-Ok-finish_file-clause-leaves g c =
     finished_is (g.D.Folder.files c.args.folder.now) (g.D.Folder.files c.create_file.new.self) (g.D.Folder.files c.finish_file.new.self) (g.D.Out.Sink.written c.in-Ok-create_file.out) (g.D.Out.Sink.written c.write_file.new.out)
     (file_name c.args.plan.now.words.now.base.now c.args.number) (g.D.Out.Sink.name c.write_file.new.out)
-    c.in-Ok-create_file.ensures.files (c.write_file.ensures.keeps_out.name ∙ c.in-Ok-create_file.ensures.named ∙ c.as_str.ensures.value ∙ c.file_name-name.ensures) c.in-Ok-create_file.ensures.empty (c.in-Done.ensures.gains refl)
+    c.in-Ok-create_file.ensures.files (c.write_file.ensures.keeps_out.name ∙ c.in-Ok-create_file.ensures.named ∙ c.as_str.ensures.value ∙ c.put_name.ensures) c.in-Ok-create_file.ensures.empty (c.in-Done.ensures.gains refl)
     c.in-Ok-finish_file.ensures.stored
 
 pub returns-in-Err-clause-leaves : goal.returns-in-Err-clause-leaves
 returns-in-Err-clause-leaves g c =
     unmade_finish _ _ _ (file_name c.args.plan.now.words.now.base.now c.args.number) (g.D.Out.Sink.name c.write_file.new.out) (g.D.Folder.files c.args.folder.now) (g.D.Folder.files c.create_file.new.self) (g.D.Folder.files c.finish_file.new.self)
-    c.in-Ok-create_file.ensures.files (c.write_file.ensures.keeps_out.name ∙ c.in-Ok-create_file.ensures.named ∙ c.as_str.ensures.value ∙ c.file_name-name.ensures) c.create_file.ensures.counts.unfinished c.in-Err.ensures.counts.unfinished c.in-Err.ensures.others
+    c.in-Ok-create_file.ensures.files (c.write_file.ensures.keeps_out.name ∙ c.in-Ok-create_file.ensures.named ∙ c.as_str.ensures.value ∙ c.put_name.ensures) c.create_file.ensures.counts.unfinished c.in-Err.ensures.counts.unfinished c.in-Err.ensures.others
 
 pub returns-in-Ok-finish_file-clause-requested : goal.returns-in-Ok-finish_file-clause-requested
 returns-in-Ok-finish_file-clause-requested g c =
     asked_by (file_name c.args.plan.now.words.now.base.now c.args.number) _ (g.D.Folder.requested c.args.folder.now) (g.D.Folder.requested c.create_file.new.self) (g.D.Folder.requested c.finish_file.new.self)
-    (c.as_str.ensures.value ∙ c.file_name-name.ensures) c.create_file.ensures.requested c.finish_file.ensures.requested
+    (c.as_str.ensures.value ∙ c.put_name.ensures) c.create_file.ensures.requested c.finish_file.ensures.requested
 
 pub returns-in-Err-clause-requested : goal.returns-in-Err-clause-requested
 returns-in-Err-clause-requested g c =
     asked_by (file_name c.args.plan.now.words.now.base.now c.args.number) _ (g.D.Folder.requested c.args.folder.now) (g.D.Folder.requested c.create_file.new.self) (g.D.Folder.requested c.finish_file.new.self)
-    (c.as_str.ensures.value ∙ c.file_name-name.ensures) c.create_file.ensures.requested c.finish_file.ensures.requested
+    (c.as_str.ensures.value ∙ c.put_name.ensures) c.create_file.ensures.requested c.finish_file.ensures.requested
 
 pub returns-in_default-create_file-clause-requested : goal.returns-in_default-create_file-clause-requested
 returns-in_default-create_file-clause-requested g c =
     asked_by (file_name c.args.plan.now.words.now.base.now c.args.number) _ (g.D.Folder.requested c.args.folder.now) (g.D.Folder.requested c.create_file.new.self) (g.D.Folder.requested c.create_file.new.self)
-    (c.as_str.ensures.value ∙ c.file_name-name.ensures) c.create_file.ensures.requested refl
+    (c.as_str.ensures.value ∙ c.put_name.ensures) c.create_file.ensures.requested refl
 
 pub returns-in_default-create_file-clause-leaves : goal.returns-in_default-create_file-clause-leaves
 returns-in_default-create_file-clause-leaves g c = inl c.create_file.ensures.files
@@ -106,7 +106,7 @@ returns-in_default-write_file-clause-requested g c =
     let name = file_name c.args.plan.now.words.now.base.now c.args.number in
     asks_for_it name (g.D.Folder.requested c.args.folder.now) (g.D.Folder.requested c.drop_file.new.self) c.write_file.result
     (asked_by name _ (g.D.Folder.requested c.args.folder.now) (g.D.Folder.requested c.create_file.new.self) (g.D.Folder.requested c.drop_file.new.self)
-    (c.as_str.ensures.value ∙ c.file_name-name.ensures) c.create_file.ensures.requested c.drop_file.ensures.requested)
+    (c.as_str.ensures.value ∙ c.put_name.ensures) c.create_file.ensures.requested c.drop_file.ensures.requested)
 
 pub returns-in_default-write_file-clause-counts : goal.returns-in_default-write_file-clause-counts
 returns-in_default-write_file-clause-counts g c =
