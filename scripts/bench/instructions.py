@@ -78,6 +78,7 @@ def rows_of_recording(tool: Tool, recording: Path, folder: Path) -> Iterator[tup
     yield f"{name}: split into one file", counted(tool.program, ["split", "-i", recording, "-o", "new"], folder)
     yield f"{name}: split -e 1", counted(tool.program, ["split", "-i", recording, "-o", "new", "-e", "1"], folder)
     yield f"{name}: split -e 500 -r", counted(tool.program, ["split", "-i", recording, "-o", "new", "-e", "500", "-r"], folder)
+    yield f"{name}: split -m 100 -r", counted(tool.program, ["split", "-i", recording, "-o", "new", "-m", "100", "-r"], folder)
     add_idle(recording, idle, 256)
     yield f"{name}: report, with idle processors up to 256", counted(tool.program, [*tool.report, idle], folder)
 
