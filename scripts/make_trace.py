@@ -7,6 +7,7 @@
     scripts/make_trace.py calls IN.dat OUT.dat N [--seed SEED]             N entries and exits of functions, with losses
     scripts/make_trace.py sub-buffers IN.dat OUT.dat SIZE [--page PAGE]    IN.dat packed anew into sub-buffers of SIZE bytes
     scripts/make_trace.py idle IN.dat OUT.dat PROCESSORS                   IN.dat beside processors without any data
+    scripts/make_trace.py formats IN.dat OUT.dat N                         N formats, those of IN.dat first, and no events
     scripts/make_trace.py parts IN.dat DIRECTORY                           what `restore` makes a trace of
 
 IN.dat is a recording of version 6 of a little-endian kernel of 64 bits; `parts` takes any byte order. `COMMAND --help` says more.
@@ -23,8 +24,8 @@ from pathlib import Path
 from typing import Callable, Iterable, Sequence
 
 from tracefile import (
-    COUNTED, DATA_AT, COMMITTED, MISSED, PAGE, STAMP, Event, Packer, Trace, events_of, packed, payload, read_plain_trace, read_trace, records_of,
-    text, u32, u64, write_trace,
+    COUNTED, DATA_AT, COMMITTED, MISSED, PAGE, STAMP, Event, Packer, Trace, events_of, formats_of, packed, payload, read_plain_trace, read_trace,
+    records_of, text, u32, u64, write_trace,
 )
 
 # Events of one kind
@@ -153,6 +154,34 @@ def add_idle(source: Path, target: Path, processors: int) -> None:
     trace = read_plain_trace(source)
     lanes = trace.data()
     write_trace(target, trace.head, lanes + [b""] * (processors - len(lanes)), trace.tail)
+
+
+# Formats
+
+
+def add_formats(source: Path, target: Path, count: int) -> None:
+    """A trace without events, whose header has N formats: those of IN.dat, and behind them the same again, of other names and numbers.
+
+    IN.dat may also be the file of a latency tracer, whose header has the formats of a whole kernel.
+    """
+    before, ftrace, systems, names = formats_of(source)
+    texts = [text for _, texts in systems for text in texts]
+    free = 1 + max(int(number) for number in re.findall(rb"\nID: (\d+)\n", b"".join(ftrace + texts)))
+    count -= len(ftrace) + len(texts)
+    more = [as_another(texts[i % len(texts)], free + i) for i in range(max(count, 0))]
+    head = before + counted_texts(ftrace) + u32(len(systems) + 1)
+    head += b"".join(name + b"\0" + counted_texts(texts) for name, texts in [*systems, (b"more", more)])
+    write_trace(target, head + names, [b""])
+
+
+def as_another(description: bytes, number: int) -> bytes:
+    """A format under another name and number."""
+    description = re.sub(rb"^name: (\w+)", rb"name: \1_%d" % number, description, count=1)
+    return re.sub(rb"\nID: \d+\n", b"\nID: %d\n" % number, description, count=1)
+
+
+def counted_texts(texts: Sequence[bytes]) -> bytes:
+    return u32(len(texts)) + b"".join(text(8, it) for it in texts)
 
 
 # Calls
@@ -309,6 +338,7 @@ def commands() -> argparse.ArgumentParser:
     large = command("sub-buffers", repack, "target", "size")
     large.add_argument("--page", type=int, default=PAGE, help="the machine's page (%(default)s bytes)")
     command("idle", add_idle, "target", "processors")
+    command("formats", add_formats, "target", "count")
     command("parts", take_apart).add_argument("directory", type=Path, metavar="DIRECTORY")
     return parser
 

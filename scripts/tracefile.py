@@ -67,9 +67,11 @@ class Reader:
         start, self.at = self.at, self.file.index(b"\0", self.at) + 1
         return self.file[start : self.at - 1]
 
-    def formats(self) -> None:
-        for _ in range(self.number(4)):
-            self.text(8)
+    def formats(self) -> list[bytes]:
+        return [self.text(8) for _ in range(self.number(4))]
+
+    def formats_of_systems(self) -> list[tuple[bytes, list[bytes]]]:
+        return [(self.name(), self.formats()) for _ in range(self.number(4))]
 
 
 @dataclass(frozen=True)
@@ -121,21 +123,39 @@ class Trace:
         return [int(address, 16) for address in re.findall(rb"\n([0-9a-f]{16}) [tT] ", self.head)]
 
 
-def read_trace(path: str | Path) -> Trace:
-    """A recording of any byte order."""
-    file = Path(path).read_bytes()
-    reader = Reader(file)
+def begin(reader: Reader) -> tuple[int, int, bytes]:
+    """Reads what stands before the formats: the kernel's long, the machine's page, and the text of header_page."""
     reader.word(MAGIC)
     reader.order = "big" if reader.number(1) else "little"
     long, page = reader.number(1), reader.number(4)
     reader.word(b"header_page\0")
-    data = re.search(rb"field: char data;\toffset:(\d+);\tsize:(\d+);", reader.text(8))
+    page_text = reader.text(8)
     reader.word(b"header_event\0")
     reader.text(8)
+    return long, page, page_text
+
+
+def formats_of(path: str | Path) -> tuple[bytes, list[bytes], list[tuple[bytes, list[bytes]]], bytes]:
+    """What stands before a header's formats, those of ftrace, those of the other systems, and the symbols, printk formats and tasks."""
+    file = Path(path).read_bytes()
+    reader = Reader(file)
+    begin(reader)
+    before = file[: reader.at]
+    ftrace, systems = reader.formats(), reader.formats_of_systems()
+    names = reader.at
+    for width in (4, 4, 8):
+        reader.text(width)
+    return before, ftrace, systems, file[names : reader.at]
+
+
+def read_trace(path: str | Path) -> Trace:
+    """A recording of any byte order."""
+    file = Path(path).read_bytes()
+    reader = Reader(file)
+    long, page, page_text = begin(reader)
+    data = re.search(rb"field: char data;\toffset:(\d+);\tsize:(\d+);", page_text)
     reader.formats()
-    for _ in range(reader.number(4)):
-        reader.name()
-        reader.formats()
+    reader.formats_of_systems()
     reader.text(4)
     reader.text(4)
     nameless = reader.at

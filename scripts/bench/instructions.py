@@ -23,11 +23,13 @@ from typing import Callable, Iterator, NamedTuple, Sequence
 
 sys.path.insert(0, str(Path(__file__).resolve().parent.parent))
 
-from make_trace import add_idle, deal_to_processors, one_kind  # noqa: E402
+from make_trace import add_formats, add_idle, deal_to_processors, one_kind  # noqa: E402
 from tracefile import read_plain_trace  # noqa: E402
 
 SAMPLE = Path(__file__).resolve().parent.parent.parent / "samples/sched.dat"
 FEW, MORE = 1000, 3000
+# As many formats as kernels have, without modules and with them.
+FORMATS = (1491, 4707)
 ONE_KIND: list[tuple[str, list[str]]] = [("switch", []), ("function", []), ("graph", ["--calls"])]
 
 
@@ -79,6 +81,9 @@ def rows_of_recording(tool: Tool, recording: Path, folder: Path) -> Iterator[tup
     yield f"{name}: split -e 1", counted(tool.program, ["split", "-i", recording, "-o", "new", "-e", "1"], folder)
     yield f"{name}: split -e 500 -r", counted(tool.program, ["split", "-i", recording, "-o", "new", "-e", "500", "-r"], folder)
     yield f"{name}: split -m 100 -r", counted(tool.program, ["split", "-i", recording, "-o", "new", "-m", "100", "-r"], folder)
+    for count in FORMATS:
+        add_formats(recording, idle, count)
+        yield f"{name}: report, of {count:,} formats and no event", counted(tool.program, [*tool.report, idle], folder)
     add_idle(recording, idle, 256)
     yield f"{name}: report, with idle processors up to 256", counted(tool.program, [*tool.report, idle], folder)
 
