@@ -5,7 +5,7 @@ use Rattle.std.proofs.lemmas.List.{get_or_default, get_or-set_other, length-drop
 use Rattle.page_pool.specs.Moved.{KeepsUnmoved}
 use Rattle.page_pool.specs.declared.lane.Lane.{Lane}
 use Rattle.round_print.specs.Prints.{head_kept}
-use Rattle.round_print.specs.Rounds.{IsLineDropped, KeepsMarks, MarksPrinted}
+use Rattle.round_print.specs.Rounds.{IsFrontDropped, KeepsMarks, MarksPrinted}
 
 pub heads_on : (heads now_heads : List (Option (Option ℕ))) (lanes : List Lane) (i : ℕ) (now : Lane) (key : Option (Option ℕ)) → now_heads ≡ set heads i key → key ≡ head_kept now
     → heads ≡ map head_kept lanes → now_heads ≡ map head_kept (set lanes i now)
@@ -39,10 +39,8 @@ kept_of lane = length lane.region.kept
 abbrev pub KeepNoMore : List Lane → List Lane → Type 0
 KeepNoMore first lanes = (i : ℕ) (d : Lane) → i < length first → length (get_or lanes i d).region.kept ≤ length (get_or first i d).region.kept
 
-pub one_fewer : (lanes : List Lane) (i : ℕ) (lane now : Lane) → lane ≡ get_or lanes i lane → IsLineDropped lane now → 0 < length (get_or lanes i lane).region.kept
-    → length now.region.kept < length (get_or lanes i lane).region.kept
-one_fewer lanes i lane now at dropped some =
-    omega (arith, ap length dropped.region.kept, length-drop 1 lane.region.kept, ap kept_of at, some)
+pub some_fewer : (n : ℕ) (lane now : Lane) → IsFrontDropped n lane now → 0 < n → n ≤ length lane.region.kept → length now.region.kept < length lane.region.kept
+some_fewer n lane now dropped some kept = omega (arith, ap length dropped.region.kept, length-drop n lane.region.kept, some, kept)
 
 module _ (first lanes : List Lane) (k : ℕ) (d now : Lane) (inside : k < length lanes) (shorter : length now.region.kept < length (get_or lanes k d).region.kept) (fewer : KeepNoMore first lanes) where
   here : (i : ℕ) (e : Lane) → i ≡ k → kept_of (get_or (set lanes k now) i e) ≡ kept_of now

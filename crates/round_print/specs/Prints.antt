@@ -1,5 +1,5 @@
 -- The lines that a round prints: of each lane those that it keeps up to the horizon, all of them in one order.
-use Rattle.std.specs.Prelude.{◌≡◌, ◌≤◌, ℕ, if◌then◌else◌, List, [], ◌∷◌, length, drop, Option, Some, None}
+use Rattle.std.specs.Prelude.{◌≡◌, ◌≤◌, ℕ, if◌then◌else◌, List, [], ◌∷◌, length, map, take, drop, Option, Some, None}
 use Rattle.std.specs.List.{All, flat_map}
 use Rattle.subpage.specs.Arrangement.{IsRising, by_key}
 use Rattle.line_holes.specs.Holes.{LineText, line_text, hole_time, filled_bytes, along, last_time}
@@ -22,6 +22,9 @@ cpu_in line = line.cpu
 
 abbrev pub with_cpu : ℕ → Line → CpuLine
 with_cpu cpu line = record { key = line.key; cpu = cpu; text = line.text }
+
+abbrev pub with_cpus : ℕ → List Line → List CpuLine
+with_cpus cpu lines = map (with_cpu cpu) lines
 
 -- a processor's lines up to the first that is not due, and the others
 abbrev pub due_lines : Horizon → ℕ → List Line → List CpuLine
@@ -102,13 +105,17 @@ pub record IsFew (lines : Lines) : Type 0 where
   pub kept : length lines.kept ≤ lines.used
   pub used : lines.used ≤ most_lines
 
--- the first line is not kept any more, and the region is tidy
-pub record IsDropped (before now : Lines) : Type 0 where
-  pub kept : now.kept ≡ drop 1 before.kept
+-- the first few lines are not kept any more, and the region is tidy
+pub record IsDropped (count : ℕ) (before now : Lines) : Type 0 where
+  pub kept : now.kept ≡ drop count before.kept
   pub room : now.room ≡ before.room
   pub tidy : IsTidy now
   pub few : IsFew before → IsFew now
 
-abbrev pub first_line : List Line → LineText
-first_line [] = line_text [] None
-first_line (line ∷ lines) = line.text
+-- the first few lines that a lane keeps
+abbrev pub front_of : ℕ → Lane → List CpuLine
+front_of count lane = with_cpus lane.cpu (take count lane.region.kept)
+
+-- no line has a hole
+abbrev pub ArePlain : List Line → Type 0
+ArePlain lines = All (λ line. line.text.hole ≡ None) lines

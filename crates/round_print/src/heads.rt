@@ -1,9 +1,10 @@
-ghost use Rattle.std.specs.Prelude.{◌≡◌, ◌<◌, length, map, IfSome};
+ghost use Rattle.std.specs.Prelude.{◌≡◌, ◌<◌, ◌≤◌, ℕ, length, map, true, IfSome};
 ghost use Rattle.time_merge.specs.Nexts.{IsLeastAt};
 ghost use Rattle.subpage.specs.Arrangement.{CpusRise};
 ghost use Rattle.time_merge.specs.Horizons.{is_due};
 ghost use Rattle.time_merge.specs.LaneRows.{parts_of};
 ghost use Rattle.round_print.specs.Prints.{IsDropped, head_due, head_kept};
+ghost use Rattle.round_print.specs.Rounds.{IsNextAt, IsRun};
 
 use least_tree::LeastTree;
 use page_pool::{Lane, Region};
@@ -63,12 +64,70 @@ pub(crate) fn least_due(horizon: &Horizon, lanes: &[Lane], heads: &LeastTree) ->
     }
 }
 
-/// Keeps a region's first line no longer. Where few lines are left their room is made free again.
-pub(crate) fn drop_line(region: &mut Region)
-    requires { 0 < length region.old.kept }
-    ensures { IsDropped region.old region.new }
+/// The greatest key with which a line of this processor is due, if there is one.
+fn due_up_to(horizon: &Horizon, cpu: u32) -> Option<u64>
+    ensures { IfSome result (λ most. (key : ℕ) → key ≤ most → is_due horizon.now key cpu ≡ true) }
 {
-    region.drop_front(1);
+    match horizon {
+        Horizon::All => Some(u64::MAX),
+        Horizon::Start(_) => None,
+        Horizon::To(k, c) => {
+            if cpu <= *c {
+                Some(*k)
+            } else {
+                k.checked_sub(1)
+            }
+        }
+    }
+}
+
+/// The greatest key up to which a lane's lines are due and come before those of all other lanes, if there is one.
+fn run_up_to(horizon: &Horizon, cpu: u32, heads: &LeastTree, i: usize) -> Option<u64>
+    requires { i < length heads.now }
+    ensures { IfSome result (λ most. (key : ℕ) → key ≤ most → IsNextAt horizon.now heads.now i cpu key) }
+{
+    match (due_up_to(horizon, cpu), heads.up_to(i)) {
+        (Some(due), Some(before)) => Some(due.min(before)),
+        _ => None,
+    }
+}
+
+/// Whether the first kept line has a hole.
+fn has_hole_first(region: &Region) -> bool
+    requires { 0 < length region.now.kept }
+{
+    let (_, _, hole) = region.line(0);
+    hole.is_some()
+}
+
+/// How many lines of the lane that is next go out at once: those up to the first that has a hole or does not come next, or one.
+/// It is one where another lane's line went out alone just before, so that lanes that take turns line by line are not asked.
+pub(crate) fn run_of(
+    horizon: &Horizon,
+    lane: &Lane,
+    heads: &LeastTree,
+    i: usize,
+    alone: Option<usize>,
+) -> u32
+    requires slot { i < length heads.now }
+    requires some { 0 < length lane.now.region.kept }
+    ensures { IsRun horizon.now heads.now i lane.now result }
+{
+    if alone.is_some_and(|other| other != i) || has_hole_first(&lane.region) {
+        return 1;
+    }
+    match run_up_to(horizon, lane.cpu, heads, i) {
+        None => 1,
+        Some(most) => lane.region.plain_front(most).max(1),
+    }
+}
+
+/// Keeps a region's first lines no longer. Where few lines are left their room is made free again.
+pub(crate) fn drop_front(region: &mut Region, count: u32)
+    requires { (0 < count) × (count ≤ length region.old.kept) }
+    ensures { IsDropped count region.old region.new }
+{
+    region.drop_front(count);
     if region.is_sparse() {
         region.close_up();
     }

@@ -1,39 +1,39 @@
-ghost use Rattle.std.specs.Prelude.{◌≡◌, ◌<◌, [], length, map, IfOk};
+ghost use Rattle.std.specs.Prelude.{◌≡◌, ◌<◌, ◌≤◌, [], length, map, take, IfOk};
 ghost use Rattle.trace_outside.specs.Causes.{HasCause};
 ghost use Rattle.trace_outside.specs.Pending.{Puts};
-ghost use Rattle.line_holes.specs.Holes.{filled_bytes, hole_time, later};
 ghost use Rattle.page_pool.specs.Moved.{KeepsUnmoved};
 ghost use Rattle.time_merge.specs.LaneRows.{parts_of};
-ghost use Rattle.round_print.specs.Prints.{filled_text, first_line, head_kept, printed};
-ghost use Rattle.round_print.specs.Rounds.{ArePrinted, AreRising, Gains, IsLineDropped, KeepsMarks, MarksPrinted};
+ghost use Rattle.round_print.specs.Prints.{ArePlain, filled_text, front_of, head_kept, last_of, printed};
+ghost use Rattle.round_print.specs.Rounds.{ArePrinted, AreRising, Gains, IsFrontDropped, KeepsMarks, MarksPrinted};
 
-use crate::filling::put_filled;
-use crate::heads::{drop_line, head_kept, least_due};
+use crate::filling::put_front;
+use crate::heads::{drop_front, head_kept, least_due, run_of};
 use least_tree::LeastTree;
 use page_pool::Lane;
 use time_merge::Horizon;
 use trace_outside::{Failed, Pending, Sink};
 
-/// Puts a lane's first line, filled from the last time, and keeps it no longer.
-fn print_first<O: Sink>(
+/// Puts a lane's first lines, filled from the last time, and keeps them no longer. Where there are several none has a hole.
+fn print_front<O: Sink>(
     lane: &mut Lane,
+    count: u32,
     last: &mut Option<u64>,
     pending: &mut Pending,
     out: &mut O,
 ) -> Result<(), Failed>
-    requires { 0 < length lane.old.region.kept }
-    ensures puts { Puts (filled_bytes last.old (first_line lane.old.region.kept)) (O.written out.old) pending.old
+    requires kept { (0 < count) × (count ≤ length lane.old.region.kept) }
+    requires plain { 1 < count → ArePlain (take count lane.old.region.kept) }
+    ensures puts { Puts (filled_text last.old (front_of count lane.old)) (O.written out.old) pending.old
         (O.written out.new) pending.new result }
-    ensures last { last.new ≡ later last.old (hole_time (first_line lane.old.region.kept)) }
+    ensures last { last.new ≡ last_of last.old (front_of count lane.old) }
     ensures name { O.name out.new ≡ O.name out.old }
     ensures cause { HasCause (O.faults out.old) (O.faults out.new) result }
-    ensures dropped { IfOk result (λ _. IsLineDropped lane.old lane.new) }
+    ensures dropped { IfOk result (λ _. IsFrontDropped count lane.old lane.new) }
     ensures cpu { lane.new.cpu ≡ lane.old.cpu }
     ensures part { lane.new.part ≡ lane.old.part }
 {
-    let (text, _, hole) = lane.region.line(0);
-    put_filled(text, hole, last, pending, out)?;
-    drop_line(&mut lane.region);
+    put_front(lane, count, last, pending, out)?;
+    drop_front(&mut lane.region, count);
     Ok(())
 }
 
@@ -63,13 +63,17 @@ fn put_round<O: Sink>(
     ensures cause { HasCause (O.faults out.old) (O.faults out.new) result }
     ensures parts { parts_of lanes.new ≡ parts_of lanes.old }
 {
+    // Of which lane a line went out alone just before.
+    let mut alone = None;
     while let Some(i) = least_due(horizon, lanes, heads) {
-        match print_first(&mut lanes[i], last, pending, out) {
+        let count = run_of(horizon, &lanes[i], heads, i, alone);
+        match print_front(&mut lanes[i], count, last, pending, out) {
             Ok(()) => {}
             Err(failed) => return Err(failed),
         }
         heads.set(i, head_kept(&lanes[i]));
         moved[i] = true;
+        alone = (count == 1).then_some(i);
     }
     Ok(())
 }
@@ -79,11 +83,12 @@ fn put_round<O: Sink>(
 /// line with a hole. A region that keeps no line any more has all its bytes free.
 ///
 /// The lines go through `pending`, in which nothing waits before or behind: all of them are written when the call returns,
-/// in pieces as large as it has room for. `heads` is a tree of the lanes' first lines, a slot for each lane with its
-/// `head_kept`, in step before and behind: the next line costs a step for each doubling of their number. `moved` has a mark
-/// for each lane: a lane that has none behind the call is as it was before, no mark is taken away, and only a lane of which
-/// a line was printed is marked anew. After `Failed` the sink has a prefix of the lines' text, and the lanes, which are still
-/// those of their processors, keep no longer what was put: they are not to be used again.
+/// in pieces as large as it has room for, or as lines of a lane lie side by side. `heads` is a tree of the lanes' first
+/// lines, a slot for each lane with its `head_kept`, in step before and behind: the next line, with those that come right
+/// behind it in its lane, costs a step or two for each doubling of their number. `moved` has a mark for each lane: a lane
+/// that has none behind the call is as it was before, no mark is taken away, and only a lane of which a line was printed is
+/// marked anew. After `Failed` the sink has a prefix of the lines' text, and the lanes, which are still those of their
+/// processors, keep no longer what was put: they are not to be used again.
 pub fn print_round<O: Sink>(
     horizon: &Horizon,
     lanes: &mut [Lane],

@@ -1,17 +1,18 @@
-use Rattle.std.proofs.Common.{◌≡◌, ◌<◌, ℕ, List, [], ◌++◌, get_or, length, inl, refl, sym, ap, subst, ◌∙◌, append_assoc, arith}
-use Rattle.std.proofs.lemmas.List.{append-nil, length-set, get_or-set_same}
+use Rattle.std.proofs.Common.{◌≡◌, ◌<◌, ℕ, List, [], ◌++◌, get_or, map, length, inl, refl, sym, ap, subst, ◌∙◌, append_assoc, arith}
+use Rattle.std.proofs.lemmas.List.{append-nil, length-set, get_or-set_same, get_or_default}
 use Rattle.trace_outside.specs.Pending.{Holds}
 use Rattle.trace_outside.specs.Writing.{GainedPrefix}
 use Rattle.trace_outside.proofs.PendingLemmas.{prefix_longer}
 use Rattle.page_pool.specs.Keeping.{printing}
+use Rattle.page_pool.specs.declared.lane.Lane.{Lane}
 use Rattle.page_pool.proofs.Keeping.{lane_still}
+use Rattle.time_merge.specs.declared.horizons.Horizon.{Horizon}
 use Rattle.time_merge.proofs.Readying.{set_parts}
-use Rattle.line_holes.specs.Holes.{filled_bytes}
-use Rattle.round_print.specs.Prints.{CpuLine, filled, head_kept, last_of, printed, text_of, first_line}
-use Rattle.round_print.specs.Rounds.{IsLineDropped}
+use Rattle.round_print.specs.Prints.{CpuLine, filled, filled_text, front_of, head_kept, last_of, printed, text_of}
+use Rattle.round_print.specs.Rounds.{IsFrontDropped, IsRun}
 use Rattle.round_print.proofs.Printing.{print_none}
-use Rattle.round_print.proofs.PrintSteps.{IsStep, some_kept, is_step, printing_on, printed_all, dropped_at, text_on, last_on, starts_with, cut_text}
-use Rattle.round_print.proofs.MovedLanes.{heads_on, unmoved_on, marked_on, anew_on, no_more_on, one_fewer}
+use Rattle.round_print.proofs.PrintSteps.{IsStep, some_kept, printing_on, printed_all, run_at, step_at, text_on, last_on, starts_with, cut_text, without}
+use Rattle.round_print.proofs.MovedLanes.{heads_on, unmoved_on, marked_on, anew_on, no_more_on, some_fewer}
 use Rattle.round_print.proofs.rounds.put_round.Goals as goal
 
 pub loop-i-init : goal.loop-i-init
@@ -42,61 +43,75 @@ loop-i-init g c = record {
   };
 }
 
-pub print_first-requires : goal.print_first-requires
-print_first-requires g c = some_kept c.args.horizon.now c.loop-i.lanes c.in-Some.i c.index-lanes-i.result c.in-Some.ensures.inside c.index-lanes-i.is c.in-Some.ensures.least
+pub run_of-count-requires-clause-some : goal.run_of-count-requires-clause-some
+run_of-count-requires-clause-some g c = some_kept c.args.horizon.now c.loop-i.lanes c.in-Some.i c.index-lanes-i.result c.in-Some.ensures.inside c.index-lanes-i.is c.in-Some.ensures.least
 
 pub loop-i-smaller : goal.loop-i-smaller
 loop-i-smaller g c =
-    let dropped : IsLineDropped c.index-lanes-i.result c.print_first.new.lane = dropped_at c.loop-i.lanes c.in-Some.i c.index-lanes-i.result c.print_first.new.lane c.index-lanes-i.is c.in-Ok.ensures.dropped in
-    let step : IsStep c.args.horizon.now c.loop-i.lanes c.in-Some.i c.index-lanes-i.result c.print_first.new.lane =
-    is_step c.args.horizon.now c.loop-i.lanes c.in-Some.i c.index-lanes-i.result c.print_first.new.lane c.in-Some.ensures.inside c.index-lanes-i.is c.in-Some.ensures.least c.loop-i.invariant.rising.cpus c.loop-i.invariant.rising.keys dropped in
+    let lane : Lane = get_or c.loop-i.lanes c.in-Some.i c.index-lanes-i-in-Some.result in
+    let dropped : IsFrontDropped c.run_of-count.result lane c.print_front.new.lane = c.in-Ok.ensures.dropped in
+    let step : IsStep c.args.horizon.now c.loop-i.lanes c.in-Some.i c.run_of-count.result lane c.print_front.new.lane =
+    step_at c.args.horizon.now c.loop-i.lanes c.loop-i.heads c.in-Some.i c.run_of-count.result c.index-lanes-i.result c.index-lanes-i-in-Some.result c.in-Some.ensures.inside c.loop-i.invariant.heads c.run_of-count.ensures
+    c.print_front.new.lane c.in-Some.ensures.least c.loop-i.invariant.rising dropped.lane.cpu dropped.region.kept in
     omega (arith, step.fewer)
 
 pub loop-i-preserved : goal.loop-i-preserved
 loop-i-preserved g c =
-    let dropped : IsLineDropped c.index-lanes-i.result c.print_first.new.lane = dropped_at c.loop-i.lanes c.in-Some.i c.index-lanes-i.result c.print_first.new.lane c.index-lanes-i.is c.in-Ok.ensures.dropped in
-    let step : IsStep c.args.horizon.now c.loop-i.lanes c.in-Some.i c.index-lanes-i.result c.print_first.new.lane =
-    is_step c.args.horizon.now c.loop-i.lanes c.in-Some.i c.index-lanes-i.result c.print_first.new.lane c.in-Some.ensures.inside c.index-lanes-i.is c.in-Some.ensures.least c.loop-i.invariant.rising.cpus c.loop-i.invariant.rising.keys dropped in
+    let h : Horizon = c.args.horizon.now in
+    let lanes : List Lane = c.loop-i.lanes in
+    let i : ℕ = c.in-Some.i in
+    let n : ℕ = c.run_of-count.result in
+    let lane : Lane = get_or lanes i c.index-lanes-i-in-Some.result in
+    let now : Lane = c.print_front.new.lane in
+    let first : List Lane = c.args.lanes.now in
+    let lt : i < length lanes = c.in-Some.ensures.inside in
+    let at : lane ≡ get_or lanes i lane = get_or_default lanes i c.index-lanes-i-in-Some.result lane lt in
+    let run : IsRun h (map head_kept lanes) i lane n = run_at h lanes c.loop-i.heads i n c.index-lanes-i.result c.index-lanes-i-in-Some.result lt c.loop-i.invariant.heads c.run_of-count.ensures in
+    let dropped : IsFrontDropped n lane now = c.in-Ok.ensures.dropped in
+    let step : IsStep h lanes i n lane now =
+    step_at h lanes c.loop-i.heads i n c.index-lanes-i.result c.index-lanes-i-in-Some.result lt c.loop-i.invariant.heads c.run_of-count.ensures now c.in-Some.ensures.least c.loop-i.invariant.rising dropped.lane.cpu dropped.region.kept in
     let done : List ℕ = c.loop-i.invariant.text.0 in
-    let line : List ℕ = filled_bytes c.loop-i.last (first_line (get_or c.loop-i.lanes c.in-Some.i c.index-lanes-i.result).region.kept) in
-    let key : c.head_kept.result ≡ head_kept c.print_first.new.lane =
-    c.head_kept.ensures ∙ ap head_kept (get_or-set_same c.loop-i.lanes c.in-Some.i c.print_first.new.lane c.index-lanes-i-in-Some.result c.in-Some.ensures.inside) in
-    let some = some_kept c.args.horizon.now c.loop-i.lanes c.in-Some.i c.index-lanes-i.result c.in-Some.ensures.inside c.index-lanes-i.is c.in-Some.ensures.least in
-    let shorter : length c.print_first.new.lane.region.kept < length (get_or c.loop-i.lanes c.in-Some.i c.index-lanes-i.result).region.kept =
-    one_fewer c.loop-i.lanes c.in-Some.i c.index-lanes-i.result c.print_first.new.lane c.index-lanes-i.is dropped some in
+    let front : List ℕ = filled_text c.loop-i.last (front_of n lane) in
+    let key : c.head_kept.result ≡ head_kept now = c.head_kept.ensures ∙ ap head_kept (get_or-set_same lanes i now c.index-lanes-i-in-Some-2.result lt) in
+    let shorter : length now.region.kept < length lane.region.kept = some_fewer n lane now dropped run.some run.kept in
     record {
       text = (
-        done ++ line,
+        done ++ front,
         (
-          text_on c.args.horizon.now c.loop-i.lanes c.in-Some.i c.index-lanes-i.result c.print_first.new.lane c.loop-i.last c.print_first.new.last done (text_of (filled c.args.last.now (printed c.args.horizon.now c.args.lanes.now))) c.index-lanes-i.is step c.print_first.ensures.last c.loop-i.invariant.text.1.0,
+          text_on h lanes i n lane now c.loop-i.last c.print_front.new.last done (text_of (filled c.args.last.now (printed h first))) step c.print_front.ensures.last c.loop-i.invariant.text.1.0,
           λ before text held.
-              let P : List ℕ → Type 0 = λ t. Holds before (g.O.Sink.written c.print_first.new.out) c.print_first.new.pending t in
-              subst P (append_assoc text done line) (c.in-Ok.ensures.puts before (text ++ done) (c.loop-i.invariant.text.1.1 before text held)),
+              let P : List ℕ → Type 0 = λ t. Holds before (g.O.Sink.written c.print_front.new.out) c.print_front.new.pending t in
+              subst P (append_assoc text done front) (c.in-Ok.ensures.puts before (text ++ done) (c.loop-i.invariant.text.1.1 before text held)),
         ),
       );
-      last = last_on c.args.horizon.now c.loop-i.lanes c.in-Some.i c.index-lanes-i.result c.print_first.new.lane c.loop-i.last c.print_first.new.last (last_of c.args.last.now (printed c.args.horizon.now c.args.lanes.now)) c.index-lanes-i.is step c.print_first.ensures.last c.loop-i.invariant.last;
+      last = last_on h lanes i n lane now c.loop-i.last c.print_front.new.last (last_of c.args.last.now (printed h first)) step c.print_front.ensures.last c.loop-i.invariant.last;
       name = c.in-Ok.ensures.name ∙ c.loop-i.invariant.name;
       faults = c.in-Ok.ensures.cause.kept ∙ c.loop-i.invariant.faults;
-      parts = set_parts c.loop-i.lanes c.in-Some.i c.index-lanes-i.result c.print_first.new.lane c.in-Some.ensures.inside c.in-Ok.ensures.cpu c.in-Ok.ensures.part ∙ c.loop-i.invariant.parts;
+      parts = set_parts lanes i c.index-lanes-i-in-Some.result now lt c.in-Ok.ensures.cpu c.in-Ok.ensures.part ∙ c.loop-i.invariant.parts;
       rising = record { cpus = step.rise; keys = step.rises };
-      heads = heads_on c.loop-i.heads c.set.new.self c.loop-i.lanes c.in-Some.i c.print_first.new.lane c.head_kept.result c.set.ensures key c.loop-i.invariant.heads;
-      slots = ap length c.set.ensures ∙ length-set c.loop-i.heads c.in-Some.i c.head_kept.result ∙ c.loop-i.invariant.slots;
-      unmoved = unmoved_on c.loop-i.moved c.args.lanes.now c.loop-i.lanes c.in-Some.i c.print_first.new.lane c.loop-i.invariant.unmoved;
-      marked = marked_on c.args.moved.now c.loop-i.moved c.in-Some.i c.loop-i.invariant.marked;
-      anew = anew_on c.args.moved.now c.loop-i.moved c.args.lanes.now c.loop-i.lanes c.in-Some.i c.index-lanes-i.result c.print_first.new.lane c.in-Some.ensures.inside shorter c.loop-i.invariant.fewer c.loop-i.invariant.anew;
-      fewer = no_more_on c.args.lanes.now c.loop-i.lanes c.in-Some.i c.index-lanes-i.result c.print_first.new.lane c.in-Some.ensures.inside shorter c.loop-i.invariant.fewer;
-      lanes = printing_on c.args.horizon.now c.args.lanes.now c.loop-i.lanes c.in-Some.i c.index-lanes-i.result c.print_first.new.lane c.in-Some.ensures.inside c.index-lanes-i.is step dropped c.loop-i.auto.lanes c.loop-i.invariant.lanes;
+      heads = heads_on c.loop-i.heads c.set.new.self lanes i now c.head_kept.result c.set.ensures key c.loop-i.invariant.heads;
+      slots = ap length c.set.ensures ∙ length-set c.loop-i.heads i c.head_kept.result ∙ c.loop-i.invariant.slots;
+      unmoved = unmoved_on c.loop-i.moved first lanes i now c.loop-i.invariant.unmoved;
+      marked = marked_on c.args.moved.now c.loop-i.moved i c.loop-i.invariant.marked;
+      anew = anew_on c.args.moved.now c.loop-i.moved first lanes i c.index-lanes-i-in-Some.result now lt shorter c.loop-i.invariant.fewer c.loop-i.invariant.anew;
+      fewer = no_more_on first lanes i c.index-lanes-i-in-Some.result now lt shorter c.loop-i.invariant.fewer;
+      lanes = printing_on h first lanes i n lane now lt at step dropped c.loop-i.auto.lanes c.loop-i.invariant.lanes;
     }
 
 pub returns-in-Err-clause-puts : goal.returns-in-Err-clause-puts
 returns-in-Err-clause-puts g c = λ before text held.
+    let n : ℕ = c.run_of-count.result in
+    let lane : Lane = get_or c.loop-i.lanes c.in-Some.i c.index-lanes-i-in-Some.result in
+    let step : IsStep c.args.horizon.now c.loop-i.lanes c.in-Some.i n lane (without n lane) =
+    step_at c.args.horizon.now c.loop-i.lanes c.loop-i.heads c.in-Some.i n c.index-lanes-i.result c.index-lanes-i-in-Some.result c.in-Some.ensures.inside c.loop-i.invariant.heads c.run_of-count.ensures
+    (without n lane) c.in-Some.ensures.least c.loop-i.invariant.rising refl refl in
     let done : List ℕ = c.loop-i.invariant.text.0 in
-    let line : List ℕ = filled_bytes c.loop-i.last (first_line (get_or c.loop-i.lanes c.in-Some.i c.index-lanes-i.result).region.kept) in
-    let starts : (rest : List ℕ) × (text_of (filled c.loop-i.last (printed c.args.horizon.now c.loop-i.lanes)) ≡ line ++ rest) =
-    starts_with c.args.horizon.now c.loop-i.lanes c.in-Some.i c.index-lanes-i.result c.loop-i.last c.in-Some.ensures.inside c.index-lanes-i.is c.in-Some.ensures.least c.loop-i.invariant.rising.cpus c.loop-i.invariant.rising.keys in
-    let P : List ℕ → Type 0 = λ t. GainedPrefix before (g.O.Sink.written c.print_first.new.out) t in
-    subst P (cut_text text done line starts.0 (text_of (filled c.args.last.now (printed c.args.horizon.now c.args.lanes.now))) (text_of (filled c.loop-i.last (printed c.args.horizon.now c.loop-i.lanes))) c.loop-i.invariant.text.1.0 starts.1)
-    (prefix_longer before (g.O.Sink.written c.print_first.new.out) ((text ++ done) ++ line) starts.0
+    let front : List ℕ = filled_text c.loop-i.last (front_of n lane) in
+    let starts : (rest : List ℕ) × (filled_text c.loop-i.last (printed c.args.horizon.now c.loop-i.lanes) ≡ front ++ rest) =
+    starts_with c.args.horizon.now c.loop-i.lanes c.in-Some.i n lane (without n lane) c.loop-i.last step in
+    let P : List ℕ → Type 0 = λ t. GainedPrefix before (g.O.Sink.written c.print_front.new.out) t in
+    subst P (cut_text text done front starts.0 (text_of (filled c.args.last.now (printed c.args.horizon.now c.args.lanes.now))) (text_of (filled c.loop-i.last (printed c.args.horizon.now c.loop-i.lanes))) c.loop-i.invariant.text.1.0 starts.1)
+    (prefix_longer before (g.O.Sink.written c.print_front.new.out) ((text ++ done) ++ front) starts.0
     (c.in-Err.ensures.puts before (text ++ done) (c.loop-i.invariant.text.1.1 before text held)))
 
 pub returns-clause-puts : goal.returns-clause-puts
@@ -115,4 +130,5 @@ returns-clause-printed g c = record {
 }
 
 pub returns-in-Err-clause-parts : goal.returns-in-Err-clause-parts
-returns-in-Err-clause-parts g c = set_parts c.loop-i.lanes c.in-Some.i c.index-lanes-i.result c.print_first.new.lane c.in-Some.ensures.inside c.in-Err.ensures.cpu c.in-Err.ensures.part ∙ c.loop-i.invariant.parts
+returns-in-Err-clause-parts g c =
+    set_parts c.loop-i.lanes c.in-Some.i c.index-lanes-i-in-Some.result c.print_front.new.lane c.in-Some.ensures.inside c.in-Err.ensures.cpu c.in-Err.ensures.part ∙ c.loop-i.invariant.parts
