@@ -92,28 +92,22 @@ fn run_up_to(horizon: &Horizon, cpu: u32, heads: &LeastTree, i: usize) -> Option
     }
 }
 
-/// Whether the first kept line has a hole.
-fn has_hole_first(region: &Region) -> bool
-    requires { 0 < length region.now.kept }
-{
-    let (_, _, hole) = region.line(0);
-    hole.is_some()
-}
-
 /// How many lines of the lane that is next go out at once: those up to the first that has a hole or does not come next, or one.
-/// It is one where another lane's line went out alone just before, so that lanes that take turns line by line are not asked.
+/// It is one where another lane's line went out alone just before, so that lanes that take turns line by line are not asked,
+/// and behind a line with a hole, since the others have one too.
 pub(crate) fn run_of(
     horizon: &Horizon,
     lane: &Lane,
     heads: &LeastTree,
     i: usize,
     alone: Option<usize>,
+    last: Option<u64>,
 ) -> u32
     requires slot { i < length heads.now }
     requires some { 0 < length lane.now.region.kept }
     ensures { IsRun horizon.now heads.now i lane.now result }
 {
-    if alone.is_some_and(|other| other != i) || has_hole_first(&lane.region) {
+    if last.is_some() || alone.is_some_and(|other| other != i) {
         return 1;
     }
     match run_up_to(horizon, lane.cpu, heads, i) {

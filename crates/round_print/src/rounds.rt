@@ -66,7 +66,7 @@ fn put_round<O: Sink>(
     // Of which lane a line went out alone just before.
     let mut alone = None;
     while let Some(i) = least_due(horizon, lanes, heads) {
-        let count = run_of(horizon, &lanes[i], heads, i, alone);
+        let count = run_of(horizon, &lanes[i], heads, i, alone, *last);
         match print_front(&mut lanes[i], count, last, pending, out) {
             Ok(()) => {}
             Err(failed) => return Err(failed),
