@@ -1,4 +1,5 @@
-//! Rounds over the lines of two processors: a round by its horizon in `HORIZONS`, and rounds that fail in `WRITES`.
+//! Rounds over the lines of two processors: a round by its horizon in `HORIZONS`, rounds that fail in `WRITES`, and a run with more
+//! bytes than may wait in `WIDE_WRITES`.
 
 ghost use Rattle.std.specs.Prelude.{◌≡◌, ◌≤◌, [], IfSome, length, map};
 ghost use Rattle.round_print.specs.Prints.{KeysRise, KeysUpTo, head_kept};
@@ -38,11 +39,79 @@ const HOLED: Lines = [
     &[(20, "d2\n", Some((2, 17))), (40, "e4\n", Some((3, 40)))],
 ];
 
+// Lines that come one after another, and lines of both processors at one key. What the first processor keeps behind its run is
+// moved to the front of its region.
+const RUNS: Lines = [
+    &[
+        (10, "a\n", None),
+        (11, "b\n", None),
+        (12, "c\n", None),
+        (20, "d\n", None),
+        (20, "e\n", None),
+        (21, "f\n", None),
+    ],
+    &[
+        (20, "g\n", None),
+        (20, "h\n", None),
+        (25, "i\n", None),
+        (26, "j\n", None),
+    ],
+];
+
+// A run of the second processor up to a key of the first.
+const BEFORE: Lines = [
+    &[(20, "a", None)],
+    &[
+        (10, "b", None),
+        (11, "c", None),
+        (20, "d", None),
+        (20, "e", None),
+    ],
+];
+
+const FROM_NOTHING: Lines = [
+    &[(0, "a", None), (0, "b", None), (1, "c", None)],
+    &[(0, "d", None), (0, "e", None)],
+];
+
+// Holes before, in and behind runs.
+const HOLED_RUNS: Lines = [
+    &[
+        (1, "a", Some((1, 1))),
+        (2, "b", None),
+        (3, "c", None),
+        (4, "d", Some((0, 4))),
+        (5, "e", None),
+        (6, "f", None),
+        (7, "g", Some((1, 9))),
+    ],
+    &[(8, "h", None), (9, "i", Some((1, 7)))],
+];
+
+const WIDE: Kept = (
+    5,
+    "A line of 65 bytes, of which 1,024 are more than what may wait. \n",
+    None,
+);
+
+const MANY: Lines = [&[WIDE; 1024], &[(5, "z", None)]];
+
+// A run up to a hole.
+const HOLED_BEHIND: Lines = [
+    &[
+        (1, "a", None),
+        (2, "b", None),
+        (3, "c", Some((1, 3))),
+        (4, "d", None),
+    ],
+    &[(5, "e", Some((0, 4)))],
+];
+
 // Copies the text to the front of the bytes, as far as there is room.
 fn copy(into: &mut [u8], text: &[u8]) -> u32 {
     let count = into.len().min(text.len());
     into[..count].copy_from_slice(&text[..count]);
-    count.min(16) as u32
+    count.min(99) as u32
 }
 
 // A hole that is in a line of this length.
@@ -138,15 +207,16 @@ struct Left {
     moved: (bool, bool),
 }
 
-// Prints rounds over lanes with these lines and no mark. What they leave, where no write failed.
+// Prints rounds over lanes with these lines, in regions of `room` bytes, and no mark. What they leave, where no write failed.
 fn prints(
     alloc: Global,
+    room: u32,
     lines: &Lines,
     rounds: &[Horizon],
     last: Option<u64>,
     out: &mut MemSink,
 ) -> Result<Option<Left>, AllocError> {
-    let mut pool = Pool::new(alloc, 2, 4096, 16)?;
+    let mut pool = Pool::new(alloc, 2, 4096, room)?;
     let lanes = pool.lanes();
     fill(lanes, lines);
     let mut heads = LeastTree::new(alloc, 2)?;
@@ -213,12 +283,48 @@ const HORIZONS: &[Round] = &[
         (0, 0),
     ),
     (HOLED, Start(3), Some(9), "", Some(9), (3, 2)),
+    // several lines of a processor at once
+    (RUNS, To(11, 9), None, "a\nb\n", None, (4, 4)),
+    (RUNS, To(12, 2), None, "a\nb\n", None, (4, 4)),
+    (RUNS, To(20, 2), None, "a\nb\nc\n", None, (3, 4)),
+    (RUNS, To(20, 6), None, "a\nb\nc\nd\ne\n", None, (1, 4)),
+    (RUNS, To(20, 7), None, "a\nb\nc\nd\ne\ng\nh\n", None, (1, 2)),
+    (
+        RUNS,
+        To(25, 9),
+        None,
+        "a\nb\nc\nd\ne\ng\nh\nf\ni\n",
+        None,
+        (0, 1),
+    ),
+    (BEFORE, To(19, 9), None, "bc", None, (1, 2)),
+    (BEFORE, All, None, "bcade", None, (0, 0)),
+    (FROM_NOTHING, To(0, 2), None, "", None, (3, 2)),
+    (FROM_NOTHING, To(0, 3), None, "ab", None, (1, 2)),
+    (FROM_NOTHING, To(0, 7), None, "abde", None, (1, 0)),
+    (
+        HOLED_RUNS,
+        All,
+        None,
+        "abc (+3)defg (+5)hi (-2)",
+        Some(7),
+        (0, 0),
+    ),
+    (HOLED_BEHIND, All, None, "abcd (+1)e", Some(4), (0, 0)),
+    (
+        HOLED_RUNS,
+        To(5, 3),
+        Some(3),
+        "a (-2)bc (+3)de",
+        Some(4),
+        (2, 2),
+    ),
 ];
 
 fn is_printed(alloc: Global, round: &Round) -> Result<bool, AllocError> {
     let (lines, horizon, last, text, now, left) = *round;
     let mut out = MemSink::new(alloc);
-    let ended = prints(alloc, &lines, &[horizon], last, &mut out)?;
+    let ended = prints(alloc, 16, &lines, &[horizon], last, &mut out)?;
     // A lane has a mark where it keeps fewer lines.
     let wanted = Left {
         last: now,
@@ -241,36 +347,55 @@ fn lines_up_to_a_horizon(rt: HostRuntime) -> Result<(), Fail> {
 
 const ROUNDS: &[Horizon] = &[To(10, 3), To(30, 3), All];
 
-/// From which write on the sink fails, whether one of those rounds does, what it took, and how many writes there were: one for each
-/// round, up to the first that fails.
-const WRITES: &[(u64, bool, &str, u64)] = &[
-    (4, false, "aebcfgd", 3),
-    (3, true, "aebc", 3),
-    (2, true, "a", 2),
-    (1, true, "", 1),
+/// The lines, how many bytes a write takes, from which write on the sink fails, whether one of those rounds does, what it took, and
+/// how many writes there were: one for each round where a write takes all, up to the first that fails.
+type Written = (Lines, u32, u64, bool, &'static str, u64);
+
+const WRITES: &[Written] = &[
+    (LINES, 99, 4, false, "aebcfgd", 3),
+    (LINES, 99, 3, true, "aebc", 3),
+    (LINES, 99, 2, true, "a", 2),
+    (LINES, 99, 1, true, "", 1),
+    (RUNS, 1, 8, true, "a\nb\nc\nd", 8),
+    (RUNS, 99, 3, false, "a\nb\nc\nd\ne\ng\nh\nf\ni\nj\n", 2),
 ];
 
-fn fails_so(
-    alloc: Global,
-    from: u64,
-    fails: bool,
-    text: &str,
-    writes: u64,
-) -> Result<bool, AllocError> {
+fn fails_so(alloc: Global, row: &Written) -> Result<bool, AllocError> {
+    let (lines, short, from, fails, text, writes) = *row;
     let mut out = MemSink::new(alloc);
+    out.short(short);
     out.fail_from(from);
-    let ended = prints(alloc, &LINES, ROUNDS, None, &mut out)?;
+    let ended = prints(alloc, 16, &lines, ROUNDS, None, &mut out)?;
     let is_told = out.bytes() == text.as_bytes() && out.writes() == writes;
     Ok(ended.is_none() == fails && is_told && out.faults() == u64::from(fails))
 }
 
 #[test]
 fn one_round_behind_another(rt: HostRuntime) -> Result<(), Fail> {
-    for (from, fails, text, writes) in WRITES {
-        assert!(rt;
-            fails_so(rt.alloc(), *from, *fails, text, *writes)?,
-            "{from}"
-        );
+    for row in WRITES {
+        assert!(rt; fails_so(rt.alloc(), row)?, "{}", row.4);
+    }
+    Ok(())
+}
+
+/// How many bytes a write takes, from which write on the sink fails, how many bytes it took, and how many writes there were.
+const WIDE_WRITES: &[(u32, u64, usize, u64)] = &[(99_999, 3, 66_561, 2), (1000, 3, 2000, 3)];
+
+fn takes_so(alloc: Global, row: &(u32, u64, usize, u64)) -> Result<bool, AllocError> {
+    let (short, from, count, writes) = *row;
+    let mut out = MemSink::new(alloc);
+    out.short(short);
+    out.fail_from(from);
+    prints(alloc, 66_560, &MANY, &[All], None, &mut out)?;
+    let front = out.bytes().get(..65);
+    Ok(front == Some(WIDE.1.as_bytes()) && out.bytes().len() == count && out.writes() == writes)
+}
+
+// Its lines are written as they lie in their region.
+#[test]
+fn a_run_with_more_bytes_than_may_wait(rt: HostRuntime) -> Result<(), Fail> {
+    for row in WIDE_WRITES {
+        assert!(rt; takes_so(rt.alloc(), row)?, "{}", row.2);
     }
     Ok(())
 }
