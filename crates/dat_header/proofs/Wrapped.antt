@@ -17,8 +17,8 @@ use Rattle.dat_options.proofs.OptionsLaws.{length-options_text}
 use Rattle.dat_header.specs.declared.header.Header.{Header}
 use Rattle.dat_header.specs.declared.header.System.{System}
 use Rattle.dat_header.specs.Items.{magic_word, version_word, page_word, event_word, options_word, fly_word, order_byte, sized, sized_texts, formats_text, system_text, systems_text, items, text}
-use Rattle.dat_header.specs.Written.{section_len, options_section, with_parts, header_text}
-use Rattle.dat_header.proofs.Written.{front_text, texts_text, end_text, whole_text}
+use Rattle.dat_header.specs.Written.{section_len, options_section, with_parts, header_text, text_before_table}
+use Rattle.dat_header.proofs.Written.{front_text, texts_text, end_text, whole_text, held_text}
 
 -- what is left of a number in 64 bits
 abbrev pub wrapped : ℕ → ℕ
@@ -179,3 +179,11 @@ header_len_is header parts texts lists cpus each one two =
     ∙ ap (λ (n : ℕ). wrapped (n + 16 * cpus)) (wrap_both (97 + a) b)
     ∙ wrap_left (97 + a + b) (16 * cpus)
     ∙ ap wrapped (let e : 97 + a + b + 16 * cpus ≡ length (header_text header parts) = omega (arith, length-header_text header parts, each) in e)
+
+-- the same, where the text in front of the table is held
+pub held_len_is : (header : Header) (before bytes : List ℕ) (parts : List Part) (cpus : ℕ) → before ≡ text_before_table header → bytes ≡ before → length parts ≡ cpus
+    → wrapped (length bytes + 16 * cpus) ≡ wrapped (length (header_text header parts))
+held_len_is header before bytes parts cpus is same each =
+    let table = table_text header.order parts in
+    ap wrapped (let e : length bytes + 16 * cpus ≡ length (header_text header parts) =
+    omega (arith, ap length (held_text header before bytes parts is same), length-append bytes table, length-table_text header.order parts, each) in e)

@@ -1,5 +1,5 @@
 -- One piece written behind another.
-use Rattle.std.proofs.Common.{◌≡◌, ℕ, ◌+◌, ◌<◌, ◌≤◌, List, [], ◌∷◌, ◌++◌, length, take, drop, get_or, Option, None, Some, Result, Ok, Err, OnOk, OnErr, IfSome, not, refl, sym, ap, subst, ◌∙◌, append_assoc, arith}
+use Rattle.std.proofs.Common.{◌≡◌, ℕ, ◌+◌, ◌<◌, ◌≤◌, List, [], ◌∷◌, ◌++◌, length, take, drop, get_or, Option, None, Some, Result, Ok, Err, OnOk, OnErr, IfOk, IfSome, not, refl, sym, ap, subst, ◌∙◌, append_assoc, arith}
 use Rattle.std.proofs.lemmas.List.{append-nil, take_more, take-append-drop, take_all, drop-drop}
 use Rattle.std.proofs.lemmas.List.Concat.{flat_map-cons}
 use Rattle.std.proofs.lemmas.Grind.{flat_map-append}
@@ -9,6 +9,7 @@ use Rattle.trace_outside.specs.declared.outside.Sink as sink
 use Rattle.trace_outside.specs.Causes.{HasCause}
 use Rattle.trace_outside.specs.Writing.{Gained, GainedPrefix}
 use Rattle.trace_outside.proofs.Gains.{gained_both, prefix_behind, prefix_of_parts, gained_nothing}
+use Rattle.dat_options.proofs.Steps.{some_is}
 use Rattle.dat_options.proofs.Writes.{prefix_in_front}
 use Rattle.trace_base.specs.Number.{bytes_of}
 use Rattle.trace_base.specs.declared.order.Order.{Order}
@@ -20,7 +21,7 @@ use Rattle.dat_header.specs.declared.header.Header.{Header}
 use Rattle.dat_header.specs.declared.header.System.{System}
 use Rattle.dat_header.specs.declared.header.Body.TheVariants.{Fly}
 use Rattle.dat_header.specs.Items.{Item, system_text, magic_word, version_word, page_word, event_word, options_word, fly_word, order_byte, sized, formats_text, systems_text, section_items, items, text}
-use Rattle.dat_header.specs.Written.{Writes, options_section, is_instance, with_parts, header_text}
+use Rattle.dat_header.specs.Written.{Writes, options_section, is_instance, with_parts, header_text, text_before_table}
 
 -- by the clauses of a call that writes
 pub writes_by : {O E : Type 0} {o : sink.Ghosts O} (text : List ℕ) (before now : O) (result : Result (Unit {0}) E) → OnOk result (Gained (o.written before) (o.written now) text) → OnErr result (GainedPrefix (o.written before) (o.written now) text)
@@ -131,6 +132,12 @@ pub end_text : (header : Header) (parts : List Part)
 unfolding items
 end_text header parts = end_by header.order header.cpus header.options parts
 
+-- the same without a table
+pub sections_text : (header : Header)
+    → bytes_of header.order 4 header.cpus ++ (options_section header.order header.options ++ fly_word) ≡ text (drop 14 (items (with_parts header [])))
+sections_text header =
+    ap (λ (t : List ℕ). bytes_of header.order 4 header.cpus ++ (options_section header.order header.options ++ t)) (sym (append-nil fly_word)) ∙ end_text header []
+
 same_front : (header : Header) (parts : List Part) → take 7 (items header) ≡ take 7 (items (with_parts header parts))
 unfolding items
 same_front header parts = refl
@@ -152,6 +159,37 @@ whole_text header parts =
     ap (λ (xs : List Item). text xs ++ (text (take 7 (drop 7 (items header))) ++ text (drop 14 (items (with_parts header parts))))) (same_front header parts)
     ∙ ap (λ (xs : List Item). text (take 7 (items (with_parts header parts))) ++ (text xs ++ text (drop 14 (items (with_parts header parts))))) (same_texts header parts)
     ∙ in_three (items (with_parts header parts))
+
+five_joined : (a b c d e t : List ℕ) → (a ++ (b ++ (c ++ (d ++ e)))) ++ t ≡ a ++ (b ++ (c ++ (d ++ (e ++ t))))
+five_joined a b c d e t =
+    append_assoc a (b ++ (c ++ (d ++ e))) t
+    ∙ ap (λ (s : List ℕ). a ++ s) (append_assoc b (c ++ (d ++ e)) t)
+    ∙ ap (λ (s : List ℕ). a ++ (b ++ s)) (append_assoc c (d ++ e) t)
+    ∙ ap (λ (s : List ℕ). a ++ (b ++ (c ++ s))) (append_assoc d e t)
+
+-- the table stands behind all else
+pub table_behind : (header : Header) (parts : List Part) → text_before_table header ++ table_text header.order parts ≡ header_text header parts
+table_behind header parts =
+    let one = text (take 7 (items header)) in
+    let two = text (take 7 (drop 7 (items header))) in
+    let number = bytes_of header.order 4 header.cpus in
+    let section = options_section header.order header.options in
+    let table = table_text header.order parts in
+    let front : text_before_table header ≡ one ++ (two ++ (number ++ (section ++ fly_word))) =
+    sym (whole_text header []) ∙ ap (λ (t : List ℕ). one ++ (two ++ t)) (sym (sections_text header)) in
+    ap (λ (t : List ℕ). t ++ table) front ∙ five_joined one two number section fly_word table
+    ∙ ap (λ (t : List ℕ). one ++ (two ++ t)) (end_text header parts) ∙ whole_text header parts
+
+-- the same of bytes that are the text in front of the table
+pub held_text : (header : Header) (before bytes : List ℕ) (parts : List Part) → before ≡ text_before_table header → bytes ≡ before → bytes ++ table_text header.order parts ≡ header_text header parts
+held_text header before bytes parts is same = ap (λ (t : List ℕ). t ++ table_text header.order parts) (same ∙ is) ∙ table_behind header parts
+
+-- a copy of what an empty sink in memory gained
+pub copied : {E : Type 0} (result : Result (List ℕ) E) (before now bytes content : List ℕ) → Some before ≡ Some [] → Gained (Some before) (Some now) content → Some now ≡ Some bytes
+    → IfOk result (λ copy. copy ≡ bytes) → IfOk result (λ copy. copy ≡ content)
+copied (Ok copy) before now bytes content empty gained told same =
+    same ∙ sym (some_is now bytes told) ∙ some_is now (before ++ content) gained ∙ ap (λ (t : List ℕ). t ++ content) (some_is before [] empty)
+copied (Err error) before now bytes content empty gained told same = tt
 
 -- options of which some were taken away are allowed still
 pub still_options : (told : Option (List Opt)) (options items kept result : List Opt) → Some options ≡ told → items ≡ options → kept ≡ filter (λ option. not (is_instance option)) items → result ≡ kept

@@ -20,6 +20,10 @@ with_parts header parts = record header { body = Fly parts }
 abbrev pub header_text : Header → List Part → List ℕ
 header_text header parts = text (items (with_parts header parts))
 
+-- what stands in front of the table, whatever the parts: the header with a table of none
+abbrev pub text_before_table : Header → List ℕ
+text_before_table header = header_text header []
+
 -- the header that is written: these parts, and the place behind it
 abbrev pub written : Header → List Part → Header
 written header parts = record header { body = Fly parts; end = length (header_text header parts) }

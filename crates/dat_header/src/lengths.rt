@@ -7,7 +7,7 @@ ghost use Rattle.trace_base.specs.declared.part.Part.{Part};
 ghost use Rattle.dat_options.specs.Options.{option_text};
 ghost use Rattle.dat_header.specs.Allowed.{IsHeader};
 ghost use Rattle.dat_header.specs.Items.{sized_texts, system_text};
-ghost use Rattle.dat_header.specs.Written.{header_text, section_len};
+ghost use Rattle.dat_header.specs.Written.{header_text, section_len, text_before_table};
 
 use crate::header::{Header, System};
 use dat_options::Opt;
@@ -42,6 +42,15 @@ pub fn header_len(header: &Header) -> u64
         .wrapping_add(texts)
         .wrapping_add(lists)
         .wrapping_add(PART * header.cpus as u64)
+}
+
+/// The same, where the text in front of the table is held.
+pub(crate) fn len_with_table(header: &Header, before: &ByteText) -> u64
+    requires { before.now ≡ text_before_table header.now }
+    ensures { (parts : List Part) → length parts ≡ header.now.cpus → result ≡ length (header_text header.now parts) % 2 ^ 64 }
+{
+    let len = before.as_bytes().len() as u64;
+    len.wrapping_add(PART * header.cpus as u64)
 }
 
 // The texts that stand alone, without their sizes.

@@ -1,6 +1,6 @@
 // The pieces of a header, each written to its end.
 
-ghost use Rattle.std.specs.Prelude.{◌≡◌, ◌^◌, ◌<◌, take, drop, length};
+ghost use Rattle.std.specs.Prelude.{◌≡◌, ◌^◌, ◌<◌, [], take, drop, length};
 ghost use Rattle.std.specs.List.{All, flat_map};
 ghost use Rattle.trace_base.specs.Number.{bytes_of};
 ghost use Rattle.dat_header.specs.Allowed.{AreFormats, AreSystems, IsHeader, IsSystem};
@@ -8,8 +8,8 @@ ghost use Rattle.dat_header.specs.Items.{items, text, sized, sized_texts, format
 ghost use Rattle.dat_header.specs.Written.{Writes, options_section, with_parts};
 
 use crate::header::{Header, System};
-use dat_options::{write_options, write_table};
-use trace_base::{ByteText, ListOf, Order, Part, put_u32, put_u64};
+use dat_options::write_options;
+use trace_base::{ByteText, ListOf, Order, put_u32, put_u64};
 use trace_outside::{Failed, Sink, write_all, write_parts};
 
 // From the magic bytes to the header_page text.
@@ -62,15 +62,14 @@ pub(crate) fn write_texts<O: Sink>(header: &Header, out: &mut O) -> Result<(), F
     write_long_text(order, &header.cmdlines, out)
 }
 
-// From the number of processors to the table of these parts.
-pub(crate) fn write_end<O: Sink>(header: &Header, parts: &[Part], out: &mut O) -> Result<(), Failed>
+// From the number of processors to the word in front of the table.
+pub(crate) fn write_sections<O: Sink>(header: &Header, out: &mut O) -> Result<(), Failed>
     requires { IsHeader header.now }
-    ensures { Writes (text (drop 14 (items (with_parts header.now parts.now)))) O.Sink out.old out.new result }
+    ensures { Writes (text (drop 14 (items (with_parts header.now [])))) O.Sink out.old out.new result }
 {
     write_number(header.order, header.cpus, out)?;
     write_options_section(header, out)?;
-    write_all(out, b"flyrecord\0")?;
-    write_table(header.order, parts, out)
+    write_all(out, b"flyrecord\0")
 }
 
 // The section of options, where the header has one.

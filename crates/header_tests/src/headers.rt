@@ -4,7 +4,9 @@ ghost use Rattle.std.specs.Prelude.{IfOk};
 ghost use Rattle.dat_header.specs.Allowed.{IsHeader};
 
 use crate::sections::is;
-use dat_header::{Body, Header, OpenFault, read_header, write_header};
+use dat_header::{
+    Body, Header, OpenFault, read_header, text_before_table, write_header, write_with_table,
+};
 use dat_options::Opt;
 use std::alloc::{AllocError, Global};
 use std::process::Abort;
@@ -437,20 +439,31 @@ const PARTS: [Part; 2] = [
     },
 ];
 
-fn is_written(rt: &impl Abort, alloc: Global, header: &Header, bytes: &[u8])
+// Piece by piece, and by a write each for what stands in front of the table and for the table.
+fn is_written(
+    rt: &impl Abort,
+    alloc: Global,
+    header: &Header,
+    bytes: &[u8],
+) -> Result<(), AllocError>
     requires { IsHeader header.now }
 {
     assert!(rt; header.cpus == 2);
     let mut out = MemSink::new(alloc);
     let written = write_header(header, &PARTS, &mut out);
     assert!(rt; written == Ok(bytes.len() as u64) && out.bytes() == bytes);
+    let before = text_before_table(alloc, header)?;
+    let mut out = MemSink::new(alloc);
+    let written = write_with_table(header, &before, &PARTS, &mut out);
+    assert!(rt; written == Ok(bytes.len() as u64) && out.bytes() == bytes && out.writes() == 2);
+    Ok(())
 }
 
 #[test]
 fn a_header_is_written_as_it_was(rt: HostRuntime) -> Result<(), Fail> {
     let bytes = whole(rt.alloc())?;
     let header = open(rt.alloc(), &bytes)?;
-    is_written(&rt, rt.alloc(), &header, &bytes);
+    is_written(&rt, rt.alloc(), &header, &bytes)?;
     Ok(())
 }
 
