@@ -4,7 +4,7 @@ ghost use Rattle.std.specs.Prelude.{IfOk};
 ghost use Rattle.dat_header.specs.Allowed.{IsHeader};
 
 use crate::{FileName, data_place, put_name, write_front};
-use dat_header::{Body, Header, OpenFault, read_header};
+use dat_header::{Body, Header, OpenFault, read_header, text_before_table};
 use std::alloc::Global;
 use std::test::Fail;
 use trace_base::ByteText;
@@ -35,7 +35,10 @@ fn place_behind<O: Sink>(alloc: Global, bytes: &[u8], out: &mut O) -> Option<u64
     let Body::Fly(parts) = &header.body else {
         return None;
     };
-    match write_front(&header, parts.as_slice(), out) {
+    let Ok(before) = text_before_table(alloc, &header) else {
+        return None;
+    };
+    match write_front(&header, &before, parts.as_slice(), out) {
         Ok(()) => Some(data_place(&header)),
         Err(Failed) => None,
     }
@@ -44,9 +47,11 @@ fn place_behind<O: Sink>(alloc: Global, bytes: &[u8], out: &mut O) -> Option<u64
 #[test]
 fn zero_bytes_stand_behind_the_header(rt: HostRuntime) -> Result<(), Fail> {
     let alloc = rt.alloc();
-    for (bytes, page) in [(LITTLE, 4096), (BIG, 65_536)] {
+    // A write each for what stands in front of the table, for a table with a part, and for up to 4,096 zero bytes.
+    for (bytes, page, writes) in [(LITTLE, 4096, 3), (BIG, 65_536, 17)] {
         let mut out = MemSink::new(alloc);
         assert_eq!(rt; place_behind(alloc, bytes, &mut out), Some(page));
+        assert_eq!(rt; out.writes(), writes);
         let front = out.bytes();
         assert_eq!(rt; front.len() as u64, page);
         assert!(rt; front.starts_with(bytes), "header");

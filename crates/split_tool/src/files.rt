@@ -101,7 +101,7 @@ fn write_file<F: File, O: Sink>(
     ensures write { result ≡ End.Write → Rose (O.faults out.old) (O.faults out.new) }
     ensures keeps { KeepsFile F.File file.old file.new }
 {
-    match write_front(plan.header, work.table.as_slice(), out) {
+    match write_front(plan.header, &work.before, work.table.as_slice(), out) {
         Ok(()) => {}
         Err(Failed) => return End::Write,
     }

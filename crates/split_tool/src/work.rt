@@ -1,15 +1,16 @@
 ghost use Rattle.std.specs.Prelude.{◌≡◌, length, IfOk};
+ghost use Rattle.dat_header.specs.Allowed.{IsHeader};
 ghost use Rattle.split_tool.specs.Work.{IsWorkFor};
 
-use dat_header::Header;
+use dat_header::{Header, text_before_table};
 use event_cursor::Place;
 use least_tree::LeastTree;
 use split_passes::Tally;
 use std::alloc::{AllocError, Global};
-use trace_base::Part;
+use trace_base::{ByteText, Part};
 
-/// What a split is lent: the places and numbers of its lanes, trees of what comes next of all and of one, a table and one
-/// sub-buffer.
+/// What a split is lent: the places and numbers of its lanes, trees of what comes next of all and of one, a table, one
+/// sub-buffer, and the text of the header in front of its table, which all new files have alike.
 #[derive(Drop)]
 pub struct SplitWork {
     pub(crate) fronts: Vec<Place>,
@@ -18,11 +19,13 @@ pub struct SplitWork {
     pub(crate) next: LeastTree,
     pub(crate) table: Vec<Part>,
     pub(crate) page: Vec<u8>,
+    pub(crate) before: ByteText,
 }
 
 impl SplitWork {
     /// For so many lanes of a file with this header. No call takes memory afterwards.
     pub fn new(alloc: Global, header: &Header, lanes: u32) -> Result<SplitWork, AllocError>
+        requires { IsHeader header.now }
         ensures { IfOk result (λ work. IsWorkFor header.now lanes work) }
     {
         let mut fronts = Vec::with_capacity(alloc, lanes as usize)?;
@@ -42,6 +45,7 @@ impl SplitWork {
             next: LeastTree::new(alloc, 1)?,
             table: vec![in alloc; Part { offset: 0, size: 0 }; header.cpus as usize]?,
             page: vec![in alloc; 0; header.layout.page as usize]?,
+            before: text_before_table(alloc, header)?,
         })
     }
 }

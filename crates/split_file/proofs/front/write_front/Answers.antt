@@ -21,7 +21,7 @@ returns-clause-gained g c =
     let front : front_len header ≡ whole + c.gap.result = front_of header c.args.parts.now c.requires.each ∙ c.gap.ensures.gap whole c.in_ok-len.ensures.len in
     let missing : c.gap.result ≡ front_len header - whole = omega (arith, front) in
     let old = g.O.Sink.written c.args.out.now in
-    let mid = g.O.Sink.written c.write_header.new.out in
+    let mid = g.O.Sink.written c.write_with_table.new.out in
     let new = g.O.Sink.written c.write_zeros.new.out in
     when_ok c.write_zeros.result _ _ (λ zero. gained_both old mid new text (zeros c.gap.result) c.in_ok-len.ensures.gained zero
     ∙ ap (λ (n : ℕ). append_known old (text ++ zeros n)) missing) c.write_zeros.ensures.gained
@@ -35,7 +35,7 @@ returns-clause-prefix g c =
     let front : front_len header ≡ whole + c.gap.result = front_of header c.args.parts.now c.requires.each ∙ c.gap.ensures.gap whole c.in_ok-len.ensures.len in
     let missing : front_len header - whole ≡ c.gap.result = omega (arith, front) in
     let old = g.O.Sink.written c.args.out.now in
-    let mid = g.O.Sink.written c.write_header.new.out in
+    let mid = g.O.Sink.written c.write_with_table.new.out in
     let new = g.O.Sink.written c.write_zeros.new.out in
     let all : text ++ zeros (front_len header - whole) ≡ text ++ (zeros c.gap.result ++ []) = ap (λ (t : List ℕ). text ++ t) (ap zeros missing ∙ sym (append-nil (zeros c.gap.result))) in
     when_err c.write_zeros.result _ _ (λ part. prefix_behind old mid new text (zeros c.gap.result) [] _ all c.in_ok-len.ensures.gained part) c.write_zeros.ensures.prefix
@@ -47,4 +47,4 @@ returns-in_err-len-clause-prefix g c =
     let text = header_text header c.args.parts.now in
     let old = g.O.Sink.written c.args.out.now in
     let behind = zeros (front_len header - length text) in
-    on_err _ (prefix_behind old old (g.O.Sink.written c.write_header.new.out) [] text behind (text ++ behind) refl (gained_nothing old) c.in_err-len.ensures.prefix)
+    on_err _ (prefix_behind old old (g.O.Sink.written c.write_with_table.new.out) [] text behind (text ++ behind) refl (gained_nothing old) c.in_err-len.ensures.prefix)

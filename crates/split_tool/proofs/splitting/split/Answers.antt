@@ -44,6 +44,7 @@ loop-number-init g c =
           next = c.pass_start.ensures.slot;
           table = c.requires.work.table;
           page = c.requires.work.page;
+          before = c.requires.work.before;
         };
       };
       parts = c.pass_start.ensures.through.parts;
