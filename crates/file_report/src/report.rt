@@ -17,6 +17,7 @@ use new_files::{CopyFault, copy_rest};
 use report_context::{ItemLines, context_of};
 use run_endings::{Resources, Selection, Status, status_or_memory};
 use std::alloc::{AllocError, Global};
+use std::mem;
 use std::thread::Threads;
 use trace_args::ReportWords;
 use trace_base::Part;
@@ -87,7 +88,10 @@ fn print_parts<R: Threads + Sync, I: File, O: Sink, G: Gate>(
         form: &form,
         parts: chosen.as_slice(),
     };
-    print_shown(resources, plan, &shown, file, out)
+    let status = print_shown(resources, plan, &shown, file, out);
+    // It lives until the program ends, which gives all memory back at once.
+    mem::forget(form);
+    status
 }
 
 // Prints what is shown: the calls, or the lines of the items, and behind these the latencies, as the words ask.

@@ -9,8 +9,8 @@ use Rattle.run_endings.proofs.Chosen.{chosen_rise}
 use Rattle.file_report.proofs.Reports.{chosen_reported, not_begun}
 use Rattle.file_report.proofs.report.print_parts.Goals as goal
 
-pub print_shown-requires-clause-shown : goal.print_shown-requires-clause-shown
-print_shown-requires-clause-shown g c κs live =
+pub print_shown-status-requires-clause-shown : goal.print_shown-status-requires-clause-shown
+print_shown-status-requires-clause-shown g c κs live =
     let are = c.as_slice.ensures.value ∙ c.in-Ok-chosen_with_bytes.ensures.chosen ∙ ap (λ (by : Selection). with_bytes (chosen by c.args.parts.now)) c.set_or_all.ensures in
     record {
       workers = c.requires.asked.workers;
@@ -28,4 +28,4 @@ returns-in_default-chosen_with_bytes g c = not_begun _ _ _
 pub returns : goal.returns
 returns g c =
     let are = c.as_slice.ensures.value ∙ c.in-Ok-chosen_with_bytes.ensures.chosen ∙ ap (λ (by : Selection). with_bytes (chosen by c.args.parts.now)) c.set_or_all.ensures in
-    chosen_reported (report_view c.args.plan.now.words.now) c.args.plan.now.header.now _ c.print_shown.result c.args.parts.now _ _ _ _ c.in-Ok.ensures are c.print_shown.ensures
+    chosen_reported (report_view c.args.plan.now.words.now) c.args.plan.now.header.now _ c.print_shown-status.result c.args.parts.now _ _ _ _ c.in-Ok.ensures are c.print_shown-status.ensures
