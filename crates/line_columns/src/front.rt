@@ -344,9 +344,10 @@ impl Front {
         ensures longer { length self.new ≤ length self.old + LONGEST_PID }
         ensures value { self.new ≡ left 5 (signed_decimal pid) ++ self.old }
     {
-        match u64::try_from(pid) {
-            Ok(pid) if pid < 100_000 => self.short_pid(pid),
-            _ => self.long_pid(pid),
+        match u32::try_from(pid) {
+            Ok(pid) if pid < 100_000 => self.short_pid(pid as u64),
+            Ok(pid) => self.wide_pid(pid),
+            Err(_) => self.long_pid(pid),
         }
     }
 
@@ -360,6 +361,17 @@ impl Front {
         let mut column = [b' '; 10];
         let start = write_digits(pid, &mut column, 5);
         self.text(&column[start..start + 5]);
+    }
+
+    /// Puts a pid in front that is wider than its column.
+    #[inline(always)]
+    fn wide_pid(&mut self, pid: u32)
+        requires room { length self.old ≤ BEFORE_PID }
+        requires wide { 100000 ≤ pid }
+        ensures longer { length self.new ≤ length self.old + LONGEST_PID }
+        ensures value { self.new ≡ left 5 (decimal pid) ++ self.old }
+    {
+        self.digits(pid as u64);
     }
 
     /// Puts any pid in front.
