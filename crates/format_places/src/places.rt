@@ -26,9 +26,9 @@ fn has_at(formats: &FormatTable, place: usize, id: u32) -> bool
 }
 
 impl FormatPlaces {
-    /// The places of these formats. They take 8 KiB.
+    /// The places of these formats.
     pub fn of(alloc: Global, formats: &FormatTable) -> Result<FormatPlaces, AllocError> {
-        let mut numbers = Vec::new(alloc);
+        let mut numbers = Vec::with_capacity(alloc, formats.len())?;
         for i in 0..formats.len() {
             if let Some(format) = formats.get(i) {
                 numbers.push(u64::from(format.id))?;

@@ -46,13 +46,13 @@ fn put_role<R: FormatRole>(
 }
 
 impl<R: FormatRole> FormatRoles<R> {
-    /// The roles of these formats. They take a role for each, and 8 KiB for the places of the formats.
+    /// The roles of these formats. They take a role for each, beside the places of the formats.
     #[tactic(auto, using(crate::proofs::Formats::map_next))]
     pub fn of(alloc: Global, formats: &FormatTable) -> Result<FormatRoles<R>, AllocError>
         ensures { IfOk result (λ roles. roles ≡ map R.role_of formats.now) }
     {
         let places = FormatPlaces::of(alloc, formats)?;
-        let mut roles = Vec::new(alloc);
+        let mut roles = Vec::with_capacity(alloc, formats.len())?;
         for i in 0..formats.len() {
             put_role(formats.get(i), &mut roles)?;
         }

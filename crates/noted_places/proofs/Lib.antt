@@ -1,2 +1,3 @@
 pub mod NotedLemmas
 pub mod NotedLaws
+pub mod Rooms

@@ -1,58 +1,67 @@
 -- What is noted last under a remainder stays.
-use Rattle.std.proofs.Common.{◌≡◌, ℕ, zero, suc, ◌+◌, ◌%◌, ◌<◌, List, [], ◌∷◌, length, set, replicate, slice_index, refl, sym, ◌∙◌, inl, inr, arith}
-use Rattle.std.proofs.lemmas.List.{length-set, length-replicate, get_or-set_same, get_or-set_other, get_or-replicate, get_or_past}
-use Rattle.std.proofs.lemmas.Bool.{cases_lt}
+use Rattle.std.proofs.Common.{◌≡◌, ℕ, zero, suc, ◌+◌, ◌%◌, ◌<◌, ◌≤◌, List, [], ◌∷◌, length, set, replicate, slice_index, refl, sym, subst, ◌∙◌, arith}
+use Rattle.std.proofs.lemmas.List.{length-set, length-replicate, get_or-set_same, get_or-set_other, get_or-replicate}
 use Rattle.noted_places.specs.Noted.{noted, noted_from}
+use Rattle.noted_places.proofs.Rooms.{remainder_less}
 
-abbrev pub HasNone : List ℕ → ℕ → Type 0
-HasNone ns remainder = (j : ℕ) → j < length ns → slice_index ns j % 1024 ≡ remainder → ⊥
+abbrev pub HasNone : ℕ → List ℕ → ℕ → Type 0
+HasNone room ns remainder = (j : ℕ) → j < length ns → slice_index ns j % room ≡ remainder → ⊥
 
-abbrev pub IsLast : List ℕ → ℕ → Type 0
-IsLast ns i = (j : ℕ) → i < j → j < length ns → slice_index ns j % 1024 ≡ slice_index ns i % 1024 → ⊥
+abbrev pub IsLast : ℕ → List ℕ → ℕ → Type 0
+IsLast room ns i = (j : ℕ) → i < j → j < length ns → slice_index ns j % room ≡ slice_index ns i % room → ⊥
 
-long : (ns places : List ℕ) (place : ℕ) → length (noted_from place places ns) ≡ length places
-long [] places place = refl
-long (n ∷ ns) places place = long ns (set places (n % 1024) place) (place + 1) ∙ length-set places (n % 1024) place
+long : (room : ℕ) (ns places : List ℕ) (place : ℕ) → length (noted_from room place places ns) ≡ length places
+long room [] places place = refl
+long room (n ∷ ns) places place = long room ns (set places (n % room) place) (place + 1) ∙ length-set places (n % room) place
 
 -- a place stays where no number has its remainder
-kept : (ns places : List ℕ) (place remainder : ℕ) → HasNone ns remainder → slice_index (noted_from place places ns) remainder ≡ slice_index places remainder
-kept [] places place remainder none = refl
-kept (n ∷ ns) places place remainder none =
-    kept ns (set places (n % 1024) place) (place + 1) remainder (λ j less. none (suc j) (omega (arith, less)))
-    ∙ get_or-set_other places (n % 1024) remainder place 0 (λ e. none zero (omega arith) (sym e))
+kept : (room : ℕ) (ns places : List ℕ) (place remainder : ℕ) → HasNone room ns remainder → slice_index (noted_from room place places ns) remainder ≡ slice_index places remainder
+kept room [] places place remainder none = refl
+kept room (n ∷ ns) places place remainder none =
+    kept room ns (set places (n % room) place) (place + 1) remainder (λ j less. none (suc j) (omega (arith, less)))
+    ∙ get_or-set_other places (n % room) remainder place 0 (λ e. none zero (omega arith) (sym e))
 
-last : (ns places : List ℕ) (place i : ℕ) → length places ≡ 1024 → i < length ns → IsLast ns i → slice_index (noted_from place places ns) (slice_index ns i % 1024) ≡ place + i
-last [] places place i count less later = absurd (omega (arith, less))
-last (n ∷ ns) places place zero count less later =
-    let inside : n % 1024 < length places = omega (arith, count) in
-    kept ns (set places (n % 1024) place) (place + 1) (n % 1024) (λ j within. later (suc j) (omega arith) (omega (arith, within)))
-    ∙ get_or-set_same places (n % 1024) place 0 inside
+last : (room : ℕ) (ns places : List ℕ) (place i : ℕ) → 0 < room → length places ≡ room → i < length ns → IsLast room ns i → slice_index (noted_from room place places ns) (slice_index ns i % room) ≡ place + i
+last room [] places place i some count less later = absurd (omega (arith, less))
+last room (n ∷ ns) places place zero some count less later =
+    let inside : n % room < length places = subst (λ (l : ℕ). n % room < l) (sym count) (remainder_less n room some) in
+    kept room ns (set places (n % room) place) (place + 1) (n % room) (λ j within. later (suc j) (omega arith) (omega (arith, within)))
+    ∙ get_or-set_same places (n % room) place 0 inside
     ∙ omega arith
-last (n ∷ ns) places place (suc i) count less later =
-    last ns (set places (n % 1024) place) (place + 1) i (length-set places (n % 1024) place ∙ count) (omega (arith, less)) (λ j behind within. later (suc j) (omega (arith, behind)) (omega (arith, within)))
+last room (n ∷ ns) places place (suc i) some count less later =
+    last room ns (set places (n % room) place) (place + 1) i some (length-set places (n % room) place ∙ count) (omega (arith, less)) (λ j behind within. later (suc j) (omega (arith, behind)) (omega (arith, within)))
     ∙ omega arith
 
-first_place : (size remainder : ℕ) → slice_index (replicate size 0) remainder ≡ 0
-first_place size remainder = elim (cases_lt remainder size) as (λ _. slice_index (replicate size 0) remainder ≡ 0) [
-  | inl inside ↦ get_or-replicate size remainder 0 0 inside
-  | inr past ↦ get_or_past (replicate size 0) remainder 0 (omega (arith, past, length-replicate {A = ℕ} size 0))
-]
+-- a place that is noted is less than the list's end
+set_less : (xs : List ℕ) (i v r bound : ℕ) → v < bound → slice_index xs r < bound → slice_index (set xs i v) r < bound
+set_less [] i v r bound new old = old
+set_less (x ∷ xs) zero v zero bound new old = new
+set_less (x ∷ xs) zero v (suc r) bound new old = old
+set_less (x ∷ xs) (suc i) v zero bound new old = old
+set_less (x ∷ xs) (suc i) v (suc r) bound new old = set_less xs i v r bound new old
 
--- over any places, which are not computed here
-count_in : (ns places : List ℕ) → length places ≡ 1024 → length (noted_from 0 places ns) ≡ 1024
-count_in ns places count = long ns places 0 ∙ count
+less_stays : (room : ℕ) (ns places : List ℕ) (place r bound : ℕ) → place + length ns ≤ bound → slice_index places r < bound → slice_index (noted_from room place places ns) r < bound
+less_stays room [] places place r bound le less = less
+less_stays room (n ∷ ns) places place r bound le less =
+    less_stays room ns (set places (n % room) place) (place + 1) r bound (omega (arith, le)) (set_less places (n % room) place r bound (omega (arith, le)) less)
 
-last_in : (ns places : List ℕ) (i : ℕ) → length places ≡ 1024 → i < length ns → IsLast ns i → slice_index (noted_from 0 places ns) (slice_index ns i % 1024) ≡ i
-last_in ns places i count less later = last ns places 0 i count less later ∙ omega arith
+some_less : (room : ℕ) (ns places : List ℕ) (place i bound : ℕ) → 0 < room → length places ≡ room → i < length ns → place + length ns ≤ bound → slice_index (noted_from room place places ns) (slice_index ns i % room) < bound
+some_less room [] places place i bound some count less le = absurd (omega (arith, less))
+some_less room (n ∷ ns) places place zero bound some count less le =
+    let inside : n % room < length places = subst (λ (l : ℕ). n % room < l) (sym count) (remainder_less n room some) in
+    less_stays room ns (set places (n % room) place) (place + 1) (n % room) bound (omega (arith, le))
+    (subst (λ (v : ℕ). v < bound) (sym (get_or-set_same places (n % room) place 0 inside)) (omega (arith, le)))
+some_less room (n ∷ ns) places place (suc i) bound some count less le =
+    some_less room ns (set places (n % room) place) (place + 1) i bound some (length-set places (n % room) place ∙ count) (omega (arith, less)) (omega (arith, le))
 
-none_in : (ns places : List ℕ) (remainder : ℕ) → HasNone ns remainder → slice_index places remainder ≡ 0 → slice_index (noted_from 0 places ns) remainder ≡ 0
-none_in ns places remainder none zero_there = kept ns places 0 remainder none ∙ zero_there
+pub noted_count : (room : ℕ) (ns : List ℕ) → length (noted room ns) ≡ room
+noted_count room ns = long room ns (replicate room (length ns)) 0 ∙ length-replicate {A = ℕ} room (length ns)
 
-pub noted_count : (ns : List ℕ) → length (noted ns) ≡ 1024
-noted_count ns = count_in ns (replicate 1024 0) (length-replicate {A = ℕ} 1024 0)
+pub noted_last : (room : ℕ) (ns : List ℕ) (i : ℕ) → 0 < room → i < length ns → IsLast room ns i → slice_index (noted room ns) (slice_index ns i % room) ≡ i
+noted_last room ns i some less later = last room ns (replicate room (length ns)) 0 i some (length-replicate {A = ℕ} room (length ns)) less later ∙ omega arith
 
-pub noted_last : (ns : List ℕ) (i : ℕ) → i < length ns → IsLast ns i → slice_index (noted ns) (slice_index ns i % 1024) ≡ i
-noted_last ns i less later = last_in ns (replicate 1024 0) i (length-replicate {A = ℕ} 1024 0) less later
+pub noted_none : (room : ℕ) (ns : List ℕ) (remainder : ℕ) → remainder < room → HasNone room ns remainder → slice_index (noted room ns) remainder ≡ length ns
+noted_none room ns remainder less none = kept room ns (replicate room (length ns)) 0 remainder none ∙ get_or-replicate room remainder (length ns) 0 less
 
-pub noted_none : (ns : List ℕ) (remainder : ℕ) → HasNone ns remainder → slice_index (noted ns) remainder ≡ 0
-noted_none ns remainder none = none_in ns (replicate 1024 0) remainder none (first_place 1024 remainder)
+pub noted_some : (room : ℕ) (ns : List ℕ) (i : ℕ) → 0 < room → i < length ns → slice_index (noted room ns) (slice_index ns i % room) < length ns
+noted_some room ns i some less = some_less room ns (replicate room (length ns)) 0 i (length ns) some (length-replicate {A = ℕ} room (length ns)) less (omega arith)

@@ -1,9 +1,14 @@
--- The place of each number of a list, as it is noted: numbers that are equal modulo 1,024 share the place of the last of them.
-use Rattle.std.specs.Prelude.{ℕ, ◌+◌, ◌%◌, List, [], ◌∷◌, set, replicate}
+-- The place of each number of a list, as it is noted: numbers that are equal modulo the number of places share that of the last of them. Where no number
+-- is noted stands the list's length, at which there is none.
+use Rattle.std.specs.Prelude.{ℕ, ◌+◌, ◌*◌, ◌%◌, min, max, List, [], ◌∷◌, length, set, replicate}
 
-abbrev pub noted_from : ℕ → List ℕ → List ℕ → List ℕ
-noted_from place places [] = places
-noted_from place places (n ∷ ns) = noted_from (place + 1) (set places (n % 1024) place) ns
+abbrev pub noted_from : ℕ → ℕ → List ℕ → List ℕ → List ℕ
+noted_from room place places [] = places
+noted_from room place places (n ∷ ns) = noted_from room (place + 1) (set places (n % room) place) ns
 
-abbrev pub noted : List ℕ → List ℕ
-noted numbers = noted_from 0 (replicate 1024 0) numbers
+abbrev pub noted : ℕ → List ℕ → List ℕ
+noted room numbers = noted_from room 0 (replicate room (length numbers)) numbers
+
+-- how many places so many numbers are to have at the least: eight for each, but no fewer than 64, and no more than 2^20
+abbrev pub wanted : ℕ → ℕ
+wanted count = max 64 (min (8 * count) 1048576)

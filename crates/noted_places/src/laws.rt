@@ -3,13 +3,16 @@
 ghost use Rattle.std.specs.Prelude.{◌≡◌, ◌<◌, ◌%◌, ℕ, List, length, slice_index};
 ghost use Rattle.noted_places.specs.Noted.{noted};
 
-/// A place is noted for each remainder: that of the last number with this remainder, and the first place where no number has it.
+/// Of so many places one is noted for each remainder: that of the last number with this remainder, and the list's end exactly
+/// where no number has it.
 pub fn last_of_equals()
-    ensures count { (ns : List ℕ) → length (noted ns) ≡ 1024 }
-    ensures last { (ns : List ℕ) (i : ℕ) → i < length ns
-        → ((j : ℕ) → i < j → j < length ns → slice_index ns j % 1024 ≡ slice_index ns i % 1024 → ⊥)
-        → slice_index (noted ns) (slice_index ns i % 1024) ≡ i }
-    ensures none { (ns : List ℕ) (remainder : ℕ)
-        → ((j : ℕ) → j < length ns → slice_index ns j % 1024 ≡ remainder → ⊥)
-        → slice_index (noted ns) remainder ≡ 0 }
+    ensures count { (room : ℕ) (ns : List ℕ) → length (noted room ns) ≡ room }
+    ensures last { (room : ℕ) (ns : List ℕ) (i : ℕ) → 0 < room → i < length ns
+        → ((j : ℕ) → i < j → j < length ns → slice_index ns j % room ≡ slice_index ns i % room → ⊥)
+        → slice_index (noted room ns) (slice_index ns i % room) ≡ i }
+    ensures none { (room : ℕ) (ns : List ℕ) (remainder : ℕ) → remainder < room
+        → ((j : ℕ) → j < length ns → slice_index ns j % room ≡ remainder → ⊥)
+        → slice_index (noted room ns) remainder ≡ length ns }
+    ensures some { (room : ℕ) (ns : List ℕ) (i : ℕ) → 0 < room → i < length ns
+        → slice_index (noted room ns) (slice_index ns i % room) < length ns }
 {}

@@ -5,6 +5,7 @@ pub mod MapLemmas
 pub mod NameLemmas
 pub mod Spots
 pub mod PairLemmas
+pub mod PlaceLemmas
 pub mod ReadLines
 pub mod RowLemmas
 pub mod SearchLemmas

@@ -1,7 +1,7 @@
-ghost use Rattle.std.specs.Prelude.{◌≡◌, length, reverse, slice_get, IfOk, IfSome, IfNone};
+ghost use Rattle.std.specs.Prelude.{◌≡◌, None, length, reverse, slice_get, IfOk, IfSome, IfNone};
 ghost use Rattle.std.specs.Option.{option_map};
 ghost use Rattle.symbols.specs.NameMap.{first_at, nearest, IsNearest, NoneUpTo};
-ghost use Rattle.symbols.specs.Maps.{AreMapsOf, maps_of, task_name};
+ghost use Rattle.symbols.specs.Maps.{AreMapsOf, maps_of, task_name, unnamed};
 
 use crate::guide::Guide;
 use crate::lines::Form;
@@ -22,7 +22,7 @@ pub struct Symbols {
 }
 
 impl Model for Symbols {
-    ghost use Rattle.std.specs.Prelude.{◌≡◌};
+    ghost use Rattle.std.specs.Prelude.{◌≡◌, length};
     ghost use Rattle.std.specs.Map.{keys_of};
     ghost use Rattle.noted_places.specs.Noted.{noted};
     ghost use Rattle.symbols.specs.Maps.{Maps};
@@ -31,7 +31,7 @@ impl Model for Symbols {
 
     ghost view = { λ s. record { symbols = s.symbols; printk = s.printk; tasks = s.tasks } };
 
-    ghost invariant = { λ s. s.task_places ≡ noted (keys_of s.tasks) };
+    ghost invariant = { λ s. s.task_places ≡ noted (length s.task_places) (keys_of s.tasks) };
 }
 
 impl Symbols {
@@ -97,13 +97,45 @@ impl Symbols {
         }
     }
 
+    /// Where the task may stand among those that have a name, by rising pid, with the idle task behind them: another that shares
+    /// its place may stand there. None only where the task has no name.
+    #[inline(always)]
+    pub fn task_place(&self, pid: i32) -> Option<usize>
+        ensures { IfNone result (task_name self.now.tasks pid ≡ unnamed) }
+    {
+        match u64::try_from(pid) {
+            Ok(0) => Some(self.tasks.len()),
+            Ok(pid) => match self.place(pid) {
+                Some(place) => Some(place),
+                None => None,
+            },
+            Err(_) => None,
+        }
+    }
+
+    /// The place that was noted for a pid. None only where no name was saved of it.
+    #[inline(always)]
+    fn place(&self, pid: u64) -> Option<usize>
+        ensures { IfNone result (first_at pid self.now.tasks ≡ None) }
+    {
+        let place = self.task_places.of(pid);
+        if place < self.tasks.len() {
+            Some(place)
+        } else {
+            None
+        }
+    }
+
     /// The name that was saved of a task. It is looked for first at the place that was noted for its pid.
     fn task(&self, pid: u64) -> Option<&[u8]>
         ensures { option_map (λ name. name.now) result ≡ first_at pid self.now.tasks }
     {
-        match self.tasks.name_at(self.task_places.of(pid), pid) {
-            Some(name) => Some(name),
-            None => self.tasks.name(pid),
+        match self.place(pid) {
+            Some(place) => match self.tasks.name_at(place, pid) {
+                Some(name) => Some(name),
+                None => self.tasks.name(pid),
+            },
+            None => None,
         }
     }
 

@@ -70,7 +70,7 @@ impl NameTable {
 
     /// The places of the numbers.
     pub fn places(&self, alloc: Global) -> Result<Places, AllocError>
-        ensures { IfOk result (λ places. places ≡ noted (keys_of self.now)) }
+        ensures { IfOk result (λ places. places ≡ noted (length places) (keys_of self.now)) }
     {
         let keys = self.names.keys(alloc)?;
         Places::noted(alloc, &keys)
