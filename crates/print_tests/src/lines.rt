@@ -64,9 +64,10 @@ fn shown(alloc: Global, letters: &[u8]) -> Result<Show, AllocError>
     })
 }
 
-/// Names of which the one of the task 42 is this.
+/// Names of which the one of the task 42 is this. Other tasks have wide pids, and one of them shares its place with 42.
 fn names_of(alloc: Global, task: &str) -> Result<Symbols, AllocError> {
-    let names = format!(in alloc; "42 {task}\n")?;
+    let others = "100042 wide\n1000042 wider\n2147483646 abcdefghijklmnop\n";
+    let names = format!(in alloc; "42 {task}\n{others}")?;
     Symbols::read(alloc, b"", b"", names.as_bytes())
 }
 
@@ -158,6 +159,16 @@ tlI\t1000250000\t0900080000000000\t
 \t1000250000\t0200000000000000feff00806162\t          <idle>-0     [001]     1.000250: kinds:                small=-2 at=0x8000fffe text=ab bytes= past=0
 \t1000250000\t04000000000000002a0000000000000000000000\t          <idle>-0     [001]     1.000250: prints:                  42|42   |00042|+42|2a 0 1
 \t1000250000\t050000000000000005000000\t          <idle>-0     [001]     1.000250: unread:               [FAILED TO PARSE] a=5
+\t1000250000\t040000002a0000002a0000000000000000000000\t     kworker/0:1-42    [001]     1.000250: prints:                  42|42   |00042|+42|2a 0 1
+\t1000250000\t040000002b0000002a0000000000000000000000\t           <...>-43    [001]     1.000250: prints:                  42|42   |00042|+42|2a 0 1
+\t1000250000\t040000009f8601002a0000000000000000000000\t           <...>-99999 [001]     1.000250: prints:                  42|42   |00042|+42|2a 0 1
+\t1000250000\t04000000a08601002a0000000000000000000000\t           <...>-100000 [001]     1.000250: prints:                  42|42   |00042|+42|2a 0 1
+\t1000250000\t04000000ca8601002a0000000000000000000000\t            wide-100042 [001]     1.000250: prints:                  42|42   |00042|+42|2a 0 1
+\t1000250000\t040000006a420f002a0000000000000000000000\t           wider-1000042 [001]     1.000250: prints:                  42|42   |00042|+42|2a 0 1
+\t1000250000\t040000006a0000002a0000000000000000000000\t           <...>-106   [001]     1.000250: prints:                  42|42   |00042|+42|2a 0 1
+\t1000250000\t04000000ffffff7f2a0000000000000000000000\t           <...>-2147483647 [001]     1.000250: prints:                  42|42   |00042|+42|2a 0 1
+\t1000250000\t04000000feffff7f2a0000000000000000000000\tabcdefghijklmnop-2147483646 [001]     1.000250: prints:                  42|42   |00042|+42|2a 0 1
+\t1000250000\t04000000d6ffffff2a0000000000000000000000\t           <...>--42   [001]     1.000250: prints:                  42|42   |00042|+42|2a 0 1
 \t123456999999500\t0000\t          <idle>-0     [001] 123457.000000: [UNKNOWN EVENT 0]
 ";
 

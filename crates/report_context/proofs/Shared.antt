@@ -25,6 +25,7 @@ use Rattle.report_print.proofs.common.CommonFields.TheSendSync as common
 use Rattle.report_print.proofs.show.Show.TheSendSync as show
 use Rattle.report_print.specs.contracts.context.Context.{the_row as context_row}
 use Rattle.report_print.specs.contracts.head.Head.{the_row as head_row}
+use Rattle.report_print.specs.contracts.tasks.TaskFront.{the_row as front_row}
 use Rattle.report_context.specs.contracts.lines.ItemLines.{the_row}
 
 expr_sync : IsSync expr_row
@@ -42,6 +43,9 @@ plan_sync = search (expr_sync, argument_sync, Vec-sync, directive.the_sync, step
 head_sync : IsSync head_row
 head_sync = search (plan_sync, text.the_sync, sendable) depth 60 fits 20000
 
+front_sync : IsSync front_row
+front_sync = search (text.the_sync, sendable) depth 60 fits 20000
+
 use_sync : IsSync use_row
 use_sync = search (crosses, filter_expr.crosses, sendable) depth 60 fits 20000
 
@@ -49,7 +53,7 @@ bound_sync : IsSync filters_row
 bound_sync = search (crosses, bound_expr.crosses, sendable) depth 60 fits 20000
 
 context_sync : IsSync context_row
-context_sync = search (crosses, use_sync, head_sync, bound_sync, Vec-sync, table.the_sync, symbols.the_sync, places.the_sync, common.the_field_sync, show.the_field_sync, sendable) depth 100 fits 50000
+context_sync = search (crosses, use_sync, head_sync, bound_sync, front_sync, Vec-sync, table.the_sync, symbols.the_sync, places.the_sync, common.the_field_sync, show.the_field_sync, sendable) depth 100 fits 50000
 
 pub lines_sync : IsSync the_row
 lines_sync = search (context_sync, sendable) depth 60 fits 20000

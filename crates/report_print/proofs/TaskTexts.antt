@@ -1,32 +1,35 @@
 -- The texts that are kept for tasks.
-use Rattle.std.proofs.Common.{◌≡◌, ℕ, zero, suc, List, ◌∷◌, ◌++◌, map, set, replicate, slice_get, Option, Some, None, refl, sym, ap, ◌∙◌}
+use Rattle.std.proofs.Common.{◌≡◌, ℕ, ℤ, Bool, false, if◌then◌else◌, List, [], ◌∷◌, ◌++◌, map, slice_get, Option, Some, sym, ap, ◌∙◌, append_assoc, codes}
+use Rattle.std.specs.Fmt.{signed_decimal}
 use Rattle.std.specs.Option.{option_map}
-use Rattle.std.proofs.lemmas.List.{map-append, map-set}
+use Rattle.std.proofs.lemmas.List.{map-append}
 use Rattle.std.proofs.lemmas.Option.{slice_get-map}
 use Rattle.trace_base.proofs.FieldSteps.{some_is}
 use Rattle.symbols.specs.NameMap.{Pair}
+use Rattle.symbols.specs.Maps.{task_name, unnamed}
+use Rattle.line_columns.specs.Columns.{right, left}
 use Rattle.report_print.specs.declared.show.Show.{Show}
 use Rattle.report_print.specs.declared.tasks.TaskFront.{TaskFront}
-use Rattle.report_print.specs.Tasks.{task_front, text_of, front_of, AreFronts}
+use Rattle.report_print.specs.Line.{task_text}
+use Rattle.report_print.specs.Tasks.{task_front, text_of, front_of, IsFront, AreFronts}
+use Rattle.report_print.proofs.FrontLemmas.{behind_task}
+
+-- a task without a name, in columns of the usual widths
+pub unnamed_front : (show : Show) (names : List Pair) (pid : ℤ) (behind : List ℕ) → show.latency ≡ false → task_name names pid ≡ unnamed
+    → (right 16 unnamed ++ codes "-") ++ (left 5 (signed_decimal pid) ++ behind) ≡ task_front show names pid ++ behind
+unnamed_front show names pid behind usual none =
+    let name : right 16 unnamed ≡ task_text show names pid = ap (right 16) (sym none) ∙ ap (λ (narrow : Bool). right (if narrow then 8 else 16) (task_name names pid)) (sym usual) in
+    append_assoc (right 16 unnamed) (codes "-") (left 5 (signed_decimal pid) ++ behind)
+    ∙ behind_task (right 16 unnamed) (left 5 (signed_decimal pid)) behind
+    ∙ ap (λ (task : List ℕ). (task ++ (codes "-" ++ left 5 (signed_decimal pid))) ++ behind) name
 
 module _ (show : Show) (names : List Pair) where
-  none : (count : ℕ) → AreFronts show names (replicate count None)
-  none zero = refl
-  none (suc count) = ap (λ (l : List (Option (List ℕ))). None ∷ l) (none count)
-
-  pub none_more : (fronts : List (Option TaskFront)) (count : ℕ) → AreFronts show names fronts → AreFronts show names (fronts ++ replicate count None)
-  none_more fronts count are =
-      map-append (option_map text_of) fronts (replicate count None)
-      ∙ ap (λ (l : List (Option (List ℕ))). l ++ map (option_map text_of) (replicate count None)) are
-      ∙ ap (λ (l : List (Option (List ℕ))). map (option_map (front_of show names)) fronts ++ l) (none count)
-      ∙ sym (map-append (option_map (front_of show names)) fronts (replicate count None))
-
-  pub one_put : (fronts : List (Option TaskFront)) (place : ℕ) (front : Option TaskFront) → AreFronts show names fronts → option_map text_of front ≡ option_map (front_of show names) front → AreFronts show names (set fronts place front)
-  one_put fronts place front are is =
-      map-set (option_map text_of) fronts place front
-      ∙ ap (λ (l : List (Option (List ℕ))). set l place (option_map text_of front)) are
-      ∙ ap (set (map (option_map (front_of show names)) fronts) place) is
-      ∙ sym (map-set (option_map (front_of show names)) fronts place front)
+  pub one_more : (fronts : List (Option TaskFront)) (front : Option TaskFront) → AreFronts show names fronts → IsFront show names front → AreFronts show names (fronts ++ front ∷ [])
+  one_more fronts front are is =
+      map-append (option_map text_of) fronts (front ∷ [])
+      ∙ ap (λ (l : List (Option (List ℕ))). l ++ option_map text_of front ∷ []) are
+      ∙ ap (λ (o : Option (List ℕ)). map (option_map (front_of show names)) fronts ++ o ∷ []) is
+      ∙ sym (map-append (option_map (front_of show names)) fronts (front ∷ []))
 
   pub one_at : (fronts : List (Option TaskFront)) (place : ℕ) (front : TaskFront) → AreFronts show names fronts → Some (Some front) ≡ slice_get fronts place → front.text ≡ task_front show names front.pid
   one_at fronts place front are got =

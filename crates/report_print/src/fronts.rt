@@ -1,8 +1,11 @@
 // The front of a line: the columns before what is said.
 
-ghost use Rattle.std.specs.Prelude.{◌≡◌, ◌<◌, ◌≤◌, ◌+◌, ◌++◌, ℕ, List, length, true};
+ghost use Rattle.std.specs.Prelude.{◌≡◌, ◌<◌, ◌≤◌, ◌+◌, ◌++◌, [], ℕ, List, codes, length, true, false};
+ghost use Rattle.std.specs.Fmt.{signed_decimal};
 ghost use Rattle.trace_base.specs.Kept.{put_held};
 ghost use Rattle.trace_base.specs.TailView.{held, lent};
+ghost use Rattle.symbols.specs.Maps.{unnamed};
+ghost use Rattle.line_columns.specs.Columns.{left, right};
 ghost use Rattle.report_print.specs.ContextData.{ContextData};
 ghost use Rattle.report_print.specs.Line as line;
 ghost use Rattle.report_print.specs.Prefix as spec;
@@ -12,7 +15,7 @@ ghost use Rattle.report_print.specs.Tasks.{task_front};
 use crate::context::Context;
 use crate::fields::put_pair;
 use crate::show::Show;
-use crate::tasks::USUAL_TASK;
+use crate::tasks::{TaskStart, USUAL_TASK, WIDE_TASK};
 use line_columns::{
     BEFORE_PID, BEFORE_PLACE, Common, Front, LONGEST_BEHIND, LONGEST_PLACE, LONGEST_TASK,
     USUAL_COLUMNS, USUAL_LABEL, USUAL_TIMES,
@@ -21,6 +24,11 @@ use trace_base::{Order, Tail};
 
 /// How long most fronts are.
 const USUAL_FRONT: usize = USUAL_COLUMNS + USUAL_LABEL;
+
+/// How long they are where the pid has six digits, and where it has seven.
+const WIDE_FRONT: usize = USUAL_FRONT + 1;
+
+const WIDER_FRONT: usize = USUAL_FRONT + 2;
 
 impl Context {
     /// The order of the numbers in the file's events.
@@ -128,9 +136,7 @@ fn put_columns(
     ensures len { result ≡ length (columns context.now cpu time common.now behind.now) }
 {
     if behind.len() == USUAL_LABEL && are_usual(context.show(), cpu, time) {
-        if let Some(task) = context.task_front(common.pid) {
-            return put_usual(task, cpu, time, behind, into);
-        }
+        return put_usual(context, cpu, time, common, behind, into);
     }
     put_any(context, cpu, time, common, behind, into)
 }
@@ -143,27 +149,109 @@ fn are_usual(show: &Show, cpu: u32, time: u64) -> bool
     !show.latency && !show.full && cpu < 100 && time < USUAL_TIMES
 }
 
-/// Puts the columns where all have their usual widths.
+/// Puts the columns where those of the time and the processor have their usual widths.
+#[inline(always)]
 fn put_usual(
-    task: &[u8; USUAL_TASK],
+    context: &Context,
     cpu: u32,
     time: u64,
+    common: &Common,
     label: &[u8],
     into: &mut Tail<'_>,
 ) -> usize
+    requires usual { IsUsual context.now.show cpu time }
+    requires label { length label.now ≡ USUAL_LABEL }
+    ensures same_slice { lent into.new ≡ lent into.old }
+    ensures value { held into.new ≡ put_held (held into.old) (columns context.now cpu time common.now label.now) }
+    ensures len { result ≡ length (columns context.now cpu time common.now label.now) }
+{
+    let mut front = Front::new();
+    put_usual_when(cpu, time, label, &mut front);
+    put_with_usual_task(context, common.pid, &mut front, into)
+}
+
+/// Puts where and when it was, in columns of their usual widths, in front of a text.
+#[inline(always)]
+fn put_usual_when(cpu: u32, time: u64, label: &[u8], front: &mut Front)
+    requires empty { front.old ≡ [] }
     requires cpu { cpu < 100 }
     requires time { time < USUAL_TIMES }
     requires label { length label.now ≡ USUAL_LABEL }
-    ensures same_slice { lent into.new ≡ lent into.old }
-    ensures value { held into.new ≡ put_held (held into.old) (task.now ++ (spec.usual_when cpu time ++ label.now)) }
-    ensures len { result ≡ length (task.now ++ (spec.usual_when cpu time ++ label.now)) }
+    ensures value { front.new ≡ spec.usual_when cpu time ++ label.now }
+    ensures short { length front.new ≤ BEFORE_PID }
 {
-    let mut front = Front::new();
     front.start(label);
     front.text(b": ");
     front.usual_time(time);
     front.usual_processor(cpu);
-    front.text(task);
+}
+
+/// Puts a text with the task in front of it, whose column has its usual width, and gives the length of both.
+#[inline(always)]
+fn put_with_usual_task(context: &Context, pid: i32, front: &mut Front, into: &mut Tail<'_>) -> usize
+    requires room { length front.old ≤ BEFORE_PID }
+    requires usual { context.now.show.latency ≡ false }
+    ensures same_slice { lent into.new ≡ lent into.old }
+    ensures value { held into.new ≡ put_held (held into.old) (task_front context.now.show context.now.symbols.tasks pid ++ front.old) }
+    ensures len { result ≡ length (task_front context.now.show context.now.symbols.tasks pid ++ front.old) }
+{
+    match context.task_start(pid) {
+        TaskStart::Made(task) => put_with_made_task(task, front, into),
+        TaskStart::Unnamed => put_without_name(pid, front, into),
+        TaskStart::Unknown => put_with_any_task(context, pid, front, into),
+    }
+}
+
+/// Puts a text with that of a task in front of it, and gives the length of both.
+#[inline(always)]
+fn put_with_made_task(task: &[u8], front: &mut Front, into: &mut Tail<'_>) -> usize
+    requires { length front.old ≤ BEFORE_PID }
+    ensures same_slice { lent into.new ≡ lent into.old }
+    ensures value { held into.new ≡ put_held (held into.old) (task.now ++ front.old) }
+    ensures len { result ≡ length (task.now ++ front.old) }
+{
+    if task.len() <= WIDE_TASK {
+        put_task(task, front);
+        put_known_length(front.as_bytes(), into);
+        front.len()
+    } else {
+        put_pair(task, front.as_bytes(), into);
+        task.len() + front.len()
+    }
+}
+
+/// Puts the text of a task in front. Most have the same length.
+#[inline(always)]
+fn put_task(task: &[u8], front: &mut Front)
+    requires short { length task.now ≤ WIDE_TASK }
+    requires room { length front.old ≤ BEFORE_PID }
+    ensures { front.new ≡ task.now ++ front.old }
+{
+    if task.len() == USUAL_TASK {
+        front.text(&task[..USUAL_TASK]);
+    } else {
+        front.text(task);
+    }
+}
+
+/// How a line begins that tells of a task without a name, up to its pid.
+fn no_name() -> &'static [u8; 17]
+    ensures value { result.now ≡ right 16 unnamed ++ codes "-" }
+    ensures len { length result.now ≡ 17 }
+{
+    b"           <...>-"
+}
+
+/// Puts a text with a task without a name in front of it, and gives the length of both.
+#[inline(always)]
+fn put_without_name(pid: i32, front: &mut Front, into: &mut Tail<'_>) -> usize
+    requires { length front.old ≤ BEFORE_PID }
+    ensures same_slice { lent into.new ≡ lent into.old }
+    ensures value { held into.new ≡ put_held (held into.old) ((right 16 unnamed ++ codes "-") ++ (left 5 (signed_decimal pid) ++ front.old)) }
+    ensures len { result ≡ length ((right 16 unnamed ++ codes "-") ++ (left 5 (signed_decimal pid) ++ front.old)) }
+{
+    front.pid(pid);
+    front.text(no_name());
     put_known_length(front.as_bytes(), into);
     front.len()
 }
@@ -197,13 +285,9 @@ fn put_with_task(context: &Context, pid: i32, front: &mut Front, into: &mut Tail
     ensures value { held into.new ≡ put_held (held into.old) (task_front context.now.show context.now.symbols.tasks pid ++ front.old) }
     ensures len { result ≡ length (task_front context.now.show context.now.symbols.tasks pid ++ front.old) }
 {
-    match context.task_front(pid) {
-        Some(task) => {
-            front.text(task);
-            put_known_length(front.as_bytes(), into);
-            front.len()
-        }
-        None => put_with_any_task(context, pid, front, into),
+    match context.task_start(pid) {
+        TaskStart::Made(task) => put_with_made_task(task, front, into),
+        _ => put_with_any_task(context, pid, front, into),
     }
 }
 
@@ -237,6 +321,32 @@ fn put_known_length(front: &[u8], into: &mut Tail<'_>)
 {
     if front.len() == USUAL_FRONT {
         into.put(&front[..USUAL_FRONT]);
+    } else {
+        put_wide(front, into);
+    }
+}
+
+/// The same where the pid has six digits, as is usual where a machine may have so many tasks.
+#[inline(always)]
+fn put_wide(front: &[u8], into: &mut Tail<'_>)
+    ensures same_slice { lent into.new ≡ lent into.old }
+    ensures value { held into.new ≡ put_held (held into.old) front.now }
+{
+    if front.len() == WIDE_FRONT {
+        into.put(&front[..WIDE_FRONT]);
+    } else {
+        put_wider(front, into);
+    }
+}
+
+/// The same where it has seven.
+#[inline(always)]
+fn put_wider(front: &[u8], into: &mut Tail<'_>)
+    ensures same_slice { lent into.new ≡ lent into.old }
+    ensures value { held into.new ≡ put_held (held into.old) front.now }
+{
+    if front.len() == WIDER_FRONT {
+        into.put(&front[..WIDER_FRONT]);
     } else {
         put_piece(front, into);
     }

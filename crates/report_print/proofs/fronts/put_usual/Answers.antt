@@ -1,0 +1,26 @@
+use Rattle.std.proofs.Common.{◌++◌, ◌∙◌, ℤ, List, ℕ, FitsSigned, length, ap, rules}
+use Rattle.std.specs.Int.{w32}
+use Rattle.std.proofs.lemmas.Int.{to_z-of_z}
+use Rattle.trace_base.specs.Kept.{put_held}
+use Rattle.trace_base.specs.TailView.{held}
+use Rattle.report_print.specs.Tasks.{task_front}
+use Rattle.report_print.proofs.FrontLemmas.{usual_is}
+use Rattle.report_print.proofs.fronts.put_usual.Goals as goal
+
+pub returns-clause-value : goal.returns-clause-value
+returns-clause-value c =
+    let given = c.args.context.now in
+    let in_range : FitsSigned w32 c.args.common.now.pid = search rules in
+    let when = c.put_usual_when.ensures.value ∙ ap (λ (l : List ℕ). l ++ c.args.label.now) (usual_is given.show c.args.cpu c.args.time c.args.common.now c.requires.usual) in
+    c.put_with_usual_task.ensures.value
+    ∙ ap (λ (pid : ℤ). put_held (held c.args.into.now) (task_front given.show given.symbols.tasks pid ++ c.put_usual_when.new.front)) (to_z-of_z w32 c.args.common.now.pid in_range)
+    ∙ ap (λ (l : List ℕ). put_held (held c.args.into.now) (task_front given.show given.symbols.tasks c.args.common.now.pid ++ l)) when
+
+pub returns-clause-len : goal.returns-clause-len
+returns-clause-len c =
+    let given = c.args.context.now in
+    let in_range : FitsSigned w32 c.args.common.now.pid = search rules in
+    let when = c.put_usual_when.ensures.value ∙ ap (λ (l : List ℕ). l ++ c.args.label.now) (usual_is given.show c.args.cpu c.args.time c.args.common.now c.requires.usual) in
+    c.put_with_usual_task.ensures.len
+    ∙ ap (λ (pid : ℤ). length (task_front given.show given.symbols.tasks pid ++ c.put_usual_when.new.front)) (to_z-of_z w32 c.args.common.now.pid in_range)
+    ∙ ap (λ (l : List ℕ). length (task_front given.show given.symbols.tasks c.args.common.now.pid ++ l)) when
