@@ -138,6 +138,7 @@ CASES = {
     "options": Case(50_000, lambda n: trace(entries=[(1, bytes(4))] * n), lambda n: ["dump", "--options"]),
     "options of instances": Case(50_000, lambda n: trace(entries=[(3, bytes(4))] * n), lambda n: ["split", "-o", "p"]),
     "a long filter": Case(5_000, lambda n: trace(ftrace=[text_format(FIELD, b'"x"')]), lambda n: R + ["-F", "sum:" + "a==2||" * n + "1"]),
+    "names of a filter": Case(2_500, lambda n: trace(ftrace=[text_format(FIELD, b'"x"')]), lambda n: R + ["-F", "sum:" + "".join(f"n{i}==2||" for i in range(n)) + "1"]),
     "brackets of a filter": Case(25_000, lambda n: trace(), lambda n: R + ["-F", "sum:" + "(" * n]),
     "events of a filter": Case(10_000, lambda n: trace(ftrace=[text_format(FIELD, b'"x"')]), lambda n: R + ["-F", "no," * n + "sum"]),
     "flags": Case(25_000, lambda n: trace(), lambda n: R + ["-t"] * n),

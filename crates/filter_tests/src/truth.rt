@@ -331,7 +331,9 @@ CPU + 1 == 4
 !0 == 1
 !5 == 0
 (2 && 4) == 1
-(0 || 7) == 1"#;
+(0 || 7) == 1
+# More names than are looked through.
+a || b || c || d || e || f || g || h || i || j || k || l || m || n || o || p || pid == 1234 && byte == 200 && pid == 1234"#;
 
 // Conditions that are not true of it.
 static FALSE: &str = r#"pid != 1234
@@ -365,7 +367,8 @@ raw != 0
 COMM == 1234
 CPU == 1234
 5 & 3 == 1
-"a" && 1"#;
+"a" && 1
+a || b || c || d || e || f || g || h || i || j || k || l || m || n || o || p || pid == 1234 && byte == 200 && pid == 1235"#;
 
 // Filters, those that hide behind `-v `; a format; whether they show an event of it, and whether all events of it alike.
 static SELECTIONS: &str = " at 0 => shown, all
