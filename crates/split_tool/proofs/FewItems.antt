@@ -11,7 +11,7 @@ use Rattle.subpage.specs.RunningTime.{time_after}
 use Rattle.subpage.specs.Element.{ElementData, Row, short_event, long_event, end, discarded, extend, stamp, Spelled, nothing, begins_with}
 use Rattle.subpage.specs.Page.{items, committed, committed_size, commit_word, data_area, page_losses, losses, has_missed, timestamp, behind_committed}
 use Rattle.subpage.specs.Processor.{items_at, is_there, page_end, page_bytes, page_count, pages_from, joined, list_of}
-use Rattle.subpage.specs.Arrangement.{Keyed, keyed_from, all_keyed, by_key, key_of, arranged}
+use Rattle.subpage.specs.Arrangement.{keyed_from, all_keyed, by_key, key_of, arranged}
 use Rattle.subpage.specs.Cut.{lists_of, cut_of, is_up_to, reached_of}
 use Rattle.subpage.proofs.PageItems.{items_are}
 use Rattle.subpage.proofs.Joining.{joined-some, joined-none}
