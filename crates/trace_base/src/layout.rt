@@ -1,5 +1,5 @@
-ghost use Rattle.std.specs.Prelude.{◌≡◌, ◌≤◌, ◌⊎◌};
-ghost use Rattle.trace_base.specs.Layout.{IsLayout, plain_layout};
+ghost use Rattle.std.specs.Prelude.{◌≡◌};
+ghost use Rattle.trace_base.specs.Allowed.{is_allowed, IsAllowed};
 
 use crate::order::Order;
 
@@ -20,9 +20,42 @@ pub struct Layout {
     pub data_at: u32,
     /// How long the whole sub-buffer is: a page of the machine or several (`buffer_subbuf_size_kb` of Linux 6.8 and later).
     pub page: u32,
+    /// A file's header may give these places and sizes.
+    pub ghost allowed: { IsAllowed time_at commit_at commit_size data_at page },
 }
 
 impl Layout {
+    ghost use Rattle.std.specs.Prelude.{◌≤◌, ◌⊎◌};
+    ghost use Rattle.trace_base.specs.Layout.{IsPlainLayout, layout_with};
+
+    /// The layout of these places and sizes, or `None` where no file's header may give it.
+    ///
+    /// The commit word has 4 or 8 bytes. It and the timestamp stand apart from each other and in front of the data, which
+    /// begin at a multiple of 4 of at most 256. The sub-buffer has 4,096 to 262,144 bytes.
+    pub fn new(
+        order: Order,
+        time_at: u32,
+        commit_at: u32,
+        commit_size: u32,
+        data_at: u32,
+        page: u32,
+    ) -> Option<Layout>
+        ensures { result ≡ layout_with order time_at commit_at commit_size data_at page }
+    {
+        if is_allowed(time_at, commit_at, commit_size, data_at, page) {
+            Some(Layout {
+                order,
+                time_at,
+                commit_at,
+                commit_size,
+                data_at,
+                page,
+            })
+        } else {
+            None
+        }
+    }
+
     /// The layout that a kernel with a long of 4 or 8 bytes uses: the timestamp, the commit word, and the data behind it.
     ///
     /// The sub-buffer has 4,096 to 262,144 bytes.
@@ -30,8 +63,7 @@ impl Layout {
         requires long { (long ≡ 4) ⊎ (long ≡ 8) }
         requires page_least { 4096 ≤ page }
         requires page_most { page ≤ 262144 }
-        ensures value { result ≡ plain_layout order long page }
-        ensures allowed { IsLayout result }
+        ensures { IsPlainLayout order long page result }
     {
         Layout {
             order,
@@ -42,4 +74,19 @@ impl Layout {
             page,
         }
     }
+}
+
+fn is_allowed(time_at: u32, commit_at: u32, commit_size: u32, data_at: u32, page: u32) -> bool
+    ensures { result ≡ is_allowed time_at commit_at commit_size data_at page }
+{
+    let time_end = time_at as u64 + 8;
+    let commit_end = commit_at as u64 + commit_size as u64;
+    (commit_size == 4 || commit_size == 8)
+        && time_end <= data_at as u64
+        && commit_end <= data_at as u64
+        && (time_end <= commit_at as u64 || commit_end <= time_at as u64)
+        && data_at <= 256
+        && data_at % 4 == 0
+        && 4096 <= page
+        && page <= 262_144
 }
