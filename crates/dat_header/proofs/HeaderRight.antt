@@ -6,7 +6,9 @@ use Rattle.trace_base.specs.Number.{num, bytes_of}
 use Rattle.trace_base.specs.declared.order.Order.{Order}
 use Rattle.trace_base.specs.declared.order.Order.TheVariants.{Little}
 use Rattle.trace_base.specs.declared.layout.Layout.{Layout}
+use Rattle.trace_base.specs.Allowed.{IsAllowed}
 use Rattle.trace_base.specs.Layout.{plain_layout}
+use Rattle.trace_base.proofs.Layouts.{layout_is, test_is}
 use Rattle.dat_options.specs.declared.fault.OpenFault.{OpenFault}
 use Rattle.dat_options.specs.declared.fault.OpenFault.TheVariants.{Truncated, BadEndian, BadLong, BadPageSize, BadHeaderPage}
 use Rattle.dat_options.proofs.Numbers.{limit}
@@ -30,6 +32,7 @@ use Rattle.dat_header.proofs.Grammar.{Stands, found_value, err_or_ok, at_ok, at_
 use Rattle.dat_header.proofs.Wrongs.{Right, one_item, right_item, right_made, rights_then, rights_none, rights_as}
 use Rattle.dat_header.proofs.Texts.{reads_bytes, reads_number, reads_text, text_end}
 use Rattle.dat_header.proofs.Systems.{reads_formats, formats_end, reads_systems, systems_end}
+use Rattle.dat_header.proofs.Headers.{own_plain}
 use Rattle.dat_header.proofs.ItemRights.{number_long, number_short, options_of, right_order, right_long, right_page, right_carried}
 use Rattle.dat_header.proofs.ReadPieces.{bytes_found, bytes_short}
 
@@ -142,15 +145,20 @@ module _ (machine : Machine) where
         ]
   ]
 
-  plain_page : PageText
-  plain_page = page_of_text [] (plain_layout machine.order machine.long machine.page)
+  plain_page : IsAllowed 0 8 machine.long (8 + machine.long) machine.page → PageText
+  plain_page allowed = page_of_text [] (plain_layout machine.order machine.long machine.page allowed)
 
-  plain_is : IsPageText machine plain_page
+  plain_is : (allowed : IsAllowed 0 8 machine.long (8 + machine.long) machine.page) → IsPageText machine (plain_page allowed)
   unfolding plain_page layout_of
-  plain_is = record { text = omega arith; layout = refl }
+  plain_is allowed = record {
+    text = omega arith;
+    layout = sym (layout_is machine.order 0 8 machine.long (8 + machine.long) machine.page allowed (test_is 0 8 machine.long (8 + machine.long) machine.page allowed));
+  }
 
-  pub right_page_text : Right (one_item (page_text machine.order) (λ page. sized 8 machine.order page.text)) (IsPageText machine) (page_text_at machine)
-  right_page_text = right_item (page_text machine.order) (λ page. sized 8 machine.order page.text) (IsPageText machine) (page_text_at machine) plain_page plain_is (record { again = page_again; sound = page_sound }) page_fails
+  pub right_page_text : IsMachine machine → Right (one_item (page_text machine.order) (λ page. sized 8 machine.order page.text)) (IsPageText machine) (page_text_at machine)
+  right_page_text is =
+      let allowed = own_plain machine.long machine.page is.long is.page in
+      right_item (page_text machine.order) (λ page. sized 8 machine.order page.text) (IsPageText machine) (page_text_at machine) (plain_page allowed) (plain_is allowed) (record { again = page_again; sound = page_sound }) page_fails
 
 -- the texts that are carried unread, up to the command lines
 abbrev pub described_items : Order → Described → List Item

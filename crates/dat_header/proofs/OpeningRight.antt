@@ -82,7 +82,7 @@ right_opening = rights_as _ opening_items _ IsOpening _ opening_at
     (λ u any. rights_then _ _ version_read _ _ (λ u. read_2) done 1 (right_word version version_word (λ file at. version_fault at (drop at file)) (λ file at. refl)) (λ u. refl)
     (λ u any. rights_then machine_items IsMachine machine_at _ _ read_3 (λ (o : Opening). o.machine) 3 right_machine (λ m. refl)
     (λ m is. rights_then _ _ (section_read page_word) _ _ (λ u. read_4 m) done 1 (right_word (word (page_word ∷ []) BadSection) page_word (λ file at. BadSection at) (λ file at. refl)) (λ u. refl)
-    (λ u any. rights_then _ (IsPageText m) (page_text_at m) _ _ (read_5 m) (λ (o : Opening). o.page) 1 (right_page_text m) (λ p. refl)
+    (λ u any. rights_then _ (IsPageText m) (page_text_at m) _ _ (read_5 m) (λ (o : Opening). o.page) 1 (right_page_text m is) (λ p. refl)
     (λ p is. rights_then _ _ (section_read event_word) _ _ (λ u file at. Ok (opening_of m p, at)) done 1 (right_word (word (event_word ∷ []) BadSection) event_word (λ file at. BadSection at) (λ file at. refl)) (λ u. refl)
     (λ u any. rights_none (opening_of m p)) (λ u o e. refl))
     (λ p o e. ap (λ (x : Opening). x.page) e.1))

@@ -3,8 +3,7 @@
 ghost use Rattle.std.specs.Prelude.{◌≡◌, ◌≤◌, IfOk};
 ghost use Rattle.std.specs.Option.{option_map};
 ghost use Rattle.trace_base.specs.FieldReading.{field_view};
-ghost use Rattle.trace_base.specs.Layout.{IsLayout};
-ghost use Rattle.dat_header.specs.PageText.{field_lines, is_sub_buffer_size, layout_of, layout_by, line_named, may_be};
+ghost use Rattle.dat_header.specs.PageText.{field_lines, is_sub_buffer_size, layout_of, layout_by, line_named};
 ghost use Rattle.dat_header.specs.Pieces.{IsMachine, IsPageText};
 ghost use Rattle.dat_header.specs.Opening.{page_text_at};
 ghost use Rattle.dat_header.specs.Steps.{Finds};
@@ -80,15 +79,14 @@ fn layout_by(
     if time.size != 8 || !is_sub_buffer_size(machine.page, size) {
         return None;
     }
-    let layout = Layout {
-        order: machine.order,
-        time_at: time.offset,
-        commit_at: commit.offset,
-        commit_size: commit.size,
-        data_at: content.offset,
-        page: size as u32,
-    };
-    if may_be(&layout) { Some(layout) } else { None }
+    Layout::new(
+        machine.order,
+        time.offset,
+        commit.offset,
+        commit.size,
+        content.offset,
+        size as u32,
+    )
 }
 
 // Kernels since Linux 6.8 make sub-buffers of several pages where `buffer_subbuf_size_kb` says so.
@@ -96,18 +94,4 @@ fn is_sub_buffer_size(page: u32, size: u64) -> bool
     ensures { result ≡ is_sub_buffer_size page size }
 {
     u64::from(page) <= size && size <= 262_144 && size.is_power_of_two()
-}
-
-fn may_be(layout: &Layout) -> bool
-    ensures { result ≡ may_be layout.now }
-{
-    let time_end = layout.time_at as u64 + 8;
-    let commit_end = layout.commit_at as u64 + layout.commit_size as u64;
-    let data_at = layout.data_at as u64;
-    (layout.commit_size == 4 || layout.commit_size == 8)
-        && (time_end <= layout.commit_at as u64 || commit_end <= layout.time_at as u64)
-        && time_end <= data_at
-        && commit_end <= data_at
-        && data_at % 4 == 0
-        && data_at <= 256
 }

@@ -9,6 +9,7 @@ use Rattle.std.specs.Fmt.{decimal}
 use Rattle.std.proofs.lemmas.List.{length-append}
 use Rattle.std.proofs.lemmas.List.Elements.{All-nil, All-cons}
 use Rattle.std.proofs.lemmas.Fmt.{length-decimal-le}
+use Rattle.trace_base.specs.Layout.{layout_with}
 use Rattle.dat_header.specs.Allowed.{IsHeader, IsSystem}
 use Rattle.dat_header.specs.PageText.{layout_of}
 use Rattle.dat_header.specs.Written.{header_text}
@@ -53,7 +54,7 @@ pub header_len : (parts : List Part) → length parts ≡ 4 → length (header_t
 header_len parts four = omega (arith, length-header_text header_but_parts parts, four, all_tasks_len, format_len)
 
 pub is_header : IsHeader header_but_parts
-unfolding layout_of
+unfolding layout_of layout_with
 is_header = record {
   long = inr refl;
   page = (12, omega arith, omega arith, refl);

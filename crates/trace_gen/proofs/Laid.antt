@@ -6,6 +6,7 @@ use Rattle.std.proofs.lemmas.List.{length-append, length-replicate}
 use Rattle.std.proofs.lemmas.List.Elements.{All-nil, All-cons, All-append}
 use Rattle.trace_base.specs.declared.part.Part.{Part}
 use Rattle.trace_base.specs.Layout.{IsLayout}
+use Rattle.trace_base.proofs.Layouts.{carried}
 use Rattle.trace_outside.specs.Writing.{Gained}
 use Rattle.trace_outside.proofs.Gains.{gained_both}
 use Rattle.dat_header.specs.Header.{header_of}
@@ -34,16 +35,7 @@ three_gained (Ok x) before one two now a b c first second third = gained_both be
 three_gained (Err e) before one two now a b c first second third = tt
 
 pub is_layout : IsLayout generated_layout
-is_layout = record {
-  commit_is_long = inr refl;
-  time_before_data = omega arith;
-  commit_before_data = omega arith;
-  apart = inl (omega arith);
-  data_in_front = omega arith;
-  data_aligned = refl;
-  page_least = omega arith;
-  page_most = omega arith;
-}
+is_layout = carried generated_layout
 
 events_packable : (seed cpu n : ℕ) → n ≤ 2 ^ 32 → All (IsPackable generated_layout) (events_of seed cpu n)
 unfolding events_of

@@ -1,8 +1,9 @@
 -- The header of a generated file.
 -- Source: trace-cmd.dat.v6(5) for its items, events.rst for the format's text; the values are this project's.
-use Rattle.std.specs.Prelude.{ℕ, List, [], ◌∷◌, ◌++◌, map, codes, None}
+use Rattle.std.specs.Prelude.{ℕ, List, [], ◌∷◌, ◌++◌, map, codes, None, refl}
 use Rattle.std.specs.List.{flat_map, range_with_len}
 use Rattle.std.specs.Fmt.{decimal}
+use Rattle.trace_base.specs.Allowed.{allowed_is}
 use Rattle.trace_base.specs.Layout.{plain_layout}
 use Rattle.trace_base.specs.declared.layout.Layout.{Layout}
 use Rattle.trace_base.specs.declared.order.Order.TheVariants.{Little}
@@ -38,7 +39,7 @@ abbrev pub task_lines : List (List ℕ)
 task_lines = map task_line (range_with_len 1 99)
 
 abbrev pub generated_layout : Layout
-generated_layout = plain_layout Little 8 4096
+generated_layout = plain_layout Little 8 4096 (allowed_is 0 8 8 16 4096 refl)
 
 -- the header, but for its own length and the table of the processors' parts, in whose place another body stands
 abbrev pub header_but_parts : Header

@@ -1,7 +1,6 @@
 // The header of a generated file (trace-cmd.dat.v6(5)).
 
 ghost use Rattle.std.specs.Prelude.{◌≡◌, ◌++◌, [], ◌∷◌, IfOk, OnOk, codes};
-ghost use Rattle.trace_base.specs.Layout.{IsLayout};
 ghost use Rattle.trace_gen.specs.GeneratedHeader.{format_text, task_line, task_lines, text_of_lines, generated_layout, header_but_parts};
 
 use dat_header::{Body, Header, System};
@@ -17,8 +16,7 @@ pub(crate) const FRONT_LEN: u64 = 4096;
 
 /// The layout of a file without a header_page text, on a machine with a long of 8 bytes.
 pub(crate) fn layout() -> Layout
-    ensures value { result ≡ generated_layout }
-    ensures allowed { IsLayout result }
+    ensures { result ≡ generated_layout }
 {
     Layout::plain(Order::Little, 8, PAGE)
 }

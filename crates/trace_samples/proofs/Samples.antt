@@ -1,11 +1,12 @@
 -- Items that go into a sample sub-buffer one by one, and what a sub-buffer tells that none go into.
-use Rattle.std.proofs.Common.{◌≡◌, ℕ, suc, ◌+◌, ◌^◌, ◌<◌, true, ltb, List, [], ◌∷◌, ◌++◌, length, map, drop, get_or, Option, Some, None, IfSome, refl, sym, ap, subst, ◌∙◌, inl, inr, append_assoc, arith}
+use Rattle.std.proofs.Common.{◌≡◌, ℕ, suc, ◌+◌, ◌^◌, ◌<◌, true, ltb, List, [], ◌∷◌, ◌++◌, length, map, drop, get_or, Option, Some, None, IfSome, refl, sym, ap, subst, ◌∙◌, append_assoc, arith}
 use Rattle.std.proofs.Math.Seq.{drop-cons}
 use Rattle.std.proofs.lemmas.Bool.{lt-ltb}
 use Rattle.std.proofs.lemmas.List.{length-drop}
 use Rattle.trace_base.specs.declared.layout.Layout.{Layout}
 use Rattle.trace_base.specs.declared.order.Order.TheVariants.{Little}
 use Rattle.trace_base.specs.Layout.{IsLayout}
+use Rattle.trace_base.proofs.Layouts.{carried}
 use Rattle.trace_base.specs.Number.{bytes_of}
 use Rattle.subpage.specs.ItemData.{ItemData, EventAt, LossAt}
 use Rattle.subpage.specs.Page.{commit_word, committed_size, data_area, items}
@@ -21,16 +22,7 @@ use Rattle.trace_samples.specs.SampleLayout.{sample_layout}
 use Rattle.trace_samples.specs.Told.{sample_event}
 
 pub is_layout : IsLayout sample_layout
-is_layout = record {
-  commit_is_long = inr refl;
-  time_before_data = omega arith;
-  commit_before_data = omega arith;
-  apart = inl (omega arith);
-  data_in_front = omega arith;
-  data_aligned = refl;
-  page_least = omega arith;
-  page_most = omega arith;
-}
+is_layout = carried sample_layout
 
 pub event_packable : (layout : Layout) (time : ℕ) (payload : List ℕ) → layout ≡ sample_layout → time < 2 ^ 64 → payload ≡ bytes_of Little 8 time → IsPackable layout (EventAt time payload)
 event_packable layout time payload same early is =
