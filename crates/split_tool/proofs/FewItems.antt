@@ -1,19 +1,17 @@
 -- A file has room for few items: each takes eight bytes of its sub-buffer, whose front takes some more.
-use Rattle.std.proofs.Common.{◌≡◌, ℕ, zero, suc, ◌+◌, ◌-◌, ◌*◌, ◌^◌, ◌≤◌, ◌⊎◌, Bool, true, false, ◌&&◌, leb, cond, max, List, [], ◌∷◌, ◌++◌, length, drop, Option, Some, None, refl, ap, ◌∙◌, inl, inr, arith, length-append, length-drop}
-use Rattle.std.proofs.lemmas.Bool.{cases_Bool, leb-true}
+use Rattle.std.proofs.Common.{◌≡◌, ℕ, zero, suc, ◌+◌, ◌*◌, ◌^◌, ◌≤◌, ◌⊎◌, Bool, true, false, ◌&&◌, leb, cond, max, List, [], ◌∷◌, length, drop, Option, Some, None, refl, ap, ◌∙◌, inl, inr, arith, length-append}
+use Rattle.std.proofs.lemmas.Bool.{leb-true}
 use Rattle.std.proofs.lemmas.List.{length-take}
-use Rattle.trace_base.specs.declared.order.Order.{Order}
 use Rattle.trace_base.specs.declared.layout.Layout.{Layout}
 use Rattle.trace_base.specs.declared.part.Part.{Part}
 use Rattle.trace_base.specs.Layout.{IsLayout}
-use Rattle.subpage.specs.ItemData.{ItemData, told_by, events, item_time}
-use Rattle.subpage.specs.RunningTime.{time_after}
-use Rattle.subpage.specs.Element.{ElementData, Row, short_event, long_event, end, discarded, extend, stamp, Spelled, nothing, begins_with}
-use Rattle.subpage.specs.Page.{items, committed, committed_size, commit_word, data_area, page_losses, losses, has_missed, timestamp, behind_committed}
+use Rattle.trace_base.proofs.Layouts.{commit_is_long, fields_apart}
+use Rattle.subpage.specs.ItemData.{ItemData, item_time}
+use Rattle.subpage.specs.Page.{items}
 use Rattle.subpage.specs.Processor.{items_at, is_there, page_end, page_bytes, page_count, pages_from, joined, list_of}
 use Rattle.subpage.specs.Arrangement.{keyed_from, all_keyed, by_key, key_of, arranged}
 use Rattle.subpage.specs.Cut.{lists_of, cut_of, is_up_to, reached_of}
-use Rattle.subpage.proofs.PageItems.{items_are}
+use Rattle.subpage.proofs.FewItems.{few_on_page}
 use Rattle.subpage.proofs.Joining.{joined-some, joined-none}
 use Rattle.split_passes.proofs.PieceLaws.{filter_few}
 use Rattle.split_passes.proofs.RoundLaws.{by_key_long}
@@ -23,58 +21,14 @@ use Rattle.split_passes.proofs.RoundLaws.{by_key_long}
 abbrev pub Few : ℕ → ℕ → Type 0
 Few count bytes = count * 65537 ≤ bytes * 8192
 
--- AN ITEM TAKES EIGHT BYTES
-
-told_long : (order : Order) (e : ElementData) (front : List ℕ) → Row order e front → (time : ℕ) → length (told_by time e) * 8 ≤ length front
-told_long order e front (short_event first payload kind delta f some few long) time = omega (arith, length-append first payload, f.four, some, long)
-told_long order e front (long_event first next payload padding delta n f w some long whole) time =
-    omega (arith, length-append first (next ++ (payload ++ padding)), length-append next (payload ++ padding), f.four, w.four)
-told_long order e front (end first padding f) time = omega arith
-told_long order e front (discarded first next content delta n f some w least long) time = omega arith
-told_long order e front (extend first next low high f w) time = omega arith
-told_long order e front (stamp first next low high f w small) time = omega arith
-
-few_events : (order : Order) (es : List ElementData) (bytes : List ℕ) → Spelled order es bytes → (time : ℕ) → length (events time es) * 8 ≤ length bytes
-few_events order es bytes nothing time = omega arith
-few_events order es bytes (begins_with e others front back row last behind) time =
-    let after = time_after time e in
-    omega (
-      arith,
-      length-append front back,
-      length-append (told_by after e) (events after others),
-      told_long order e front row after,
-      few_events order others back behind after,
-    )
-
-one_loss : (l : Layout) (word time : ℕ) (behind : List ℕ) → length (losses l word time behind) ≤ 1
-one_loss l word time behind = elim (cases_Bool (has_missed word)) [
-  | inl b ↦ rw b (omega arith)
-  | inr b ↦ rw b (omega arith)
-]
-
-few_on_page : (l : Layout) (page : List ℕ) (xs : List ItemData) → items l page ≡ Some xs → length xs * 8 ≤ length page - l.data_at + 8
-few_on_page l page xs e =
-    let a = items_are l page xs e in
-    let bytes = committed l page in
-    let whole : length xs ≡ length (page_losses l page ++ events (timestamp l page) a.elements) = ap length a.items_are in
-    omega (
-      arith,
-      whole,
-      length-append (page_losses l page) (events (timestamp l page) a.elements),
-      one_loss l (commit_word l page) (timestamp l page) (behind_committed l page),
-      few_events l.order a.elements bytes a.spelled (timestamp l page),
-      length-take (committed_size (commit_word l page)) (data_area l page),
-      length-drop l.data_at page,
-    )
-
 -- the data begin behind the timestamp and the commit word
 front_long : (l : Layout) → IsLayout l → 12 ≤ l.data_at
-front_long l allowed = elim allowed.apart [
-  | inl time_first ↦ elim allowed.commit_is_long [
+front_long l allowed = elim (fields_apart l) [
+  | inl time_first ↦ elim (commit_is_long l) [
     | inl four ↦ omega (arith, time_first, four, allowed.commit_before_data)
     | inr eight ↦ omega (arith, time_first, eight, allowed.commit_before_data)
   ]
-  | inr commit_first ↦ elim allowed.commit_is_long [
+  | inr commit_first ↦ elim (commit_is_long l) [
     | inl four ↦ omega (arith, commit_first, four, allowed.time_before_data)
     | inr eight ↦ omega (arith, commit_first, eight, allowed.time_before_data)
   ]

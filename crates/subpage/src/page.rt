@@ -1,6 +1,5 @@
 ghost use Rattle.std.specs.Prelude.{◌≡◌, ◌^◌, ◌<◌, ◌≤◌, ◌⊎◌, List, length, drop, take, IfSome, IfNone, option_map};
 ghost use Rattle.subpage.specs.Marks.{items_from, IsMark};
-ghost use Rattle.trace_base.specs.Layout.{IsLayout};
 ghost use Rattle.trace_base.specs.Number.{num};
 ghost use Rattle.subpage.specs.ItemData.{ItemData, first_time, last_time};
 ghost use Rattle.subpage.specs.Left.{loss_items};
@@ -60,7 +59,6 @@ fn read_long(order: Order, size: u32, bytes: &[u8]) -> u64
 
 /// The number of missed events, where the commit word says that it stands behind the committed bytes and it does.
 fn stored_number_of(layout: &Layout, word: u64, behind: &[u8]) -> Option<u64>
-    requires { IsLayout layout.now }
     ensures { result ≡ stored_number layout.now word behind.now }
 {
     let is_stored = (word >> STORED_BIT) & 1 == 1;
@@ -72,7 +70,6 @@ fn stored_number_of(layout: &Layout, word: u64, behind: &[u8]) -> Option<u64>
 }
 
 fn loss_of(layout: &Layout, word: u64, time: u64, behind: &[u8]) -> Option<Loss>
-    requires { IsLayout layout.now }
     ensures { loss_items result ≡ losses layout.now word time behind.now }
 {
     if (word >> MISSED_BIT) & 1 == 1 {
@@ -93,7 +90,6 @@ fn loss_of(layout: &Layout, word: u64, time: u64, behind: &[u8]) -> Option<Loss>
 /// the number of lost events stands behind the committed bytes; where it does not fit there the loss has no number.
 /// Bits 27 to 29, bits above 31, and bit 30 alone are ignored.
 pub fn check_page<'a>(layout: &Layout, bytes: &'a [u8]) -> Option<Page<'a>>
-    requires allowed { IsLayout layout.now }
     requires whole { length bytes.now ≡ layout.now.page }
     // The items are what the elements tell that spell the committed bytes.
     ensures found { IfSome result (λ page. AreItems layout.now bytes.now page) }
@@ -106,7 +102,6 @@ pub fn check_page<'a>(layout: &Layout, bytes: &'a [u8]) -> Option<Page<'a>>
 
 #[tactic(auto, unfolding(crate::specs::Page::items))]
 fn read_page<'a>(layout: &Layout, bytes: &'a [u8]) -> Option<Page<'a>>
-    requires allowed { IsLayout layout.now }
     requires whole { length bytes.now ≡ layout.now.page }
     ensures { result ≡ items layout.now bytes.now }
 {
@@ -121,19 +116,16 @@ fn read_page<'a>(layout: &Layout, bytes: &'a [u8]) -> Option<Page<'a>>
 
 /// The place before the first item of the sub-buffer that these bytes are, or `None` where it is malformed.
 pub fn open_page(layout: &Layout, bytes: &[u8]) -> Option<Mark>
-    requires allowed { IsLayout layout.now }
     requires whole { length bytes.now ≡ layout.now.page }
     ensures exact { option_map (λ mark. items_from layout.now bytes.now mark) result ≡ items layout.now bytes.now }
     ensures mark { IfSome result (λ mark. IsMark layout.now bytes.now mark) }
     ensures few { IfSome result (λ mark. length (items_from layout.now bytes.now mark) < 2 ^ 32) }
 {
-    let (first, summary) = read_front(layout, bytes)?;
-    let _count = summary.count;
+    let (first, _) = read_front(layout, bytes)?;
     Some(settle(layout, bytes, first))
 }
 
 fn timestamp_of(layout: &Layout, bytes: &[u8]) -> u64
-    requires allowed { IsLayout layout.now }
     requires whole { length bytes.now ≡ layout.now.page }
     ensures { result ≡ timestamp layout.now bytes.now }
 {
@@ -141,7 +133,6 @@ fn timestamp_of(layout: &Layout, bytes: &[u8]) -> u64
 }
 
 fn commit_word_of(layout: &Layout, bytes: &[u8]) -> u64
-    requires allowed { IsLayout layout.now }
     requires whole { length bytes.now ≡ layout.now.page }
     ensures { result ≡ commit_word layout.now bytes.now }
 {
@@ -160,7 +151,6 @@ fn committed_size_of(word: u64) -> u32
 }
 
 fn data_area_of<'a>(layout: &Layout, bytes: &'a [u8]) -> &'a [u8]
-    requires allowed { IsLayout layout.now }
     requires whole { length bytes.now ≡ layout.now.page }
     ensures { result.now ≡ data_area layout.now bytes.now }
 {
@@ -169,7 +159,6 @@ fn data_area_of<'a>(layout: &Layout, bytes: &'a [u8]) -> &'a [u8]
 
 /// The place before the first item, and how many items there are and when.
 fn read_front(layout: &Layout, bytes: &[u8]) -> Option<(Mark, Summary)>
-    requires allowed { IsLayout layout.now }
     requires whole { length bytes.now ≡ layout.now.page }
     ensures exact { option_map (λ front. items_from layout.now bytes.now front.0) result ≡ items layout.now bytes.now }
     ensures mark { IfSome result (λ front. IsMark layout.now bytes.now front.0) }
