@@ -2,7 +2,6 @@
 
 ghost use Rattle.std.specs.Prelude.{◌≡◌, ◌<◌, ◌≤◌, ◌+◌, ◌^◌, List, [], ◌∷◌, ◌++◌, length};
 ghost use Rattle.trace_base.specs.declared.layout.Layout.{Layout};
-ghost use Rattle.trace_base.specs.Layout.{IsLayout};
 ghost use Rattle.subpage.specs.ItemData.{ItemData, last_time};
 ghost use Rattle.subpage.specs.ItemView.{item_view};
 ghost use Rattle.page_write.specs.Pack.{packed};
@@ -35,7 +34,6 @@ impl PageCount {
 
     /// Counts a further item.
     pub fn add(&mut self, layout: &Layout, item: &Item<'_>)
-        requires allowed { IsLayout layout.now }
         requires packable { IsPackable layout.now (item_view item.now) }
         requires few { self.old.pages < 2 ^ 63 }
         ensures counts { (xs : List ItemData) → IsPageCount layout.now self.old xs
@@ -65,7 +63,6 @@ impl PageCount {
 
     /// For how many bytes more the open sub-buffer has room.
     pub fn room(&self, layout: &Layout) -> usize
-        requires { IsLayout layout.now }
         ensures most { result ≤ area_len layout.now }
         ensures room { (xs : List ItemData) → (count : IsPageCount layout.now self.now xs)
             → length (data_text layout.now count.held) + result ≡ area_len layout.now }
@@ -76,7 +73,6 @@ impl PageCount {
     /// Counts the events of a run of plain records, which follows the last item that was counted, and for which the open
     /// sub-buffer has room. The last of the events is at `end`.
     pub fn add_run(&mut self, layout: &Layout, run: &[u8], end: u64)
-        requires { IsLayout layout.now }
         ensures counts { (xs ys : List ItemData) → (count : IsPageCount layout.now self.old xs)
             → IsRunAfter layout.now count.held run.now end ys → HasRoom layout.now count.held (length run.now)
             → IsPageCount layout.now self.new (xs ++ ys) }

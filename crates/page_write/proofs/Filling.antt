@@ -4,7 +4,7 @@ use Rattle.std.proofs.lemmas.Bool.{cases_Bool, and_parts, leb-true, lt-ltb}
 use Rattle.std.proofs.lemmas.List.{length-append, length-replicate}
 use Rattle.trace_base.specs.declared.layout.Layout.{Layout}
 use Rattle.trace_base.specs.declared.order.Order.{Order}
-use Rattle.trace_base.specs.Layout.{IsLayout}
+use Rattle.trace_base.proofs.Layouts.{carried}
 use Rattle.trace_base.specs.Number.{bytes_of}
 use Rattle.subpage.specs.Element.{round4}
 use Rattle.subpage.specs.ItemData.{ItemData, EventAt, LossAt, item_time}
@@ -132,12 +132,12 @@ alone_room layout x ok =
     let p = and_parts (follow (item_time x) []) (leb (length (data_text layout (x ∷ []))) (area_len layout)) ok.alone in
     rw (alone_len layout x) (leb-true _ _ p.1)
 
-pub payload_few : (layout : Layout) (time : ℕ) (payload : List ℕ) → IsLayout layout → IsPackable layout (EventAt time payload) → length payload ≤ 262144
+pub payload_few : (layout : Layout) (time : ℕ) (payload : List ℕ) → IsPackable layout (EventAt time payload) → length payload ≤ 262144
 unfolding opened
-payload_few layout time payload allowed ok = omega (arith, alone_room layout (EventAt time payload) ok, event_len_least (length payload), allowed.page_most)
+payload_few layout time payload ok = omega (arith, alone_room layout (EventAt time payload) ok, event_len_least (length payload), (carried layout).page_most)
 
-pub opened_small : (layout : Layout) (x : ItemData) → IsLayout layout → IsPackable layout x → (opened layout x).used ≤ 262144
-opened_small layout x allowed ok = omega (arith, alone_room layout x ok, allowed.page_most)
+pub opened_small : (layout : Layout) (x : ItemData) → IsPackable layout x → (opened layout x).used ≤ 262144
+opened_small layout x ok = omega (arith, alone_room layout x ok, (carried layout).page_most)
 
 -- the two answers, for the items of the numbers
 pub added_in : (layout : Layout) (fill : Option Fill) (held : List ItemData) (x : ItemData) (now : Fill) → IsFill layout fill held → one_page layout (x ∷ []) ≡ true → Some now ≡ filled layout fill x

@@ -6,6 +6,7 @@ use Rattle.std.proofs.lemmas.Bool.{and_parts, leb-true, le-leb}
 use Rattle.std.proofs.lemmas.List.{length-append, length-replicate, take_at, drop_at}
 use Rattle.trace_base.specs.declared.layout.Layout.{Layout}
 use Rattle.trace_base.specs.Layout.{IsLayout}
+use Rattle.trace_base.proofs.Layouts.{commit_is_long, fields_apart}
 use Rattle.trace_base.specs.Number.{num, bytes_of}
 use Rattle.subpage.specs.ItemData.{ItemData, EventAt, LossAt, item_time, events}
 use Rattle.subpage.specs.Page.{timestamp, commit_word, data_area, committed_size, committed, behind_committed, page_losses, losses, AreItems, items}
@@ -38,7 +39,7 @@ front_ok l xs allowed =
     let second = allowed.commit_before_data in
     let stamped = put_at l.time_at stamp blank in
     let stamped_long : length stamped ≡ l.data_at = length-put_at l.time_at stamp blank (omega arith) ∙ blank_long in
-    let apart : (l.time_at + 8 ≤ l.commit_at) ⊎ (l.commit_at + length word ≤ l.time_at) = subst (λ (n : ℕ). (l.time_at + 8 ≤ l.commit_at) ⊎ (l.commit_at + n ≤ l.time_at)) (sym word_long) allowed.apart in
+    let apart : (l.time_at + 8 ≤ l.commit_at) ⊎ (l.commit_at + length word ≤ l.time_at) = subst (λ (n : ℕ). (l.time_at + 8 ≤ l.commit_at) ⊎ (l.commit_at + n ≤ l.time_at)) (sym word_long) (fields_apart l) in
     record {
       long = length-put_at l.commit_at word stamped (omega arith) ∙ stamped_long;
       time = other_at l.commit_at word stamped l.time_at 8 (omega arith) apart ∙ found_at l.time_at stamp blank 8 stamp_long (omega arith);
@@ -120,11 +121,11 @@ bits_size n (EventAt time payload ∷ xs) few = omega arith
 bits_size n (LossAt time None ∷ xs) few = omega arith
 bits_size n (LossAt time (Some count) ∷ xs) few = omega arith
 
-word_small : (l : Layout) (n : ℕ) → IsLayout l → n < 2 ^ 32 → n < 256 ^ l.commit_size
+pub word_small : (l : Layout) (n : ℕ) → IsLayout l → n < 2 ^ 32 → n < 256 ^ l.commit_size
 word_small l n allowed few = ⊎_elim
     (λ four. subst (λ (k : ℕ). n < 256 ^ k) (sym four) few)
     (λ eight. subst (λ (k : ℕ). n < 256 ^ k) (sym eight) (omega arith))
-    allowed.commit_is_long
+    (commit_is_long l)
 
 losses_again : (l : Layout) (xs : List ItemData) (n : ℕ) (padding : List ℕ) → n < 2 ^ 27 → All (IsPackable l) xs → losses l (n + loss_bits xs) (start_of xs) (number_text l xs ++ padding) ≡ front_loss xs
 losses_again l [] n padding few ok =

@@ -1,7 +1,6 @@
 // An item added to an open sub-buffer, whose bytes stand in a buffer.
 
 ghost use Rattle.std.specs.Prelude.{◌≡◌, ◌+◌, ◌≤◌, ℕ, List, [], ◌∷◌, ◌++◌, length, Some};
-ghost use Rattle.trace_base.specs.Layout.{IsLayout};
 ghost use Rattle.subpage.specs.ItemData.{ItemData, EventAt, LossAt};
 ghost use Rattle.subpage.specs.ItemView.{item_view};
 ghost use Rattle.subpage.specs.Run.{IsRun};
@@ -38,7 +37,6 @@ pub fn len_of_lost(layout: &Layout, lost: Lost) -> usize
 // Opens a sub-buffer with an event, whose time is the timestamp.
 #[inline(never)]
 fn add_first(layout: &Layout, time: u64, payload: &[u8], into: &mut [u8]) -> OpenPage
-    requires allowed { IsLayout layout.now }
     requires packable { IsPackable layout.now (EventAt time payload.now) }
     requires whole { length into.old ≡ layout.now.page }
     ensures { HoldsAll layout.now result into.new (EventAt time payload.now) [] }
@@ -62,7 +60,6 @@ fn add_next(
     payload: &[u8],
     into: &mut [u8],
 ) -> Option<OpenPage>
-    requires allowed { IsLayout layout.now }
     requires packable { IsPackable layout.now (EventAt time payload.now) }
     requires whole { length into.old ≡ layout.now.page }
     requires room { page.used + length (lost_text layout.now page.lost) ≤ area_len layout.now }
@@ -98,7 +95,6 @@ pub fn add_to(
     item: &Item<'_>,
     into: &mut [u8],
 ) -> Option<OpenPage>
-    requires allowed { IsLayout layout.now }
     requires packable { IsPackable layout.now (item_view item.now) }
     requires whole { length into.old ≡ layout.now.page }
     requires held { Holds layout.now page into.old (told layout.now page into.old) }
@@ -129,7 +125,6 @@ pub fn add_run_to(
     end: u64,
     into: &mut [u8],
 ) -> OpenPage
-    requires allowed { IsLayout layout.now }
     requires whole { length into.old ≡ layout.now.page }
     requires room { page.used + length (lost_text layout.now page.lost) + length run.now ≤ area_len layout.now }
     ensures { (y : ItemData) (ys xs : List ItemData) → HoldsAll layout.now page into.old y ys

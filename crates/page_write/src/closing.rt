@@ -1,7 +1,6 @@
 // The whole sub-buffer around the records that were added.
 
 ghost use Rattle.std.specs.Prelude.{◌≡◌, ◌+◌, ◌-◌, ◌<◌, ◌≤◌, ◌^◌, ◌++◌, ◌∷◌, ℕ, List, length, take};
-ghost use Rattle.trace_base.specs.Layout.{IsLayout};
 ghost use Rattle.trace_base.specs.Number.{bytes_of};
 ghost use Rattle.subpage.specs.ItemData.{ItemData};
 ghost use Rattle.page_write.specs.Record.{zeros};
@@ -32,7 +31,6 @@ fn bits_of(lost: Lost) -> u64
 
 // Puts zero bytes, and in them the timestamp and the commit word.
 fn fill_front(layout: &Layout, start: u64, word: u64, front: &mut [u8])
-    requires allowed { IsLayout layout.now }
     requires fits { word < 2 ^ 32 }
     requires whole { length front.old ≡ layout.now.data_at }
     ensures { front.new ≡ put_at layout.now.commit_at (bytes_of layout.now.order layout.now.commit_size word)
@@ -51,7 +49,6 @@ fn fill_front(layout: &Layout, start: u64, word: u64, front: &mut [u8])
 
 // Puts the number of a loss, where it has one, and gives the place behind it.
 fn put_lost(layout: &Layout, lost: Lost, at: usize, area: &mut [u8]) -> usize
-    requires allowed { IsLayout layout.now }
     requires fits { LostFits layout.now lost }
     requires room { at + length (lost_text layout.now lost) ≤ length area.old }
     ensures { IsPut at (lost_text layout.now lost) area.old area.new result }
@@ -65,7 +62,6 @@ fn put_lost(layout: &Layout, lost: Lost, at: usize, area: &mut [u8]) -> usize
 
 // Puts what stands behind the records: the number of a loss, and zero bytes.
 fn fill_behind(layout: &Layout, lost: Lost, at: usize, area: &mut [u8])
-    requires allowed { IsLayout layout.now }
     requires fits { LostFits layout.now lost }
     requires room { at + length (lost_text layout.now lost) ≤ length area.old }
     ensures { area.new ≡ take at area.old
@@ -77,7 +73,6 @@ fn fill_behind(layout: &Layout, lost: Lost, at: usize, area: &mut [u8])
 
 /// Puts everything that is not a record.
 pub fn finish(layout: &Layout, page: OpenPage, into: &mut [u8])
-    requires allowed { IsLayout layout.now }
     requires whole { length into.old ≡ layout.now.page }
     requires fits { LostFits layout.now page.lost }
     requires room { page.used + length (lost_text layout.now page.lost) ≤ area_len layout.now }

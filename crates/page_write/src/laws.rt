@@ -10,7 +10,6 @@ ghost use Rattle.page_write.specs.SoFar.{open_page, IsSoFar};
 ghost use Rattle.page_write.specs.Placed.{IsPlaced, parts_from, data_of};
 ghost use Rattle.page_write.specs.Pack.{Packed, packed, pack};
 ghost use Rattle.trace_base.specs.declared.layout.Layout.{Layout};
-ghost use Rattle.trace_base.specs.Layout.{IsLayout};
 ghost use Rattle.subpage.specs.ItemData.{ItemData, EventAt};
 ghost use Rattle.subpage.specs.Page.{items};
 ghost use Rattle.page_write.specs.PageBytes.{page_of, one_page, IsPackable};
@@ -24,7 +23,7 @@ use trace_base::Layout;
 /// The sub-buffer of items that one sub-buffer can tell tells just these items.
 pub fn page_reads_back()
     ensures { (layout : Layout) (xs : List ItemData)
-        → IsLayout layout → All (IsPackable layout) xs → one_page layout xs ≡ true
+        → All (IsPackable layout) xs → one_page layout xs ≡ true
         → items layout (page_of layout xs) ≡ Some xs }
 {}
 
@@ -41,42 +40,42 @@ pub fn one_packing()
 /// A part that has the sub-buffers of a processor's items reads back to just these items, and none of it is malformed.
 pub fn part_reads_back()
     ensures items { (layout : Layout) (file : List ℕ) (part : Part) (xs : List ItemData)
-        → IsLayout layout → All (IsPackable layout) xs → IsPlaced layout file part xs
+        → All (IsPackable layout) xs → IsPlaced layout file part xs
         → list_of layout file part ≡ xs }
     ensures sound { (layout : Layout) (file : List ℕ) (part : Part) (xs : List ItemData)
-        → IsLayout layout → All (IsPackable layout) xs → IsPlaced layout file part xs
+        → All (IsPackable layout) xs → IsPlaced layout file part xs
         → bad_of layout file part ≡ None }
 {}
 
 /// Whatever a sub-buffer tells can be packed into sub-buffers of its layout.
 pub fn told_items_can_be_packed()
     ensures page { (layout : Layout) (page : List ℕ) (xs : List ItemData)
-        → IsLayout layout → length page ≡ layout.page → ((i : ℕ) → slice_index page i < 256)
+        → length page ≡ layout.page → ((i : ℕ) → slice_index page i < 256)
         → items layout page ≡ Some xs → All (IsPackable layout) xs }
     ensures processor { (layout : Layout) (file : List ℕ) (part : Part)
-        → IsLayout layout → ((i : ℕ) → slice_index file i < 256)
+        → ((i : ℕ) → slice_index file i < 256)
         → All (IsPackable layout) (list_of layout file part) }
 {}
 
 /// An event of at most 2,048 bytes can be packed into sub-buffers of every layout.
 pub fn short_events_can_be_packed()
     ensures { (layout : Layout) (time : ℕ) (payload : List ℕ)
-        → IsLayout layout → time < 2 ^ 64 → length payload ≤ 2048 → IsPackable layout (EventAt time payload) }
+        → time < 2 ^ 64 → length payload ≤ 2048 → IsPackable layout (EventAt time payload) }
 {}
 
 /// Behind any front, the sub-buffers of processors' items, where their parts follow one another, read back to just these items,
 /// and none of them is malformed.
 pub fn file_reads_back()
     ensures items { (layout : Layout) (front : List ℕ) (lists : List (List ItemData))
-        → IsLayout layout → All (All (IsPackable layout)) lists
+        → All (All (IsPackable layout)) lists
         → length front + length (data_of layout lists) ≤ 2 ^ 64
         → map (list_of layout (front ++ data_of layout lists)) (parts_from layout (length front) lists) ≡ lists }
     ensures sound { (layout : Layout) (front : List ℕ) (lists : List (List ItemData))
-        → IsLayout layout → All (All (IsPackable layout)) lists
+        → All (All (IsPackable layout)) lists
         → length front + length (data_of layout lists) ≤ 2 ^ 64
         → All (λ part. bad_of layout (front ++ data_of layout lists) part ≡ None) (parts_from layout (length front) lists) }
     ensures size { (layout : Layout) (xs : List ItemData)
-        → IsLayout layout → All (IsPackable layout) xs → length (pack layout xs) ≡ length (packed layout xs) * layout.page }
+        → All (IsPackable layout) xs → length (pack layout xs) ≡ length (packed layout xs) * layout.page }
 {}
 
 /// A room and a packer that hold the same items answer alike, and then hold the same items.
@@ -86,7 +85,6 @@ pub fn both_add(
     layout: &Layout,
     item: &Item<'_>,
 ) -> (Added, Added)
-    requires allowed { IsLayout layout.now }
     requires packable { IsPackable layout.now (item_view item.now) }
     requires layout { packer.old.layout ≡ layout.now }
     requires same { IsFill layout.now room.old packer.old.held }

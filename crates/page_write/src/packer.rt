@@ -1,5 +1,4 @@
 ghost use Rattle.std.specs.Prelude.{◌≡◌, ◌≢◌, ◌↔◌, ◌+◌, ◌++◌, IsTrue, List, [], Some, length, true};
-ghost use Rattle.trace_base.specs.Layout.{IsLayout};
 ghost use Rattle.subpage.specs.ItemData.{ItemData, last_time};
 ghost use Rattle.subpage.specs.ItemView.{item_view};
 ghost use Rattle.subpage.specs.Page.{items};
@@ -43,7 +42,6 @@ impl<'a> Packer<'a> {
 
     /// A packer into these bytes, with no sub-buffer open.
     pub fn new(layout: &Layout, into: &'a mut [u8]) -> Packer<'a>
-        requires allowed { IsLayout layout.now }
         requires whole { length into.old ≡ layout.now.page }
         ensures layout { result.layout ≡ layout.now }
         ensures empty { result.held ≡ [] }

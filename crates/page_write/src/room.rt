@@ -1,5 +1,4 @@
 ghost use Rattle.std.specs.Prelude.{◌≡◌, ◌+◌, ◌-◌, ◌++◌, ◌≤◌, List, None, IfSome, length};
-ghost use Rattle.trace_base.specs.Layout.{IsLayout};
 ghost use Rattle.trace_base.specs.declared.layout.Layout.{Layout};
 ghost use Rattle.subpage.specs.ItemData.{ItemData, last_time};
 ghost use Rattle.subpage.specs.ItemView.{item_view};
@@ -46,7 +45,6 @@ impl Room {
     /// Adds the item to the open sub-buffer, or opens the first one. `Full` exactly where one is open and the item opens a
     /// further one; the room is unchanged then.
     pub fn add(&mut self, layout: &Layout, item: &Item<'_>) -> Added
-        requires allowed { IsLayout layout.now }
         requires packable { IsPackable layout.now (item_view item.now) }
         ensures numbers { Fills (filled layout.now self.old (item_view item.now)) self.old self.new result }
         ensures lists { (held : List ItemData) → IsFill layout.now self.old held
@@ -73,7 +71,6 @@ impl Room {
 
     /// For how many bytes more there is room.
     pub fn room(&self, layout: &Layout) -> usize
-        requires { IsLayout layout.now }
         ensures most { result ≤ area_len layout.now }
         ensures left { IfSome self.now (λ fill. result ≡ area_len layout.now - fill.used) }
         ensures room { (held : List ItemData) → IsFill layout.now self.now held
@@ -89,7 +86,6 @@ impl Room {
     /// Adds the events of a run of plain records, which follows the last item that was added, and for which there is room. The
     /// last of the events is at `end`.
     pub fn add_run(&mut self, layout: &Layout, run: &[u8], end: u64)
-        requires { IsLayout layout.now }
         ensures { (held xs : List ItemData) → IsFill layout.now self.old held → IsRunAfter layout.now held run.now end xs
             → HasRoom layout.now held (length run.now) → IsFill layout.now self.new (held ++ xs) }
     {
@@ -107,7 +103,6 @@ impl Room {
 // How full the sub-buffer is with the item, or none where the item opens a further one.
 #[tactic(auto, unfolding(crate::specs::Fill::filled))]
 fn filled_by(layout: &Layout, fill: Option<Fill>, item: &Item<'_>) -> Option<Fill>
-    requires allowed { IsLayout layout.now }
     requires packable { IsPackable layout.now (item_view item.now) }
     requires small { IsSmall fill }
     ensures value { result ≡ filled layout.now fill (item_view item.now) }
@@ -132,7 +127,6 @@ fn len_of_number(layout: &Layout, count: Option<u64>) -> usize
 // A sub-buffer that the item opens.
 #[tactic(auto, unfolding(crate::specs::Fill::opened), using(crate::proofs::Filling::payload_few))]
 fn opened_by(layout: &Layout, item: &Item<'_>) -> Fill
-    requires allowed { IsLayout layout.now }
     requires packable { IsPackable layout.now (item_view item.now) }
     ensures value { result ≡ opened layout.now (item_view item.now) }
     ensures small { result.used ≤ 262144 }
@@ -152,7 +146,6 @@ fn opened_by(layout: &Layout, item: &Item<'_>) -> Fill
 // An open sub-buffer with the item besides.
 #[tactic(auto, unfolding(crate::specs::Fill::gone_on), using(crate::proofs::Filling::payload_few))]
 fn gone_on_by(layout: &Layout, fill: Fill, item: &Item<'_>) -> Option<Fill>
-    requires allowed { IsLayout layout.now }
     requires packable { IsPackable layout.now (item_view item.now) }
     requires small { fill.used ≤ 262144 }
     ensures value { result ≡ gone_on layout.now fill (item_view item.now) }

@@ -10,5 +10,5 @@ pub returns-in-Event-clause-small : goal.returns-in-Event-clause-small
 unfolding opened
 returns-in-Event-clause-small c =
     let ok = subst (λ i. IsPackable c.args.layout.now (item_view i)) c.in-Event.is c.requires.packable in
-    let small = opened_small c.args.layout.now (EventAt c.in-Event.time c.in-Event.payload.now) c.requires.allowed ok in
+    let small = opened_small c.args.layout.now (EventAt c.in-Event.time c.in-Event.payload.now) ok in
     omega (arith, c.len_of_event.ensures.value, small)

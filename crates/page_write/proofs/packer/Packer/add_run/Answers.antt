@@ -1,4 +1,5 @@
 use Rattle.std.proofs.Common.{length, Some, sym, subst, ◌∙◌, arith}
+use Rattle.trace_base.proofs.Layouts.{carried}
 use Rattle.page_write.specs.Held.{told, Holds}
 use Rattle.page_write.specs.Packing.{Packing}
 use Rattle.page_write.specs.Adding.{HasRoom, HasRunAfter, IsRunAfter}
@@ -31,7 +32,7 @@ invariant_of-self c =
     let has : HasRunAfter l (told l c.self.inside.page bytes) run c.args.end = subst (λ (p : Packing). HasRunAfter p.layout p.held run c.args.end) (sym c.self.view_is) c.requires.run in
     let behind : IsRunAfter l (told l (Some page) bytes) run c.args.end has.items = subst (λ p. IsRunAfter l (told l p bytes) run c.args.end has.items) c.in-Some.is has.run in
     let now = holds_after l page next bytes new run c.args.end (told l (Some page) bytes) has.items held c.add_run_to-page.ensures behind in
-    record { allowed = before.allowed; whole = c.add_run_to-page.auto.into ∙ before.whole; holds = holds_told l (Some next) new _ before.allowed now }
+    record { whole = c.add_run_to-page.auto.into ∙ before.whole; holds = holds_told l (Some next) new _ (carried l) now }
 
 pub returns-in-Some-clause-adds : goal.returns-in-Some-clause-adds
 returns-in-Some-clause-adds c = λ xs is.
@@ -46,7 +47,7 @@ returns-in-Some-clause-adds c = λ xs is.
     let here : IsRunAfter l (told l c.self.inside.page bytes) run c.args.end xs = subst (λ (p : Packing). IsRunAfter p.layout p.held run c.args.end xs) (sym c.self.view_is) is in
     let behind : IsRunAfter l (told l (Some page) bytes) run c.args.end xs = subst (λ p. IsRunAfter l (told l p bytes) run c.args.end xs) c.in-Some.is here in
     let now = holds_after l page next bytes new run c.args.end (told l (Some page) bytes) xs held c.add_run_to-page.ensures behind in
-    rw (← c.self.view_is, c.in-Some.is) (told_is l (Some next) new _ before.allowed now)
+    rw (← c.self.view_is, c.in-Some.is) (told_is l (Some next) new _ (carried l) now)
 
 pub returns-in-Some-clause-one : goal.returns-in-Some-clause-one
 returns-in-Some-clause-one c =
@@ -61,4 +62,4 @@ returns-in-Some-clause-one c =
     let has : HasRunAfter l (told l c.self.inside.page bytes) run c.args.end = subst (λ (p : Packing). HasRunAfter p.layout p.held run c.args.end) (sym c.self.view_is) c.requires.run in
     let behind : IsRunAfter l (told l (Some page) bytes) run c.args.end has.items = subst (λ p. IsRunAfter l (told l p bytes) run c.args.end has.items) c.in-Some.is has.run in
     let now = holds_after l page next bytes new run c.args.end (told l (Some page) bytes) has.items held c.add_run_to-page.ensures behind in
-    rw (← c.self.view_is) (one_held l (Some next) new (told l (Some next) new) (holds_told l (Some next) new _ before.allowed now))
+    rw (← c.self.view_is) (one_held l (Some next) new (told l (Some next) new) (holds_told l (Some next) new _ (carried l) now))

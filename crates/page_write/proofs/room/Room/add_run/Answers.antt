@@ -1,5 +1,6 @@
 use Rattle.std.proofs.Common.{◌≡◌, ◌-◌, ◌≤◌, Some, sym, subst, ◌∙◌, arith}
 use Rattle.std.specs.Option.{IfSome}
+use Rattle.trace_base.proofs.Layouts.{carried}
 use Rattle.page_write.specs.Fill.{IsFill, IsSmall}
 use Rattle.page_write.specs.PageBytes.{area_len}
 use Rattle.page_write.proofs.Runs.{fill_run}
@@ -11,7 +12,7 @@ invariant_of-self c =
     let fill = c.in-Some.fill in
     let left : c.room.result ≡ area_len l - fill.used = subst (λ f. IfSome f (λ x. c.room.result ≡ area_len l - x.used)) (sym c.self.view_is ∙ c.in-Some.is) c.room.ensures.left in
     let small : fill.used ≤ 262144 = subst IsSmall c.in-Some.is c.self.invariant in
-    omega (arith, left, small, c.if-run-room.true, c.requires.page_most)
+    omega (arith, left, small, c.if-run-room.true, (carried l).page_most)
 
 pub returns-then-run-room : goal.returns-then-run-room
 returns-then-run-room c = λ held xs is behind has.
