@@ -1,5 +1,4 @@
 ghost use Rattle.std.specs.Prelude.{◌≡◌, ◌+◌, ◌*◌, ◌≤◌, length, IfOk, IfSome, OnOk, is_some};
-ghost use Rattle.trace_base.specs.Layout.{IsLayout};
 ghost use Rattle.trace_outside.specs.Causes.{HasCause, raised};
 ghost use Rattle.trace_outside.specs.Keeping.{KeepsFile};
 ghost use Rattle.trace_outside.specs.Reading.{GivesBytesAt};
@@ -14,7 +13,6 @@ use trace_outside::{Failed, File, read_all};
 /// Where a sub-buffer of a part stands in a file of `len` bytes. `None` where it does not stand wholly in the part and
 /// in the file.
 pub(crate) fn place_of(layout: &Layout, len: u64, part: Part, number: u64) -> Option<u64>
-    requires { IsLayout layout.now }
     ensures there { is_some result ≡ is_there_in layout.now len part number }
     ensures place { IfSome result (λ place. place ≡ part.offset + number * layout.now.page) }
     ensures inside { IfSome result (λ place. place + layout.now.page ≤ len) }
@@ -32,7 +30,6 @@ pub(crate) fn place_of(layout: &Layout, len: u64, part: Part, number: u64) -> Op
 
 /// Whether a sub-buffer of a part stands wholly in the part and in a file of `len` bytes.
 pub fn is_there(layout: &Layout, len: u64, part: Part, number: u64) -> bool
-    requires { IsLayout layout.now }
     ensures { result ≡ is_there_in layout.now len part number }
 {
     place_of(layout, len, part, number).is_some()
@@ -59,7 +56,6 @@ pub(crate) fn fetch<F: File>(
     number: u64,
     page: &mut ByteBuffer,
 ) -> Result<Option<Mark>, Failed>
-    requires allowed { IsLayout layout.now }
     requires long { length page.old ≡ layout.now.page }
     ensures long { length page.new ≡ layout.now.page }
     ensures holds { IfOk result (HoldsItems layout.now page.new) }

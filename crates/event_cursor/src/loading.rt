@@ -1,5 +1,4 @@
 ghost use Rattle.std.specs.Prelude.{◌≡◌, ◌≢◌, ◌≤◌, ◌<◌, [], length, IfOk, IfSome, OnErr};
-ghost use Rattle.trace_base.specs.Layout.{IsLayout};
 ghost use Rattle.trace_outside.specs.Causes.{HasCause, raised};
 ghost use Rattle.trace_outside.specs.Keeping.{KeepsFile};
 ghost use Rattle.subpage.specs.Processor.{page_count};
@@ -32,7 +31,6 @@ pub enum Loaded {
 /// `Failed` where a read failed. The lane is not to be used again then.
 #[inline(never)]
 pub fn load<F: File>(layout: &Layout, file: &mut F, lane: &mut Lane) -> Result<Loaded, Failed>
-    requires allowed { IsLayout layout.now }
     requires in_order { IsInOrder layout.now lane.old }
     // It holds no sub-buffer, or the held one is used up.
     requires used_up { held_left layout.now lane.old ≡ [] }
@@ -62,7 +60,6 @@ fn load_next<F: File>(
     lane: &mut Lane,
     count: u64,
 ) -> Result<Option<Loaded>, Failed>
-    requires allowed { IsLayout layout.now }
     requires long { length lane.old.page ≡ layout.now.page }
     requires fresh { lane.old.cursor.state ≡ LaneState.Fresh }
     requires count { count ≡ page_count layout.now lane.old.part }

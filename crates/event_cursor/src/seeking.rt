@@ -1,5 +1,4 @@
 ghost use Rattle.std.specs.Prelude.{◌≡◌, ◌≤◌, ◌<◌, ◌↔◌, true, IsTrue, [], length, drop, IfNone, IfOk, IfSome, OnErr};
-ghost use Rattle.trace_base.specs.Layout.{IsLayout};
 ghost use Rattle.trace_outside.specs.Causes.{HasCause, raised};
 ghost use Rattle.trace_outside.specs.Keeping.{KeepsFile};
 ghost use Rattle.subpage.specs.Marks.{IsMark, items_from};
@@ -86,7 +85,6 @@ fn turn_to<F: File>(
     file: &mut F,
     lane: &mut Lane,
 ) -> Result<Option<Mark>, Failed>
-    requires allowed { IsLayout layout.now }
     requires in_order { IsInOrder layout.now lane.old }
     ensures long { length lane.new.page ≡ layout.now.page }
     ensures holds { IfOk result (HoldsItems layout.now lane.new.page) }
@@ -125,7 +123,6 @@ pub fn seek<F: File>(
     file: &mut F,
     lane: &mut Lane,
 ) -> Result<Sought, Failed>
-    requires allowed { IsLayout layout.now }
     requires in_order { IsInOrder layout.now lane.old }
     requires there { is_there_in layout.now (F.size file.old) lane.old.part place.now.page ≡ true }
     ensures in_order { IsInOrder layout.now lane.new }

@@ -1,5 +1,4 @@
 ghost use Rattle.std.specs.Prelude.{◌≡◌, ℕ, List, length, map, All, IfOk, OnErr, OnOk, IfSome};
-ghost use Rattle.trace_base.specs.Layout.{IsLayout};
 ghost use Rattle.trace_outside.specs.Causes.{HasCause};
 ghost use Rattle.subpage.specs.Arrangement.{CpusRise};
 ghost use Rattle.page_pool.specs.declared.lane.Lane.{Lane};
@@ -56,7 +55,6 @@ pub fn next_lane_by<F: File>(
     nexts: &mut LeastTree,
     used: Option<usize>,
 ) -> Result<Next, Failed>
-    requires allowed { IsLayout layout.now }
     requires in_order { All (IsInOrder layout.now) lanes.old }
     requires rise { CpusRise (parts_of lanes.old) }
     requires slots { length nexts.old ≡ length lanes.old }

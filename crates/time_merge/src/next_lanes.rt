@@ -1,6 +1,5 @@
 ghost use Rattle.std.specs.Prelude.{◌≡◌, ◌<◌, ℕ, List, length, map, All, IfOk, IfSome, IsTrue, OnErr, OnOk, false};
 ghost use Rattle.std.specs.Option.{ForSome};
-ghost use Rattle.trace_base.specs.Layout.{IsLayout};
 ghost use Rattle.trace_outside.specs.Causes.{HasCause};
 ghost use Rattle.subpage.specs.Arrangement.{CpusRise};
 ghost use Rattle.page_pool.specs.declared.lane.Lane.{Lane};
@@ -103,7 +102,6 @@ pub(crate) fn next_at(layout: &Layout, lanes: &[Lane], least: Option<usize>) -> 
 /// # Errors
 /// `Failed` where a read failed. The lanes are not to be used again then.
 pub fn next_lane<F: File>(layout: &Layout, file: &mut F, lanes: &mut [Lane]) -> Result<Next, Failed>
-    requires allowed { IsLayout layout.now }
     requires in_order { All (IsInOrder layout.now) lanes.old }
     requires rise { CpusRise (parts_of lanes.old) }
     ensures loads { LoadsLanes F.File layout.now file.old file.new lanes.old lanes.new }
