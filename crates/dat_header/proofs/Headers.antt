@@ -5,8 +5,7 @@ use Rattle.std.proofs.Math.Pow.{pow_mono}
 use Rattle.dat_options.specs.Table.{IsPart}
 use Rattle.trace_outside.specs.Causes.{raised}
 use Rattle.trace_base.specs.Allowed.{IsAllowed}
-use Rattle.trace_base.specs.Layout.{IsLayout}
-use Rattle.trace_base.proofs.Layouts.{carried, plain_allowed}
+use Rattle.trace_base.proofs.Layouts.{plain_allowed}
 use Rattle.dat_options.specs.declared.fault.OpenFault.{OpenFault}
 use Rattle.dat_header.specs.declared.header.Header.{Header}
 use Rattle.dat_header.specs.declared.header.Body.TheVariants.{Fly}
@@ -53,9 +52,6 @@ page_is page size = (omega (arith, size.3, pow_mono size.1), omega (arith, size.
 -- a machine's own sub-buffers have a plain layout
 pub own_plain : (long page : ℕ) → IsLong long → IsPageSize page → IsAllowed 0 8 long (8 + long) page
 own_plain long page sized paged = let size = page_is page paged in plain_allowed long page sized size.0 (omega (arith, size.1))
-
-pub header_layout : (header : Header) → IsHeader header → IsLayout header.layout
-header_layout header is = carried header.layout
 
 -- what was read from the file's beginning on was read of the header
 pub reads_whole : (result : Result Header OpenFault) (before now : ℕ) → IfOk result (λ header. now ≤ raised before (header.end - 0)) → IfOk result (λ header. now ≤ raised before header.end)

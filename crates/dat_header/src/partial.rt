@@ -3,7 +3,6 @@
 ghost use Rattle.std.specs.Prelude.{◌≡◌, ◌^◌, ◌<◌, ◌≤◌, [], length, IfOk, IsErrOf};
 ghost use Rattle.trace_outside.specs.Causes.{Rose, raised};
 ghost use Rattle.trace_outside.specs.Keeping.{KeepsFile};
-ghost use Rattle.trace_base.specs.Layout.{IsLayout};
 ghost use Rattle.dat_header.specs.Partial.{IsPartial, ReadsPartial, cmdlines_at, partial_header, partial_of};
 ghost use Rattle.dat_options.specs.Answer.{KeptUnlessRead};
 ghost use Rattle.dat_header.specs.Seen.{file_seen};
@@ -35,7 +34,6 @@ pub fn read_partial<F: File>(alloc: Global, file: &mut F) -> Result<Header, Open
     ensures most { F.reads file.new ≤ raised (F.reads file.old) (F.size file.old) }
     ensures end_inside { IfOk result (λ header. header.end ≤ F.size file.old) }
     ensures partial { IfOk result IsPartial }
-    ensures layout { IfOk result (λ header. IsLayout header.layout) }
     ensures keeps { KeepsFile F.File file.old file.new }
 {
     read_partial_pieces(alloc, file)

@@ -3,7 +3,6 @@
 ghost use Rattle.std.specs.Prelude.{◌≡◌, ◌≤◌, IfOk, IsErrOf};
 ghost use Rattle.trace_outside.specs.Causes.{Rose, raised};
 ghost use Rattle.trace_outside.specs.Keeping.{KeepsFile};
-ghost use Rattle.trace_base.specs.Layout.{IsLayout};
 ghost use Rattle.dat_header.specs.Header.{ReadsHeader, header_of};
 ghost use Rattle.dat_header.specs.Allowed.{IsHeader, IsBody};
 ghost use Rattle.dat_options.specs.Answer.{KeptUnlessRead};
@@ -35,7 +34,6 @@ pub fn read_header<F: File>(alloc: Global, file: &mut F) -> Result<Header, OpenF
     ensures most { F.reads file.new ≤ raised (F.reads file.old) (F.size file.old) }
     ensures end_inside { IfOk result (λ header. header.end ≤ F.size file.old) }
     ensures allowed { IfOk result IsHeader }
-    ensures layout { IfOk result (λ header. IsLayout header.layout) }
     ensures cpus { IfOk result (λ header. header.cpus ≤ 1024) }
     ensures parts { IfOk result (λ header. IsBody header.cpus header.body) }
     ensures keeps { KeepsFile F.File file.old file.new }

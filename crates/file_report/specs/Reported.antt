@@ -1,7 +1,6 @@
 -- How a report of one file ended, and how much it read, by what was seen of the file and of the output before and after.
 use Rattle.std.specs.Prelude.{Option, ◌≡◌, ◌≤◌, ℕ, Bool, List, map, length, IfSome}
 use Rattle.std.specs.Option.{option_map}
-use Rattle.trace_base.specs.Layout.{IsLayout}
 use Rattle.trace_base.specs.declared.part.Part.{Part}
 use Rattle.trace_outside.specs.declared.outside.File as file
 use Rattle.trace_outside.specs.declared.outside.Sink as sink
@@ -29,11 +28,10 @@ use Rattle.run_endings.specs.Selection.{chosen, set_or_all}
 use Rattle.run_words.specs.Usage.{uses_in}
 use Rattle.run_endings.specs.Output.{GathersFirst}
 
--- what the words, their filters and a header keep
-pub record IsAsked (words : ReportData) (uses : List FilterUse) (header : Header) : Type 0 where
+-- what the words and their filters keep
+pub record IsAsked (words : ReportData) (uses : List FilterUse) : Type 0 where
   pub workers : IsWorkers words.workers
   pub filters : uses_in words.filters ≡ map use_of uses
-  pub layout : IsLayout header.layout
 
 -- What a report is to do: what it means of the file's bytes, how many of them it needs behind the header, the events of which it
 -- reads no more than their lines need, if any, and whether it shows calls.
@@ -86,7 +84,6 @@ shown_task plan shown =
 -- parts that are shown are those of processors in order, and from 1 to 64 threads form their lines
 pub record IsShown (plan : ReportPlan) (shown : Shown) : Type 0 where
   pub workers : IsWorkers plan.words.now.workers
-  pub layout : IsLayout plan.header.now.layout
   pub few : length shown.parts.now ≤ 1024
   pub rise : CpusRise shown.parts.now
 

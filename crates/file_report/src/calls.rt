@@ -2,7 +2,6 @@
 
 ghost use Rattle.std.specs.Option.{option_map};
 ghost use Rattle.std.specs.Prelude.{◌≡◌, ◌≤◌, [], Err, length, IfOk, IfSome};
-ghost use Rattle.trace_base.specs.Layout.{IsLayout};
 ghost use Rattle.trace_outside.specs.Causes.{Rose, raised};
 ghost use Rattle.trace_outside.specs.Pending.{PutsText, on_way};
 ghost use Rattle.subpage.specs.Arrangement.{CpusRise};
@@ -72,7 +71,6 @@ fn gathered<I: File>(
     chosen: &[(u32, Part)],
     file: &mut I,
 ) -> Result<Calls, PassFault>
-    requires allowed { IsLayout layout.now }
     requires few { length chosen.now ≤ 1024 }
     requires rise { CpusRise chosen.now }
     ensures list { IfSome (I.bytes file.old) (λ bytes. IfOk result (λ calls. calls.list.items ≡ reached_calls context.now layout.now bytes chosen.now)) }

@@ -45,7 +45,7 @@ pub fn print_report<R: Threads + Sync, I: File, O: Sink, G: Gate>(
     file: &mut I,
     out: &mut O,
 ) -> Status
-    requires asked { IsAsked (report_view plan.now.words.now) filters.items plan.now.header.now }
+    requires asked { IsAsked (report_view plan.now.words.now) filters.items }
     requires inside { plan.now.header.now.end ≤ I.size file.old }
     requires parts { IsBody plan.now.header.now.cpus plan.now.header.now.body }
     requires few { plan.now.header.now.cpus ≤ 1024 }
@@ -71,7 +71,7 @@ fn print_parts<R: Threads + Sync, I: File, O: Sink, G: Gate>(
     file: &mut I,
     out: &mut O,
 ) -> Status
-    requires asked { IsAsked (report_view plan.now.words.now) filters.items plan.now.header.now }
+    requires asked { IsAsked (report_view plan.now.words.now) filters.items }
     requires few { length parts.now ≤ 1024 }
     ensures { Reported (chosen_task (report_view plan.now.words.now) plan.now.header.now parts.now) (I.bytes file.old) result
         (at_work I.File O.Sink file.old out.old) (at_work I.File O.Sink file.new out.new) }

@@ -1,7 +1,6 @@
 ghost use Rattle.std.specs.Prelude.{◌≡◌, ◌≤◌, Err, All, IfOk, IfSome, sum_by};
 ghost use Rattle.trace_outside.specs.Causes.{Rose, raised};
 ghost use Rattle.trace_outside.specs.Keeping.{KeepsFile};
-ghost use Rattle.trace_base.specs.Layout.{IsLayout};
 ghost use Rattle.subpage.specs.Arrangement.{CpusRise};
 ghost use Rattle.subpage.specs.Cut.{cut_of};
 ghost use Rattle.event_cursor.specs.Standing.{IsInOrder};
@@ -41,7 +40,6 @@ pub fn gather_calls<F: File>(
     file: &mut F,
     lanes: &mut [Lane],
 ) -> Result<Calls, PassFault>
-    requires allowed { IsLayout layout.now }
     requires fresh { All (λ lane. IsFresh lane.cursor) lanes.old }
     requires in_order { All (IsInOrder layout.now) lanes.old }
     requires rise { CpusRise (parts_of lanes.old) }

@@ -1,5 +1,4 @@
 ghost use Rattle.std.specs.Prelude.{◌≡◌, ◌≤◌, [], Err, All, IfOk, IfSome, OnOk, length, filter, sum_by};
-ghost use Rattle.trace_base.specs.Layout.{IsLayout};
 ghost use Rattle.trace_outside.specs.Causes.{Rose, raised};
 ghost use Rattle.trace_outside.specs.Keeping.{KeepsFile};
 ghost use Rattle.subpage.specs.Arrangement.{CpusRise};
@@ -49,7 +48,6 @@ pub fn pass<G: Gatherer, F: File>(
     lanes: &mut [Lane],
     gathered: &mut G::Gathered,
 ) -> Result<Option<(u32, u64)>, PassFault>
-    requires allowed { IsLayout layout.now }
     requires fresh { All (λ lane. IsFresh lane.cursor) lanes.old }
     requires in_order { All (IsInOrder layout.now) lanes.old }
     requires rise { CpusRise (parts_of lanes.old) }

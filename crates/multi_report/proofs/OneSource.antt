@@ -6,6 +6,7 @@ use Rattle.std.proofs.lemmas.List.{take_all, drop_all, append-nil, get_or_defaul
 use Rattle.std.proofs.lemmas.List.Elements.{All-set}
 use Rattle.std.proofs.lemmas.List.Sums.{sum_by-set}
 use Rattle.trace_base.specs.declared.layout.Layout.{Layout}
+use Rattle.trace_base.proofs.Layouts.{carried}
 use Rattle.trace_base.specs.declared.part.Part.{Part}
 use Rattle.trace_outside.specs.Causes.{raised}
 use Rattle.line_holes.specs.Holes.{LineText}
@@ -76,10 +77,9 @@ module _ (name : List ℕ) (cpus : ℕ) (layout : Layout) (text : ℕ → ItemDa
         told = refl;
         size = refl;
         faults = le;
-        reads = omega (arith, reads, less, all_reading_in layout size now (omega (arith, usable.layout.page_least)));
+        reads = omega (arith, reads, less, all_reading_in layout size now (omega (arith, (carried layout).page_least)));
       };
       usable = record {
-        layout = usable.layout;
         in_order = in_order;
         rise = subst (λ (ps : List (ℕ × Part)). CpusRise ps) (sym parts) usable.rise;
         slots = slots ∙ usable.slots ∙ sym (same_length now lanes parts);
@@ -141,7 +141,6 @@ module _ (name : List ℕ) (cpus : ℕ) (layout : Layout) (text : ℕ → ItemDa
     reads = refl;
     unread = stepping_unread layout size lanes i d lane lt stepped;
     usable = record {
-      layout = usable.layout;
       in_order = All-set (IsInOrder layout) lanes i lane in_order usable.in_order;
       rise = subst (λ (ps : List (ℕ × Part)). CpusRise ps) (sym (still_parts layout lanes i d lane lt stepped)) usable.rise;
       slots = usable.slots ∙ sym (length-set lanes i lane);

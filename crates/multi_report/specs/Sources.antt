@@ -1,7 +1,6 @@
 -- Several files that are gone through at once, each with its lanes.
 use Rattle.std.specs.Prelude.{◌≡◌, ◌<◌, ◌≤◌, ℕ, List, [], length, map, slice_index_or, Option, IsSome, unwrap_or, sum_by}
 use Rattle.std.specs.List.{All}
-use Rattle.trace_base.specs.Layout.{IsLayout}
 use Rattle.trace_base.specs.declared.layout.Layout.{Layout}
 use Rattle.trace_outside.specs.Causes.{raised}
 use Rattle.trace_outside.specs.declared.outside.File as file
@@ -47,7 +46,6 @@ seen f text source = record {
 
 -- The lanes are those of processors whose numbers rise, what their cursors say is so, and the tree has a slot for each.
 pub record IsUsable (source : Seen) : Type 0 where
-  pub layout : IsLayout source.layout
   pub in_order : All (IsInOrder source.layout) source.lanes
   pub rise : CpusRise (parts_of source.lanes)
   pub slots : length source.nexts ≡ length source.lanes

@@ -1,7 +1,6 @@
 // What a report's lines stand on: formats and names, read from the header's texts, and what the words ask for.
 
 ghost use Rattle.std.specs.Prelude.{◌≡◌, map, IfOk};
-ghost use Rattle.trace_base.specs.Layout.{IsLayout};
 ghost use Rattle.format_parse.specs.Table.{formats_in, with_formats};
 ghost use Rattle.trace_args.specs.Command.{report_view};
 ghost use Rattle.report_context.specs.Context as spec;
@@ -25,7 +24,6 @@ pub fn context_of(
     filters: Vec<FilterUse>,
     header: &Header,
 ) -> Result<Context, AllocError>
-    requires allowed { IsLayout header.now.layout }
     requires filters { uses_in (report_view words.now).filters ≡ map use_of filters.items }
     ensures { IfOk result (λ context. context ≡ spec.context_of (report_view words.now) header.now) }
 {

@@ -1,5 +1,4 @@
 ghost use Rattle.std.specs.Prelude.{◌≡◌, ◌≤◌, [], All, IfSome, length, sum_by};
-ghost use Rattle.trace_base.specs.Layout.{IsLayout};
 ghost use Rattle.trace_outside.specs.Causes.{Rose, raised};
 ghost use Rattle.trace_outside.specs.Keeping.{KeepsFile, KeepsSink};
 ghost use Rattle.subpage.specs.Arrangement.{CpusRise};
@@ -40,7 +39,6 @@ pub fn report_rounds<R: Threads + Sync, F: File, L: Form, G: Gate, O: Sink>(
     work: &mut RoundWork,
     out: &mut O,
 ) -> End
-    requires allowed { IsLayout layout.now }
     requires workers { (1 ≤ workers.now.count) × (workers.now.count ≤ 64) }
     requires start { All (IsAtStart layout.now) lanes.old }
     requires room { All (HasRoom (L.text form.now)) lanes.old }

@@ -5,7 +5,6 @@ use Rattle.std.specs.FinMap.{get}
 use Rattle.std.specs.List.{All}
 use Rattle.trace_base.specs.declared.layout.Layout.{Layout}
 use Rattle.trace_base.specs.declared.part.Part.{Part}
-use Rattle.trace_base.specs.Layout.{IsLayout}
 use Rattle.trace_outside.specs.Causes.{Rose, raised}
 use Rattle.trace_outside.specs.declared.counts.Counts.{Counts}
 use Rattle.trace_outside.specs.Folders.{Closes, IsFileOf, Opens, misses_after}
@@ -49,9 +48,8 @@ size_same : (parts : List (ℕ × Part)) → parts_size (with_bytes parts) ≡ p
 size_same parts = sum_same (λ (part : ℕ × Part). part.1.size) parts (λ part none. none)
 
 module _ (words : ReportData) (header : Header) (basis : Basis) (is : IsBasis words header basis) where
-  pub basis_usable : (name : List ℕ) (file : FileSeen) → IsLayout header.layout → IsUsable (seen_with name file basis)
-  basis_usable name file allowed = record {
-    layout = subst IsLayout (sym is.layout) allowed;
+  pub basis_usable : (name : List ℕ) (file : FileSeen) → IsUsable (seen_with name file basis)
+  basis_usable name file = record {
     in_order = subst (λ (l : Layout). All (IsInOrder l) basis.pool) (sym is.layout) (unused_in_order header.layout 0 basis.pool is.unused);
     rise = subst (λ (ps : List (ℕ × Part)). CpusRise ps) (sym is.parts) (rise_same (shown_parts words.cpus header.body) (shown_rise words.cpus header.body));
     slots = is.slots;
@@ -118,7 +116,7 @@ pub source_opened : (words : ReportData) (name : List ℕ) (file : FileSeen) (by
     → IfSome before.files (λ files. now.counts.misses ≡ misses_after files name before.counts.misses)
     → IsOpened words name (seen_with name file basis) before now
 source_opened words name file bytes reads basis before now files is kept none read counts faultless same requested misses = record {
-  usable = basis_usable words read.header basis read.stands name file read.layout;
+  usable = basis_usable words read.header basis read.stands name file;
   fresh = basis_fresh words read.header basis read.stands name file;
   files = files;
   counts = counts;

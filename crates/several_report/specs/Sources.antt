@@ -8,7 +8,6 @@ use Rattle.trace_outside.specs.Folders.{misses_after}
 use Rattle.trace_outside.specs.Memory.{KeepsFaults}
 use Rattle.trace_outside.specs.declared.outside.File as outside_file
 use Rattle.trace_outside.specs.Names.{NamedFiles}
-use Rattle.trace_base.specs.Layout.{IsLayout}
 use Rattle.dat_header.specs.declared.header.Header.{Header}
 use Rattle.dat_header.specs.Header.{IsRefusal, ReadsHeader}
 use Rattle.subpage.specs.WithBytes.{with_bytes}
@@ -81,7 +80,6 @@ pub record IsBasis (words : ReportData) (header : Header) (basis : Basis) : Type
 pub record IsRead (words : ReportData) (told : Option (List ℕ)) (before now : ℕ) (basis : Basis) : Type 0 where
   pub header : Header
   pub read : ReadsHeader told (Ok header)
-  pub layout : IsLayout header.layout
   pub stands : IsBasis words header basis
   pub reads : now ≤ raised before header.end
 

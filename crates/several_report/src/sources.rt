@@ -1,7 +1,6 @@
 // The inputs of a report of several files: opened one by one with their headers, and closed on every way out.
 
 ghost use Rattle.std.specs.Prelude.{◌≡◌, ◌≤◌, ◌<◌, ◌+◌, [], List, ℕ, All, Contains, IfErr, IfOk, OnOk, length, map, vec_capacity, vec_len};
-ghost use Rattle.trace_base.specs.Layout.{IsLayout};
 ghost use Rattle.trace_outside.specs.Folders.{Closes};
 ghost use Rattle.dat_header.specs.Allowed.{IsBody};
 ghost use Rattle.subpage.specs.WithBytes.{with_bytes};
@@ -70,7 +69,6 @@ fn lanes_over(alloc: Global, page: u32, parts: &[(u32, Part)]) -> Result<Pool, A
 // What the lines of a file with this header stand on. The filters of the words are read for each file.
 #[tactic(auto, using(run_words::proofs::Usages::uses_known))]
 fn basis_of(alloc: Global, words: &ReportWords<'_>, header: &Header) -> Result<Basis, AllocError>
-    requires layout { IsLayout header.now.layout }
     requires few { header.now.cpus ≤ 1024 }
     requires parts { IsBody header.now.cpus header.now.body }
     ensures { IfOk result (λ basis. IsBasis (report_view words.now) header.now basis) }

@@ -13,7 +13,7 @@ use Rattle.dat_header.specs.declared.header.Header.{Header}
 use Rattle.dat_header.specs.Allowed.{IsHeader}
 use Rattle.dat_header.specs.Header.{header_of}
 use Rattle.dat_header.specs.Written.{header_text, written}
-use Rattle.dat_header.proofs.Headers.{header_layout}
+use Rattle.trace_base.proofs.Layouts.{carried}
 use Rattle.dat_header.proofs.HeaderLaws.{reads_back, written_spelled}
 use Rattle.subpage.specs.ItemData.{ItemData}
 use Rattle.subpage.specs.Processor.{list_of, bad_of}
@@ -81,7 +81,7 @@ pub reads_back_all : (header : Header) (lists : List (List ItemData)) → IsHead
 unfolding file_text front_text table_of
 reads_back_all header lists allowed each packable short =
     let layout = header.layout in
-    let is_layout = header_layout header allowed in
+    let is_layout = carried header.layout in
     let parts = table_of header lists in
     let head = header_text header parts in
     let padding = zeros (front_len header - length head) in

@@ -1,6 +1,5 @@
 ghost use Rattle.std.specs.Prelude.{◌≡◌, [], All, length, IfOk, IfSome, OnOk};
 ghost use Rattle.trace_outside.specs.Causes.{HasCause};
-ghost use Rattle.trace_base.specs.Layout.{IsLayout};
 ghost use Rattle.subpage.specs.Arrangement.{CpusRise};
 ghost use Rattle.event_cursor.specs.Standing.{IsInOrder, Stands};
 ghost use Rattle.time_merge.specs.LaneRows.{IsReady, parts_of};
@@ -45,7 +44,6 @@ pub fn measure<F: File>(
     tallies: &mut [Tally],
     nexts: &mut LeastTree,
 ) -> Result<PieceEnd, Failed>
-    requires allowed { IsLayout layout.now }
     requires in_order { All (IsInOrder layout.now) lanes.old }
     requires rise { CpusRise (parts_of lanes.old) }
     requires long { length tallies.old ≡ length lanes.old }

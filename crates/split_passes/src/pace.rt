@@ -1,7 +1,6 @@
 // What a piece takes at once after an item, and when it pays to look for it.
 
 ghost use Rattle.std.specs.Prelude.{◌≡◌, All, length, slice_index_or};
-ghost use Rattle.trace_base.specs.Layout.{IsLayout};
 ghost use Rattle.subpage.specs.Arrangement.{CpusRise};
 ghost use Rattle.page_pool.specs.declared.lane.Lane.{Lane};
 ghost use Rattle.event_cursor.specs.Standing.{IsInOrder};
@@ -86,7 +85,6 @@ fn try_round(
     tallies: &mut [Tally],
     pace: &mut Pace,
 ) -> bool
-    requires allowed { IsLayout layout.now }
     requires in_order { All (IsInOrder layout.now) lanes.old }
     requires long { length tallies.old ≡ length lanes.old }
     ensures in_order { All (IsInOrder layout.now) lanes.new }
@@ -119,7 +117,6 @@ fn try_turn(
     tally: &mut Tally,
     pace: &mut Pace,
 )
-    requires allowed { IsLayout layout.now }
     requires in_order { All (IsInOrder layout.now) lanes.old }
     requires rise { CpusRise (parts_of lanes.old) }
     requires in_step { IsInStepBut layout.now lanes.old nexts.now i }
@@ -150,7 +147,6 @@ pub(crate) fn take_more(
     tallies: &mut [Tally],
     pace: &mut Pace,
 ) -> Option<usize>
-    requires allowed { IsLayout layout.now }
     requires in_order { All (IsInOrder layout.now) lanes.old }
     requires rise { CpusRise (parts_of lanes.old) }
     requires in_step { IsInStepBut layout.now lanes.old nexts.now i }

@@ -2,7 +2,6 @@
 
 ghost use Rattle.std.specs.Prelude.{◌≡◌, ◌<◌, ℕ, All, IfSome, true, length};
 ghost use Rattle.trace_base.specs.declared.layout.Layout.{Layout};
-ghost use Rattle.trace_base.specs.Layout.{IsLayout};
 ghost use Rattle.event_cursor.specs.Standing.{IsInOrder, held_left};
 ghost use Rattle.split_passes.specs.Rounds.{ComesBy, HeadTaken, IsLaneTaken, IsReach, IsRoundTaken, IsSomeTaken, ReachesPast};
 
@@ -35,7 +34,6 @@ fn comes_by(lane: &Lane, until: u64) -> bool
 
 // Takes the next item of a lane.
 fn take_head(layout: &Layout, lane: &mut Lane, tally: &mut Tally)
-    requires allowed { IsLayout layout.now }
     requires in_order { IsInOrder layout.now lane.old }
     requires held { lane.old.cursor.state ≡ LaneState.Held }
     requires some { 0 < length (held_left layout.now lane.old) }
@@ -50,7 +48,6 @@ fn take_head(layout: &Layout, lane: &mut Lane, tally: &mut Tally)
 
 // Takes some items of a lane with keys up to this one: a run, and where there is none, the next item.
 fn take_some(layout: &Layout, lane: &mut Lane, until: u64, tally: &mut Tally)
-    requires allowed { IsLayout layout.now }
     requires in_order { IsInOrder layout.now lane.old }
     requires comes { ComesBy layout.now until lane.old true }
     ensures in_order { IsInOrder layout.now lane.new }
@@ -64,7 +61,6 @@ fn take_some(layout: &Layout, lane: &mut Lane, until: u64, tally: &mut Tally)
 
 // Takes all items of a lane with keys up to this one, and gives their number.
 fn take_lane(layout: &Layout, lane: &mut Lane, until: u64, tally: &mut Tally) -> u64
-    requires allowed { IsLayout layout.now }
     requires in_order { IsInOrder layout.now lane.old }
     ensures in_order { IsInOrder layout.now lane.new }
     ensures taken { (most : ℕ) → ReachesPast layout.now until most lane.old
@@ -109,7 +105,6 @@ pub fn take_round(
     gauge: &mut Gauge,
     tallies: &mut [Tally],
 ) -> Option<u64>
-    requires allowed { IsLayout layout.now }
     requires in_order { All (IsInOrder layout.now) lanes.old }
     requires long { length tallies.old ≡ length lanes.old }
     ensures in_order { All (IsInOrder layout.now) lanes.new }

@@ -1,7 +1,6 @@
 // Runs of plain records on their way from one sub-buffer into another.
 
 ghost use Rattle.std.specs.Prelude.{◌≡◌, ◌≤◌, IfSome};
-ghost use Rattle.trace_base.specs.Layout.{IsLayout};
 ghost use Rattle.page_pool.specs.Keeping.{KeepsLane, stepping};
 ghost use Rattle.event_cursor.specs.Standing.{IsInOrder};
 ghost use Rattle.split_passes.specs.Runs.{IsRunPacked, RunFits};
@@ -18,7 +17,6 @@ const MOST: u64 = 1 << 31;
 // The run of plain records at a lane's place, where the item packed last stands right before it: as many as the open
 // sub-buffer has room for.
 fn next_run(layout: &Layout, lane: &Lane, packer: &Packer<'_>, most: u64) -> Option<(Mark, u32)>
-    requires allowed { IsLayout layout.now }
     requires in_order { IsInOrder layout.now lane.now }
     requires held { lane.now.cursor.state ≡ LaneState.Held }
     requires same { packer.now.layout ≡ layout.now }
@@ -43,7 +41,6 @@ fn next_run(layout: &Layout, lane: &Lane, packer: &Packer<'_>, most: u64) -> Opt
 /// Packs the run of plain records at a lane's place, where the item packed last stands right before it: at most so many, as
 /// many as the open sub-buffer has room for. It gives their number.
 pub fn pack_run(layout: &Layout, lane: &mut Lane, packer: &mut Packer<'_>, most: u64) -> u64
-    requires allowed { IsLayout layout.now }
     requires in_order { IsInOrder layout.now lane.old }
     requires held { lane.old.cursor.state ≡ LaneState.Held }
     requires same { packer.old.layout ≡ layout.now }

@@ -1,7 +1,6 @@
 // Runs of plain records that a piece takes at once.
 
 ghost use Rattle.std.specs.Prelude.{◌≡◌, ◌≤◌, ℕ, All, IfSome, false, length, slice_index_or};
-ghost use Rattle.trace_base.specs.Layout.{IsLayout};
 ghost use Rattle.subpage.specs.Arrangement.{CpusRise};
 ghost use Rattle.page_pool.specs.Keeping.{KeepsLane, stepping};
 ghost use Rattle.page_pool.specs.declared.lane.Lane.{Lane};
@@ -44,7 +43,6 @@ fn limits_of(
     gauge: &Gauge,
     tally: &Tally,
 ) -> Option<RunLimits>
-    requires { IsLayout layout.now }
     ensures { IfSome result (λ limits. LimitsAllow layout.now turn stop gauge.now tally.now limits) }
 {
     let Some(allowance) = gauge.allows() else {
@@ -95,7 +93,6 @@ pub(crate) fn take_run(
     gauge: &mut Gauge,
     tally: &mut Tally,
 )
-    requires allowed { IsLayout layout.now }
     requires in_order { IsInOrder layout.now lane.old }
     requires held { lane.old.cursor.state ≡ LaneState.Held }
     ensures in_order { IsInOrder layout.now lane.new }
@@ -126,7 +123,6 @@ pub(crate) fn take_turn(
     gauge: &mut Gauge,
     tally: &mut Tally,
 )
-    requires allowed { IsLayout layout.now }
     requires in_order { All (IsInOrder layout.now) lanes.old }
     requires rise { CpusRise (parts_of lanes.old) }
     requires in_step { IsInStepBut layout.now lanes.old nexts.now i }

@@ -17,7 +17,7 @@ use Rattle.dat_header.specs.declared.header.Header.{Header}
 use Rattle.dat_header.specs.Allowed.{IsHeader, IsPageSize}
 use Rattle.dat_header.specs.Header.{header_of}
 use Rattle.dat_header.specs.Written.{header_text, without_instances}
-use Rattle.dat_header.proofs.Headers.{header_layout}
+use Rattle.trace_base.proofs.Layouts.{carried}
 use Rattle.subpage.specs.ItemData.{ItemData, item_time}
 use Rattle.subpage.specs.Processor.{list_of}
 use Rattle.subpage.specs.Arrangement.{Keyed, cpu_of, with_key, key_of, by_key, keyed_from, all_keyed, arranged}
@@ -140,7 +140,7 @@ text_most : (header : Header) (xs : List Keyed) (n : ℕ) → IsHeader header �
 unfolding file_text
 text_most header xs n allowed told few =
     let l = header.layout in
-    let layout = header_layout header allowed in
+    let layout = carried header.layout in
     let lists = lists_of header.cpus xs in
     let table = table_of header lists in
     let owned : items_in lists ≤ n = omega (arith, owned_few header.cpus xs, few) in
@@ -261,7 +261,7 @@ pub files_back : (words : SplitData) (header : Header) (bytes : List ℕ) (parts
     → ReadBack (without_instances header) (file_items (rules_of words) header.layout bytes parts) (new_files words (without_instances header) bytes parts)
 files_back words header bytes parts are read is small some =
     let l = header.layout in
-    let layout = header_layout header is in
+    let layout = carried header.layout in
     let rules = rules_of words in
     let lists = lists_to_cut rules l bytes parts in
     named_back (without_instances header) words.base 1 (length parts * length bytes) (file_items rules l bytes parts) (still_header header is)

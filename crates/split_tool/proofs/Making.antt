@@ -18,7 +18,7 @@ use Rattle.trace_outside.specs.Folders.{IsEmptySink, Stores}
 use Rattle.trace_outside.specs.Writing.{Gained}
 use Rattle.dat_header.specs.declared.header.Header.{Header}
 use Rattle.dat_header.specs.Allowed.{IsHeader}
-use Rattle.dat_header.proofs.Headers.{header_layout}
+use Rattle.trace_base.proofs.Layouts.{carried}
 use Rattle.subpage.specs.Arrangement.{Keyed, CpusRise, all_keyed}
 use Rattle.subpage.specs.Cut.{reached_of, lists_of as lists_in}
 use Rattle.page_pool.specs.Fresh.{IsFresh}
@@ -150,7 +150,7 @@ progress_none header words rules file first now old allowed is rise cpus fresh p
     let items : files_of rules (lists_left l file rules now) ≡ file_items (rules_of words) l file (parts_of first) =
     ap (files_of rules) lists ∙ ap (λ (r : Rules). file_items r l file (parts_of first)) is in
     let news : new_files words header file (parts_of first) ≡ files_from header words.base 1 (files_of rules (lists_left l file rules now)) = ap (files_from header words.base 1) (sym items) in
-    let layout = header_layout header allowed in
+    let layout = carried header.layout in
     let lanes : length first ≤ header.cpus = few_lanes header.cpus first rise cpus in
     let few : length (joined_lists (lists_left l file rules now)) ≤ length first * length file =
     let cut = cut_few l file rules (parts_of first) layout in

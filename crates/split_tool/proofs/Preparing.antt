@@ -11,7 +11,7 @@ use Rattle.trace_outside.specs.Writing.{Gained}
 use Rattle.trace_outside.proofs.Gains.{gained_both}
 use Rattle.dat_header.specs.declared.header.Header.{Header}
 use Rattle.dat_header.specs.Allowed.{IsHeader}
-use Rattle.dat_header.proofs.Headers.{header_layout}
+use Rattle.trace_base.proofs.Layouts.{carried}
 use Rattle.subpage.specs.ItemData.{ItemData}
 use Rattle.subpage.specs.Arrangement.{Keyed, CpusRise}
 use Rattle.subpage.specs.Processor.{list_of}
@@ -165,7 +165,7 @@ prepared header file rules first ready now fronts tallies table0 table at ends a
     let taken1 = taken_of l file rules ready in
     let taken = taken_of l file rules first in
     let same : taken1 ≡ taken = ap (next_file rules.unit) (same_lists l file rules ready first rows) in
-    let few : FewEach ready taken1 = few_each l file ready now taken1 (header_layout header allowed) small stands m.lefts in
+    let few : FewEach ready taken1 = few_each l file ready now taken1 (carried header.layout) small stands m.lefts in
     let count : AreCounted l now tallies taken = subst (AreCounted l now tallies) same (counted l file rules ready now tallies later m.tallied few) in
     record {
       left = left_still l file rules first ready now now ends rows refl m.stands (record { stands = m.stands; left = m.left; more = m.more; bad_ends = m.bad_ends; bad = m.bad });

@@ -2,7 +2,6 @@
 
 ghost use Rattle.std.specs.Prelude.{◌≡◌, ◌-◌, ◌≤◌, ◌&&◌, ◌||◌, false, not, [], All, IfOk, IfSome, None, OnOk, length};
 ghost use Rattle.std.specs.Option.{option_or};
-ghost use Rattle.trace_base.specs.Layout.{IsLayout};
 ghost use Rattle.trace_outside.specs.Causes.{HasCause, raised};
 ghost use Rattle.subpage.specs.Arrangement.{CpusRise};
 ghost use Rattle.event_cursor.specs.Standing.{IsInOrder, Stands};
@@ -99,7 +98,6 @@ fn measure_list<F: File>(
     nexts: &mut LeastTree,
     before: Ends,
 ) -> Result<Ends, Failed>
-    requires allowed { IsLayout layout.now }
     requires in_order { All (IsInOrder layout.now) lanes.old }
     requires rise { CpusRise (parts_of lanes.old) }
     requires slots { length nexts.old ≡ length lanes.old }
@@ -136,7 +134,6 @@ pub(crate) fn measure_lists<F: File>(
     nexts: &mut LeastTree,
     next: &mut LeastTree,
 ) -> Result<Ends, Failed>
-    requires allowed { IsLayout layout.now }
     requires in_order { All (IsInOrder layout.now) lanes.old }
     requires rise { CpusRise (parts_of lanes.old) }
     requires slots { length nexts.old ≡ length lanes.old }

@@ -1,7 +1,6 @@
 // The items before the start.
 
 ghost use Rattle.std.specs.Prelude.{◌≡◌, ◌-◌, ◌≤◌, All, IfSome, OnOk, Some, length};
-ghost use Rattle.trace_base.specs.Layout.{IsLayout};
 ghost use Rattle.trace_outside.specs.Causes.{HasCause, raised};
 ghost use Rattle.subpage.specs.Arrangement.{CpusRise, Keyed};
 ghost use Rattle.page_pool.specs.declared.lane.Lane.{Lane};
@@ -41,7 +40,6 @@ fn pass_list<F: File>(
     start: Moment,
     nexts: &mut LeastTree,
 ) -> Result<(), Failed>
-    requires allowed { IsLayout layout.now }
     requires in_order { All (IsInOrder layout.now) lanes.old }
     requires rise { CpusRise (parts_of lanes.old) }
     requires slots { length nexts.old ≡ length lanes.old }
@@ -81,7 +79,6 @@ pub(crate) fn pass_start<F: File>(
     nexts: &mut LeastTree,
     next: &mut LeastTree,
 ) -> Result<(), Failed>
-    requires allowed { IsLayout layout.now }
     requires in_order { All (IsInOrder layout.now) lanes.old }
     requires rise { CpusRise (parts_of lanes.old) }
     requires slots { length nexts.old ≡ length lanes.old }

@@ -3,7 +3,6 @@
 
 ghost use Rattle.std.specs.Option.{option_map};
 ghost use Rattle.std.specs.Prelude.{Ok, ◌≡◌, ◌≤◌, map, IfSome};
-ghost use Rattle.trace_base.specs.Layout.{IsLayout};
 ghost use Rattle.trace_outside.specs.Causes.{Rose, raised};
 ghost use Rattle.dat_header.specs.Allowed.{IsHeader};
 ghost use Rattle.dat_header.specs.Header.{ReadsHeader};
@@ -146,7 +145,6 @@ fn run_on_header<R: Threads + Sync, F: Folder, O: Sink, G: Gate>(
     requires words { IsAllowed (command_view command.now) }
     requires filters { uses_in (command_filters (command_view command.now)) ≡ map use_of filters.items }
     requires allowed { IsHeader header }
-    requires layout { IsLayout header.layout }
     requires read { ReadsHeader (F.In.bytes file.old) (Ok header) }
     requires inside { header.end ≤ F.In.size file.old }
     ensures worked { Worked (command_view command.now) (Rose (F.In.faults file.old) (F.In.faults file.new))

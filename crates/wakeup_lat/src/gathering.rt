@@ -1,5 +1,4 @@
 ghost use Rattle.std.specs.Prelude.{◌≡◌, ◌≤◌, IfOk, IfSome, Err, length, sum_by};
-ghost use Rattle.trace_base.specs.Layout.{IsLayout};
 ghost use Rattle.trace_outside.specs.Causes.{Rose, raised};
 ghost use Rattle.trace_outside.specs.Keeping.{KeepsFile};
 ghost use Rattle.subpage.specs.Arrangement.{CpusRise};
@@ -29,7 +28,6 @@ pub fn gather<F: File>(
     file: &mut F,
     parts: &[(u32, Part)],
 ) -> Result<Wakeups, PassFault>
-    requires allowed { IsLayout layout.now }
     requires few { length parts.now ≤ 1024 }
     requires rise { CpusRise parts.now }
     ensures pairs { IfSome (F.bytes file.old) (λ bytes. IfOk result (λ wakeups.

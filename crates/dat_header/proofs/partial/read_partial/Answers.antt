@@ -1,8 +1,5 @@
 use Rattle.std.proofs.Common.{arith}
-use Rattle.std.proofs.lemmas.Result.{IfOk-weaker}
-use Rattle.trace_base.specs.Layout.{IsLayout}
-use Rattle.dat_header.specs.Partial.{IsPartial}
-use Rattle.dat_header.proofs.Headers.{header_layout, reads_whole}
+use Rattle.dat_header.proofs.Headers.{reads_whole}
 use Rattle.dat_header.proofs.partial.read_partial.Goals as goal
 
 pub returns-clause-answer : goal.returns-clause-answer
@@ -19,6 +16,3 @@ returns-clause-reads g c = reads_whole _ _ _ c.read_partial_pieces.ensures.steps
 
 pub returns-clause-most : goal.returns-clause-most
 returns-clause-most g c = omega (arith, c.read_partial_pieces.ensures.steps.most)
-
-pub returns-clause-layout : goal.returns-clause-layout
-returns-clause-layout g c = IfOk-weaker c.read_partial_pieces.result IsPartial (λ header. IsLayout header.layout) (λ header is. header_layout header is.allowed) c.read_partial_pieces.ensures.partial

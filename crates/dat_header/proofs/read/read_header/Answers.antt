@@ -1,8 +1,7 @@
 use Rattle.std.proofs.Common.{◌≤◌, arith}
 use Rattle.std.proofs.lemmas.Result.{IfOk-weaker}
 use Rattle.dat_header.specs.Allowed.{IsHeader, IsBody}
-use Rattle.trace_base.specs.Layout.{IsLayout}
-use Rattle.dat_header.proofs.Headers.{header_layout, reads_whole}
+use Rattle.dat_header.proofs.Headers.{reads_whole}
 use Rattle.dat_header.proofs.read.read_header.Goals as goal
 
 pub returns-clause-answer : goal.returns-clause-answer
@@ -19,9 +18,6 @@ returns-clause-reads g c = reads_whole _ _ _ c.read_pieces.ensures.steps.reads
 
 pub returns-clause-most : goal.returns-clause-most
 returns-clause-most g c = omega (arith, c.read_pieces.ensures.steps.most)
-
-pub returns-clause-layout : goal.returns-clause-layout
-returns-clause-layout g c = IfOk-weaker c.read_pieces.result IsHeader (λ header. IsLayout header.layout) header_layout c.read_pieces.ensures.allowed
 
 pub returns-clause-cpus : goal.returns-clause-cpus
 returns-clause-cpus g c = IfOk-weaker c.read_pieces.result IsHeader (λ header. header.cpus ≤ 1024) (λ header is. is.cpus) c.read_pieces.ensures.allowed

@@ -2,6 +2,7 @@ use Rattle.std.proofs.Common.{refl, arith, ◌<◌, [], length, set, sym, ap, �
 use Rattle.std.proofs.lemmas.List.{get_or_default, length-set}
 use Rattle.std.proofs.lemmas.List.Elements.{All-set}
 use Rattle.std.proofs.lemmas.Result.{err_from_is_err_and}
+use Rattle.trace_base.proofs.Layouts.{carried}
 use Rattle.page_pool.specs.declared.lane.Lane.{Lane}
 use Rattle.event_cursor.specs.Keys.{first_of}
 use Rattle.event_cursor.specs.Standing.{IsInOrder, keyed_held}
@@ -96,20 +97,20 @@ returns-in-Malformed-clause-cut g c =
 
 pub returns-in-Err-clause-reads : goal.returns-in-Err-clause-reads
 returns-in-Err-clause-reads g c =
-    reads_inside c.args.layout.now (g.F.File.size c.args.file.now) (g.F.File.size c.loop-nexts.file) c.args.lanes.now c.loop-nexts.lanes c.next_lane_by.new.lanes _ _ _ (omega (arith, c.requires.allowed.page_least))
+    reads_inside c.args.layout.now (g.F.File.size c.args.file.now) (g.F.File.size c.loop-nexts.file) c.args.lanes.now c.loop-nexts.lanes c.next_lane_by.new.lanes _ _ _ (omega (arith, (carried c.args.layout.now).page_least))
     c.loop-nexts.invariant.keeps.size c.loop-nexts.invariant.reads c.loop-nexts.invariant.unread c.next_lane_by.ensures.loads.reads c.next_lane_by.ensures.loads.unread
 
 pub returns-in-Done-clause-reads : goal.returns-in-Done-clause-reads
 returns-in-Done-clause-reads g c =
-    reads_inside c.args.layout.now (g.F.File.size c.args.file.now) (g.F.File.size c.loop-nexts.file) c.args.lanes.now c.loop-nexts.lanes c.next_lane_by.new.lanes _ _ _ (omega (arith, c.requires.allowed.page_least))
+    reads_inside c.args.layout.now (g.F.File.size c.args.file.now) (g.F.File.size c.loop-nexts.file) c.args.lanes.now c.loop-nexts.lanes c.next_lane_by.new.lanes _ _ _ (omega (arith, (carried c.args.layout.now).page_least))
     c.loop-nexts.invariant.keeps.size c.loop-nexts.invariant.reads c.loop-nexts.invariant.unread c.next_lane_by.ensures.loads.reads c.next_lane_by.ensures.loads.unread
 
 pub returns-in-Malformed-clause-reads : goal.returns-in-Malformed-clause-reads
 returns-in-Malformed-clause-reads g c =
-    reads_inside c.args.layout.now (g.F.File.size c.args.file.now) (g.F.File.size c.loop-nexts.file) c.args.lanes.now c.loop-nexts.lanes c.next_lane_by.new.lanes _ _ _ (omega (arith, c.requires.allowed.page_least))
+    reads_inside c.args.layout.now (g.F.File.size c.args.file.now) (g.F.File.size c.loop-nexts.file) c.args.lanes.now c.loop-nexts.lanes c.next_lane_by.new.lanes _ _ _ (omega (arith, (carried c.args.layout.now).page_least))
     c.loop-nexts.invariant.keeps.size c.loop-nexts.invariant.reads c.loop-nexts.invariant.unread c.next_lane_by.ensures.loads.reads c.next_lane_by.ensures.loads.unread
 
 pub returns-in_err-i-clause-reads : goal.returns-in_err-i-clause-reads
 returns-in_err-i-clause-reads g c =
-    reads_inside c.args.layout.now (g.F.File.size c.args.file.now) (g.F.File.size c.loop-nexts.file) c.args.lanes.now c.loop-nexts.lanes c.next_lane_by.new.lanes _ _ _ (omega (arith, c.requires.allowed.page_least))
+    reads_inside c.args.layout.now (g.F.File.size c.args.file.now) (g.F.File.size c.loop-nexts.file) c.args.lanes.now c.loop-nexts.lanes c.next_lane_by.new.lanes _ _ _ (omega (arith, (carried c.args.layout.now).page_least))
     c.loop-nexts.invariant.keeps.size c.loop-nexts.invariant.reads c.loop-nexts.invariant.unread c.next_lane_by.ensures.loads.reads c.next_lane_by.ensures.loads.unread

@@ -1,5 +1,6 @@
 use Rattle.std.proofs.Common.{◌≡◌, ◌∙◌, ℕ, true, length, replicate, refl, ap, arith}
 use Rattle.std.proofs.lemmas.List.{length-replicate, with_items_is}
+use Rattle.trace_base.proofs.Layouts.{carried}
 use Rattle.trace_outside.proofs.Keeping.{file_kept, file_still, sink_kept, sink_still}
 use Rattle.report_rounds.proofs.DueReads.{due_told}
 use Rattle.report_rounds.proofs.Reading.{less_further, reads_all, reads_ended, reads_further}
@@ -51,7 +52,7 @@ loop-end-preserved g c =
 pub returns-in-Ends-clause-reads : goal.returns-in-Ends-clause-reads
 returns-in-Ends-clause-reads g c =
     reads_ended c.args.layout.now (g.F.File.size c.args.file.now) (g.F.File.size c.loop-end.file) _ _ _ c.args.lanes.now c.loop-end.lanes c.loop-end.invariant.keeps.size c.loop-end.invariant.reads c.loop-end.invariant.unread
-    (reads_all c.args.layout.now _ _ c.loop-end.lanes _ _ (omega (arith, c.requires.allowed.page_least)) c.turn.ensures.loaded)
+    (reads_all c.args.layout.now _ _ c.loop-end.lanes _ _ (omega (arith, (carried c.args.layout.now).page_least)) c.turn.ensures.loaded)
 
 pub returns-in-Ends-clause-report : goal.returns-in-Ends-clause-report
 returns-in-Ends-clause-report g c =
@@ -63,5 +64,5 @@ pub returns-in-Ends-clause-due : goal.returns-in-Ends-clause-due
 returns-in-Ends-clause-due g c =
     due_told (g.L.Form.text c.args.form.now) c.args.layout.now (g.F.File.bytes c.args.file.now) (g.F.File.bytes c.loop-end.file) (g.F.File.size c.args.file.now) (g.F.File.size c.loop-end.file)
     c.args.lanes.now (g.O.Sink.written c.args.out.now) (round_state c.loop-end.lanes c.loop-end.last (g.O.Sink.written c.loop-end.out)) (round_state c.turn.new.lanes c.turn.new.last (g.O.Sink.written c.turn.new.out)) _ _ _ c.in-Ends.end
-    c.loop-end.invariant.keeps.bytes c.loop-end.invariant.keeps.size (g.met.F.File.size_is c.args.file.now) (omega (arith, c.requires.allowed.page_least)) c.requires.start c.loop-end.invariant.between.each
+    c.loop-end.invariant.keeps.bytes c.loop-end.invariant.keeps.size (g.met.F.File.size_is c.args.file.now) (omega (arith, (carried c.args.layout.now).page_least)) c.requires.start c.loop-end.invariant.between.each
     c.loop-end.invariant.parts c.loop-end.invariant.going c.turn.ensures.loaded c.in-Ends.ensures.turned c.loop-end.invariant.unread c.loop-end.invariant.reads

@@ -4,7 +4,6 @@ pub returns-in-Ok-basis_of-clause-read : goal.returns-in-Ok-basis_of-clause-read
 returns-in-Ok-basis_of-clause-read g c = record {
   header = c.in-Ok.header;
   read = c.in-Ok.ensures.answer;
-  layout = c.in-Ok.ensures.layout;
   stands = c.in-Ok-basis_of.ensures;
   reads = c.in-Ok.ensures.reads;
 }

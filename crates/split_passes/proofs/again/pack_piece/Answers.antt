@@ -1,5 +1,6 @@
 use Rattle.std.proofs.Common.{refl, arith, ◌∙◌, ◌≡◌, ◌<◌, []}
 use Rattle.std.proofs.lemmas.Result.{err_from_is_err_and}
+use Rattle.trace_base.proofs.Layouts.{carried}
 use Rattle.trace_outside.specs.Causes.{Rose}
 use Rattle.trace_outside.proofs.Gains.{gained_nothing}
 use Rattle.page_pool.proofs.Keeping.{lane_kept}
@@ -75,7 +76,7 @@ returns-clause-told g c =
 pub returns-then-front-back-clause-told : goal.returns-then-front-back-clause-told
 returns-then-front-back-clause-told g c =
     let many : c.args.count ≡ 0 → ⊥ = c.if-count-eq0.false in
-    told_all _ (g.F.File.bytes c.args.file.now) (λ file s xs f. front_reached c.args.layout.now file c.args.lane.now c.args.front.now c.args.count xs (omega (arith, c.requires.allowed.page_least)) (omega (arith, many)) f s c.if-front-back.true)
+    told_all _ (g.F.File.bytes c.args.file.now) (λ file s xs f. front_reached c.args.layout.now file c.args.lane.now c.args.front.now c.args.count xs (omega (arith, (carried c.args.layout.now).page_least)) (omega (arith, many)) f s c.if-front-back.true)
 
 pub pack_items-requires-clause-held : goal.pack_items-requires-clause-held
 pack_items-requires-clause-held g c = c.in_ok-seek_to.ensures.holds.state
@@ -88,7 +89,7 @@ returns-clause-numbers g c = c.in_ok-go_back.ensures.numbers (λ held. (c.requir
 
 pub returns-clause-reads : goal.returns-clause-reads
 returns-clause-reads g c =
-    let some : 0 < c.args.layout.now.page = omega (arith, c.requires.allowed.page_least) in
+    let some : 0 < c.args.layout.now.page = omega (arith, (carried c.args.layout.now).page_least) in
     let at = c.in_ok-seek_to.ensures.holds.next in
     let stays = c.in_ok-pack_items.ensures.came.stays in
     way_back c.args.layout.now (g.F.File.size c.args.file.now) c.args.lane.now c.args.front.now c.args.count _ _ c.requires.in_order some c.if-count-eq0.false c.if-front-back.false c.seek_to.ensures.reads c.seek_to.ensures.held
@@ -99,7 +100,7 @@ returns-clause-reads g c =
 
 pub returns-in_err-go_back-clause-reads : goal.returns-in_err-go_back-clause-reads
 returns-in_err-go_back-clause-reads g c =
-    let some : 0 < c.args.layout.now.page = omega (arith, c.requires.allowed.page_least) in
+    let some : 0 < c.args.layout.now.page = omega (arith, (carried c.args.layout.now).page_least) in
     let at = c.in_ok-seek_to.ensures.holds.next in
     let stays = c.in_ok-pack_items.ensures.came.stays in
     way_back c.args.layout.now (g.F.File.size c.args.file.now) c.args.lane.now c.args.front.now c.args.count _ _ c.requires.in_order some c.if-count-eq0.false c.if-front-back.false c.seek_to.ensures.reads c.seek_to.ensures.held
@@ -110,13 +111,13 @@ returns-in_err-go_back-clause-reads g c =
 
 pub returns-in_err-seek_to-clause-reads : goal.returns-in_err-seek_to-clause-reads
 returns-in_err-seek_to-clause-reads g c =
-    no_front c.args.layout.now (g.F.File.size c.args.file.now) c.args.lane.now c.args.front.now c.args.count _ _ c.requires.in_order (omega (arith, c.requires.allowed.page_least))
+    no_front c.args.layout.now (g.F.File.size c.args.file.now) c.args.lane.now c.args.front.now c.args.count _ _ c.requires.in_order (omega (arith, (carried c.args.layout.now).page_least))
     c.if-count-eq0.false c.if-front-back.false c.seek_to.ensures.reads c.seek_to.ensures.held
 
 pub returns-in_err-pack_items-clause-reads : goal.returns-in_err-pack_items-clause-reads
 returns-in_err-pack_items-clause-reads g c =
     let at = c.in_ok-seek_to.ensures.holds.next in
-    no_way_back c.args.layout.now (g.F.File.size c.args.file.now) c.args.lane.now c.args.front.now c.args.count _ _ c.requires.in_order (omega (arith, c.requires.allowed.page_least))
+    no_way_back c.args.layout.now (g.F.File.size c.args.file.now) c.args.lane.now c.args.front.now c.args.count _ _ c.requires.in_order (omega (arith, (carried c.args.layout.now).page_least))
     c.if-count-eq0.false c.if-front-back.false c.seek_to.ensures.reads c.seek_to.ensures.held _
     (from_there c.args.layout.now (g.F.File.size c.args.file.now) (g.F.File.size c.seek_to.new.file) c.args.lane.now.part c.args.front.now.page c.seek_to.new.lane _ _ _ c.seek_to.ensures.keeps.size c.seek_to.ensures.part.part at c.pack_items.ensures.goes.reads)
 

@@ -1,4 +1,5 @@
 use Rattle.std.proofs.Common.{◌≡◌, ◌^◌, ◌-◌, ℕ, List, Some, sym, ap, subst, ◌∙◌, arith}
+use Rattle.trace_base.proofs.Layouts.{carried}
 use Rattle.trace_base.specs.declared.layout.Layout.{Layout}
 use Rattle.subpage.specs.ItemData.{last_time}
 use Rattle.subpage.specs.declared.run.RunLimits.{RunLimits}
@@ -12,7 +13,7 @@ pub overflow_cast-room : goal.overflow_cast-room
 overflow_cast-room c =
     let p = c.args.packer.now in
     let page : p.layout.page ≡ c.args.layout.now.page = ap (λ (k : Layout). k.page) c.requires.same in
-    omega (arith, c.room-room.ensures, page, c.requires.allowed.page_most)
+    omega (arith, c.room-room.ensures, page, (carried c.args.layout.now).page_most)
 
 pub plain_run-requires : goal.plain_run-requires
 plain_run-requires c =

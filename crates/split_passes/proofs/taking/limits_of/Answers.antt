@@ -1,10 +1,11 @@
 use Rattle.std.proofs.Common.{arith}
 use Rattle.std.proofs.lemmas.List.Elements.{All-weaker}
+use Rattle.trace_base.proofs.Layouts.{carried}
 use Rattle.split_pieces.specs.Allowing.{IsEventUpTo}
 use Rattle.split_passes.proofs.taking.limits_of.Goals as goal
 
 pub overflow_cast-bytes : goal.overflow_cast-bytes
-overflow_cast-bytes c = omega (arith, c.room-bytes.ensures.most, c.requires.page_most)
+overflow_cast-bytes c = omega (arith, c.room-bytes.ensures.most, (carried c.args.layout.now).page_most)
 
 pub returns : goal.returns
 returns c =

@@ -1,7 +1,7 @@
 use Rattle.std.proofs.Common.{List, [], ◌≡◌, ◌<◌, length, arith, get_or, ap, sym, subst, ◌∙◌}
 use Rattle.std.proofs.lemmas.List.{take_at}
 use Rattle.std.proofs.lemmas.Result.{err_from_is_err_and}
-use Rattle.dat_header.proofs.Headers.{header_layout}
+use Rattle.trace_base.proofs.Layouts.{carried}
 use Rattle.time_merge.proofs.Advancing.{same_length}
 use Rattle.split_passes.specs.declared.tally.Tally.{Tally}
 use Rattle.split_passes.specs.Tallies.{IsTally}
@@ -10,12 +10,6 @@ use Rattle.split_tool.proofs.Budget.{loaded_out, loaded_stops, measured_back, me
 use Rattle.split_tool.proofs.OneLaneOn.{all_done}
 use Rattle.split_tool.proofs.Preparing.{prepared_told, prepared_back}
 use Rattle.split_tool.proofs.files.measure_file.Goals as goal
-
-pub make_all_ready-requires-clause-allowed : goal.make_all_ready-requires-clause-allowed
-make_all_ready-requires-clause-allowed g c = header_layout c.args.plan.now.header.now c.requires.allowed
-
-pub measure_lists-requires-clause-allowed : goal.measure_lists-requires-clause-allowed
-measure_lists-requires-clause-allowed g c = header_layout c.args.plan.now.header.now c.requires.allowed
 
 pub returns-clause-told : goal.returns-clause-told
 returns-clause-told g c =
@@ -48,7 +42,7 @@ returns-clause-reads g c =
     let header = c.args.plan.now.header.now in
     let l = header.layout in
     let size = g.F.File.size c.args.file.now in
-    let some : 0 < l.page = omega (arith, (header_layout header c.requires.allowed).page_least) in
+    let some : 0 < l.page = omega (arith, (carried header.layout).page_least) in
     let work = c.args.work.now in
     let lanes : length c.make_all_ready.new.lanes ≡ length c.args.lanes.now = same_length c.make_all_ready.new.lanes c.args.lanes.now c.make_all_ready.ensures.loads.parts in
     let later : length c.measure_lists.new.lanes ≡ length c.make_all_ready.new.lanes = same_length c.measure_lists.new.lanes c.make_all_ready.new.lanes c.measure_lists.ensures.through.parts in
@@ -69,7 +63,7 @@ returns-clause-reads g c =
 pub returns-in_err-ends-clause-reads : goal.returns-in_err-ends-clause-reads
 returns-in_err-ends-clause-reads g c =
     let layout = c.args.plan.now.header.now.layout in
-    let some : 0 < layout.page = omega (arith, (header_layout c.args.plan.now.header.now c.requires.allowed).page_least) in
+    let some : 0 < layout.page = omega (arith, (carried c.args.plan.now.header.now.layout).page_least) in
     let p = err_from_is_err_and c.from_residual-in_err-ends.result c.from_residual-in_err-ends.ensures.1 in
     rw p.1 (loaded_out layout (g.F.File.size c.args.file.now) some (g.F.File.size c.make_all_ready.new.file) c.args.lanes.now c.make_all_ready.new.lanes _ _ _
     c.make_all_ready.ensures.loads.keeps.size c.in_ok-make_all_ready.ensures.ready c.make_all_ready.ensures.loads.reads c.make_all_ready.ensures.loads.unread
@@ -78,6 +72,6 @@ returns-in_err-ends-clause-reads g c =
 pub returns-in_err-make_all_ready-clause-reads : goal.returns-in_err-make_all_ready-clause-reads
 returns-in_err-make_all_ready-clause-reads g c =
     let layout = c.args.plan.now.header.now.layout in
-    let some : 0 < layout.page = omega (arith, (header_layout c.args.plan.now.header.now c.requires.allowed).page_least) in
+    let some : 0 < layout.page = omega (arith, (carried c.args.plan.now.header.now.layout).page_least) in
     let p = err_from_is_err_and c.from_residual.result c.from_residual.ensures.1 in
     rw p.1 (loaded_stops layout (g.F.File.size c.args.file.now) some c.args.lanes.now c.make_all_ready.new.lanes _ _ c.make_all_ready.ensures.loads.reads c.make_all_ready.ensures.loads.unread)

@@ -2,7 +2,6 @@ use Rattle.std.proofs.Common.{◌≤◌, List, sym, subst}
 use Rattle.trace_base.specs.declared.part.Part.{Part}
 use Rattle.trace_outside.specs.Causes.{raised}
 use Rattle.trace_outside.specs.Writing.{Gained}
-use Rattle.dat_header.proofs.Headers.{header_layout}
 use Rattle.event_cursor.specs.declared.places.Place.{Place}
 use Rattle.event_cursor.proofs.Told.{told_map}
 use Rattle.split_passes.specs.AllAgain.{AreFronts}
@@ -13,9 +12,6 @@ use Rattle.split_file.specs.NewFile.{front_text}
 use Rattle.split_tool.proofs.Preparing.{written_all}
 use Rattle.split_tool.proofs.Spending.{same_to_read}
 use Rattle.split_tool.proofs.files.write_file.Goals as goal
-
-pub pack_all-requires-clause-allowed : goal.pack_all-requires-clause-allowed
-pack_all-requires-clause-allowed g c = header_layout c.args.plan.now.header.now c.requires.allowed
 
 pub returns-clause-told : goal.returns-clause-told
 returns-clause-told g c =

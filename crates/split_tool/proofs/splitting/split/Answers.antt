@@ -2,7 +2,7 @@ use Rattle.std.proofs.Common.{◌≡◌, ◌<◌, ◌+◌, ◌-◌, ◌^◌, inl
 use Rattle.trace_outside.specs.Seen.{folder_seen}
 use Rattle.trace_outside.proofs.Keeping.{file_kept}
 use Rattle.subpage.specs.Arrangement.{CpusRise}
-use Rattle.dat_header.proofs.Headers.{header_layout}
+use Rattle.trace_base.proofs.Layouts.{carried}
 use Rattle.event_cursor.proofs.Told.{told_all, told_both, told_map, told_again}
 use Rattle.trace_args.specs.Command.{split_view}
 use Rattle.split_pieces.specs.declared.rules.Rules.{Rules}
@@ -52,7 +52,7 @@ loop-number-init g c =
           progress_none c.args.plan.now.header.now (split_view c.args.plan.now.words.now) c.rules_of-rules.result file c.args.lanes.now c.pass_start.new.lanes (g.D.Folder.files c.args.folder.now) c.requires.allowed c.rules_of-rules.ensures c.requires.rise c.requires.cpus
           c.requires.fresh c.pass_start.ensures.through.parts (omega (arith, long, size)) (started (fresh_stand c.args.plan.now.header.now.layout file c.args.lanes.now c.requires.fresh)))
           (g.met.F.File.size_is c.args.file.now) c.in-Ok.ensures.told;
-      spent = passed_spent c.args.plan.now.header.now.layout (g.F.File.size c.args.file.now) (omega (arith, (header_layout c.args.plan.now.header.now c.requires.allowed).page_least)) c.args.lanes.now c.pass_start.new.lanes _ _
+      spent = passed_spent c.args.plan.now.header.now.layout (g.F.File.size c.args.file.now) (omega (arith, (carried c.args.plan.now.header.now.layout).page_least)) c.args.lanes.now c.pass_start.new.lanes _ _
           (same_length c.pass_start.new.lanes c.args.lanes.now c.pass_start.ensures.through.parts) c.pass_start.ensures.through.advance c.in-Ok.ensures.reads_done c.pass_start.ensures.through.unread;
       keeps = c.pass_start.ensures.through.keeps;
       counts = record { reading = omega arith; writing = omega arith; unfinished = omega arith; misses = refl; opened = refl; closed = refl; bytes = refl };
@@ -129,9 +129,6 @@ returns-clause-told g c =
     told_map _ _ (g.F.File.bytes c.args.file.now) (λ file p. absurd (omega (arith, p.few)))
     c.loop-number.invariant.progress
 
-pub pass_start-requires-clause-allowed : goal.pass_start-requires-clause-allowed
-pass_start-requires-clause-allowed g c = header_layout c.args.plan.now.header.now c.requires.allowed
-
 pub returns-in_default-clause-created : goal.returns-in_default-clause-created
 returns-in_default-clause-created g c = told_all _ (g.F.File.bytes c.args.file.now) (λ file. omega arith)
 
@@ -188,26 +185,26 @@ returns-then-not-goes_on-clause-counts g c = kept_twice _ _ _ c.loop-number.inva
 pub returns-in_default-clause-reads : goal.returns-in_default-clause-reads
 returns-in_default-clause-reads g c =
     let header = c.args.plan.now.header.now in
-    start_less header.layout (g.F.File.size c.args.file.now) (omega (arith, (header_layout header c.requires.allowed).page_least)) c.args.lanes.now _ _ c.requires.fresh
-    (loaded_stops header.layout (g.F.File.size c.args.file.now) (omega (arith, (header_layout header c.requires.allowed).page_least)) c.args.lanes.now c.pass_start.new.lanes _ _ c.pass_start.ensures.through.reads c.pass_start.ensures.through.unread)
+    start_less header.layout (g.F.File.size c.args.file.now) (omega (arith, (carried header.layout).page_least)) c.args.lanes.now _ _ c.requires.fresh
+    (loaded_stops header.layout (g.F.File.size c.args.file.now) (omega (arith, (carried header.layout).page_least)) c.args.lanes.now c.pass_start.new.lanes _ _ c.pass_start.ensures.through.reads c.pass_start.ensures.through.unread)
 
 pub returns-then-not-goes_on-clause-reads : goal.returns-then-not-goes_on-clause-reads
 returns-then-not-goes_on-clause-reads g c =
     let header = c.args.plan.now.header.now in
-    start_less header.layout (g.F.File.size c.args.file.now) (omega (arith, (header_layout header c.requires.allowed).page_least)) c.args.lanes.now _ _ c.requires.fresh
+    start_less header.layout (g.F.File.size c.args.file.now) (omega (arith, (carried header.layout).page_least)) c.args.lanes.now _ _ c.requires.fresh
     (spent_all _ _ _ _ (spent_more _ _ _ _ _ _ c.loop-number.invariant.spent
     (same_spent header.layout (g.F.File.size c.args.file.now) (g.F.File.size c.loop-number.file) c.loop-number.lanes c.make_file.new.lanes _ _ c.loop-number.invariant.keeps.size c.in-Ok-make_file.ensures.reads)))
 
 pub returns-in-Err-clause-reads : goal.returns-in-Err-clause-reads
 returns-in-Err-clause-reads g c =
     let header = c.args.plan.now.header.now in
-    start_less header.layout (g.F.File.size c.args.file.now) (omega (arith, (header_layout header c.requires.allowed).page_least)) c.args.lanes.now _ _ c.requires.fresh
+    start_less header.layout (g.F.File.size c.args.file.now) (omega (arith, (carried header.layout).page_least)) c.args.lanes.now _ _ c.requires.fresh
     (spent_stops header.layout (g.F.File.size c.args.file.now) (g.F.File.size c.loop-number.file) c.args.lanes.now c.loop-number.lanes _ _ _ c.loop-number.invariant.keeps.size c.loop-number.invariant.spent c.in-Err.ensures.reads)
 
 pub returns-clause-reads : goal.returns-clause-reads
 returns-clause-reads g c =
     let header = c.args.plan.now.header.now in
-    start_less header.layout (g.F.File.size c.args.file.now) (omega (arith, (header_layout header c.requires.allowed).page_least)) c.args.lanes.now _ _ c.requires.fresh (spent_all _ _ _ _ c.loop-number.invariant.spent)
+    start_less header.layout (g.F.File.size c.args.file.now) (omega (arith, (carried header.layout).page_least)) c.args.lanes.now _ _ c.requires.fresh (spent_all _ _ _ _ c.loop-number.invariant.spent)
 
 -- WHAT WAS ASKED FOR, AND WHAT IS LEFT OF ANY FILE
 

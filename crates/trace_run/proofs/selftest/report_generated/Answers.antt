@@ -14,5 +14,4 @@ pub print_report-requires-clause-asked : goal.print_report-requires-clause-asked
 print_report-requires-clause-asked g c κs live = record {
   workers = subst (λ (words : ReportData). IsWorkers words.workers) (sym c.plain_words-plain.ensures) c.requires;
   filters = no_uses _ c.args.words.now.workers _ c.plain_words-plain.ensures c.new-filters.ensures.items;
-  layout = c.in-Ok.ensures.layout;
 }
