@@ -1,7 +1,6 @@
 // The calls of whole traces of two processors, and what is printed of them.
 
 ghost use Rattle.std.specs.Prelude.{◌≡◌, All, length};
-ghost use Rattle.trace_base.specs.Layout.{IsLayout};
 ghost use Rattle.subpage.specs.Arrangement.{CpusRise};
 ghost use Rattle.page_pool.specs.Fresh.{IsFresh, IsNew};
 ghost use Rattle.event_cursor.specs.Standing.{IsInOrder};
@@ -161,7 +160,6 @@ fn gather_over<F: File>(
     middle: u64,
     lanes: &mut [Lane],
 ) -> Result<Calls, PassFault>
-    requires allowed { IsLayout layout.now }
     requires two { length lanes.old ≡ 2 }
     requires new { All (IsNew layout.now.page 16) lanes.old }
 {

@@ -2,7 +2,6 @@
 //! its head's.
 
 ghost use Rattle.std.specs.Prelude.{◌≡◌, ◌≢◌, ◌<◌, false, IfOk, IsTrue, [], length};
-ghost use Rattle.trace_base.specs.Layout.{IsLayout};
 ghost use Rattle.page_pool.specs.Fresh.{IsNew};
 ghost use Rattle.event_cursor.specs.Standing.{IsInOrder, held_left};
 
@@ -71,7 +70,6 @@ fn knows_key(layout: &Layout, lane: &Lane) -> bool
 
 // Loads the lane where it has no item.
 fn ready<F: File>(layout: &Layout, file: &mut F, lane: &mut Lane) -> Result<Loaded, Failed>
-    requires allowed { IsLayout layout.now }
     requires in_order { IsInOrder layout.now lane.old }
     requires sound { lane.old.cursor.state ≢ LaneState.Malformed }
     ensures in_order { IsInOrder layout.now lane.new }
@@ -111,7 +109,6 @@ fn tells<F: File>(
     items: &str,
     end: Result<Loaded, Failed>,
 ) -> bool
-    requires allowed { IsLayout layout.now }
     requires in_order { IsInOrder layout.now lane.old }
     requires sound { lane.old.cursor.state ≢ LaneState.Malformed }
 {
@@ -132,7 +129,6 @@ fn tells<F: File>(
 
 // Uses so many items up.
 fn go_on<F: File>(layout: &Layout, file: &mut F, lane: &mut Lane, count: u32)
-    requires allowed { IsLayout layout.now }
     requires in_order { IsInOrder layout.now lane.old }
     requires sound { lane.old.cursor.state ≢ LaneState.Malformed }
     ensures in_order { IsInOrder layout.now lane.new }
@@ -166,7 +162,6 @@ fn go_to(
     items: &str,
     bad: u64,
 ) -> Option<(Result<Sought, Failed>, u64)>
-    requires allowed { IsLayout layout.now }
     requires in_order { IsInOrder layout.now lane.old }
 {
     let before = file.reads();

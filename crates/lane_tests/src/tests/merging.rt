@@ -1,7 +1,6 @@
 //! Lanes gone through whole: two processors, and where a malformed sub-buffer ends them (`ENDS`).
 
 ghost use Rattle.std.specs.Prelude.{◌≡◌, ◌+◌, ◌<◌, ◌≤◌, length, Some, All, IfOk, IfSome, OnErr, option_map};
-ghost use Rattle.trace_base.specs.Layout.{IsLayout};
 ghost use Rattle.trace_outside.specs.Causes.{Rose};
 ghost use Rattle.subpage.specs.Arrangement.{CpusRise, key_of};
 ghost use Rattle.page_pool.specs.Fresh.{IsFresh, IsNew};
@@ -46,7 +45,6 @@ fn all_keys<F: File>(
     file: &mut F,
     lanes: &mut [Lane],
 ) -> Result<(Vec<u64>, Result<Next, Failed>), AllocError>
-    requires allowed { IsLayout layout.now }
     requires in_order { All (IsInOrder layout.now) lanes.old }
     requires rise { CpusRise (parts_of lanes.old) }
     requires fresh { All (λ lane. IsFresh lane.cursor) lanes.old }

@@ -1,7 +1,6 @@
 //! Sub-buffers packed again: two that a kernel wrote, and some written out byte by byte (`PACKED`).
 
 ghost use Rattle.std.specs.Prelude.{◌≡◌, ◌≤◌, All, length, IfOk, IfSome};
-ghost use Rattle.trace_base.specs.Layout.{IsLayout};
 ghost use Rattle.page_write.specs.PageBytes.{IsPackable};
 
 use Order::{Big, Little};
@@ -12,7 +11,6 @@ use subpage::{Page, check_page};
 use trace_base::{Layout, Order, put_u32, put_u64};
 
 fn layout_of(order: Order) -> Layout
-    ensures allowed { IsLayout result }
     ensures page { result.page ≡ 4096 }
     ensures data_at { result.data_at ≡ 16 }
 {
@@ -31,7 +29,6 @@ fn bytes_of(alloc: Global, front: &[u8]) -> Result<Vec<u8>, AllocError>
 
 // Packs the items of a sub-buffer into another one, up to the first that opens a further one. A room goes along.
 fn pack_again(layout: &Layout, page: &Page<'_>, into: &mut [u8])
-    requires allowed { IsLayout layout.now }
     requires whole { length into.old ≡ layout.now.page }
     requires packable { All (IsPackable layout.now) page.now }
 {
@@ -48,7 +45,6 @@ fn pack_again(layout: &Layout, page: &Page<'_>, into: &mut [u8])
 }
 
 fn checked<'a>(layout: &Layout, bytes: &'a [u8]) -> Option<Page<'a>>
-    requires allowed { IsLayout layout.now }
     requires whole { length bytes.now ≡ layout.now.page }
     ensures { IfSome result (All (IsPackable layout.now)) }
 {
@@ -120,7 +116,6 @@ fn packs_again(rt: HostRuntime) -> Result<(), Fail> {
 
 /// The layout of sub-buffers of 8,192 or of 262,144 bytes.
 fn several_pages(order: Order, size: u32) -> Layout
-    ensures allowed { IsLayout result }
     ensures least { 4096 ≤ result.page }
 {
     let size = if size == 8_192 { 8_192 } else { 262_144 };

@@ -2,7 +2,6 @@
 
 ghost use Rattle.std.specs.Prelude.{◌≡◌, ◌<◌, ◌≤◌, ◌^◌, length};
 ghost use Rattle.trace_base.specs.declared.layout.Layout.{Layout};
-ghost use Rattle.trace_base.specs.Layout.{IsLayout};
 ghost use Rattle.subpage.specs.ItemView.{item_view};
 ghost use Rattle.page_write.specs.PageBytes.{IsPackable};
 
@@ -13,14 +12,13 @@ use trace_base::{Layout, Order};
 use trace_outside::{Failed, MemSink};
 
 fn layout() -> Layout
-    ensures allowed { IsLayout result }
     ensures page { result.page ≡ 4096 }
 {
     Layout::plain(Order::Big, 4, 4096)
 }
 
 fn event(time: u64) -> Item<'static>
-    ensures { (layout : Layout) → IsLayout layout → IsPackable layout (item_view result) }
+    ensures { (layout : Layout) → IsPackable layout (item_view result) }
 {
     Item::Event {
         time,

@@ -1,7 +1,6 @@
 //! Sub-buffers written out byte by byte.
 
 ghost use Rattle.std.specs.Prelude.{◌≡◌, ◌≤◌, List, [], ◌∷◌, ℕ, length, map, filter, Some, None, IfOk};
-ghost use Rattle.trace_base.specs.Layout.{IsLayout};
 ghost use Rattle.subpage.specs.Arrangement.{Keyed, cpu_of, arranged};
 ghost use Rattle.subpage.specs.Cut.{Cut, is_up_to};
 ghost use Rattle.subpage.specs.ItemData.{ItemData, LossAt, item_time};
@@ -24,7 +23,6 @@ struct SubPage {
 }
 
 fn layout_of(order: Order, is_64_bit: bool) -> Layout
-    ensures allowed { IsLayout result }
     ensures page { result.page ≡ 4096 }
     ensures commit { result.commit_at ≡ 8 }
     ensures data_at { result.data_at ≤ 16 }
@@ -69,7 +67,6 @@ fn tells_just(page: &Page<'_>, items: &[Item<'_>]) -> bool {
 
 /// The marks of the sub-buffer, from the first on, lead over these items.
 fn leads_over(layout: &Layout, bytes: &[u8], items: &[Item<'_>]) -> bool
-    requires allowed { IsLayout layout.now }
     requires whole { length bytes.now ≡ layout.now.page }
 {
     let Some(mut mark) = open_page(layout, bytes) else {
@@ -121,7 +118,6 @@ fn items_text(alloc: Global, items: &[Item<'_>]) -> Result<String, AllocError> {
 
 /// The items of a sub-buffer, where all ways to them tell the same.
 fn told(alloc: Global, layout: &Layout, bytes: &[u8], page: &Page<'_>) -> Result<String, AllocError>
-    requires allowed { IsLayout layout.now }
     requires whole { length bytes.now ≡ layout.now.page }
 {
     let items = items_of(alloc, page)?;

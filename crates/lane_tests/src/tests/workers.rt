@@ -3,7 +3,6 @@
 mod gates;
 
 ghost use Rattle.std.specs.Prelude.{◌≡◌, ◌+◌, ◌<◌, ◌%◌, ◌==◌, if◌then◌else◌, [], ◌∷◌, All, None, length};
-ghost use Rattle.trace_base.specs.Layout.{IsLayout};
 ghost use Rattle.line_holes.specs.Holes.{line_text};
 ghost use Rattle.subpage.specs.ItemData.{item_time};
 ghost use Rattle.page_pool.specs.Fresh.{IsNew};
@@ -59,7 +58,6 @@ fn file_of(alloc: Global, pages: &[Page<'_>]) -> Result<MemFile, AllocError> {
 
 // Loads the sub-buffer of this number into a lane that is fresh.
 fn open_lane(layout: &Layout, file: &mut MemFile, lane: &mut Lane, number: u32)
-    requires allowed { IsLayout layout.now }
     requires in_order { IsInOrder layout.now lane.old }
     ensures { IsInOrder layout.now lane.new }
 {
@@ -74,7 +72,6 @@ fn open_lane(layout: &Layout, file: &mut MemFile, lane: &mut Lane, number: u32)
 }
 
 fn open_lanes(layout: &Layout, file: &mut MemFile, lanes: &mut [Lane], room: u32)
-    requires allowed { IsLayout layout.now }
     requires page { layout.now.page ≡ 4096 }
     requires new { All (IsNew 4096 room) lanes.old }
     ensures { All (IsInOrder layout.now) lanes.new }

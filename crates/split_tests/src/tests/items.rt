@@ -1,8 +1,6 @@
 // Items of sub-buffers, as they are written in rows: an event's time in microseconds, behind a point the nanoseconds that are
 // left; of a loss `!`, its time, and behind `#` its number.
 
-ghost use Rattle.trace_base.specs.Layout.{IsLayout};
-
 use std::test::Fail;
 use subpage::{Item, check_page};
 use trace_base::Layout;
@@ -39,9 +37,7 @@ pub(super) fn put_sub_buffers<'a>(
     layout: &Layout,
     bytes: &'a [u8],
     count: u64,
-) -> Result<&'a [u8], Fail>
-    requires { IsLayout layout.now }
-{
+) -> Result<&'a [u8], Fail> {
     let mut rest = bytes;
     for _ in 0..count {
         let Some((page, behind)) = rest.split_at_checked(layout.page as usize) else {

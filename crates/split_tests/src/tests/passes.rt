@@ -1,7 +1,6 @@
 // Pieces of two processors' traces: measured, packed, and told from the bytes.
 
 ghost use Rattle.std.specs.Prelude.{◌≡◌, All, length};
-ghost use Rattle.trace_base.specs.Layout.{IsLayout};
 ghost use Rattle.subpage.specs.Arrangement.{CpusRise};
 ghost use Rattle.page_pool.specs.Fresh.{IsNew};
 ghost use Rattle.event_cursor.specs.Standing.{IsInOrder};
@@ -205,7 +204,6 @@ pub(super) fn pass_piece<F: File, O: Sink>(
     page: &mut [u8],
     out: &mut O,
 ) -> Result<Passed, Failed>
-    requires allowed { IsLayout layout.now }
     requires whole { length page.old ≡ layout.now.page }
     requires two { length lanes.old ≡ 2 }
     requires slots { length nexts.old ≡ 2 }
@@ -242,7 +240,6 @@ fn put_packed(
     packed: &[u8],
     passed: &Passed,
 ) -> Result<(), Fail>
-    requires allowed { IsLayout layout.now }
     requires page { layout.now.page ≡ 4096 }
 {
     let rest = put_sub_buffers(text, layout, packed, passed.pages[0])?;
@@ -263,7 +260,6 @@ fn put_pieces<F: File>(
     words: &str,
     text: &mut String,
 ) -> Result<PieceEnd, Fail>
-    requires allowed { IsLayout layout.now }
     requires page { layout.now.page ≡ 4096 }
     requires two { length lanes.old ≡ 2 }
     requires in_order { All (IsInOrder layout.now) lanes.old }

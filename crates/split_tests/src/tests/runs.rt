@@ -1,7 +1,6 @@
 // Sub-buffers written out byte by byte, and what they are packed into. Runs of events are copied there as they stand.
 
 ghost use Rattle.std.specs.Prelude.{◌≡◌, ◌<◌, ◌≤◌, length, IsTrue};
-ghost use Rattle.trace_base.specs.Layout.{IsLayout};
 ghost use Rattle.page_pool.specs.declared.cursor.LaneState.{LaneState};
 ghost use Rattle.event_cursor.specs.Standing.{IsInOrder, held_left};
 
@@ -23,9 +22,7 @@ use trace_samples::Page::Of;
 use trace_samples::{layout, put_pages};
 use word_values::PieceUnit;
 
-fn layout_of(order: Order, is_64_bit: bool) -> Layout
-    ensures allowed { IsLayout result }
-{
+fn layout_of(order: Order, is_64_bit: bool) -> Layout {
     let commit_size = if is_64_bit { 8 } else { 4 };
     Layout::plain(order, commit_size, 4096)
 }
@@ -50,9 +47,7 @@ fn packs(
     bytes: Vec<u8>,
     count: usize,
     want: &[u8],
-) -> Result<bool, Fail>
-    requires allowed { IsLayout layout.now }
-{
+) -> Result<bool, Fail> {
     let mut file = WatchedFile::good(bytes);
     let mut pool = Pool::new(alloc, 2, layout.page, 0)?;
     let lanes = pool.lanes();
@@ -238,7 +233,6 @@ fn put_records(
 }
 
 fn large_layout(order: Order, size: u32) -> Layout
-    ensures allowed { IsLayout result }
     ensures least { 4096 ≤ result.page }
 {
     let size = if size == 4_096 { 4_096 } else { 262_144 };
@@ -281,7 +275,6 @@ fn runs_end_with_the_room(rt: HostRuntime) -> Result<(), Fail> {
 
 // Loads a sub-buffer into a lane that is fresh, and tells whether it has an item.
 fn loads<F: File>(layout: &Layout, file: &mut F, lane: &mut Lane) -> bool
-    requires allowed { IsLayout layout.now }
     requires in_order { IsInOrder layout.now lane.old }
     ensures in_order { IsInOrder layout.now lane.new }
     ensures held { IsTrue result → lane.new.cursor.state ≡ LaneState.Held }
@@ -295,7 +288,6 @@ fn loads<F: File>(layout: &Layout, file: &mut F, lane: &mut Lane) -> bool
 
 // How many events a run has that follows a lane's first item.
 fn run_after_first(layout: &Layout, lane: &mut Lane, packer: &mut Packer<'_>) -> u64
-    requires allowed { IsLayout layout.now }
     requires in_order { IsInOrder layout.now lane.old }
     requires held { lane.old.cursor.state ≡ LaneState.Held }
     requires some { 0 < length (held_left layout.now lane.old) }

@@ -1,7 +1,6 @@
 // Files that are split, and the items of a file.
 
 ghost use Rattle.std.specs.Prelude.{◌≡◌, ◌+◌, ◌≤◌, true, length};
-ghost use Rattle.trace_base.specs.Layout.{IsLayout};
 ghost use Rattle.dat_header.specs.Allowed.{IsHeader};
 ghost use Rattle.split_pieces.specs.Pieces.{IsUnit};
 
@@ -18,9 +17,7 @@ use trace_outside::{File, Folder, MemFile};
 use word_values::PieceUnit;
 
 // The items of a part, and `|`.
-fn put_part(text: &mut String, layout: &Layout, part: Part, bytes: &[u8]) -> Result<(), Fail>
-    requires { IsLayout layout.now }
-{
+fn put_part(text: &mut String, layout: &Layout, part: Part, bytes: &[u8]) -> Result<(), Fail> {
     let (_, rest) = bytes
         .split_at_checked(part.offset as usize)
         .unwrap_or((&[], &[]));

@@ -1,10 +1,8 @@
 use Rattle.std.proofs.Common.{◌≡◌, ◌≤◌}
-use Rattle.trace_base.specs.Layout.{IsLayout}
 use Rattle.lane_tests.proofs.tests.passes.write_at.Given as goal
 
 abbrev pub invariant-loop-time : goal.invariant-loop-time
 invariant-loop-time l = record {
   layout : l.packer.layout ≡ l.layout;
-  allowed : IsLayout l.layout;
   few : l.count.pages ≤ l.time-index;
 }
