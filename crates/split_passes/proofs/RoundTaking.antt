@@ -84,24 +84,28 @@ round_more l until most i lanes now tallies tallies_now count more d b t u xs lo
     one : (zs : List ItemData) → sum_by length (zs ∷ []) ≡ length zs
     one zs = omega arith
 
--- all lanes were
+-- All lanes were, and the number is that of the items of all lists.
 pub round_done : (l : Layout) (stop : Option Moment) (gauge gauge_now : Gauge) (lanes now : List Lane) (tallies tallies_now : List Tally) (i count : ℕ) (reach : Reach)
     → i ≡ length lanes → IsReach l stop gauge lanes reach → RoundTo l reach.until reach.most i lanes now tallies tallies_now count → gauge_now ≡ after_events gauge count
-    → RoundTaken l stop (record { gauge = gauge; lanes = lanes; tallies = tallies }) (record { gauge = gauge_now; lanes = now; tallies = tallies_now })
-round_done l stop gauge gauge_now lanes now tallies tallies_now i count reach all reaches r is = record {
-  until = reach.until;
-  most = reach.most;
-  lists = r.lists;
-  lanes_long = r.lanes_long;
-  tallies_long = r.tallies_long;
-  each = λ j d t lt. r.done j d t (omega (arith, lt, all));
-  lists_long = r.lists_long ∙ all;
-  takes = λ xs events long.
-      let many : length xs ≡ count = long ∙ sym r.counted in
-      let le : length xs ≤ length lanes * reach.most = few_all (length xs) many in
-      subst (λ (g : Gauge). TakesItems gauge g xs) (ap (after_events gauge) many ∙ sym is) (reaches.takes xs events le);
-  inside = reaches.inside;
-}
+    → (taken : RoundTaken l stop (record { gauge = gauge; lanes = lanes; tallies = tallies }) (record { gauge = gauge_now; lanes = now; tallies = tallies_now }))
+    × (count ≡ sum_by length taken.lists)
+round_done l stop gauge gauge_now lanes now tallies tallies_now i count reach all reaches r is = (
+  record {
+    until = reach.until;
+    most = reach.most;
+    lists = r.lists;
+    lanes_long = r.lanes_long;
+    tallies_long = r.tallies_long;
+    each = λ j d t lt. r.done j d t (omega (arith, lt, all));
+    lists_long = r.lists_long ∙ all;
+    takes = λ xs events long.
+        let many : length xs ≡ count = long ∙ sym r.counted in
+        let le : length xs ≤ length lanes * reach.most = few_all (length xs) many in
+        subst (λ (g : Gauge). TakesItems gauge g xs) (ap (after_events gauge) many ∙ sym is) (reaches.takes xs events le);
+    inside = reaches.inside;
+  },
+  r.counted,
+)
   where
     few_all : (n : ℕ) → n ≡ count → n ≤ length lanes * reach.most
     few_all n many = subst (λ (m : ℕ). n ≤ m * reach.most) all (omega (arith, r.few, many))

@@ -126,10 +126,10 @@ pub record RoundTaken (layout : Layout) (stop : Option Moment) (before now : Cou
   pub takes : (xs : List Keyed) → All (IsEventUpTo until) xs → length xs ≡ sum_by length lists → TakesItems before.gauge now.gauge xs
   pub inside : (key : ℕ) → key ≤ until → past_key stop key ≡ false
 
--- or nothing, where no horizon was found
+-- so many items, or nothing, where no horizon was found
 abbrev pub IsRoundTaken : Layout → Option Moment → Counts → Counts → Option ℕ → Type 0
 IsRoundTaken layout stop before now None = now ≡ before
-IsRoundTaken layout stop before now (Some count) = RoundTaken layout stop before now
+IsRoundTaken layout stop before now (Some count) = (taken : RoundTaken layout stop before now) × (count ≡ sum_by length taken.lists)
 
 abbrev pub IsRoundTried : Layout → Option Moment → Counts → Counts → Bool → Type 0
 IsRoundTried layout stop before now true = RoundTaken layout stop before now
