@@ -1,8 +1,8 @@
 -- Runs of plain records, one record on.
-use Rattle.std.proofs.Common.{◌≡◌, ℕ, ◌+◌, ◌-◌, ◌*◌, ◌^◌, ◌<◌, ◌≤◌, Bool, true, false, cond, ltb, List, [], ◌∷◌, ◌++◌, length, take, drop, Option, Some, None, refl, sym, ap, subst, ◌∙◌, append_assoc, append-nil, arith}
-use Rattle.std.proofs.lemmas.Bool.{ltb-true, ltb-false}
+use Rattle.std.proofs.Common.{◌≡◌, ℕ, ◌+◌, ◌-◌, ◌*◌, ◌^◌, ◌<◌, ◌≤◌, min, Bool, true, false, cond, ltb, List, [], ◌∷◌, ◌++◌, length, take, drop, Option, Some, None, refl, sym, ap, subst, ◌∙◌, append_assoc, append-nil, arith}
+use Rattle.std.proofs.lemmas.Bool.{lt-ltb, ltb-true, ltb-false}
 use Rattle.std.specs.Option.{IsSome}
-use Rattle.std.proofs.lemmas.List.{take_at, take-append-drop, length-take-le, length-take, length-drop, length-append, drop-drop}
+use Rattle.std.proofs.lemmas.List.{take_at, drop_at, take-take, drop-take, take-append-drop, length-take-le, length-take, length-drop, length-append, drop-drop}
 use Rattle.std.proofs.Math.Seq.{take-add}
 use Rattle.trace_base.specs.declared.layout.Layout.{Layout}
 use Rattle.trace_base.specs.declared.order.Order.{Order}
@@ -16,7 +16,7 @@ use Rattle.subpage.specs.NextEvent.{IsShort}
 use Rattle.subpage.specs.Marks.{bytes_from, item_by, items_from, IsMark}
 use Rattle.subpage.specs.PlainRecord.{IsPlainFront}
 use Rattle.subpage.specs.Run.{IsPlain, IsRun, nothing, begins_with, run_bytes, IsRunTo, NonePlain}
-use Rattle.subpage.proofs.Payloads.{piece_of, short_is, short_passed}
+use Rattle.subpage.proofs.Payloads.{piece_of, short_is, short_passed, short_told}
 use Rattle.subpage.proofs.Walking.{walk_late}
 
 some_timed : (b : Bool) (n m : ℕ) → Some m ≡ cond b (Some n) None → (b ≡ true) × (n ≡ m)
@@ -141,28 +141,100 @@ plain_in_time l page m delta payload front back here whole is late =
     let some = subst (λ (o : Option (List ItemData)). IsSome o) none here.readable in
     absurd cc
 
--- The one that was found is the only one: where it ends too far, or its event is too late, there is none.
-record SameRecord (order : Order) (found delta len : ℕ) (front : List ℕ) : Type 0 where
-  long : length front ≡ 4 + len
-  delta_is : delta ≡ found
-
-same_record : (order : Order) (time after len delta : ℕ) (payload front back bytes : List ℕ) → (f : IsPlainFront order time bytes (Some (after, len))) → 4 + len ≤ length bytes → bytes ≡ front ++ back
-    → IsPlain order delta payload front → SameRecord order f.0 delta len front
-same_record order time after len delta payload front back bytes f enough whole is =
+-- The one that was found is the only one: where its event is too late, there is none.
+same_delta : (order : Order) (time after len delta : ℕ) (payload front back bytes : List ℕ) → (f : IsPlainFront order time bytes (Some (after, len))) → bytes ≡ front ++ back
+    → IsPlain order delta payload front → delta ≡ f.0
+same_delta order time after len delta payload front back bytes f whole is =
     let p = plain_at order delta payload front back bytes whole is in
     let q = plain_at order f.0 (take len (drop 4 bytes)) (take (4 + len) bytes) (drop (4 + len) bytes) bytes (sym (take-append-drop (4 + len) bytes)) f.1.0 in
-    let same : p.kind ≡ q.kind = sym p.kind_is ∙ q.kind_is in
-    record { long = omega (arith, p.long, q.long, same, length-take-le (4 + len) bytes enough); delta_is = sym p.delta_is ∙ q.delta_is }
+    sym p.delta_is ∙ q.delta_is
 
-pub plain_too_long : (l : Layout) (page : List ℕ) (m : Mark) (time len end until : ℕ) → IsPlainFront l.order m.time (bytes_from page m) (Some (time, len)) → 4 + len ≤ length (bytes_from page m) → end < m.from + 4 + len → NonePlain l page m (end - m.from) until
-plain_too_long l page m time len end until found enough far = λ delta payload front back whole is fits due.
-    let r = same_record l.order m.time time len delta payload front back (bytes_from page m) found enough whole is in
-    omega (arith, r.long, far, fits)
+pub plain_too_late : (l : Layout) (page : List ℕ) (m : Mark) (time len bytes until : ℕ) → IsPlainFront l.order m.time (bytes_from page m) (Some (time, len)) → until < time → NonePlain l page m bytes until
+plain_too_late l page m time len bytes until found late = λ delta payload front back whole is fits due.
+    let same = same_delta l.order m.time time len delta payload front back (bytes_from page m) found whole is in
+    omega (arith, same, found.1.1.0, late, due)
 
-pub plain_too_late : (l : Layout) (page : List ℕ) (m : Mark) (time len bytes until : ℕ) → IsPlainFront l.order m.time (bytes_from page m) (Some (time, len)) → 4 + len ≤ length (bytes_from page m) → until < time → NonePlain l page m bytes until
-plain_too_late l page m time len bytes until found enough late = λ delta payload front back whole is fits due.
-    let r = same_record l.order m.time time len delta payload front back (bytes_from page m) found enough whole is in
-    omega (arith, r.delta_is, found.1.1.0, late, due)
+-- BYTES UP TO A PLACE
+
+-- they are the first of those behind a mark
+cut_bytes : (page : List ℕ) (from end to : ℕ) → from ≤ end → end ≤ to → drop from (take end page) ≡ take (end - from) (drop from (take to page))
+cut_bytes page from end to forward within =
+    let size = end - from in
+    let whole : end ≡ from + size = omega arith in
+    let here : from + 0 ≡ from = omega arith in
+    let fits : from + 0 + size ≤ to = omega arith in
+    ap (λ (n : ℕ). drop from (take n page)) whole ∙ drop-take from size page
+    ∙ sym (piece_of page from to 0 size fits ∙ ap (λ (n : ℕ). take size (drop n page)) here)
+
+-- a plain record at the front of some bytes is one at the front of more
+plain_longer : (order : Order) (time after len n : ℕ) (bytes : List ℕ) → 4 + len ≤ n → IsPlainFront order time (take n bytes) (Some (after, len)) → IsPlainFront order time bytes (Some (after, len))
+plain_longer order time after len n bytes room plain =
+    let rest = n - 4 in
+    let whole : n ≡ 4 + rest = omega arith in
+    let fits : len ≤ rest = omega arith in
+    let payload : take len (drop 4 (take n bytes)) ≡ take len (drop 4 bytes) =
+    ap (λ (k : ℕ). take len (drop 4 (take k bytes))) whole ∙ ap (take len) (drop-take 4 rest bytes) ∙ take-take len rest (drop 4 bytes) fits in
+    let front : take (4 + len) (take n bytes) ≡ take (4 + len) bytes = take-take (4 + len) n bytes room in
+    let is : IsPlain order plain.0 (take len (drop 4 bytes)) (take (4 + len) bytes) =
+    subst (λ (t : List ℕ). IsPlain order plain.0 (take len (drop 4 bytes)) t) front (subst (λ (t : List ℕ). IsPlain order plain.0 t (take (4 + len) (take n bytes))) payload plain.1.0) in
+    (plain.0, (is, plain.1.1))
+
+-- all bytes tell a plain record at their front
+pub plain_is_short : (order : Order) (time after len : ℕ) (bytes : List ℕ) → 4 + len ≤ length bytes → IsPlainFront order time bytes (Some (after, len)) → IsShort order time bytes (Some (after, len))
+plain_is_short order time after len bytes room plain =
+    let delta = plain.0 in
+    let q = plain_at order delta (take len (drop 4 bytes)) (take (4 + len) bytes) (drop (4 + len) bytes) bytes (sym (take-append-drop (4 + len) bytes)) plain.1.0 in
+    let same : 4 * q.kind ≡ len = omega (arith, q.long, length-take-le (4 + len) bytes room) in
+    let small : ltb (time + delta) (2 ^ 64) ≡ true = lt-ltb _ _ (subst (λ (n : ℕ). n < 2 ^ 64) plain.1.1.0 plain.1.1.1) in
+    let timed : Some after ≡ in_64_bits (time + delta) = ap (λ (n : ℕ). Some n) plain.1.1.0 ∙ sym (ap (λ (b : Bool). cond b (Some (time + delta)) None) small) in
+    subst (λ (n : ℕ). IsShort order time bytes (Some (after, n))) same
+    (short_told order time bytes (num order (take 4 bytes)) q.kind delta after refl (sym q.kind_is) (sym q.delta_is) (omega (arith, room)) q.least q.most (omega (arith, same, room)) timed)
+
+-- a plain record that was found in the bytes up to a place stands in all bytes behind the mark
+pub record FoundBefore (l : Layout) (page : List ℕ) (m : Mark) (time len end : ℕ) : Type 0 where
+  pub plain : IsPlainFront l.order m.time (bytes_from page m) (Some (time, len))
+  pub enough : 4 + len ≤ length (bytes_from page m)
+  pub ends : m.from + 4 + len ≤ end
+
+pub found_before : (l : Layout) (page : List ℕ) (m : Mark) (time len end : ℕ) (bytes : List ℕ) → m.from ≤ end → end ≤ m.to → bytes ≡ drop m.from (take end page)
+    → 4 + len ≤ length bytes → IsPlainFront l.order m.time bytes (Some (time, len)) → FoundBefore l page m time len end
+found_before l page m time len end bytes forward within are room plain =
+    let all = bytes_from page m in
+    let size = end - m.from in
+    let cut : bytes ≡ take size all = are ∙ cut_bytes page m.from end m.to forward within in
+    let long : length bytes ≡ min size (length all) = ap length cut ∙ length-take size all in
+    let inside : 4 + len ≤ size = omega (arith, room, long) in
+    record {
+      plain = plain_longer l.order m.time time len size all inside (subst (λ (t : List ℕ). IsPlainFront l.order m.time t (Some (time, len))) cut plain);
+      enough = omega (arith, room, long);
+      ends = omega (arith, inside, forward);
+    }
+
+front_taken : (front back : List ℕ) (n : ℕ) → length front ≤ n → take n (front ++ back) ≡ front ++ take (n - length front) back
+front_taken front back n fits =
+    let rest = n - length front in
+    let whole : n ≡ length front + rest = omega arith in
+    ap (λ (k : ℕ). take k (front ++ back)) whole ∙ take-add (length front) rest (front ++ back)
+    ∙ ap (λ (head : List ℕ). head ++ take rest (drop (length front) (front ++ back))) (take_at front back (length front) refl)
+    ∙ ap (λ (tail : List ℕ). front ++ take rest tail) (drop_at front back (length front) refl)
+
+-- where none was found in the bytes up to a place, none ends there
+pub none_before : (l : Layout) (page : List ℕ) (m : Mark) (end until : ℕ) (bytes : List ℕ) → IsMark l page m → m.from ≤ end → end ≤ m.to → bytes ≡ drop m.from (take end page)
+    → IsPlainFront l.order m.time bytes None → NonePlain l page m (end - m.from) until
+none_before l page m end until bytes here forward within are none = λ delta payload front back whole is fits due.
+    let size = end - m.from in
+    let cut : bytes ≡ front ++ take (size - length front) back =
+    are ∙ cut_bytes page m.from end m.to forward within ∙ ap (take size) whole ∙ front_taken front back size fits in
+    absurd (plain_in_time l page m delta payload front back here whole is (none delta payload front (take (size - length front) back) cut is))
+
+-- none ends within so many bytes where none ends before the place behind them, or before the end of the committed ones
+pub none_within : (l : Layout) (page : List ℕ) (m : Mark) (end bytes until : ℕ) → IsMark l page m → end ≡ min (m.from + bytes) m.to → NonePlain l page m (end - m.from) until → NonePlain l page m bytes until
+none_within l page m end bytes until here is none = λ delta payload front back whole plain fits due.
+    let forward = here.forward in
+    let within = here.within in
+    let size : length (bytes_from page m) ≡ m.to - m.from = omega (arith, length-drop m.from (take m.to page), length-take m.to page) in
+    let long : length front ≤ m.to - m.from = omega (arith, size, ap length whole, length-append front back) in
+    none delta payload front back whole plain (omega (arith, is, fits, long)) due
 
 -- how many bytes a run has
 pub run_long : (l : Layout) (page : List ℕ) (mark behind : Mark) (count : ℕ) → IsRunTo l page mark behind count → length (run_bytes page mark behind) ≡ behind.from - mark.from
@@ -170,10 +242,6 @@ run_long l page mark behind count r =
     let forward = r.there.forward in
     let within = r.there.within in
     length-take-le (behind.from - mark.from) (drop mark.from page) (omega (arith, length-drop mark.from page, forward, within, r.forward))
-
--- none in so many bytes
-pub none_plain_in : (l : Layout) (page : List ℕ) (mark : Mark) (n m until : ℕ) → n ≡ m → NonePlain l page mark n until → NonePlain l page mark m until
-none_plain_in l page mark n m until same none = subst (λ (k : ℕ). NonePlain l page mark k until) same none
 
 none_timed : (b : Bool) (n : ℕ) → None ≡ cond b (Some n) None → b ≡ false
 none_timed true n e = absurd cc

@@ -1,6 +1,6 @@
 // Runs of plain records, which can be copied as they stand.
 
-ghost use Rattle.std.specs.Prelude.{◌≡◌, ◌-◌, ◌<◌, ◌≤◌, None};
+ghost use Rattle.std.specs.Prelude.{◌≡◌, ◌+◌, ◌-◌, ◌<◌, ◌≤◌, min, IfSome, None};
 ghost use Rattle.subpage.specs.Marks.{IsMark};
 ghost use Rattle.subpage.specs.PlainRecord.{IsPlainPassed};
 ghost use Rattle.subpage.specs.Run.{run_bytes, time_at, IsBetween, IsRunFound, IsRunTo, NonePlain};
@@ -20,28 +20,45 @@ pub struct RunLimits {
     pub until: u64,
 }
 
-/// The mark after the plain record at a mark, where the record ends no later than at `end`, and its event is no later than
-/// `until`.
+/// Where a run from a mark on ends at the latest: so many bytes behind it, or where the committed bytes end.
 #[inline(always)]
-fn pass_plain(layout: &Layout, page: &[u8], mark: Mark, end: u64, until: u64) -> Option<Mark>
+fn end_within(mark: Mark, bytes: u32) -> u32
+    requires { mark.from ≤ mark.to }
+    ensures { result ≡ min (mark.from + bytes) mark.to }
+{
+    if bytes < mark.to - mark.from {
+        return mark.from + bytes;
+    }
+    mark.to
+}
+
+/// The mark after the plain record at a mark, where the record ends no later than at `end`, and its event is no later than
+/// `until`. No byte from `end` on is looked at.
+#[inline(always)]
+fn pass_plain(layout: &Layout, page: &[u8], mark: Mark, end: u32, until: u64) -> Option<Mark>
     requires mark { IsMark layout.now page.now mark }
     requires event { mark.loss ≡ None }
-    ensures { IsPlainPassed layout.now page.now mark end until result }
+    requires forward { mark.from ≤ end }
+    requires within { end ≤ mark.to }
+    ensures passed { IsPlainPassed layout.now page.now mark end until result }
+    ensures same { IfSome result (λ next. next.to ≡ mark.to) }
 {
-    let Some((time, len)) = short_event(layout.order, mark.time, bytes_behind(page, mark)) else {
+    let cut = Mark {
+        loss: None,
+        time: mark.time,
+        from: mark.from,
+        to: end,
+    };
+    let Some((time, len)) = short_event(layout.order, mark.time, bytes_behind(page, cut)) else {
         return None;
     };
-    let from = mark.from + 4 + len;
-    if end < u64::from(from) {
-        return None;
-    }
     if until < time {
         return None;
     }
     Some(Mark {
         loss: None,
         time,
-        from,
+        from: mark.from + 4 + len,
         to: mark.to,
     })
 }
@@ -52,17 +69,19 @@ fn longest_run(
     page: &[u8],
     mark: Mark,
     first: Mark,
-    end: u64,
+    end: u32,
     limits: &RunLimits,
 ) -> (Mark, u32)
     requires first { IsRunTo layout.now page.now mark first 1 }
     requires end { first.from ≤ end }
+    requires within { end ≤ first.to }
     requires in_time { time_at first ≤ limits.now.until }
     requires some { 0 < limits.now.events }
     ensures run { IsRunTo layout.now page.now mark result.0 result.1 }
     ensures some { 0 < result.1 }
     ensures few { result.1 ≤ limits.now.events }
     ensures end { result.0.from ≤ end }
+    ensures same { result.0.to ≡ first.to }
     ensures in_time { time_at result.0 ≤ limits.now.until }
     ensures longest { result.1 < limits.now.events
         → NonePlain layout.now page.now result.0 (end - result.0.from) limits.now.until }
@@ -99,7 +118,7 @@ pub fn plain_run(
     if limits.events == 0 {
         return None;
     }
-    let end = u64::from(mark.from) + u64::from(limits.bytes);
+    let end = end_within(mark, limits.bytes);
     let Some(first) = pass_plain(layout, page, mark, end, limits.until) else {
         return None;
     };
