@@ -1,7 +1,7 @@
 -- Bytes that are left of the bytes behind a mark.
-use Rattle.std.proofs.Common.{◌≡◌, ℕ, ◌+◌, ◌-◌, ◌<◌, ◌≤◌, true, false, ltb, List, ◌++◌, length, take, drop, Option, Some, None, refl, sym, ap, subst, ◌∙◌, arith}
+use Rattle.std.proofs.Common.{◌≡◌, ℕ, ◌+◌, ◌-◌, ◌<◌, ◌≤◌, true, false, ltb, List, ◌++◌, length, take, drop, Option, Some, None, refl, sym, ap, subst, ◌∙◌, inl, inr, arith}
 use Rattle.std.specs.Option.{IsSome, option_map}
-use Rattle.std.proofs.lemmas.Bool.{le-ltb, lt-ltb}
+use Rattle.std.proofs.lemmas.Bool.{le-ltb, lt-ltb, ltb-false}
 use Rattle.trace_base.specs.declared.layout.Layout.{Layout}
 use Rattle.subpage.specs.declared.loss.Loss.{Loss}
 use Rattle.subpage.specs.declared.mark.Mark.{Mark}
@@ -12,7 +12,7 @@ use Rattle.subpage.specs.Left.{loss_items}
 use Rattle.subpage.specs.Summary.{summary_of}
 use Rattle.subpage.specs.Page.{timestamp, commit_word, data_area, committed_size, committed, losses, page_losses, items}
 use Rattle.subpage.specs.Marks.{items_from, IsMark}
-use Rattle.subpage.proofs.Steps.{some_is}
+use Rattle.subpage.proofs.Steps.{guard_some, option_cases, option_map_some, some_is}
 use Rattle.std.proofs.lemmas.List.{drop-drop, length-drop, length-take, drop-take}
 
 -- the suffix of the bytes between two places, by the place where it begins
@@ -55,6 +55,47 @@ opens l page loss time word size summary t w s room front_fits told walked =
       rw (inside, there, read) (ap (λ (ys : List ItemData). Some (ys ++ m.0)) (sym front)),
       record { readable = subst IsSome (sym read) refl; forward = omega arith; within = omega (arith, length-drop l.data_at page) },
     )
+
+-- what is read of a page that was found well formed, and that there is room for it
+record WasRead (l : Layout) (page : List ℕ) : Type 0 where
+  room : committed_size (commit_word l page) ≤ length (data_area l page)
+  found : List ItemData
+  walked : walk l.order (timestamp l page) (committed l page) ≡ Some found
+
+read_of : (l : Layout) (page : List ℕ) (all : List ItemData) → items l page ≡ Some all → WasRead l page
+unfolding items
+read_of l page all e =
+    let g = guard_some (ltb (length (data_area l page)) (committed_size (commit_word l page))) (option_map (λ ys. page_losses l page ++ ys) (walk l.order (timestamp l page) (committed l page))) all e in
+    let o = option_map_some (λ ys. page_losses l page ++ ys) (walk l.order (timestamp l page) (committed l page)) all g.1 in
+    record { room = ltb-false _ _ g.0; found = o.0; walked = o.1 }
+
+was_read : (l : Layout) (page : List ℕ) → IsSome (items l page) → WasRead l page
+was_read l page checked = elim (option_cases (items l page)) [
+  | inl none ↦ let never = subst (λ (o : Option (List ItemData)). IsSome o) none checked in absurd cc
+  | inr some ↦ read_of l page some.0 some.1
+]
+
+pub room_checked : (l : Layout) (page area : List ℕ) (word size : ℕ) → word ≡ commit_word l page → size ≡ committed_size word → area ≡ data_area l page → IsSome (items l page)
+    → size ≤ length area
+room_checked l page area word size w s is checked =
+    let same : size ≡ committed_size (commit_word l page) = s ∙ ap committed_size w in
+    let room = (was_read l page checked).room in
+    omega (arith, room, same, ap length is)
+
+-- the mark before its first item
+pub opens_checked : (l : Layout) (page : List ℕ) (loss : Option Loss) (time word size : ℕ)
+    → time ≡ timestamp l page → word ≡ commit_word l page → size ≡ committed_size word → l.data_at ≤ length page
+    → loss_items loss ≡ losses l word time (drop size (data_area l page)) → IsSome (items l page)
+    → (Some (items_from l page (record { loss = loss; time = time; from = l.data_at; to = l.data_at + size })) ≡ items l page)
+    × IsMark l page (record { loss = loss; time = time; from = l.data_at; to = l.data_at + size })
+opens_checked l page loss time word size t w s front_fits told checked =
+    let area = data_area l page in
+    let same : size ≡ committed_size (commit_word l page) = s ∙ ap committed_size w in
+    let read = was_read l page checked in
+    let walked : walk l.order time (take size area) ≡ Some read.found =
+    ap (λ (n : ℕ). walk l.order n (take size area)) t ∙ ap (λ (n : ℕ). walk l.order (timestamp l page) (take n area)) same ∙ read.walked in
+    opens l page loss time word size (summary_of (loss_items loss ++ read.found)) t w s (room_checked l page area word size w s refl checked) front_fits told
+    (sym (ap (option_map (λ (xs : List ItemData). summary_of (loss_items loss ++ xs))) walked))
 
 -- more is committed than there is room for
 pub overfull : (l : Layout) (page : List ℕ) (word size : ℕ) → word ≡ commit_word l page → size ≡ committed_size word → length (data_area l page) < size → None ≡ items l page

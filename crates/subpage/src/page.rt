@@ -1,4 +1,4 @@
-ghost use Rattle.std.specs.Prelude.{◌≡◌, ◌^◌, ◌<◌, ◌≤◌, ◌⊎◌, List, length, drop, take, IfSome, IfNone, option_map};
+ghost use Rattle.std.specs.Prelude.{◌≡◌, ◌^◌, ◌<◌, ◌≤◌, ◌⊎◌, List, length, drop, take, IfSome, IfNone, IsSome, Some, option_map};
 ghost use Rattle.subpage.specs.Marks.{items_from, IsMark};
 ghost use Rattle.trace_base.specs.Number.{num};
 ghost use Rattle.subpage.specs.ItemData.{ItemData, first_time, last_time};
@@ -123,6 +123,28 @@ pub fn open_page(layout: &Layout, bytes: &[u8]) -> Option<Mark>
 {
     let (first, _) = read_front(layout, bytes)?;
     Some(settle(layout, bytes, first))
+}
+
+/// The same of a sub-buffer that was found well formed before. Its elements are not checked again.
+pub fn open_checked(layout: &Layout, bytes: &[u8]) -> Mark
+    requires whole { length bytes.now ≡ layout.now.page }
+    requires checked { IsSome (items layout.now bytes.now) }
+    ensures exact { Some (items_from layout.now bytes.now result) ≡ items layout.now bytes.now }
+    ensures mark { IsMark layout.now bytes.now result }
+{
+    let time = timestamp_of(layout, bytes);
+    let word = commit_word_of(layout, bytes);
+    let size = committed_size_of(word);
+    let area = data_area_of(layout, bytes);
+    let (_, behind) = area.split_at(size as usize);
+    let loss = loss_of(layout, word, time, behind);
+    let first = Mark {
+        loss,
+        time,
+        from: layout.data_at,
+        to: layout.data_at + size,
+    };
+    settle(layout, bytes, first)
 }
 
 fn timestamp_of(layout: &Layout, bytes: &[u8]) -> u64
