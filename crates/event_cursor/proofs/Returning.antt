@@ -1,14 +1,18 @@
 -- Going back to a place.
-use Rattle.std.proofs.Common.{◌≡◌, ℕ, ◌+◌, ◌<◌, ◌≤◌, true, List, [], ◌++◌, length, drop, Option, Some, None, refl, sym, ap, subst, ◌∙◌, arith}
+use Rattle.std.proofs.Common.{◌≡◌, ℕ, ◌+◌, ◌^◌, ◌<◌, ◌≤◌, true, List, [], ◌++◌, length, drop, Option, Some, None, refl, sym, ap, subst, ◌∙◌, arith}
 use Rattle.std.specs.Option.{unwrap_or}
 use Rattle.std.proofs.lemmas.Bool.{cond-true}
 use Rattle.trace_base.specs.declared.layout.Layout.{Layout}
 use Rattle.trace_base.specs.declared.part.Part.{Part}
+use Rattle.subpage.specs.declared.mark.Mark.{Mark}
 use Rattle.subpage.specs.ItemData.{ItemData}
+use Rattle.subpage.specs.Marks.{IsMark, items_from}
 use Rattle.subpage.specs.Page.{items}
 use Rattle.subpage.specs.Processor.{is_there, items_at, page_bytes}
+use Rattle.subpage.proofs.Steps.{some_is}
 use Rattle.page_pool.specs.declared.lane.Lane.{Lane}
 use Rattle.page_pool.specs.declared.cursor.LaneState.TheVariants.{Held, Ended, Malformed}
+use Rattle.event_cursor.specs.Fetched.{HoldsItems}
 use Rattle.event_cursor.specs.Standing.{HoldsPage, IsInOrder, HoldsOwn, held_left, left_of, bad_left, Stands}
 use Rattle.event_cursor.specs.Places.{HasPlace, IsPlace, place_in, left_behind, bad_behind, HoldsAt, StandsAt}
 use Rattle.event_cursor.specs.declared.places.Place.{Place}
@@ -18,6 +22,15 @@ use Rattle.event_cursor.proofs.Leaving.{left_is, bad_is}
 pub items_held : (l : Layout) (file : List ℕ) (a : Lane) → HoldsOwn l file a → items_at l file a.part a.cursor.held ≡ items l a.page
 unfolding items_at
 items_held l file a h = cond-true _ _ _ h.there ∙ ap (items l) (sym h.page)
+
+-- the mark before its first item, where the buffer is not checked again
+pub holds_checked : (l : Layout) (page bytes : List ℕ) (all : List ItemData) (first : Mark) → bytes ≡ page → items l page ≡ Some all → length all < 2 ^ 32
+    → IsMark l bytes first → Some (items_from l bytes first) ≡ items l bytes → HoldsItems l page (Some first)
+holds_checked l page bytes all first same are few mark exact =
+    let there : IsMark l page first = subst (λ (p : List ℕ). IsMark l p first) same mark in
+    let told : Some (items_from l page first) ≡ items l page = subst (λ (p : List ℕ). Some (items_from l p first) ≡ items l p) same exact in
+    let whole : items_from l page first ≡ all = some_is _ _ (told ∙ are) in
+    (there, sym told, omega (arith, ap length whole, few))
 
 -- a sub-buffer with fewer items has no such place
 pub never_fewer : (l : Layout) (file : List ℕ) (part old : Part) (place : Place) (xs : List ItemData) → part ≡ old → HasPlace l file old place → items_at l file part place.page ≡ Some xs → length xs < place.at → ⊥

@@ -13,7 +13,7 @@ use crate::fetching::fetch;
 use crate::places::Place;
 use crate::stepping::ahead_at;
 use page_pool::{Cursor, Lane, LaneState};
-use subpage::{Mark, RunLimits, open_page, pass_item, plain_run};
+use subpage::{Mark, RunLimits, open_checked, pass_item, plain_run};
 use trace_base::Layout;
 use trace_outside::{Failed, File};
 
@@ -78,7 +78,8 @@ fn holds_page(lane: &Lane, number: u64) -> bool
     lane.cursor.state == LaneState::Held && lane.cursor.held == number
 }
 
-/// The mark before the first item of a sub-buffer of the lane's part. It is read unless it is held. `None`: it is malformed.
+/// The mark before the first item of a sub-buffer of the lane's part. It is read and checked unless it is held. `None`: it is
+/// malformed.
 fn turn_to<F: File>(
     layout: &Layout,
     number: u64,
@@ -101,9 +102,7 @@ fn turn_to<F: File>(
     ensures keeps { KeepsFile F.File file.old file.new }
 {
     if holds_page(lane, number) {
-        if let Some(mark) = open_page(layout, lane.page.bytes()) {
-            return Ok(Some(mark));
-        }
+        return Ok(Some(open_checked(layout, lane.page.bytes())));
     }
     lane.cursor.state = LaneState::Fresh;
     fetch(layout, file, lane.part, number, &mut lane.page)
