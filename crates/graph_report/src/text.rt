@@ -169,26 +169,7 @@ fn put_text(context: &Context, call: &Call, into: &mut Tail<'_>)
 fn is_silent(call: &Call) -> bool
     ensures { result ≡ spec.is_silent call.now }
 {
-    match call {
-        Call::Entry {
-            cpu: _,
-            time: _,
-            common: _,
-            depth: _,
-            func: _,
-            leaf: _,
-        } => false,
-        Call::Exit {
-            cpu: _,
-            time: _,
-            common: _,
-            depth: _,
-            leaf,
-            func: _,
-            span: _,
-        } => *leaf,
-        Call::Loss { cpu: _, count: _ } => false,
-    }
+    matches!(call, Call::Exit { leaf: true, .. })
 }
 
 /// Puts the line of a call into a tail in which nothing is, and gives its length in bytes with its newline: 0, and nothing is
