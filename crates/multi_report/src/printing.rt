@@ -11,15 +11,15 @@ ghost use Rattle.multi_report.specs.Reports.{head_line, label, labelled, line_of
 ghost use Rattle.multi_report.specs.Sources.{HasRoom, IsUsable, shown_of, seen};
 
 use crate::source::Source;
-use cpu_workers::Form;
 use event_cursor::head;
 use itoa::Buffer;
+use line_holes::LineFormat;
 use subpage::Item;
 use trace_base::Tail;
 use trace_outside::{Failed, File, Pending, Sink};
 
 /// Puts the first line of a file.
-fn put_head<F: File, L: Form, O: Sink>(
+fn put_head<F: File, L: LineFormat, O: Sink>(
     source: &Source<'_, F, L>,
     pending: &mut Pending,
     out: &mut O,
@@ -36,7 +36,7 @@ fn put_head<F: File, L: Form, O: Sink>(
 }
 
 /// Puts the first lines of all files.
-pub(crate) fn put_heads<F: File, L: Form, O: Sink>(
+pub(crate) fn put_heads<F: File, L: LineFormat, O: Sink>(
     sources: &[Source<'_, F, L>],
     pending: &mut Pending,
     out: &mut O,
@@ -52,7 +52,7 @@ pub(crate) fn put_heads<F: File, L: Form, O: Sink>(
 }
 
 /// Forms the line of an item at the front of a slice, as far as there is room, and answers its length. Its hole is let go.
-fn line_into<L: Form>(form: &L, cpu: u32, item: &Item<'_>, into: &mut [u8]) -> u32
+fn line_into<L: LineFormat>(form: &L, cpu: u32, item: &Item<'_>, into: &mut [u8]) -> u32
     ensures long { length into.new ≡ length into.old }
     ensures length { result ≡ length (L.text form.now cpu (item_view item.now)).bytes }
     ensures line { result ≤ length into.old → take result into.new ≡ (L.text form.now cpu (item_view item.now)).bytes }
@@ -74,7 +74,7 @@ fn label_into(name: &[u8], into: &mut [u8])
 
 /// Forms the line of an item with a file's name before it at the front of a slice, and answers the length of both: 0 of an
 /// empty line, which has no name. `None` where they have no room.
-fn labelled_into<L: Form>(
+fn labelled_into<L: LineFormat>(
     name: &[u8],
     form: &L,
     cpu: u32,
@@ -119,7 +119,7 @@ fn put_labelled<O: Sink>(
 
 /// Puts the line of an item with a file's name before it. The line has room in the buffer. Where its name has room too, both
 /// are put as one piece, for what a piece costs.
-fn put_line<L: Form, O: Sink>(
+fn put_line<L: LineFormat, O: Sink>(
     name: &[u8],
     form: &L,
     cpu: u32,
@@ -145,7 +145,7 @@ fn put_line<L: Form, O: Sink>(
 }
 
 /// Puts the line of the item that a lane of a file holds.
-pub(crate) fn put_item<F: File, L: Form, O: Sink>(
+pub(crate) fn put_item<F: File, L: LineFormat, O: Sink>(
     source: &Source<'_, F, L>,
     i: usize,
     buffer: &mut [u8],

@@ -9,8 +9,8 @@ use crate::printing::put_heads;
 use crate::source::Source;
 use crate::sources::make_sources_ready;
 use crate::taking::{Taken, take_from};
-use cpu_workers::Form;
 use least_tree::LeastTree;
+use line_holes::LineFormat;
 use trace_outside::{Failed, File, Pending, Sink};
 
 /// How a report of several files ends.
@@ -40,7 +40,7 @@ fn end_with<O: Sink>(end: FilesEnd, pending: &mut Pending, out: &mut O) -> Files
 }
 
 /// Puts the files' first lines and makes all lanes ready.
-fn begin<F: File, L: Form, O: Sink>(
+fn begin<F: File, L: LineFormat, O: Sink>(
     sources: &mut [Source<'_, F, L>],
     nexts: &mut LeastTree,
     pending: &mut Pending,
@@ -74,7 +74,7 @@ fn begin<F: File, L: Form, O: Sink>(
 
 /// One turn: puts the line of the item that comes next of all files, with which it is used up. `None`: there may be more to
 /// come.
-fn turn<F: File, L: Form, O: Sink>(
+fn turn<F: File, L: LineFormat, O: Sink>(
     sources: &mut [Source<'_, F, L>],
     nexts: &mut LeastTree,
     buffer: &mut [u8],
@@ -128,7 +128,7 @@ fn turn<F: File, L: Form, O: Sink>(
 /// file's name, and `nexts` is a tree with a slot for each file, whatever is in it. Files are counted from 0. After `Read`
 /// whole lines are written, the first few, after `Write` a prefix of the text. Of each file each sub-buffer is read at most
 /// once. It takes no memory.
-pub fn report_files<F: File, L: Form, O: Sink>(
+pub fn report_files<F: File, L: LineFormat, O: Sink>(
     sources: &mut [Source<'_, F, L>],
     nexts: &mut LeastTree,
     buffer: &mut [u8],

@@ -7,9 +7,9 @@ ghost use Rattle.time_merge.specs.Nexts.{IsInStep};
 ghost use Rattle.multi_report.specs.Nexts.{HoldsLaneNext, IsLaneNext, IsLaneStepped};
 ghost use Rattle.multi_report.specs.Sources.{IsKnown, IsPrepared, IsReadied, IsUsable, Keeps, next_key, seen};
 
-use cpu_workers::Form;
 use event_cursor::{head_key, step};
 use least_tree::LeastTree;
+use line_holes::LineFormat;
 use page_pool::{LaneState, Pool};
 use time_merge::next_lane_by;
 use trace_base::Layout;
@@ -43,7 +43,7 @@ pub(crate) enum LaneNext {
 }
 
 /// What comes next of a file.
-pub(crate) fn next_of<F: File, L: Form>(source: &Source<'_, F, L>) -> LaneNext
+pub(crate) fn next_of<F: File, L: LineFormat>(source: &Source<'_, F, L>) -> LaneNext
     requires usable { IsUsable (seen F.File L.text source.now) }
     requires prepared { IsPrepared (seen F.File L.text source.now) }
     ensures holds { HoldsLaneNext source.now.layout source.now.pool result }
@@ -60,7 +60,7 @@ pub(crate) fn next_of<F: File, L: Form>(source: &Source<'_, F, L>) -> LaneNext
 }
 
 /// The key of what comes next of a file: of its first item, or of its cut.
-fn key_of_next<F: File, L: Form>(source: &Source<'_, F, L>) -> Option<Option<u64>>
+fn key_of_next<F: File, L: LineFormat>(source: &Source<'_, F, L>) -> Option<Option<u64>>
     requires usable { IsUsable (seen F.File L.text source.now) }
     requires prepared { IsPrepared (seen F.File L.text source.now) }
     ensures { IsKnown (seen F.File L.text source.now) → result ≡ next_key (seen F.File L.text source.now) }
@@ -77,7 +77,7 @@ fn key_of_next<F: File, L: Form>(source: &Source<'_, F, L>) -> Option<Option<u64
 }
 
 /// Makes the lanes of a file ready, all of them or the one of which an item was used.
-fn make_ready<F: File, L: Form>(
+fn make_ready<F: File, L: LineFormat>(
     source: &mut Source<'_, F, L>,
     used: Option<usize>,
 ) -> Result<(), Failed>
@@ -98,7 +98,7 @@ fn make_ready<F: File, L: Form>(
 }
 
 /// Makes the lanes of a file ready, all of them or the one of which an item was used, and tells the key of what comes next.
-pub(crate) fn make_source_ready<F: File, L: Form>(
+pub(crate) fn make_source_ready<F: File, L: LineFormat>(
     source: &mut Source<'_, F, L>,
     used: Option<usize>,
 ) -> Result<Option<Option<u64>>, Failed>
@@ -115,7 +115,7 @@ pub(crate) fn make_source_ready<F: File, L: Form>(
 }
 
 /// Uses up the item that a lane of a file holds.
-pub(crate) fn use_item<F: File, L: Form>(source: &mut Source<'_, F, L>, i: usize)
+pub(crate) fn use_item<F: File, L: LineFormat>(source: &mut Source<'_, F, L>, i: usize)
     requires usable { IsUsable (seen F.File L.text source.old) }
     requires prepared { IsPrepared (seen F.File L.text source.old) }
     requires inside { i < length source.old.pool }

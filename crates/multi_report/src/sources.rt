@@ -4,13 +4,13 @@ ghost use Rattle.multi_report.specs.Sources.{AllKeep, IsKnown, IsUsable, Seen, n
 ghost use Rattle.multi_report.specs.Turns.{AreReadied};
 
 use crate::source::{Source, make_source_ready};
-use cpu_workers::Form;
 use least_tree::LeastTree;
+use line_holes::LineFormat;
 use trace_outside::{Failed, File};
 
 /// Makes all lanes of all files ready, and gives a tree the key of what comes next of each file. Some: a read of that file
 /// failed.
-pub(crate) fn make_sources_ready<F: File, L: Form>(
+pub(crate) fn make_sources_ready<F: File, L: LineFormat>(
     sources: &mut [Source<'_, F, L>],
     nexts: &mut LeastTree,
 ) -> Option<usize>

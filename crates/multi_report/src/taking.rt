@@ -6,7 +6,7 @@ ghost use Rattle.multi_report.specs.Taking.{TakenFrom, TakenOf, WriteCaused};
 
 use crate::printing::put_item;
 use crate::source::{LaneNext, Source, make_source_ready, next_of, use_item};
-use cpu_workers::Form;
+use line_holes::LineFormat;
 use trace_outside::{Failed, File, Pending, Sink};
 
 /// What was taken of a file.
@@ -25,7 +25,7 @@ pub(crate) enum Taken {
 }
 
 /// Puts the line of a file's first item and uses the item up. The file's lanes are ready.
-fn take_next<F: File, L: Form, O: Sink>(
+fn take_next<F: File, L: LineFormat, O: Sink>(
     source: &mut Source<'_, F, L>,
     buffer: &mut [u8],
     pending: &mut Pending,
@@ -63,7 +63,7 @@ fn take_next<F: File, L: Form, O: Sink>(
 }
 
 /// The same of one of several files.
-pub(crate) fn take_from<F: File, L: Form, O: Sink>(
+pub(crate) fn take_from<F: File, L: LineFormat, O: Sink>(
     sources: &mut [Source<'_, F, L>],
     j: usize,
     buffer: &mut [u8],

@@ -4,8 +4,8 @@ ghost use Rattle.std.specs.Prelude.{◌≡◌, length, IfOk};
 ghost use Rattle.trace_outside.specs.Pending.{PutsText, on_way};
 ghost use Rattle.report_context.specs.Lines.{cpus_line, item_line};
 
-use cpu_workers::Form;
 use itoa::Buffer;
+use line_holes::LineFormat;
 use report_print::{Context, line};
 use std::alloc::{AllocError, Global};
 use subpage::Item;
@@ -36,7 +36,7 @@ pub struct ItemLines {
     pub context: Context,
 }
 
-impl Form for ItemLines {
+impl LineFormat for ItemLines {
     ghost text = { λ lines cpu item. item_line lines.context cpu item };
 
     fn line(&self, cpu: u32, item: &Item<'_>, into: &mut Tail<'_>) -> (u32, Option<(u32, u64)>) {

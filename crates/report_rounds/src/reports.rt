@@ -11,7 +11,8 @@ use crate::ends::Outcome;
 use crate::settle::mark_all;
 use crate::turns::turn;
 use crate::work::RoundWork;
-use cpu_workers::{Form, Workers};
+use cpu_workers::Workers;
+use line_holes::LineFormat;
 use page_pool::Lane;
 use std::thread::Threads;
 use time_merge::End;
@@ -30,7 +31,7 @@ use trace_outside::{File, Gate, Sink};
 ///
 /// No more bytes are read than the parts of the processors have, and none ahead of what is written: of the lines before
 /// a sub-buffer that is read no more than a region keeps were not written yet.
-pub fn report_rounds<R: Threads + Sync, F: File, L: Form, G: Gate, O: Sink>(
+pub fn report_rounds<R: Threads + Sync, F: File, L: LineFormat, G: Gate, O: Sink>(
     workers: &Workers<'_, R, G>,
     form: &L,
     layout: &Layout,

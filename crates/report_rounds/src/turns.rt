@@ -8,7 +8,8 @@ ghost use Rattle.report_rounds.specs.Turns.{CanGoOn, HasLoaded, IsTurned};
 use crate::ends::{Outcome, outcome_at};
 use crate::settle::settle;
 use crate::work::RoundWork;
-use cpu_workers::{Form, Workers, format_lanes};
+use cpu_workers::{Workers, format_lanes};
+use line_holes::LineFormat;
 use page_pool::Lane;
 use round_print::print_round;
 use std::thread::Threads;
@@ -18,7 +19,7 @@ use trace_outside::{File, Gate, Sink};
 
 /// One round: makes the lanes ready, forms lines, and prints those up to the horizon. It looks at the lanes that have a mark
 /// alone, and behind it those have one that it printed lines of, or that are to be loaded.
-pub(crate) fn turn<R: Threads + Sync, F: File, L: Form, G: Gate, O: Sink>(
+pub(crate) fn turn<R: Threads + Sync, F: File, L: LineFormat, G: Gate, O: Sink>(
     workers: &Workers<'_, R, G>,
     form: &L,
     layout: &Layout,

@@ -9,8 +9,9 @@ ghost use Rattle.page_pool.specs.Fresh.{IsNew};
 ghost use Rattle.event_cursor.specs.Standing.{IsInOrder};
 
 use super::times::time_of;
-use cpu_workers::{Form, Workers, format_lanes};
+use cpu_workers::{Workers, format_lanes};
 use event_cursor::load;
+use line_holes::LineFormat;
 use page_pool::{Lane, LaneState, Pool, Region};
 use std::alloc::{AllocError, Global};
 use std::test::Fail;
@@ -38,7 +39,7 @@ fn letters_of(time: u64) -> &'static [u8]
     }
 }
 
-impl Form for Letters {
+impl LineFormat for Letters {
     ghost text = { λ form cpu item. line_text
         (if item_time item % 3 == 0 then [] else if item_time item % 3 == 1 then 97 ∷ [] else 98 ∷ 99 ∷ []) None };
 

@@ -12,7 +12,7 @@ loop-i-smaller g c =
 
 pub loop-i-preserved : goal.loop-i-preserved
 loop-i-preserved g c =
-    let text = g.L.Form.text c.args.form.now in
+    let text = g.L.LineFormat.text c.args.form.now in
     let layout = c.args.layout.now in
     let first = c.args.lanes.now in
     let moved = c.args.moved.now in
@@ -41,7 +41,7 @@ returns g c =
     let marked = c.requires.marked in
     record {
       count = before.count;
-      each = λ k d inside. all_passed (g.L.Form.text c.args.form.now) c.args.layout.now c.args.lanes.now c.loop-i.lanes moved c.loop-i.from (length moved)
+      each = λ k d inside. all_passed (g.L.LineFormat.text c.args.form.now) c.args.layout.now c.args.lanes.now c.loop-i.lanes moved c.loop-i.from (length moved)
           marked before.within (omega arith) c.in_default.ensures before.done before.rest k d (omega (arith, inside, marked.marks));
       unmoved = before.kept;
     }

@@ -5,7 +5,7 @@ ghost use Rattle.line_holes.specs.Holes.{line_text};
 ghost use Rattle.subpage.specs.ItemData.{item_time};
 
 use crate::tests::times::time_of;
-use cpu_workers::Form;
+use line_holes::LineFormat;
 use subpage::Item;
 use trace_base::Tail;
 
@@ -26,7 +26,7 @@ pub(super) fn len_of(time: u64) -> u32
     if time % 10 == 7 { 0 } else { 2 }
 }
 
-impl Form for Marks {
+impl LineFormat for Marks {
     ghost text = { λ form cpu item. line_text
         (take (if item_time item % 10 == 7 then 0 else 2) ((97 + cpu % 26) ∷ (48 + item_time item % 10) ∷ [])) None };
 

@@ -11,23 +11,23 @@ use Rattle.multi_report.proofs.TurnLaws.{rose_from, told_read, told_write}
 use Rattle.multi_report.proofs.report.begin.Goals as goal
 
 pub returns-in-Err-clause-same : goal.returns-in-Err-clause-same
-returns-in-Err-clause-same g c = same_self (map (seen g.F.File g.L.Form.text) c.args.sources.now)
+returns-in-Err-clause-same g c = same_self (map (seen g.F.File g.L.LineFormat.text) c.args.sources.now)
 
 pub returns-in-Err-clause-turned : goal.returns-in-Err-clause-turned
 returns-in-Err-clause-turned g c = λ told.
-    let f = seen g.F.File g.L.Form.text in
+    let f = seen g.F.File g.L.LineFormat.text in
     heads_stopped (map f c.args.sources.now) (g.O.Sink.written c.args.out.now) (g.O.Sink.written c.put_heads.new.out) c.args.pending.now c.requires.empty
     (λ b text held. subst (λ (t : List ℕ). GainedPrefix b (g.O.Sink.written c.put_heads.new.out) (text ++ t)) (heads_text f c.args.sources.now) (c.in-Err.ensures.puts b text held))
 
 pub returns-in-None-clause-same : goal.returns-in-None-clause-same
 returns-in-None-clause-same g c =
-    let f = seen g.F.File g.L.Form.text in
+    let f = seen g.F.File g.L.LineFormat.text in
     let now = c.make_sources_ready.new.sources in
     keeps_same (map f c.args.sources.now) (map f now) (as_long f now c.args.sources.now c.make_sources_ready.ensures.count) c.make_sources_ready.ensures.keeps
 
 pub returns-in-None-clause-turned : goal.returns-in-None-clause-turned
 returns-in-None-clause-turned g c = λ told.
-    let f = seen g.F.File g.L.Form.text in
+    let f = seen g.F.File g.L.LineFormat.text in
     let now = c.make_sources_ready.new.sources in
     underway_first (map f c.args.sources.now) (map f now) c.make_sources_ready.new.nexts (g.O.Sink.written c.args.out.now) (g.O.Sink.written c.put_heads.new.out) c.args.pending.now c.put_heads.new.pending c.requires.fresh told c.requires.empty
     (as_long f now c.args.sources.now c.make_sources_ready.ensures.count) c.make_sources_ready.ensures.keeps c.in-None.ensures.keys
@@ -35,13 +35,13 @@ returns-in-None-clause-turned g c = λ told.
 
 pub returns-in-Some-clause-same : goal.returns-in-Some-clause-same
 returns-in-Some-clause-same g c =
-    let f = seen g.F.File g.L.Form.text in
+    let f = seen g.F.File g.L.LineFormat.text in
     let now = c.make_sources_ready.new.sources in
     keeps_same (map f c.args.sources.now) (map f now) (as_long f now c.args.sources.now c.make_sources_ready.ensures.count) c.make_sources_ready.ensures.keeps
 
 pub returns-in-Some-clause-turned : goal.returns-in-Some-clause-turned
 returns-in-Some-clause-turned g c = λ told.
-    let f = seen g.F.File g.L.Form.text in
+    let f = seen g.F.File g.L.LineFormat.text in
     let now = c.make_sources_ready.new.sources in
     read_first (map f c.args.sources.now) (map f now) (g.O.Sink.written c.args.out.now) (g.O.Sink.written c.put_heads.new.out) (g.O.Sink.written c.end_with.new.out) c.args.pending.now c.put_heads.new.pending c.in-Some.j c.end_with.result
     c.requires.fresh told c.requires.empty (as_long f now c.args.sources.now c.make_sources_ready.ensures.count) c.make_sources_ready.ensures.keeps
@@ -50,7 +50,7 @@ returns-in-Some-clause-turned g c = λ told.
 
 pub returns-in-Some-clause-read : goal.returns-in-Some-clause-read
 returns-in-Some-clause-read g c =
-    let f = seen g.F.File g.L.Form.text in
+    let f = seen g.F.File g.L.LineFormat.text in
     let rose = c.in-Some.ensures.read in
     told_read _ c.end_with.result _ _ _ _ (omega (arith, rose.0, length-map c.args.sources.now f), rose.1) c.end_with.ensures.told
 

@@ -9,24 +9,24 @@ use Rattle.multi_report.proofs.report.report_files.Goals as goal
 
 pub returns-in-Some-clause-report : goal.returns-in-Some-clause-report
 returns-in-Some-clause-report g c = λ told.
-    let f = seen g.F.File g.L.Form.text in
+    let f = seen g.F.File g.L.LineFormat.text in
     report_is (map f c.args.sources.now) (map f c.begin.new.sources) (g.O.Sink.written c.args.out.now) (g.O.Sink.written c.begin.new.out) c.in-Some.end c.in-Some.ensures.same (c.in-Some.ensures.turned told)
 
 pub returns-in-Some-clause-reads : goal.returns-in-Some-clause-reads
 returns-in-Some-clause-reads g c =
-    let f = seen g.F.File g.L.Form.text in
+    let f = seen g.F.File g.L.LineFormat.text in
     parts_read (map f c.args.sources.now) (map f c.begin.new.sources) c.in-Some.ensures.same
 
 pub returns-in-Some-turn-clause-report : goal.returns-in-Some-turn-clause-report
 returns-in-Some-turn-clause-report g c = λ told.
-    let f = seen g.F.File g.L.Form.text in
+    let f = seen g.F.File g.L.LineFormat.text in
     let before = c.loop-end.invariant in
     report_is (map f c.args.sources.now) (map f c.turn.new.sources) (g.O.Sink.written c.args.out.now) (g.O.Sink.written c.turn.new.out) c.in-Some-turn.end
     (same_twice (map f c.args.sources.now) (map f c.loop-end.sources) (map f c.turn.new.sources) before.same before.due c.in-Some-turn.ensures.same) (c.in-Some-turn.ensures.turned _ _ (before.way told))
 
 pub returns-in-Some-turn-clause-read : goal.returns-in-Some-turn-clause-read
 returns-in-Some-turn-clause-read g c =
-    let f = seen g.F.File g.L.Form.text in
+    let f = seen g.F.File g.L.LineFormat.text in
     read_from c.in-Some-turn.end (map f c.args.sources.now) (map f c.loop-end.sources) (map f c.turn.new.sources) c.loop-end.invariant.same c.in-Some-turn.ensures.read
 
 pub returns-in-Some-turn-clause-write : goal.returns-in-Some-turn-clause-write
@@ -34,18 +34,18 @@ returns-in-Some-turn-clause-write g c = rose_from c.in-Some-turn.end _ _ _ c.loo
 
 pub returns-in-Some-turn-clause-reads : goal.returns-in-Some-turn-clause-reads
 returns-in-Some-turn-clause-reads g c =
-    let f = seen g.F.File g.L.Form.text in
+    let f = seen g.F.File g.L.LineFormat.text in
     parts_read (map f c.args.sources.now) (map f c.turn.new.sources)
     (same_twice (map f c.args.sources.now) (map f c.loop-end.sources) (map f c.turn.new.sources) c.loop-end.invariant.same c.loop-end.invariant.due c.in-Some-turn.ensures.same)
 
 pub returns-in-Some-turn-clause-same : goal.returns-in-Some-turn-clause-same
 returns-in-Some-turn-clause-same g c =
-    let f = seen g.F.File g.L.Form.text in
+    let f = seen g.F.File g.L.LineFormat.text in
     same_twice (map f c.args.sources.now) (map f c.loop-end.sources) (map f c.turn.new.sources) c.loop-end.invariant.same c.loop-end.invariant.due c.in-Some-turn.ensures.same
 
 pub loop-end-preserved : goal.loop-end-preserved
 loop-end-preserved g c =
-    let f = seen g.F.File g.L.Form.text in
+    let f = seen g.F.File g.L.LineFormat.text in
     let first = map f c.args.sources.now in
     let old = map f c.loop-end.sources in
     let now = map f c.turn.new.sources in

@@ -9,15 +9,15 @@ use Rattle.multi_report.proofs.report.report_files.Given as goal
 
 abbrev pub invariant-loop-end : goal.invariant-loop-end
 invariant-loop-end g l = record {
-  usable : All IsUsable (map (seen g.F.File g.L.Form.text) l.sources);
-  prepared : All IsPrepared (map (seen g.F.File g.L.Form.text) l.sources);
-  room : All (HasRoom (length l.buffer)) (map (seen g.F.File g.L.Form.text) l.sources);
+  usable : All IsUsable (map (seen g.F.File g.L.LineFormat.text) l.sources);
+  prepared : All IsPrepared (map (seen g.F.File g.L.LineFormat.text) l.sources);
+  room : All (HasRoom (length l.buffer)) (map (seen g.F.File g.L.LineFormat.text) l.sources);
   slots : length l.nexts ≡ length l.sources;
-  same : AreSame (map (seen g.F.File g.L.Form.text) l.fn.sources) (map (seen g.F.File g.L.Form.text) l.sources);
-  due : NoMoreDue (map (seen g.F.File g.L.Form.text) l.fn.sources) (map (seen g.F.File g.L.Form.text) l.sources);
-  way : IsOnWay (map (seen g.F.File g.L.Form.text) l.fn.sources) (map (seen g.F.File g.L.Form.text) l.sources) l.nexts (g.O.Sink.written l.fn.out) (g.O.Sink.written l.out) l.pending;
+  same : AreSame (map (seen g.F.File g.L.LineFormat.text) l.fn.sources) (map (seen g.F.File g.L.LineFormat.text) l.sources);
+  due : NoMoreDue (map (seen g.F.File g.L.LineFormat.text) l.fn.sources) (map (seen g.F.File g.L.LineFormat.text) l.sources);
+  way : IsOnWay (map (seen g.F.File g.L.LineFormat.text) l.fn.sources) (map (seen g.F.File g.L.LineFormat.text) l.sources) l.nexts (g.O.Sink.written l.fn.out) (g.O.Sink.written l.out) l.pending;
   keeps_out : KeepsSink g.O.Sink l.fn.out l.out;
 }
 
 abbrev pub decreases-loop-end : goal.decreases-loop-end
-decreases-loop-end g l = sum_by work (map (seen g.F.File g.L.Form.text) l.sources)
+decreases-loop-end g l = sum_by work (map (seen g.F.File g.L.LineFormat.text) l.sources)

@@ -7,7 +7,7 @@ use Rattle.multi_report.proofs.TurnLaws.{less_taken, readied_taken, rose_from, r
 use Rattle.multi_report.proofs.report.turn.Goals as goal
 
 pub returns-in_default-clause-same : goal.returns-in_default-clause-same
-returns-in_default-clause-same g c = same_self (map (seen g.F.File g.L.Form.text) c.args.sources.now)
+returns-in_default-clause-same g c = same_self (map (seen g.F.File g.L.LineFormat.text) c.args.sources.now)
 
 pub returns-in_default-clause-turned : goal.returns-in_default-clause-turned
 returns-in_default-clause-turned g c = λ before whole under.
@@ -21,31 +21,31 @@ returns-in_default-clause-write g c = told_write _ c.end_with.result _ _ tt c.en
 
 pub returns-in-Item-clause-same : goal.returns-in-Item-clause-same
 returns-in-Item-clause-same g c =
-    let f = seen g.F.File g.L.Form.text in
+    let f = seen g.F.File g.L.LineFormat.text in
     let lt = slot_of f c.args.sources.now c.args.nexts.now c.in-Some.j c.in-Some.ensures.inside c.requires.slots in
     same_taken (map f c.args.sources.now) c.in-Some.j lt _ _ _ _ c.in-Item.ensures.taken
 
 pub returns-in-Cut-clause-same : goal.returns-in-Cut-clause-same
 returns-in-Cut-clause-same g c =
-    let f = seen g.F.File g.L.Form.text in
+    let f = seen g.F.File g.L.LineFormat.text in
     let lt = slot_of f c.args.sources.now c.args.nexts.now c.in-Some.j c.in-Some.ensures.inside c.requires.slots in
     same_taken (map f c.args.sources.now) c.in-Some.j lt _ _ _ _ c.in-Cut.ensures.taken
 
 pub returns-in-Done-clause-same : goal.returns-in-Done-clause-same
 returns-in-Done-clause-same g c =
-    let f = seen g.F.File g.L.Form.text in
+    let f = seen g.F.File g.L.LineFormat.text in
     let lt = slot_of f c.args.sources.now c.args.nexts.now c.in-Some.j c.in-Some.ensures.inside c.requires.slots in
     same_taken (map f c.args.sources.now) c.in-Some.j lt _ _ _ _ c.in-Done.ensures.taken
 
 pub returns-in-Read-clause-same : goal.returns-in-Read-clause-same
 returns-in-Read-clause-same g c =
-    let f = seen g.F.File g.L.Form.text in
+    let f = seen g.F.File g.L.LineFormat.text in
     let lt = slot_of f c.args.sources.now c.args.nexts.now c.in-Some.j c.in-Some.ensures.inside c.requires.slots in
     same_taken (map f c.args.sources.now) c.in-Some.j lt _ _ _ _ c.in-Read.ensures.taken
 
 pub returns-in-Write-clause-same : goal.returns-in-Write-clause-same
 returns-in-Write-clause-same g c =
-    let f = seen g.F.File g.L.Form.text in
+    let f = seen g.F.File g.L.LineFormat.text in
     let lt = slot_of f c.args.sources.now c.args.nexts.now c.in-Some.j c.in-Some.ensures.inside c.requires.slots in
     same_taken (map f c.args.sources.now) c.in-Some.j lt _ _ _ _ c.in-Write.ensures.taken
 
@@ -54,26 +54,26 @@ returns-in-Item-clause-slots g c = ap length c.set.ensures ∙ length-set c.args
 
 pub returns-in-Item-clause-readied : goal.returns-in-Item-clause-readied
 returns-in-Item-clause-readied g c =
-    let f = seen g.F.File g.L.Form.text in
+    let f = seen g.F.File g.L.LineFormat.text in
     let lt = slot_of f c.args.sources.now c.args.nexts.now c.in-Some.j c.in-Some.ensures.inside c.requires.slots in
     readied_taken (map f c.args.sources.now) c.in-Some.j lt _ _ _ _ c.requires.usable c.requires.prepared c.in-Item.ensures.taken
 
 pub returns-in-Item-clause-less : goal.returns-in-Item-clause-less
 returns-in-Item-clause-less g c =
-    let f = seen g.F.File g.L.Form.text in
+    let f = seen g.F.File g.L.LineFormat.text in
     let lt = slot_of f c.args.sources.now c.args.nexts.now c.in-Some.j c.in-Some.ensures.inside c.requires.slots in
     less_taken (map f c.args.sources.now) c.in-Some.j lt _ _ _ _ c.in-Item.ensures.taken
 
 pub returns-in-Item-clause-turned : goal.returns-in-Item-clause-turned
 returns-in-Item-clause-turned g c = λ before whole under.
-    let f = seen g.F.File g.L.Form.text in
+    let f = seen g.F.File g.L.LineFormat.text in
     let lt = slot_of f c.args.sources.now c.args.nexts.now c.in-Some.j c.in-Some.ensures.inside c.requires.slots in
     subst (λ (keys : List (Option (Option ℕ))). IsUnderway before whole (map f c.take_from.new.sources) keys (g.O.Sink.written c.take_from.new.out) c.take_from.new.pending) (sym c.set.ensures)
     (turn_item before whole (map f c.args.sources.now) c.args.nexts.now c.in-Some.j lt _ _ _ c.in-Some.ensures.least.0 _ c.in-Some.ensures.least.1 c.in-Item.ensures.taken under)
 
 pub returns-in-Cut-clause-turned : goal.returns-in-Cut-clause-turned
 returns-in-Cut-clause-turned g c = λ before whole under.
-    let f = seen g.F.File g.L.Form.text in
+    let f = seen g.F.File g.L.LineFormat.text in
     let lt = slot_of f c.args.sources.now c.args.nexts.now c.in-Some.j c.in-Some.ensures.inside c.requires.slots in
     turn_cut before whole (map f c.args.sources.now) c.args.nexts.now c.in-Some.j lt _ _ _ c.in-Some.ensures.least.0 c.in-Cut.cpu c.in-Cut.page _ c.end_with-in-Cut.result c.in-Some.ensures.least.1 c.in-Cut.ensures.taken
     c.end_with-in-Cut.ensures.ended under
@@ -86,7 +86,7 @@ returns-in-Cut-clause-write g c = rose_from c.end_with-in-Cut.result _ _ _ c.tak
 
 pub returns-in-Done-clause-turned : goal.returns-in-Done-clause-turned
 returns-in-Done-clause-turned g c = λ before whole under.
-    let f = seen g.F.File g.L.Form.text in
+    let f = seen g.F.File g.L.LineFormat.text in
     let lt = slot_of f c.args.sources.now c.args.nexts.now c.in-Some.j c.in-Some.ensures.inside c.requires.slots in
     absurd (turn_nothing before whole (map f c.args.sources.now) c.args.nexts.now c.in-Some.j lt _ _ _ c.in-Some.ensures.least.0 c.in-Some.ensures.least.1 c.in-Done.ensures.taken under)
 
@@ -98,14 +98,14 @@ returns-in-Done-clause-write g c = rose_from c.end_with-in-Done.result _ _ _ c.t
 
 pub returns-in-Read-clause-turned : goal.returns-in-Read-clause-turned
 returns-in-Read-clause-turned g c = λ before whole under.
-    let f = seen g.F.File g.L.Form.text in
+    let f = seen g.F.File g.L.LineFormat.text in
     let lt = slot_of f c.args.sources.now c.args.nexts.now c.in-Some.j c.in-Some.ensures.inside c.requires.slots in
     turn_read before whole (map f c.args.sources.now) c.args.nexts.now c.in-Some.j lt _ _ _ c.in-Some.ensures.least.0 _ c.end_with-in-Read.result c.in-Some.ensures.least.1 c.in-Read.ensures.taken
     c.end_with-in-Read.ensures.ended under
 
 pub returns-in-Read-clause-read : goal.returns-in-Read-clause-read
 returns-in-Read-clause-read g c =
-    let f = seen g.F.File g.L.Form.text in
+    let f = seen g.F.File g.L.LineFormat.text in
     let lt = slot_of f c.args.sources.now c.args.nexts.now c.in-Some.j c.in-Some.ensures.inside c.requires.slots in
     told_read _ c.end_with-in-Read.result _ _ _ _ (rose_taken (map f c.args.sources.now) c.in-Some.j lt _ _ _ c.in-Read.ensures.taken) c.end_with-in-Read.ensures.told
 
@@ -114,6 +114,6 @@ returns-in-Read-clause-write g c = rose_from c.end_with-in-Read.result _ _ _ c.t
 
 pub returns-in-Write-clause-turned : goal.returns-in-Write-clause-turned
 returns-in-Write-clause-turned g c = λ before whole under.
-    let f = seen g.F.File g.L.Form.text in
+    let f = seen g.F.File g.L.LineFormat.text in
     let lt = slot_of f c.args.sources.now c.args.nexts.now c.in-Some.j c.in-Some.ensures.inside c.requires.slots in
     turn_stopped before whole (map f c.args.sources.now) c.args.nexts.now c.in-Some.j lt _ _ _ c.in-Some.ensures.least.0 c.in-Some.ensures.least.1 c.in-Write.ensures.taken under

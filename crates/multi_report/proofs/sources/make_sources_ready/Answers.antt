@@ -8,11 +8,11 @@ pub make_source_ready-requires-clause-usable : goal.make_source_ready-requires-c
 make_source_ready-requires-clause-usable g c κs live =
     let lt : c.loop-j.j < length c.loop-j.sources = search rules in
     let long : length c.loop-j.sources ≡ length c.args.sources.now = search rules in
-    usable_here (seen g.F.File g.L.Form.text) c.args.sources.now c.loop-j.sources c.loop-j.j c.index-sources-j.result c.index-sources-j.result long lt c.loop-j.invariant.still c.requires.usable
+    usable_here (seen g.F.File g.L.LineFormat.text) c.args.sources.now c.loop-j.sources c.loop-j.j c.index-sources-j.result c.index-sources-j.result long lt c.loop-j.invariant.still c.requires.usable
 
 pub loop-j-init : goal.loop-j-init
 loop-j-init g c = record {
-  tied = tied_self (map (seen g.F.File g.L.Form.text) c.args.sources.now) c.requires.usable;
+  tied = tied_self (map (seen g.F.File g.L.LineFormat.text) c.args.sources.now) c.requires.usable;
   still = λ i d le. refl;
   begun = λ i d lt. absurd (omega (arith, lt));
   slots = refl;
@@ -20,7 +20,7 @@ loop-j-init g c = record {
 
 pub loop-j-preserved : goal.loop-j-preserved
 loop-j-preserved g c =
-    let f = seen g.F.File g.L.Form.text in
+    let f = seen g.F.File g.L.LineFormat.text in
     let lt : c.loop-j.j < length c.loop-j.sources = search rules in
     let long : length c.loop-j.sources ≡ length c.args.sources.now = search rules in
     let new = c.make_source_ready.new.source in
@@ -38,24 +38,24 @@ pub returns-in-Err-clause-keeps : goal.returns-in-Err-clause-keeps
 returns-in-Err-clause-keeps g c =
     let lt : c.loop-j.j < length c.loop-j.sources = search rules in
     let long : length c.loop-j.sources ≡ length c.args.sources.now = search rules in
-    tied_set (seen g.F.File g.L.Form.text) c.args.sources.now c.loop-j.sources c.loop-j.j c.index-sources-j.result c.make_source_ready.new.source long lt c.loop-j.invariant.still c.make_source_ready.ensures.keeps c.loop-j.invariant.tied
+    tied_set (seen g.F.File g.L.LineFormat.text) c.args.sources.now c.loop-j.sources c.loop-j.j c.index-sources-j.result c.make_source_ready.new.source long lt c.loop-j.invariant.still c.make_source_ready.ensures.keeps c.loop-j.invariant.tied
 
 pub returns-in-Err-clause-read : goal.returns-in-Err-clause-read
 returns-in-Err-clause-read g c =
     let lt : c.loop-j.j < length c.loop-j.sources = search rules in
     let long : length c.loop-j.sources ≡ length c.args.sources.now = search rules in
-    rose_set (seen g.F.File g.L.Form.text) c.args.sources.now c.loop-j.sources c.loop-j.j c.index-sources-j.result c.make_source_ready.new.source long lt c.loop-j.invariant.still c.in-Err.ensures.cause.failed
+    rose_set (seen g.F.File g.L.LineFormat.text) c.args.sources.now c.loop-j.sources c.loop-j.j c.index-sources-j.result c.make_source_ready.new.source long lt c.loop-j.invariant.still c.in-Err.ensures.cause.failed
 
 pub returns-clause-readied : goal.returns-clause-readied
 returns-clause-readied g c =
-    let f = seen g.F.File g.L.Form.text in
+    let f = seen g.F.File g.L.LineFormat.text in
     let long : length c.loop-j.sources ≡ length c.args.sources.now = search rules in
     let same : length (map f c.loop-j.sources) ≡ length (map f c.args.sources.now) = length-map c.loop-j.sources f ∙ long ∙ sym (length-map c.args.sources.now f) in
     all_readied (map f c.args.sources.now) (map f c.loop-j.sources) c.loop-j.nexts c.loop-j.j same (omega (arith, length-map c.args.sources.now f, long, c.loop-j-test.false)) c.loop-j.invariant.begun c.loop-j.invariant.tied c.requires.usable
 
 pub returns-clause-keys : goal.returns-clause-keys
 returns-clause-keys g c =
-    let f = seen g.F.File g.L.Form.text in
+    let f = seen g.F.File g.L.LineFormat.text in
     let long : length c.loop-j.sources ≡ length c.args.sources.now = search rules in
     let same : length (map f c.loop-j.sources) ≡ length (map f c.args.sources.now) = length-map c.loop-j.sources f ∙ long ∙ sym (length-map c.args.sources.now f) in
     all_keys (map f c.args.sources.now) (map f c.loop-j.sources) c.loop-j.nexts c.loop-j.j same (omega (arith, length-map c.args.sources.now f, long, c.loop-j-test.false)) c.loop-j.invariant.begun

@@ -6,8 +6,8 @@ use Rattle.multi_report.proofs.sources.make_sources_ready.Given as goal
 
 abbrev pub invariant-loop-j : goal.invariant-loop-j
 invariant-loop-j g l = record {
-  tied : Tied Keeps (map (seen g.F.File g.L.Form.text) l.fn.sources) (map (seen g.F.File g.L.Form.text) l.sources);
-  still : AreStill (map (seen g.F.File g.L.Form.text) l.fn.sources) (map (seen g.F.File g.L.Form.text) l.sources) l.j;
-  begun : AreBegun (map (seen g.F.File g.L.Form.text) l.fn.sources) (map (seen g.F.File g.L.Form.text) l.sources) l.nexts l.j;
+  tied : Tied Keeps (map (seen g.F.File g.L.LineFormat.text) l.fn.sources) (map (seen g.F.File g.L.LineFormat.text) l.sources);
+  still : AreStill (map (seen g.F.File g.L.LineFormat.text) l.fn.sources) (map (seen g.F.File g.L.LineFormat.text) l.sources) l.j;
+  begun : AreBegun (map (seen g.F.File g.L.LineFormat.text) l.fn.sources) (map (seen g.F.File g.L.LineFormat.text) l.sources) l.nexts l.j;
   slots : length l.nexts ≡ length l.fn.nexts;
 }

@@ -6,24 +6,24 @@ use Rattle.multi_report.proofs.taking.take_next.Goals as goal
 
 pub returns-in-Ok-make_source_ready-clause-taken : goal.returns-in-Ok-make_source_ready-clause-taken
 returns-in-Ok-make_source_ready-clause-taken g c =
-    let f = seen g.F.File g.L.Form.text in
+    let f = seen g.F.File g.L.LineFormat.text in
     taken_item (f c.args.source.now) (f c.use_item.new.source) (f c.make_source_ready.new.source) c.in-Item.i _ _ c.in-Item.ensures.holds.0 (λ known. c.in-Item.ensures.next _ known.stands)
     _ _ c.use_item.ensures c.make_source_ready.ensures.keeps c.in-Ok-make_source_ready.ensures.readied c.in-Ok-make_source_ready.ensures.key c.in-Ok.ensures.puts
 
 pub returns-in-Err-make_source_ready-clause-taken : goal.returns-in-Err-make_source_ready-clause-taken
 returns-in-Err-make_source_ready-clause-taken g c =
-    let f = seen g.F.File g.L.Form.text in
+    let f = seen g.F.File g.L.LineFormat.text in
     taken_read (f c.args.source.now) (f c.use_item.new.source) (f c.make_source_ready.new.source) c.in-Item.i _ _ c.in-Item.ensures.holds.0 (λ known. c.in-Item.ensures.next _ known.stands)
     _ c.use_item.ensures c.make_source_ready.ensures.keeps c.in-Err-make_source_ready.ensures.cause.failed c.in-Ok.ensures.puts
 
 pub returns-in-Err-clause-taken : goal.returns-in-Err-clause-taken
 returns-in-Err-clause-taken g c =
-    let a = seen g.F.File g.L.Form.text c.args.source.now in
+    let a = seen g.F.File g.L.LineFormat.text c.args.source.now in
     taken_write a a a c.in-Item.i _ _ c.in-Item.ensures.holds.0 (λ known. c.in-Item.ensures.next _ known.stands) _ c.in-Err.ensures.puts
 
 pub returns-in-Cut-clause-taken : goal.returns-in-Cut-clause-taken
 returns-in-Cut-clause-taken g c =
-    let a = seen g.F.File g.L.Form.text c.args.source.now in
+    let a = seen g.F.File g.L.LineFormat.text c.args.source.now in
     record {
       same = same_one a;
       goes = tt;
@@ -33,7 +33,7 @@ returns-in-Cut-clause-taken g c =
 
 pub returns-in-Done-clause-taken : goal.returns-in-Done-clause-taken
 returns-in-Done-clause-taken g c =
-    let a = seen g.F.File g.L.Form.text c.args.source.now in
+    let a = seen g.F.File g.L.LineFormat.text c.args.source.now in
     record {
       same = same_one a;
       goes = tt;

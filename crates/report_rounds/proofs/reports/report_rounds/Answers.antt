@@ -17,14 +17,14 @@ loop-end-init g c =
     let is = with_items_is c.args.work.now.moved c.mark_all.new.moved (ap length c.mark_all.ensures ∙ length-replicate (length c.as_mut_slice.result.now) true ∙ c.as_mut_slice.ensures.len) ∙ marks in
     record {
       between = record {
-        each = start_between (g.L.Form.text c.args.form.now) c.args.layout.now c.args.lanes.now c.requires.start c.requires.room;
+        each = start_between (g.L.LineFormat.text c.args.form.now) c.args.layout.now c.args.lanes.now c.requires.start c.requires.room;
         rise = c.requires.rise;
         slots = record { heads = c.requires.heads; highs = c.requires.highs; marks = ap length is ∙ length-replicate (length c.args.lanes.now) true };
-        unmoved = look_at_all (g.L.Form.text c.args.form.now) c.args.layout.now c.args.lanes.now _ is;
+        unmoved = look_at_all (g.L.LineFormat.text c.args.form.now) c.args.layout.now c.args.lanes.now _ is;
         empty = c.requires.empty;
       };
       parts = refl;
-      going = going_start (g.L.Form.text c.args.form.now) c.args.layout.now (g.F.File.bytes c.args.file.now) c.args.lanes.now (g.O.Sink.written c.args.out.now) c.requires.start;
+      going = going_start (g.L.LineFormat.text c.args.form.now) c.args.layout.now (g.F.File.bytes c.args.file.now) c.args.lanes.now (g.O.Sink.written c.args.out.now) c.requires.start;
       reads = omega arith;
       unread = omega arith;
       keeps = file_still _ _;
@@ -39,7 +39,7 @@ loop-end-preserved g c =
     record {
       between = more.between refl;
       parts = on.parts ∙ before.parts;
-      going = going_on (g.L.Form.text c.args.form.now) c.args.layout.now (g.F.File.bytes c.args.file.now) (g.F.File.bytes c.loop-end.file) (first_state c.args.lanes.now (g.O.Sink.written c.args.out.now))
+      going = going_on (g.L.LineFormat.text c.args.form.now) c.args.layout.now (g.F.File.bytes c.args.file.now) (g.F.File.bytes c.loop-end.file) (first_state c.args.lanes.now (g.O.Sink.written c.args.out.now))
           (round_state c.loop-end.lanes c.loop-end.last (g.O.Sink.written c.loop-end.out)) (round_state c.turn.new.lanes c.turn.new.last (g.O.Sink.written c.turn.new.out)) before.keeps.bytes before.going more.turned;
       reads = reads_further c.args.layout.now (g.F.File.size c.args.file.now) (g.F.File.size c.loop-end.file) _ _ _ c.args.lanes.now c.loop-end.lanes before.keeps.size before.reads before.unread
           c.turn.new.lanes on.unread on.reads;
@@ -56,13 +56,13 @@ returns-in-Ends-clause-reads g c =
 
 pub returns-in-Ends-clause-report : goal.returns-in-Ends-clause-report
 returns-in-Ends-clause-report g c =
-    going_ended (g.L.Form.text c.args.form.now) c.args.layout.now (g.F.File.bytes c.args.file.now) (g.F.File.bytes c.loop-end.file) c.args.lanes.now (g.O.Sink.written c.args.out.now)
+    going_ended (g.L.LineFormat.text c.args.form.now) c.args.layout.now (g.F.File.bytes c.args.file.now) (g.F.File.bytes c.loop-end.file) c.args.lanes.now (g.O.Sink.written c.args.out.now)
     (round_state c.loop-end.lanes c.loop-end.last (g.O.Sink.written c.loop-end.out)) (round_state c.turn.new.lanes c.turn.new.last (g.O.Sink.written c.turn.new.out)) c.in-Ends.end c.requires.shown c.loop-end.invariant.keeps.bytes
     c.requires.start c.loop-end.invariant.parts c.loop-end.invariant.going c.in-Ends.ensures.turned
 
 pub returns-in-Ends-clause-due : goal.returns-in-Ends-clause-due
 returns-in-Ends-clause-due g c =
-    due_told (g.L.Form.text c.args.form.now) c.args.layout.now (g.F.File.bytes c.args.file.now) (g.F.File.bytes c.loop-end.file) (g.F.File.size c.args.file.now) (g.F.File.size c.loop-end.file)
+    due_told (g.L.LineFormat.text c.args.form.now) c.args.layout.now (g.F.File.bytes c.args.file.now) (g.F.File.bytes c.loop-end.file) (g.F.File.size c.args.file.now) (g.F.File.size c.loop-end.file)
     c.args.lanes.now (g.O.Sink.written c.args.out.now) (round_state c.loop-end.lanes c.loop-end.last (g.O.Sink.written c.loop-end.out)) (round_state c.turn.new.lanes c.turn.new.last (g.O.Sink.written c.turn.new.out)) _ _ _ c.in-Ends.end
     c.loop-end.invariant.keeps.bytes c.loop-end.invariant.keeps.size (g.met.F.File.size_is c.args.file.now) (omega (arith, (carried c.args.layout.now).page_least)) c.requires.start c.loop-end.invariant.between.each
     c.loop-end.invariant.parts c.loop-end.invariant.going c.turn.ensures.loaded c.in-Ends.ensures.turned c.loop-end.invariant.unread c.loop-end.invariant.reads

@@ -12,9 +12,9 @@ use Rattle.report_rounds.proofs.reports.report_rounds.Given as goal
 
 abbrev pub invariant-loop-end : goal.invariant-loop-end
 invariant-loop-end g l = record {
-  between : AreBetween (g.L.Form.text l.form) l.layout l.lanes l.work;
+  between : AreBetween (g.L.LineFormat.text l.form) l.layout l.lanes l.work;
   parts : parts_of l.lanes ≡ parts_of l.fn.lanes;
-  going : IfSome (g.F.File.bytes l.fn.file) (λ file. IsFurther (g.L.Form.text l.form) l.layout file (first_state l.fn.lanes (g.O.Sink.written l.fn.out)) (round_state l.lanes l.last (g.O.Sink.written l.out)));
+  going : IfSome (g.F.File.bytes l.fn.file) (λ file. IsFurther (g.L.LineFormat.text l.form) l.layout file (first_state l.fn.lanes (g.O.Sink.written l.fn.out)) (round_state l.lanes l.last (g.O.Sink.written l.out)));
   keeps_out : KeepsSink g.O.Sink l.fn.out l.out;
   reads : g.F.File.reads l.file
       ≤ raised (g.F.File.reads l.fn.file)

@@ -15,7 +15,7 @@ use Rattle.report_rounds.proofs.turns.turn.Goals as goal
 
 pub print_round-requires-clause-rising : goal.print_round-requires-clause-rising
 print_round-requires-clause-rising g c =
-    let f : IsFormed (g.L.Form.text c.args.form.now) c.args.layout.now (g.F.File.bytes c.args.file.now) c.args.lanes.now c.make_moved_ready.new.lanes c.format_lanes.new.lanes = record {
+    let f : IsFormed (g.L.LineFormat.text c.args.form.now) c.args.layout.now (g.F.File.bytes c.args.file.now) c.args.lanes.now c.make_moved_ready.new.lanes c.format_lanes.new.lanes = record {
       long_loaded = c.make_moved_ready.auto.lanes;
       long_formed = c.format_lanes.ensures.count;
       in_order = c.in-Ok.ensures.makes_ready.loads.in_order;
@@ -23,11 +23,11 @@ print_round-requires-clause-rising g c =
       ready = c.in-Ok.ensures.makes_ready.ready;
       format = c.format_lanes.ensures.each;
     } in
-    formed_rising (g.L.Form.text c.args.form.now) c.args.layout.now (g.F.File.bytes c.args.file.now) c.args.lanes.now c.make_moved_ready.new.lanes c.format_lanes.new.lanes f c.requires.between.rise c.requires.between.each
+    formed_rising (g.L.LineFormat.text c.args.form.now) c.args.layout.now (g.F.File.bytes c.args.file.now) c.args.lanes.now c.make_moved_ready.new.lanes c.format_lanes.new.lanes f c.requires.between.rise c.requires.between.each
 
 pub returns-in-Ok-print_round-clause-between : goal.returns-in-Ok-print_round-clause-between
 returns-in-Ok-print_round-clause-between g c = λ goes.
-    let f : IsFormed (g.L.Form.text c.args.form.now) c.args.layout.now (g.F.File.bytes c.args.file.now) c.args.lanes.now c.make_moved_ready.new.lanes c.format_lanes.new.lanes = record {
+    let f : IsFormed (g.L.LineFormat.text c.args.form.now) c.args.layout.now (g.F.File.bytes c.args.file.now) c.args.lanes.now c.make_moved_ready.new.lanes c.format_lanes.new.lanes = record {
       long_loaded = c.make_moved_ready.auto.lanes;
       long_formed = c.format_lanes.ensures.count;
       in_order = c.in-Ok.ensures.makes_ready.loads.in_order;
@@ -42,14 +42,14 @@ returns-in-Ok-print_round-clause-between g c = λ goes.
     let marks : length moved ≡ c.settle.new.work.moved.len = done.marks ∙ c.as_mut_slice.ensures.len in
     let is = with_items_is c.settle.new.work.moved moved marks in
     record {
-      each = now_all (g.L.Form.text c.args.form.now) c.args.layout.now (g.F.File.bytes c.args.file.now) c.args.lanes.now c.make_moved_ready.new.lanes c.format_lanes.new.lanes f c.horizon-known.result now long done.printed.lanes c.requires.between.each;
+      each = now_all (g.L.LineFormat.text c.args.form.now) c.args.layout.now (g.F.File.bytes c.args.file.now) c.args.lanes.now c.make_moved_ready.new.lanes c.format_lanes.new.lanes f c.horizon-known.result now long done.printed.lanes c.requires.between.each;
       rise = done.printed.rising.cpus;
       slots = record {
         heads = ap length done.heads ∙ length-map now head_kept;
         highs = ap length c.settle.ensures.highs ∙ length-map c.format_lanes.new.lanes high_of ∙ sym long;
         marks = ap length is ∙ done.marks ∙ ap length c.as_mut_slice.ensures.value ∙ c.settle.ensures.marks ∙ sym long;
       };
-      unmoved = need_no_look (g.L.Form.text c.args.form.now) c.args.layout.now c.settle.new.work.moved.items moved c.format_lanes.new.lanes now long done.unmoved
+      unmoved = need_no_look (g.L.LineFormat.text c.args.form.now) c.args.layout.now c.settle.new.work.moved.items moved c.format_lanes.new.lanes now long done.unmoved
           (subst (λ (marks : List Bool). KeepsMarks marks moved) c.as_mut_slice.ensures.value done.marked)
           _ is done.heads c.settle.ensures.highs (λ i d lt. (c.settle.ensures.marked i d lt).0) c.format_lanes.ensures.settled;
       empty = done.empty;
@@ -57,7 +57,7 @@ returns-in-Ok-print_round-clause-between g c = λ goes.
 
 pub returns-in-Ok-print_round-clause-goes_on : goal.returns-in-Ok-print_round-clause-goes_on
 returns-in-Ok-print_round-clause-goes_on g c = λ goes.
-    let f : IsFormed (g.L.Form.text c.args.form.now) c.args.layout.now (g.F.File.bytes c.args.file.now) c.args.lanes.now c.make_moved_ready.new.lanes c.format_lanes.new.lanes = record {
+    let f : IsFormed (g.L.LineFormat.text c.args.form.now) c.args.layout.now (g.F.File.bytes c.args.file.now) c.args.lanes.now c.make_moved_ready.new.lanes c.format_lanes.new.lanes = record {
       long_loaded = c.make_moved_ready.auto.lanes;
       long_formed = c.format_lanes.ensures.count;
       in_order = c.in-Ok.ensures.makes_ready.loads.in_order;
@@ -68,18 +68,18 @@ returns-in-Ok-print_round-clause-goes_on g c = λ goes.
     let follow = follows c.format_lanes.new.lanes c.print_round.new.lanes c.horizon-known.result c.horizon-known.ensures c.least-least.result
     (subst (λ (keys : List (Option (Option ℕ))). IsLeastAt keys c.least-least.result) c.settle.ensures.highs c.least-least.ensures.least) c.outcome_at.result c.outcome_at.ensures in
     let all : ℕ = all_unread c.args.layout.now (g.F.File.size c.args.file.now) c.args.lanes.now in
-    let still = unread_turned c.args.layout.now (g.F.File.size c.args.file.now) (g.L.Form.text c.args.form.now) c.horizon-known.result c.make_moved_ready.new.lanes c.format_lanes.new.lanes c.print_round.new.lanes
+    let still = unread_turned c.args.layout.now (g.F.File.size c.args.file.now) (g.L.LineFormat.text c.args.form.now) c.horizon-known.result c.make_moved_ready.new.lanes c.format_lanes.new.lanes c.print_round.new.lanes
     c.format_lanes.ensures.count c.print_round.auto.lanes c.format_lanes.ensures.each c.in-Ok-print_round.ensures.printed.lanes in
     record {
-      parts = now_parts (g.L.Form.text c.args.form.now) c.args.layout.now (g.F.File.bytes c.args.file.now) c.args.lanes.now c.make_moved_ready.new.lanes c.format_lanes.new.lanes f c.horizon-known.result c.print_round.new.lanes c.print_round.auto.lanes c.in-Ok-print_round.ensures.printed.lanes;
-      less = now_less (g.L.Form.text c.args.form.now) c.args.layout.now (g.F.File.bytes c.args.file.now) c.args.lanes.now c.make_moved_ready.new.lanes c.format_lanes.new.lanes f c.horizon-known.result c.print_round.new.lanes c.print_round.auto.lanes c.in-Ok-print_round.ensures.printed.lanes c.outcome_at.result c.horizon-known.ensures follow c.requires.between.rise c.requires.between.each goes;
+      parts = now_parts (g.L.LineFormat.text c.args.form.now) c.args.layout.now (g.F.File.bytes c.args.file.now) c.args.lanes.now c.make_moved_ready.new.lanes c.format_lanes.new.lanes f c.horizon-known.result c.print_round.new.lanes c.print_round.auto.lanes c.in-Ok-print_round.ensures.printed.lanes;
+      less = now_less (g.L.LineFormat.text c.args.form.now) c.args.layout.now (g.F.File.bytes c.args.file.now) c.args.lanes.now c.make_moved_ready.new.lanes c.format_lanes.new.lanes f c.horizon-known.result c.print_round.new.lanes c.print_round.auto.lanes c.in-Ok-print_round.ensures.printed.lanes c.outcome_at.result c.horizon-known.ensures follow c.requires.between.rise c.requires.between.each goes;
       reads = subst (λ (n : ℕ). g.F.File.reads c.make_moved_ready.new.file ≤ raised (g.F.File.reads c.args.file.now) (all - n)) (sym still) c.in-Ok.ensures.makes_ready.reads_done;
       unread = subst (λ (n : ℕ). n ≤ all) (sym still) c.in-Ok.ensures.makes_ready.loads.unread;
     }
 
 pub returns-in-Ok-print_round-clause-turned : goal.returns-in-Ok-print_round-clause-turned
 returns-in-Ok-print_round-clause-turned g c =
-    let f : IsFormed (g.L.Form.text c.args.form.now) c.args.layout.now (g.F.File.bytes c.args.file.now) c.args.lanes.now c.make_moved_ready.new.lanes c.format_lanes.new.lanes = record {
+    let f : IsFormed (g.L.LineFormat.text c.args.form.now) c.args.layout.now (g.F.File.bytes c.args.file.now) c.args.lanes.now c.make_moved_ready.new.lanes c.format_lanes.new.lanes = record {
       long_loaded = c.make_moved_ready.auto.lanes;
       long_formed = c.format_lanes.ensures.count;
       in_order = c.in-Ok.ensures.makes_ready.loads.in_order;
@@ -89,7 +89,7 @@ returns-in-Ok-print_round-clause-turned g c =
     } in
     let follow = follows c.format_lanes.new.lanes c.print_round.new.lanes c.horizon-known.result c.horizon-known.ensures c.least-least.result
     (subst (λ (keys : List (Option (Option ℕ))). IsLeastAt keys c.least-least.result) c.settle.ensures.highs c.least-least.ensures.least) c.outcome_at.result c.outcome_at.ensures in
-    turned_told (g.L.Form.text c.args.form.now) c.args.layout.now (g.F.File.bytes c.args.file.now) c.args.lanes.now c.make_moved_ready.new.lanes c.format_lanes.new.lanes f c.horizon-known.result c.print_round.new.lanes c.print_round.auto.lanes c.in-Ok-print_round.ensures.printed.lanes c.outcome_at.result c.horizon-known.ensures follow c.requires.between.rise c.requires.between.each c.args.last.now c.print_round.new.last _ _ c.in-Ok-print_round.ensures.written c.in-Ok-print_round.ensures.printed.last
+    turned_told (g.L.LineFormat.text c.args.form.now) c.args.layout.now (g.F.File.bytes c.args.file.now) c.args.lanes.now c.make_moved_ready.new.lanes c.format_lanes.new.lanes f c.horizon-known.result c.print_round.new.lanes c.print_round.auto.lanes c.in-Ok-print_round.ensures.printed.lanes c.outcome_at.result c.horizon-known.ensures follow c.requires.between.rise c.requires.between.each c.args.last.now c.print_round.new.last _ _ c.in-Ok-print_round.ensures.written c.in-Ok-print_round.ensures.printed.last
 
 pub returns-in-Ok-print_round-clause-read : goal.returns-in-Ok-print_round-clause-read
 returns-in-Ok-print_round-clause-read g c = λ end.
@@ -109,7 +109,7 @@ returns-in-Ok-print_round-clause-write g c = λ end.
 
 pub returns-in-Err-clause-turned : goal.returns-in-Err-clause-turned
 returns-in-Err-clause-turned g c =
-    let f : IsFormed (g.L.Form.text c.args.form.now) c.args.layout.now (g.F.File.bytes c.args.file.now) c.args.lanes.now c.make_moved_ready.new.lanes c.format_lanes.new.lanes = record {
+    let f : IsFormed (g.L.LineFormat.text c.args.form.now) c.args.layout.now (g.F.File.bytes c.args.file.now) c.args.lanes.now c.make_moved_ready.new.lanes c.format_lanes.new.lanes = record {
       long_loaded = c.make_moved_ready.auto.lanes;
       long_formed = c.format_lanes.ensures.count;
       in_order = c.in-Ok.ensures.makes_ready.loads.in_order;
@@ -117,4 +117,4 @@ returns-in-Err-clause-turned g c =
       ready = c.in-Ok.ensures.makes_ready.ready;
       format = c.format_lanes.ensures.each;
     } in
-    failed_told (g.L.Form.text c.args.form.now) c.args.layout.now (g.F.File.bytes c.args.file.now) c.args.lanes.now c.make_moved_ready.new.lanes c.format_lanes.new.lanes f c.horizon-known.result c.horizon-known.ensures c.requires.between.rise c.requires.between.each c.args.last.now _ _ c.in-Err.ensures.written
+    failed_told (g.L.LineFormat.text c.args.form.now) c.args.layout.now (g.F.File.bytes c.args.file.now) c.args.lanes.now c.make_moved_ready.new.lanes c.format_lanes.new.lanes f c.horizon-known.result c.horizon-known.ensures c.requires.between.rise c.requires.between.each c.args.last.now _ _ c.in-Err.ensures.written
