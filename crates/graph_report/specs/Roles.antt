@@ -1,47 +1,31 @@
 -- What an item of a trace is for the calls. Source: the formats of the kernel's function graph tracer (trace_entries.h,
 -- `funcgraph_entry` and `funcgraph_exit`).
-use Rattle.std.specs.Prelude.{ℕ, ℤ, ◌-ℤ◌, ◌%◌, ◌^◌, ◌&&◌, if◌then◌else◌, List, codes, Option, Some, None}
+use Rattle.std.specs.Prelude.{ℕ, ◌-ℤ◌, ◌%◌, ◌^◌, if◌then◌else◌, List, codes, Option, Some, None}
 use Rattle.std.specs.Option.{option_map_or}
 use Rattle.std.specs.Str.{bytes_eq}
 use Rattle.std.specs.Int.{cast_unsigned, w128}
 use Rattle.trace_base.specs.declared.order.Order.{Order}
 use Rattle.trace_base.specs.declared.field.Field.{Field}
-use Rattle.trace_base.specs.Fields.{field_named, unsigned_in, sized, is_number, has_number}
+use Rattle.trace_base.specs.Fields.{field_named}
 use Rattle.format_parse.specs.declared.format.EventFormat.{EventFormat}
 use Rattle.format_parse.specs.Table.{format_at}
 use Rattle.subpage.specs.ItemData.{ItemData, EventAt, LossAt}
 use Rattle.report_print.specs.ContextData.{ContextData}
 use Rattle.report_print.specs.Line.{id_of}
+use Rattle.report_print.specs.NumberFields.{of_counted, of_number, number_at, low_32}
+use Rattle.report_print.specs.declared.number_field.NumberField.{NumberField}
 use Rattle.report_print.specs.Prefix.{common_in}
 use Rattle.call_pairs.specs.declared.seen.GraphEvent.{GraphEvent}
 use Rattle.call_pairs.specs.declared.seen.Seen.{Seen}
 use Rattle.call_pairs.specs.declared.seen.Seen.TheVariants as seen
 use Rattle.call_pairs.specs.Durations.{clip}
-use Rattle.graph_report.specs.declared.place.Place.{Place}
 use Rattle.graph_report.specs.declared.role.Called.{Called}
 use Rattle.graph_report.specs.declared.role.Times.{Times}
 use Rattle.graph_report.specs.declared.role.Role.{Role}
 use Rattle.graph_report.specs.declared.role.Role.TheVariants.{Enters, Leaves, Other}
 
--- where a field's number stands, and whether it has a sign, as only a number may have
-abbrev pub place_of : Field → Place
-place_of field = record { offset = field.offset; size = field.size; signed = is_number field.kind && field.signed }
-
--- the exact number at a place, and 0 where one of its bytes is missing
-abbrev pub number_at : Order → List ℕ → Place → ℤ
-number_at order payload place = sized place.signed place.size (unsigned_in order payload place.offset place.size)
-
--- the place of a field that is a number, and of one that is a number or an address
-abbrev pub of_number : Option Field → Option Place
-of_number None = None
-of_number (Some field) = if is_number field.kind then Some (place_of field) else None
-
-abbrev pub of_counted : Option Field → Option Place
-of_counted None = None
-of_counted (Some field) = if has_number field.kind then Some (place_of field) else None
-
 -- the function and its depth, which both kinds of event have: the first field of each name counts
-abbrev pub called_by : Option Place → Option Place → Option Called
+abbrev pub called_by : Option NumberField → Option NumberField → Option Called
 called_by None depth = None
 called_by (Some func) None = None
 called_by (Some func) (Some depth) = Some (record { func = func; depth = depth })
@@ -50,7 +34,7 @@ unfoldable pub called_in : List Field → Option Called
 called_in fields = called_by (of_counted (field_named (codes "func") fields)) (of_counted (field_named (codes "depth") fields))
 
 -- when a call began and ended, where an exit tells both
-abbrev pub times_by : Option Place → Option Place → Option Times
+abbrev pub times_by : Option NumberField → Option NumberField → Option Times
 times_by None to = None
 times_by (Some from) None = None
 times_by (Some from) (Some to) = Some (record { from = from; to = to })
@@ -85,7 +69,7 @@ graph_event given cpu time payload called = record {
   cpu = cpu;
   time = time;
   common = common_in given payload;
-  depth = cast_unsigned w128 (number_at given.show.order payload called.depth) % 2 ^ 32;
+  depth = low_32 given.show.order payload called.depth;
   func = cast_unsigned w128 (number_at given.show.order payload called.func) % 2 ^ 64;
 }
 

@@ -6,7 +6,6 @@
 #![tactic(auto)]
 
 mod gathering;
-mod place;
 mod putting;
 mod role;
 mod seeing;

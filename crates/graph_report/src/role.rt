@@ -1,30 +1,29 @@
 // What events are for the calls, found once for each format.
 
 ghost use Rattle.std.specs.Prelude.{◌≡◌};
-ghost use Rattle.std.specs.Option.{option_copied};
-ghost use Rattle.graph_report.specs.Roles.{of_number, of_counted, called_in, times_in, entering, leaving, role_named, role_of};
+ghost use Rattle.graph_report.specs.Roles.{called_in, times_in, entering, leaving, role_named, role_of};
 
-use crate::place::Place;
 use format_parse::EventFormat;
 use format_places::FormatRole;
-use trace_base::{Field, FieldKind, field_named};
+use report_print::NumberField;
+use trace_base::Field;
 
 /// Where an event tells its function and the function's depth.
 #[derive(Clone, Copy, Debug, PartialEq, Eq)]
 pub struct Called {
     /// The function's address.
-    pub func: Place,
+    pub func: NumberField,
     /// How many calls were open around it.
-    pub depth: Place,
+    pub depth: NumberField,
 }
 
 /// Where an exit tells when its call began and ended.
 #[derive(Clone, Copy, Debug, PartialEq, Eq)]
 pub struct Times {
     /// When it began.
-    pub from: Place,
+    pub from: NumberField,
     /// When it ended.
-    pub to: Place,
+    pub to: NumberField,
 }
 
 /// What the events of a format are for the calls.
@@ -38,37 +37,13 @@ pub enum Role {
     Other,
 }
 
-fn of_number(field: Option<&Field>) -> Option<Place>
-    ensures { result ≡ of_number (option_copied field.entry) }
-{
-    match field {
-        Some(field) => match field.kind {
-            FieldKind::Number => Some(Place::of(field)),
-            FieldKind::Text | FieldKind::Bytes | FieldKind::Pointer => None,
-        },
-        None => None,
-    }
-}
-
-fn of_counted(field: Option<&Field>) -> Option<Place>
-    ensures { result ≡ of_counted (option_copied field.entry) }
-{
-    match field {
-        Some(field) => match field.kind {
-            FieldKind::Number | FieldKind::Pointer => Some(Place::of(field)),
-            FieldKind::Text | FieldKind::Bytes => None,
-        },
-        None => None,
-    }
-}
-
 /// The function and its depth, where both are numbers or addresses.
 #[tactic(auto, unfolding(crate::specs::Roles::called_in))]
 fn called_in(fields: &[Field]) -> Option<Called>
     ensures { result ≡ called_in fields.now }
 {
-    let func = of_counted(field_named(b"func", fields))?;
-    let depth = of_counted(field_named(b"depth", fields))?;
+    let func = NumberField::counted(b"func", fields)?;
+    let depth = NumberField::counted(b"depth", fields)?;
     Some(Called { func, depth })
 }
 
@@ -77,8 +52,8 @@ fn called_in(fields: &[Field]) -> Option<Called>
 fn times_in(fields: &[Field]) -> Option<Times>
     ensures { result ≡ times_in fields.now }
 {
-    let from = of_number(field_named(b"calltime", fields))?;
-    let to = of_number(field_named(b"rettime", fields))?;
+    let from = NumberField::named(b"calltime", fields)?;
+    let to = NumberField::named(b"rettime", fields)?;
     Some(Times { from, to })
 }
 

@@ -8,9 +8,9 @@ use Rattle.subpage.specs.ItemData.{ItemData, EventAt, LossAt}
 use Rattle.subpage.specs.Arrangement.{Keyed}
 use Rattle.format_parse.specs.declared.format.EventFormat.{EventFormat}
 use Rattle.format_parse.specs.Table.{format_at}
-use Rattle.report_print.specs.declared.common.CommonField.{CommonField}
-use Rattle.report_print.specs.CommonFields.{of_field, common_signed}
-use Rattle.trace_base.specs.Fields.{field_named, is_number}
+use Rattle.report_print.specs.declared.number_field.NumberField.{NumberField}
+use Rattle.report_print.specs.NumberFields.{of_number, signed_32}
+use Rattle.trace_base.specs.Fields.{field_named}
 use Rattle.report_print.specs.ContextData.{ContextData}
 use Rattle.report_print.specs.Line.{id_of}
 use Rattle.report_print.specs.Prefix.{common_in}
@@ -19,16 +19,11 @@ use Rattle.wakeup_pairs.specs.declared.seen.Seen.TheVariants as seen
 use Rattle.wakeup_lat.specs.declared.role.Role.{Role}
 use Rattle.wakeup_lat.specs.declared.role.Role.TheVariants.{Wakes, Switches, Other}
 
--- where a field stands that is a number
-abbrev pub number_of : Option Field → Option CommonField
-number_of None = None
-number_of (Some field) = if is_number field.kind then Some (of_field field) else None
-
-abbrev pub waking : Option CommonField → Role
+abbrev pub waking : Option NumberField → Role
 waking None = Other
 waking (Some field) = Wakes field
 
-abbrev pub switching : Option CommonField → Role
+abbrev pub switching : Option NumberField → Role
 switching None = Other
 switching (Some field) = Switches field
 
@@ -36,8 +31,8 @@ switching (Some field) = Switches field
 -- counts, and where that is no number the event is neither
 unfoldable pub named_role : List ℕ → List Field → Role
 named_role name fields =
-    if bytes_eq name (codes "sched_wakeup") || bytes_eq name (codes "sched_wakeup_new") then waking (number_of (field_named (codes "pid") fields))
-    else if bytes_eq name (codes "sched_switch") then switching (number_of (field_named (codes "next_pid") fields))
+    if bytes_eq name (codes "sched_wakeup") || bytes_eq name (codes "sched_wakeup_new") then waking (of_number (field_named (codes "pid") fields))
+    else if bytes_eq name (codes "sched_switch") then switching (of_number (field_named (codes "next_pid") fields))
     else Other
 
 abbrev pub role_of : EventFormat → Role
@@ -53,9 +48,9 @@ role_in given payload = role_by (format_at (id_of given payload) given.formats)
 -- with its task, its processor and its own time
 abbrev pub seen_as : ContextData → ℕ → ℕ → List ℕ → Role → Seen
 seen_as given cpu time payload (Wakes field) =
-    seen.Wakes (record { task = common_signed given.show.order payload field; time = time })
+    seen.Wakes (record { task = signed_32 given.show.order payload field; time = time })
 seen_as given cpu time payload (Switches field) = seen.Switches (record {
-  task = common_signed given.show.order payload field;
+  task = signed_32 given.show.order payload field;
   cpu = cpu;
   time = time;
   common = common_in given payload;

@@ -1,21 +1,20 @@
 // What events are for the latencies, by their formats.
 
 ghost use Rattle.std.specs.Prelude.{◌≡◌};
-ghost use Rattle.std.specs.Option.{option_copied};
-ghost use Rattle.wakeup_lat.specs.Roles.{number_of, waking, switching, named_role, role_of};
+ghost use Rattle.wakeup_lat.specs.Roles.{waking, switching, named_role, role_of};
 
 use format_parse::EventFormat;
 use format_places::FormatRole;
-use report_print::CommonField;
-use trace_base::{Field, field_named};
+use report_print::NumberField;
+use trace_base::Field;
 
 /// What the events of a format are for the latencies, with the place of their task's number.
 #[derive(Clone, Copy, Debug, PartialEq, Eq)]
 pub(crate) enum Role {
     /// A task is woken.
-    Wakes(CommonField),
+    Wakes(NumberField),
     /// A processor goes on to a task.
-    Switches(CommonField),
+    Switches(NumberField),
     /// They do not matter.
     Other,
 }
@@ -37,23 +36,15 @@ fn named_role(name: &[u8], fields: &[Field]) -> Role
     ensures { result ≡ named_role name.now fields.now }
 {
     if name == b"sched_wakeup".as_slice() || name == b"sched_wakeup_new".as_slice() {
-        waking(number_of(field_named(b"pid", fields)))
+        waking(NumberField::named(b"pid", fields))
     } else if name == b"sched_switch".as_slice() {
-        switching(number_of(field_named(b"next_pid", fields)))
+        switching(NumberField::named(b"next_pid", fields))
     } else {
         Role::Other
     }
 }
 
-// Where a field stands, if it is a number.
-fn number_of(field: Option<&Field>) -> Option<CommonField>
-    ensures { result ≡ number_of (option_copied field.entry) }
-{
-    let place = CommonField::of(field?);
-    if place.is_number { Some(place) } else { None }
-}
-
-fn waking(field: Option<CommonField>) -> Role
+fn waking(field: Option<NumberField>) -> Role
     ensures { result ≡ waking field }
 {
     match field {
@@ -62,7 +53,7 @@ fn waking(field: Option<CommonField>) -> Role
     }
 }
 
-fn switching(field: Option<CommonField>) -> Role
+fn switching(field: Option<NumberField>) -> Role
     ensures { result ≡ switching field }
 {
     match field {

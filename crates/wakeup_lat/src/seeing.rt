@@ -21,11 +21,11 @@ impl Sight<'_> {
             .role(context.formats(), context.id(payload), Role::Other)
         {
             Role::Wakes(field) => Seen::Wakes(Wake {
-                task: field.signed(context.order(), payload),
+                task: field.signed_32(context.order(), payload),
                 time,
             }),
             Role::Switches(field) => Seen::Switches(Switch {
-                task: field.signed(context.order(), payload),
+                task: field.signed_32(context.order(), payload),
                 cpu,
                 time,
                 common: context.common(payload),
