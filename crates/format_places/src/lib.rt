@@ -6,5 +6,5 @@
 mod places;
 mod roles;
 
-pub use places::FormatPlaces;
+pub use places::{FormatPlaces, PlacedFormat};
 pub use roles::{FormatRole, FormatRoles};

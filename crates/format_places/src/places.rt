@@ -1,7 +1,8 @@
-ghost use Rattle.std.specs.Prelude.{◌≡◌, true, Some, position};
-ghost use Rattle.format_parse.specs.Table.{has_id};
+ghost use Rattle.std.specs.Prelude.{◌≡◌, Some, position, IfSome};
+ghost use Rattle.std.specs.Option.{option_map};
+ghost use Rattle.format_parse.specs.Table.{format_at, has_id};
 
-use format_parse::FormatTable;
+use format_parse::{EventFormat, FormatTable};
 use noted_places::Places;
 use std::alloc::{AllocError, Global};
 
@@ -11,18 +12,42 @@ pub struct FormatPlaces {
     places: Places,
 }
 
-/// Whether the format at this place has this number.
-#[tactic(auto, using(crate::proofs::Positions::position_here))]
-fn has_at(formats: &FormatTable, place: usize, id: u32) -> bool
-    ensures { result ≡ true → Some place ≡ position (has_id id) formats.now }
+/// A format, and where it stands.
+#[derive(Clone, Copy, Drop)]
+pub struct PlacedFormat<'a> {
+    /// Its place in the table.
+    pub place: usize,
+    /// The format.
+    pub format: &'a EventFormat,
+}
+
+/// The format at this place, if it has this number.
+#[inline(always)]
+fn at_place(formats: &FormatTable, place: usize, id: u32) -> Option<PlacedFormat<'_>>
+    ensures place { IfSome result (λ found. Some found.place ≡ position (has_id id) formats.now) }
+    ensures format { IfSome result (λ found. Some found.format.now ≡ format_at id formats.now) }
 {
     if formats.len() <= place {
-        return false;
+        return None;
     }
-    match formats.get(place) {
-        Some(format) => format.id == id,
-        None => false,
+    let format = formats.get(place)?;
+    if format.id == id {
+        Some(PlacedFormat { place, format })
+    } else {
+        None
     }
+}
+
+/// The format with this number, found by a search.
+#[inline(never)]
+#[tactic(auto, using(crate::proofs::Positions::none_searched, crate::proofs::Positions::none_there))]
+fn by_search(formats: &FormatTable, id: u32) -> Option<PlacedFormat<'_>>
+    ensures place { IfSome result (λ found. Some found.place ≡ position (has_id id) formats.now) }
+    ensures format { option_map (λ found. found.format.now) result ≡ format_at id formats.now }
+{
+    let place = formats.by_id(id)?;
+    let format = formats.get(place)?;
+    Some(PlacedFormat { place, format })
 }
 
 impl FormatPlaces {
@@ -42,11 +67,22 @@ impl FormatPlaces {
     pub fn place(&self, formats: &FormatTable, id: u32) -> Option<usize>
         ensures { result ≡ position (has_id id) formats.now }
     {
-        let place = self.places.of(u64::from(id));
-        if has_at(formats, place, id) {
-            Some(place)
-        } else {
-            formats.by_id(id)
+        match at_place(formats, self.places.of(u64::from(id)), id) {
+            Some(found) => Some(found.place),
+            None => formats.by_id(id),
+        }
+    }
+
+    /// The format with this number, and its place. None exactly where there is none. It is looked for first at the place that
+    /// was noted for the number.
+    #[inline(always)]
+    pub fn find<'a>(&self, formats: &'a FormatTable, id: u32) -> Option<PlacedFormat<'a>>
+        ensures place { IfSome result (λ found. Some found.place ≡ position (has_id id) formats.now) }
+        ensures format { option_map (λ found. found.format.now) result ≡ format_at id formats.now }
+    {
+        match at_place(formats, self.places.of(u64::from(id)), id) {
+            Some(found) => Some(found),
+            None => by_search(formats, id),
         }
     }
 }
