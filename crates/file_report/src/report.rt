@@ -13,7 +13,6 @@ use crate::events::{print_cpus, print_lines, print_waits};
 use crate::list::print_list;
 use dat_header::{Body, Header};
 use filter_truth::FilterUse;
-use new_files::{CopyFault, copy_rest};
 use report_context::{ItemLines, context_of};
 use run_endings::{Resources, Selection, Status, status_or_memory};
 use std::alloc::{AllocError, Global};
@@ -21,7 +20,7 @@ use std::mem;
 use std::thread::Threads;
 use trace_args::ReportWords;
 use trace_base::Part;
-use trace_outside::{Failed, File, Gate, Pending, Sink};
+use trace_outside::{CopyFault, Failed, File, Gate, Pending, Sink, copy_rest};
 
 /// A report of one file: what it is asked for, and what the file's header says.
 #[derive(Clone, Copy)]

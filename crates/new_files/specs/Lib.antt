@@ -1,4 +1,3 @@
-pub mod Copies
 pub mod Padding
 pub mod Requested
 pub mod Stored

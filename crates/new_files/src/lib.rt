@@ -1,9 +1,7 @@
-//! What every tool that makes a file needs: zero bytes up to a multiple of a page, and a file's bytes copied a buffer at a time;
-//! and, in `specs/`, what a new file is, what making some leaves of a folder, and which names it is asked for.
+//! What every tool that makes a file needs: zero bytes up to a multiple of a page; and, in `specs/`, what a new file is, what
+//! making some leaves of a folder, and which names it is asked for.
 #![tactic(auto)]
 
-mod copies;
 mod padding;
 
-pub use copies::{CopyFault, copy_rest};
 pub use padding::{gap, write_zeros};

@@ -8,8 +8,8 @@ ghost use Rattle.dat_header.specs.Seen.{file_seen};
 ghost use Rattle.restore_tool.specs.Copying.{AllKeep, AllTold, CopiesAll, IsCaused, IsOneCopied, Keeps, files_seen, text_of};
 ghost use Rattle.restore_tool.specs.Restored.{data_behind};
 
-use new_files::{CopyFault, copy_rest, gap, write_zeros};
-use trace_outside::{Failed, File, Sink};
+use new_files::{gap, write_zeros};
+use trace_outside::{CopyFault, Failed, File, Sink, copy_rest};
 
 /// How a restoring ends.
 #[derive(Clone, Copy, Debug, PartialEq, Eq)]

@@ -1,4 +1,5 @@
 pub mod Gains
+pub mod Copying
 pub mod Fills
 pub mod PendingLemmas
 pub mod Keeping

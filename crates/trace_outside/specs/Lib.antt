@@ -2,6 +2,7 @@ pub mod Causes
 pub mod Reading
 pub mod Piece
 pub mod Writing
+pub mod Copies
 pub mod Names
 pub mod Pending
 pub mod Folders

@@ -1,8 +1,8 @@
 use Rattle.std.proofs.Common.{◌≤◌, ◌-◌}
 use Rattle.trace_outside.specs.Causes.{raised}
 use Rattle.trace_outside.specs.Keeping.{KeepsFile, KeepsSink}
-use Rattle.new_files.specs.Copies.{Copied}
-use Rattle.new_files.proofs.copies.copy_rest.Given as goal
+use Rattle.trace_outside.specs.Copies.{Copied}
+use Rattle.trace_outside.proofs.copies.copy_rest.Given as goal
 
 abbrev pub invariant-loop-place : goal.invariant-loop-place
 invariant-loop-place g l = record {

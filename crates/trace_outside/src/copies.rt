@@ -3,9 +3,10 @@
 ghost use Rattle.std.specs.Prelude.{◌≡◌, ◌≤◌, ◌<◌, ◌+◌, ◌-◌, length, IsErrOf};
 ghost use Rattle.trace_outside.specs.Causes.{Rose, raised};
 ghost use Rattle.trace_outside.specs.Keeping.{KeepsFile, KeepsSink};
-ghost use Rattle.new_files.specs.Copies.{Copies};
+ghost use Rattle.trace_outside.specs.Copies.{Copies};
 
-use trace_outside::{Failed, File, Sink, read_all, write_all};
+use crate::outside::{Failed, File, Sink};
+use crate::whole::{read_all, write_all};
 
 /// Why a copy stopped.
 #[derive(Clone, Copy, Debug, PartialEq, Eq)]

@@ -5,7 +5,7 @@ use Rattle.std.proofs.Math.Seq.{take-add}
 use Rattle.std.specs.Io.KnownBytes.{append_known}
 use Rattle.trace_outside.specs.Writing.{GainedPrefix}
 use Rattle.trace_outside.proofs.Gains.{gained_nothing, gained_both, prefix_behind}
-use Rattle.new_files.specs.Copies.{Copies, Copied}
+use Rattle.trace_outside.specs.Copies.{Copies, Copied}
 
 pub copied_nothing : (told : Option (List ℕ)) (at : ℕ) (old : Option (List ℕ)) → Copied told at 0 old old
 copied_nothing None at old = tt

@@ -1,8 +1,8 @@
 use Rattle.std.proofs.Common.{rules, arith, ◌≡◌, length, subst, ℕ}
 use Rattle.trace_outside.proofs.Keeping.{file_kept, sink_kept}
-use Rattle.new_files.specs.Copies.{Copied}
-use Rattle.new_files.proofs.Copying.{copied_to, copy_stopped_at}
-use Rattle.new_files.proofs.copies.copy_rest.Goals as goal
+use Rattle.trace_outside.specs.Copies.{Copied}
+use Rattle.trace_outside.proofs.Copying.{copied_to, copy_stopped_at}
+use Rattle.trace_outside.proofs.copies.copy_rest.Goals as goal
 
 pub returns-in_err-copy_piece-clause-copies : goal.returns-in_err-copy_piece-clause-copies
 returns-in_err-copy_piece-clause-copies g c =
