@@ -14,7 +14,6 @@ use Rattle.new_files.specs.Stored.{NewFile}
 use Rattle.split_tool.specs.NewFiles as new
 use Rattle.split_tool.specs.NewFiles.{new_files}
 use Rattle.split_tool.specs.Numbered.{LeavesFiles, first_names}
-use Rattle.split_tool.specs.Rules.{rules_of}
 use Rattle.split_tool.proofs.Numbering.{names_new}
 use Rattle.run_endings.specs.Ends.{status_of_end}
 use Rattle.run_endings.specs.Outside.{FolderSeen}
@@ -22,7 +21,7 @@ use Rattle.run_endings.specs.Requested.{AsksFor}
 use Rattle.run_endings.specs.Meaning.{Meaning}
 use Rattle.run_endings.proofs.Requesting.{asked_few, asked_none, asks_for}
 use Rattle.split_run.specs.Leaves.{LeavesFolder}
-use Rattle.split_run.specs.Split.{split_by, split_files, taken_of}
+use Rattle.split_run.specs.Split.{rules_of, split_by, split_files, taken_of}
 use Rattle.split_run.proofs.Splits.{cut_told}
 
 -- there was no memory to begin, and no name was asked for
@@ -59,7 +58,7 @@ asked_told news before now end.Write asked = asked
 
 pub asks_cut : (words : SplitData) (header dropped : Header) (parts : List (ℕ × Part)) (told : Option (List ℕ)) (lanes : List Lane) (before now : FolderSeen) (answer : End)
     → dropped ≡ without_instances header → parts ≡ taken_of words.cpu header.body
-    → IfSome told (λ bytes. new.AsksFor (new_files words dropped bytes parts) before.requested now.requested answer) → LeavesFiles words.base lanes before now answer
+    → IfSome told (λ bytes. new.AsksFor (new_files (rules_of words) words.base dropped bytes parts) before.requested now.requested answer) → LeavesFiles words.base lanes before now answer
     → AsksFor (first_names words.base) (option_map (split_by words header) told) before.requested now.requested
 asks_cut words header dropped parts None lanes before now answer dropped_is parts_are asks leaves =
     let some = asked_some words.base lanes before now answer leaves in
@@ -69,5 +68,5 @@ asks_cut words header dropped parts (Some bytes) lanes before now answer dropped
   meant = refl;
   asked = cut_told words header dropped parts bytes (λ news last. AskedFirst (first_names words.base (length news)) before.requested now.requested) dropped_is parts_are
       (subst (λ (names : List (List ℕ)). AskedFirst names before.requested now.requested) (names_new dropped words.base (file_items (rules_of words) dropped.layout bytes parts))
-      (asked_told (new_files words dropped bytes parts) before.requested now.requested answer asks));
+      (asked_told (new_files (rules_of words) words.base dropped bytes parts) before.requested now.requested answer asks));
 }

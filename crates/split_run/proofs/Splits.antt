@@ -13,7 +13,7 @@ use Rattle.split_tool.specs.NewFiles.{Creates, IsSplit, end_of, new_files}
 use Rattle.new_files.specs.Stored.{NewFile}
 use Rattle.run_endings.specs.Ending.{Ends, IsCaused, LeavesAll, MakesFiles}
 use Rattle.run_endings.specs.Meaning.{on_folder}
-use Rattle.split_run.specs.Split.{split_by, split_end, split_files, taken_of}
+use Rattle.split_run.specs.Split.{rules_of, split_by, split_end, split_files, taken_of}
 use Rattle.run_endings.specs.Outside.{FolderSeen, SinkSeen, beside}
 use Rattle.run_endings.specs.Ends.{status_of_end}
 use Rattle.run_endings.proofs.Faultless.{end_kept}
@@ -45,15 +45,15 @@ module _ (words : SplitData) (header : Header) (before now : FolderSeen) (out : 
 -- a split of the header that was read, and of the parts that are taken
 pub cut_told : (words : SplitData) (header dropped : Header) (parts : List (ℕ × Part)) (bytes : List ℕ) (fact : List NewFile → End → Type 0)
     → dropped ≡ without_instances header → parts ≡ taken_of words.cpu header.body
-    → fact (new_files words dropped bytes parts) (end_of words dropped bytes parts) → fact (split_files words header bytes) (split_end words header bytes)
+    → fact (new_files (rules_of words) words.base dropped bytes parts) (end_of (rules_of words) dropped bytes parts) → fact (split_files words header bytes) (split_end words header bytes)
 cut_told words header dropped parts bytes fact dropped_is parts_are told =
-    subst (λ (ps : List (ℕ × Part)). fact (new_files words (without_instances header) bytes ps) (end_of words (without_instances header) bytes ps)) parts_are
-    (subst (λ (h : Header). fact (new_files words h bytes parts) (end_of words h bytes parts)) dropped_is told)
+    subst (λ (ps : List (ℕ × Part)). fact (new_files (rules_of words) words.base (without_instances header) bytes ps) (end_of (rules_of words) (without_instances header) bytes ps)) parts_are
+    (subst (λ (h : Header). fact (new_files (rules_of words) words.base h bytes parts) (end_of (rules_of words) h bytes parts)) dropped_is told)
 
 pub cut : (unread : Type 0) (words : SplitData) (header dropped : Header) (parts : List (ℕ × Part)) (told : Option (List ℕ)) (before now : FolderSeen)
     (answer : End) → dropped ≡ without_instances header → parts ≡ taken_of words.cpu header.body
-    → IfSome told (λ bytes. IsSplit (new_files words dropped bytes parts) (end_of words dropped bytes parts) before.counts now.counts before.files now.files answer)
-    → IfSome told (λ bytes. Creates (length (new_files words dropped bytes parts)) before.counts.created now.counts.created answer)
+    → IfSome told (λ bytes. IsSplit (new_files (rules_of words) words.base dropped bytes parts) (end_of (rules_of words) dropped bytes parts) before.counts now.counts before.files now.files answer)
+    → IfSome told (λ bytes. Creates (length (new_files (rules_of words) words.base dropped bytes parts)) before.counts.created now.counts.created answer)
     → (answer ≡ end.Read → unread) → (answer ≡ end.Write → Rose before.counts.writing now.counts.writing)
     → MakesFiles unread (option_map (split_by words header) told) (status_of_end answer) before now
 cut unread words header dropped parts told before now answer dropped_is parts_are split creates read write = λ out. record {
@@ -64,8 +64,8 @@ cut unread words header dropped parts told before now answer dropped_is parts_ar
 }
   where
     by_told : (known : Option (List ℕ)) (out : SinkSeen)
-        → IfSome known (λ bytes. IsSplit (new_files words dropped bytes parts) (end_of words dropped bytes parts) before.counts now.counts before.files now.files answer)
-        → IfSome known (λ bytes. Creates (length (new_files words dropped bytes parts)) before.counts.created now.counts.created answer)
+        → IfSome known (λ bytes. IsSplit (new_files (rules_of words) words.base dropped bytes parts) (end_of (rules_of words) dropped bytes parts) before.counts now.counts before.files now.files answer)
+        → IfSome known (λ bytes. Creates (length (new_files (rules_of words) words.base dropped bytes parts)) before.counts.created now.counts.created answer)
         → IfSome (option_map (split_by words header) known) (λ m. Ends m (status_of_end answer) (beside before out) (beside now out))
     by_told None out told made = tt
     by_told (Some bytes) out told made =

@@ -8,9 +8,9 @@ use Rattle.dat_header.specs.declared.header.Body.{Body}
 use Rattle.dat_header.specs.declared.header.Body.TheVariants.{Latency, Fly}
 use Rattle.dat_header.specs.Written.{without_instances}
 use Rattle.time_merge.specs.declared.ending.End.{End}
+use Rattle.split_pieces.specs.declared.rules.Rules.{Rules}
 use Rattle.split_pieces.specs.Cuts.{file_items}
 use Rattle.subpage.specs.Arrangement.{Keyed}
-use Rattle.split_tool.specs.Rules.{rules_of}
 use Rattle.split_tool.specs.NewFiles.{new_files, end_of}
 use Rattle.new_files.specs.Stored.{NewFile}
 use Rattle.run_endings.specs.Selection.{chosen, one_or_all}
@@ -23,13 +23,23 @@ abbrev pub taken_of : Option ℕ → Body → List (ℕ × Part)
 taken_of one Latency = []
 taken_of one (Fly parts) = chosen (one_or_all one) parts
 
+-- how the words cut a trace
+abbrev pub rules_of : SplitData → Rules
+rules_of words = record {
+  unit = words.unit;
+  repeat = words.repeat;
+  per_cpu = words.per_cpu;
+  start = words.start;
+  stop = words.stop;
+}
+
 -- new files say nothing of further instances, whose data they do not have
 abbrev pub split_files : SplitData → Header → List ℕ → List NewFile
 split_files words header bytes =
-    new_files words (without_instances header) bytes (taken_of words.cpu header.body)
+    new_files (rules_of words) words.base (without_instances header) bytes (taken_of words.cpu header.body)
 
 abbrev pub split_end : SplitData → Header → List ℕ → End
-split_end words header bytes = end_of words (without_instances header) bytes (taken_of words.cpu header.body)
+split_end words header bytes = end_of (rules_of words) (without_instances header) bytes (taken_of words.cpu header.body)
 
 -- the items of each new file, in order
 abbrev pub split_items : SplitData → Header → List ℕ → List (List Keyed)

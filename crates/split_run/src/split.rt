@@ -20,6 +20,7 @@ ghost use Rattle.split_run.specs.Split.{taken_of};
 use dat_header::{Body, Header};
 use page_pool::Pool;
 use run_endings::{Selection, Status, status_of_end};
+use split_pieces::Rules;
 use split_tool::{SplitPlan, SplitWork, split};
 use std::alloc::{AllocError, Global};
 use time_merge::set_lanes;
@@ -63,8 +64,15 @@ pub fn cut_file<F: Folder>(
     let lanes = pool.lanes();
     set_lanes(lanes, &parts);
     let plan = SplitPlan {
-        words,
         header: &header,
+        rules: Rules {
+            unit: words.unit,
+            repeat: words.repeat,
+            per_cpu: words.per_cpu,
+            start: words.start,
+            stop: words.stop,
+        },
+        base: words.base,
     };
     status_of_end(split(&plan, file, lanes, &mut work, folder))
 }

@@ -27,7 +27,6 @@ use Rattle.page_write.specs.Pack.{packed_behind, packed, pack}
 use Rattle.page_write.specs.Placed.{data_of}
 use Rattle.page_write.proofs.Lifting.{pack_len}
 use Rattle.page_write.proofs.Packable.{IsBytes, list_packable}
-use Rattle.trace_args.specs.Command.{SplitData}
 use Rattle.word_values.specs.declared.moment.Moment.{Moment}
 use Rattle.word_values.specs.declared.piece.PieceUnit.{PieceUnit}
 use Rattle.split_pieces.specs.declared.rules.Rules.{Rules}
@@ -41,7 +40,6 @@ use Rattle.split_file.proofs.Placing.{page_some}
 use Rattle.split_file.proofs.ShortHeader.{still_header, text_short}
 use Rattle.split_tool.specs.Counted.{lists_of}
 use Rattle.split_tool.specs.NewFiles.{ReadBack, files_from, new_files}
-use Rattle.split_tool.specs.Rules.{rules_of}
 use Rattle.split_tool.proofs.FewItems.{Few}
 use Rattle.split_pieces.proofs.SideBySide.{len_parts}
 use Rattle.split_tool.proofs.Making.{cut_few, left_few}
@@ -257,13 +255,12 @@ are_bytes [] are i = omega arith
 are_bytes (b ∷ bytes) are zero = All-head (λ byte. byte < 256) b bytes are
 are_bytes (b ∷ bytes) are (suc i) = are_bytes bytes (All-tail (λ byte. byte < 256) b bytes are) i
 
-pub files_back : (words : SplitData) (header : Header) (bytes : List ℕ) (parts : List (ℕ × Part)) → AreBytes bytes → header_of bytes ≡ Ok header → IsHeader header → length bytes ≤ 2 ^ 39 → length parts ≤ 1024
-    → ReadBack (without_instances header) (file_items (rules_of words) header.layout bytes parts) (new_files words (without_instances header) bytes parts)
-files_back words header bytes parts are read is small some =
+pub files_back : (rules : Rules) (base : List ℕ) (header : Header) (bytes : List ℕ) (parts : List (ℕ × Part)) → AreBytes bytes → header_of bytes ≡ Ok header → IsHeader header → length bytes ≤ 2 ^ 39 → length parts ≤ 1024
+    → ReadBack (without_instances header) (file_items rules header.layout bytes parts) (new_files rules base (without_instances header) bytes parts)
+files_back rules base header bytes parts are read is small some =
     let l = header.layout in
     let layout = carried header.layout in
-    let rules = rules_of words in
     let lists = lists_to_cut rules l bytes parts in
-    named_back (without_instances header) words.base 1 (length parts * length bytes) (file_items rules l bytes parts) (still_header header is)
+    named_back (without_instances header) base 1 (length parts * length bytes) (file_items rules l bytes parts) (still_header header is)
     (text_short header bytes (blank header.cpus) read is.cpus (length-replicate header.cpus _) small) (mul-le-mul some small)
     (files_fit l (length parts * length bytes) rules lists (cut_told l bytes rules parts layout (are_bytes bytes are)) (cut_few l bytes rules parts layout))

@@ -31,7 +31,6 @@ use Rattle.time_merge.proofs.LaneLaws.{after_above}
 use Rattle.time_merge.proofs.Starting.{fresh_stands}
 use Rattle.time_merge.specs.declared.ending.End.{End}
 use Rattle.time_merge.specs.declared.ending.End.TheVariants as code
-use Rattle.trace_args.specs.Command.{SplitData}
 use Rattle.word_values.specs.declared.moment.Moment.{Moment}
 use Rattle.split_pieces.specs.declared.rules.Rules.{Rules}
 use Rattle.split_pieces.specs.Moments.{is_past, is_before}
@@ -49,7 +48,6 @@ use Rattle.split_tool.specs.Lists.{files_of, files_behind, lists_left, bad_left}
 use Rattle.split_tool.specs.Made.{Prepared, Written, Made, IsMade, LeavesFile}
 use Rattle.split_tool.specs.Measured.{taken_of}
 use Rattle.split_tool.specs.NewFiles.{Creates, files_from, new_files, end_by, IsSplit}
-use Rattle.split_tool.specs.Rules.{rules_of}
 use Rattle.split_tool.specs.Started.{Started}
 use Rattle.split_tool.specs.Work.{CanCut, IsWorkFor}
 use Rattle.split_tool.specs.declared.work.SplitWork.{SplitWork}
@@ -141,15 +139,14 @@ pub record Progress (header : Header) (base : List ℕ) (file : List ℕ) (rules
   pub counted : length news + 1 ≡ number + length (files_from header base number (files_of rules (lists_left header.layout file rules now)))
   pub few : number + length (joined_lists (lists_left header.layout file rules now)) ≤ 2 ^ 75
 
-pub progress_none : (header : Header) (words : SplitData) (rules : Rules) (file : List ℕ) (first now : List Lane) (old : Option NamedFiles) → IsHeader header → rules ≡ rules_of words → CpusRise (parts_of first) → All (λ (a : Lane). a.cpu < header.cpus) first
+pub progress_none : (header : Header) (base : List ℕ) (rules : Rules) (file : List ℕ) (first now : List Lane) (old : Option NamedFiles) → IsHeader header → CpusRise (parts_of first) → All (λ (a : Lane). a.cpu < header.cpus) first
     → All (λ (a : Lane). IsFresh a.cursor) first → parts_of now ≡ parts_of first → length file < 2 ^ 64 → Started header.layout file rules first now
-    → Progress header words.base file rules (new_files words header file (parts_of first)) (bad_reached (rules_of words) header.layout file (parts_of first)) 1 now old old
-progress_none header words rules file first now old allowed is rise cpus fresh parts small s =
+    → Progress header base file rules (new_files rules base header file (parts_of first)) (bad_reached rules header.layout file (parts_of first)) 1 now old old
+progress_none header base rules file first now old allowed rise cpus fresh parts small s =
     let l = header.layout in
     let lists : lists_left l file rules now ≡ map (left_in rules) (lists_to_cut rules l file (parts_of first)) = started_lists l file rules first now fresh s in
-    let items : files_of rules (lists_left l file rules now) ≡ file_items (rules_of words) l file (parts_of first) =
-    ap (files_of rules) lists ∙ ap (λ (r : Rules). file_items r l file (parts_of first)) is in
-    let news : new_files words header file (parts_of first) ≡ files_from header words.base 1 (files_of rules (lists_left l file rules now)) = ap (files_from header words.base 1) (sym items) in
+    let items : files_of rules (lists_left l file rules now) ≡ file_items rules l file (parts_of first) = ap (files_of rules) lists in
+    let news : new_files rules base header file (parts_of first) ≡ files_from header base 1 (files_of rules (lists_left l file rules now)) = ap (files_from header base 1) (sym items) in
     let layout = carried header.layout in
     let lanes : length first ≤ header.cpus = few_lanes header.cpus first rise cpus in
     let few : length (joined_lists (lists_left l file rules now)) ≤ length first * length file =
@@ -162,10 +159,10 @@ progress_none header words rules file first now old allowed is rise cpus fresh p
     let most : length first * length file ≤ 1024 * 2 ^ 64 = mul-le-mul most_lanes room in
     record {
       stands = s.stands;
-      stage = subst (λ (more : List NewFile). Stages (new_files words header file (parts_of first)) more old old) news (stages_none (new_files words header file (parts_of first)) old);
+      stage = subst (λ (more : List NewFile). Stages (new_files rules base header file (parts_of first)) more old old) news (stages_none (new_files rules base header file (parts_of first)) old);
       small = small;
       counted = omega (arith, ap (λ (fs : List NewFile). length fs) news);
-      bad_is = started_bad l file rules first now fresh parts s ∙ ap (λ (r : Rules). bad_reached r l file (parts_of first)) is;
+      bad_is = started_bad l file rules first now fresh parts s;
       few = omega (arith, few, most);
     }
 

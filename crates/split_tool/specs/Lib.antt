@@ -5,6 +5,5 @@ pub mod Measured
 pub mod NewFiles
 pub mod Numbered
 pub mod Reads
-pub mod Rules
 pub mod Started
 pub mod Work

@@ -5,16 +5,15 @@ use Rattle.trace_base.specs.declared.part.Part.{Part}
 use Rattle.trace_outside.specs.declared.counts.Counts.{Counts}
 use Rattle.trace_outside.specs.Names.{NamedFiles}
 use Rattle.trace_outside.specs.Causes.{raised}
-use Rattle.trace_args.specs.Command.{SplitData}
 use Rattle.dat_header.specs.declared.header.Header.{Header}
 use Rattle.subpage.specs.Arrangement.{Keyed}
 use Rattle.time_merge.specs.declared.ending.End.{End}
 use Rattle.time_merge.specs.declared.ending.End.TheVariants as code
+use Rattle.split_pieces.specs.declared.rules.Rules.{Rules}
 use Rattle.split_pieces.specs.Cuts.{bad_reached, file_items}
 use Rattle.split_file.specs.Names.{file_name}
 use Rattle.split_file.specs.NewFile.{ReadsBack, file_text}
 use Rattle.split_tool.specs.Counted.{lists_of}
-use Rattle.split_tool.specs.Rules.{rules_of}
 use Rattle.new_files.specs.Requested.{AskedAll, AskedFirst, names_of}
 use Rattle.new_files.specs.Stored.{NewFile, FilesStored, FirstFilesStored}
 
@@ -24,18 +23,17 @@ files_from header base n [] = []
 files_from header base n (xs ∷ more) =
     record { name = file_name base n; content = file_text header (lists_of header.cpus xs) } ∷ files_from header base (n + 1) more
 
--- the files that a split makes of the selected processors' parts
-abbrev pub new_files : SplitData → Header → List ℕ → List (ℕ × Part) → List NewFile
-new_files words header bytes parts =
-    files_from header words.base 1 (file_items (rules_of words) header.layout bytes parts)
+-- the files that a split makes by these rules of the selected processors' parts, named by this base
+abbrev pub new_files : Rules → List ℕ → Header → List ℕ → List (ℕ × Part) → List NewFile
+new_files rules base header bytes parts = files_from header base 1 (file_items rules header.layout bytes parts)
 
 abbrev pub end_by : Option (ℕ × ℕ) → End
 end_by None = code.Done
 end_by (Some bad) = code.Malformed bad.0 bad.1
 
 -- and how it ends
-abbrev pub end_of : SplitData → Header → List ℕ → List (ℕ × Part) → End
-end_of words header bytes parts = end_by (bad_reached (rules_of words) header.layout bytes parts)
+abbrev pub end_of : Rules → Header → List ℕ → List (ℕ × Part) → End
+end_of rules header bytes parts = end_by (bad_reached rules header.layout bytes parts)
 
 -- what a split that was to make these files and end so did to a folder, by its answer
 abbrev pub IsSplit : List NewFile → End → Counts → Counts → Option NamedFiles → Option NamedFiles → End → Type 0

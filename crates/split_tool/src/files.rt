@@ -22,14 +22,12 @@ use crate::work::SplitWork;
 use page_pool::Lane;
 use split_file::{FileName, data_place, put_name, write_front};
 use split_passes::{clear, note_fronts, pack_all};
-use split_pieces::Rules;
 use time_merge::{End, make_all_ready};
 use trace_outside::{Failed, File, Folder, Sink};
 
 // Goes through the file's pieces, and leaves what the second pass needs in the work.
 fn measure_file<F: File>(
     plan: &SplitPlan<'_>,
-    rules: &Rules,
     file: &mut F,
     lanes: &mut [Lane],
     work: &mut SplitWork,
@@ -40,7 +38,7 @@ fn measure_file<F: File>(
     ensures work { IsWorkFor plan.now.header.now (length lanes.new) work.new }
     ensures told { IfOk result (λ ends. IfSome (F.bytes file.old) (λ bytes. All (Stands plan.now.header.now.layout bytes) lanes.old
         → length bytes < 2 ^ 64
-        → Prepared plan.now.header.now bytes rules.now lanes.old lanes.new
+        → Prepared plan.now.header.now bytes plan.now.rules lanes.old lanes.new
         (record { fronts = work.new.fronts.items; tallies = work.new.tallies.items; table = work.new.table.items }) ends)) }
     // What packing the file reads is left.
     ensures reads { Spends (to_read plan.now.header.now.layout (F.size file.old) lanes.old)
@@ -58,7 +56,7 @@ fn measure_file<F: File>(
         layout,
         file,
         lanes,
-        rules,
+        &plan.rules,
         work.tallies.as_mut_slice(),
         &mut work.nexts,
         &mut work.next,
@@ -123,7 +121,6 @@ fn write_file<F: File, O: Sink>(
 #[tactic(auto, using(crate::proofs::Making::still_cut))]
 pub(crate) fn make_file<F: File, D: Folder>(
     plan: &SplitPlan<'_>,
-    rules: &Rules,
     number: u128,
     name: &mut FileName,
     file: &mut F,
@@ -131,27 +128,27 @@ pub(crate) fn make_file<F: File, D: Folder>(
     work: &mut SplitWork,
     folder: &mut D,
 ) -> Result<Ends, End>
-    requires base { length plan.now.words.now.base.now ≤ 4096 }
+    requires base { length plan.now.base.now ≤ 4096 }
     requires cut { CanCut plan.now.header.now lanes.old work.old }
     ensures cut { CanCut plan.now.header.now lanes.new work.new }
     ensures parts { parts_of lanes.new ≡ parts_of lanes.old }
     ensures told { IfSome (F.bytes file.old) (λ bytes. All (Stands plan.now.header.now.layout bytes) lanes.old
         → length bytes < 2 ^ 64
-        → IsMade (record { header = plan.now.header.now; rules = rules.now; name = file_name plan.now.words.now.base.now number })
+        → IsMade (record { header = plan.now.header.now; rules = plan.now.rules; name = file_name plan.now.base.now number })
         bytes lanes.old lanes.new (D.files folder.old) (D.files folder.new) result) }
-    ensures leaves { LeavesFile (file_name plan.now.words.now.base.now number) lanes.new
+    ensures leaves { LeavesFile (file_name plan.now.base.now number) lanes.new
         (folder_seen D.Folder folder.old) (folder_seen D.Folder folder.new) result }
-    ensures requested { AsksForIt (file_name plan.now.words.now.base.now number) (D.requested folder.old) (D.requested folder.new) result }
+    ensures requested { AsksForIt (file_name plan.now.base.now number) (D.requested folder.old) (D.requested folder.new) result }
     ensures counts { CountsOne (D.counts folder.old) (D.counts folder.new) result }
     ensures reads { Spends (to_read plan.now.header.now.layout (F.size file.old) lanes.old)
         (to_read plan.now.header.now.layout (F.size file.old) lanes.new) (F.reads file.old) (F.reads file.new) result }
     ensures read { IfErr result (λ end. end ≡ End.Read → Rose (F.faults file.old) (F.faults file.new)) }
     ensures keeps { KeepsFile F.File file.old file.new }
 {
-    let Ok(ends) = measure_file(plan, rules, file, lanes, work) else {
+    let Ok(ends) = measure_file(plan, file, lanes, work) else {
         return Err(End::Read);
     };
-    put_name(plan.words.base, number, name);
+    put_name(plan.base, number, name);
     let Ok(mut out) = folder.create_file(name.as_str()) else {
         return Err(End::Write);
     };

@@ -7,17 +7,16 @@ ghost use Rattle.dat_header.specs.declared.header.Header.{Header};
 ghost use Rattle.dat_header.specs.Allowed.{IsHeader};
 ghost use Rattle.dat_header.specs.Header.{header_of};
 ghost use Rattle.dat_header.specs.Written.{without_instances};
-ghost use Rattle.trace_args.specs.Command.{SplitData};
+ghost use Rattle.split_pieces.specs.declared.rules.Rules.{Rules};
 ghost use Rattle.split_pieces.specs.Cuts.{file_items};
 ghost use Rattle.split_tool.specs.NewFiles.{ReadBack, new_files};
-ghost use Rattle.split_tool.specs.Rules.{rules_of};
 
 /// Each new file of an input of at most 2^39 bytes reads back to just its items, under the input's header without the options
 /// of instances. An item has at least four bytes of the input, each processor may have all of these, and a sub-buffer of the
 /// new file has an item, so all numbers of its table are below 2^64.
 pub fn new_files_read_back()
-    ensures { (words : SplitData) (header : Header) (bytes : List ℕ) (parts : List (ℕ × Part))
+    ensures { (rules : Rules) (base : List ℕ) (header : Header) (bytes : List ℕ) (parts : List (ℕ × Part))
         → AreBytes bytes → header_of bytes ≡ Ok header → IsHeader header → length bytes ≤ 2 ^ 39 → length parts ≤ 1024
-        → ReadBack (without_instances header) (file_items (rules_of words) header.layout bytes parts)
-        (new_files words (without_instances header) bytes parts) }
+        → ReadBack (without_instances header) (file_items rules header.layout bytes parts)
+        (new_files rules base (without_instances header) bytes parts) }
 {}

@@ -8,7 +8,6 @@
 mod files;
 pub mod laws;
 mod lists;
-mod rules;
 mod splitting;
 mod start;
 mod table;

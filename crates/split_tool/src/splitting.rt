@@ -9,7 +9,6 @@ ghost use Rattle.page_pool.specs.Fresh.{IsFresh};
 ghost use Rattle.event_cursor.specs.Standing.{IsInOrder};
 ghost use Rattle.time_merge.specs.LaneRows.{parts_of};
 ghost use Rattle.split_pieces.specs.Pieces.{IsUnit};
-ghost use Rattle.trace_args.specs.Command.{split_view};
 ghost use Rattle.new_files.specs.Stored.{KeepsCounts};
 ghost use Rattle.split_tool.specs.NewFiles.{AsksFor, Creates, IsSplit, LeavesUnfinished, end_by, end_of, new_files};
 ghost use Rattle.split_tool.specs.Numbered.{LeavesFiles};
@@ -17,7 +16,6 @@ ghost use Rattle.split_tool.specs.Work.{IsWorkFor};
 
 use crate::files::make_file;
 use crate::lists::Ends;
-use crate::rules::rules_of;
 use crate::start::pass_start;
 use crate::work::SplitWork;
 use dat_header::Header;
@@ -25,15 +23,16 @@ use page_pool::Lane;
 use split_file::FileName;
 use split_pieces::Rules;
 use time_merge::End;
-use trace_args::SplitWords;
 use trace_outside::{File, Folder};
 
 /// What is to be split, and how.
 #[derive(Clone, Copy)]
 pub struct SplitPlan<'a> {
-    pub words: &'a SplitWords<'a>,
     /// The input's header, without the options of instances.
     pub header: &'a Header,
+    pub rules: Rules,
+    /// What the names of the new files begin with.
+    pub base: &'a str,
 }
 
 // Whether a further file is made.
@@ -69,25 +68,25 @@ pub fn split<F: File, D: Folder>(
     folder: &mut D,
 ) -> End
     requires allowed { IsHeader plan.now.header.now }
-    requires unit { IsUnit plan.now.words.now.unit }
-    requires base { length plan.now.words.now.base.now ≤ 4096 }
+    requires unit { IsUnit plan.now.rules.unit }
+    requires base { length plan.now.base.now ≤ 4096 }
     requires fresh { All (λ lane. IsFresh lane.cursor) lanes.old }
     requires in_order { All (IsInOrder plan.now.header.now.layout) lanes.old }
     requires rise { CpusRise (parts_of lanes.old) }
     requires cpus { All (λ lane. lane.cpu < plan.now.header.now.cpus) lanes.old }
     requires work { IsWorkFor plan.now.header.now (length lanes.old) work.old }
     ensures told { IfSome (F.bytes file.old) (λ bytes. IsSplit
-        (new_files (split_view plan.now.words.now) plan.now.header.now bytes (parts_of lanes.old))
-        (end_of (split_view plan.now.words.now) plan.now.header.now bytes (parts_of lanes.old))
+        (new_files plan.now.rules plan.now.base.now plan.now.header.now bytes (parts_of lanes.old))
+        (end_of plan.now.rules plan.now.header.now bytes (parts_of lanes.old))
         (D.counts folder.old) (D.counts folder.new) (D.files folder.old) (D.files folder.new) result) }
     ensures created { IfSome (F.bytes file.old) (λ bytes. Creates
-        (length (new_files (split_view plan.now.words.now) plan.now.header.now bytes (parts_of lanes.old)))
+        (length (new_files plan.now.rules plan.now.base.now plan.now.header.now bytes (parts_of lanes.old)))
         (D.counts folder.old).created (D.counts folder.new).created result) }
     ensures requested { IfSome (F.bytes file.old) (λ bytes. AsksFor
-        (new_files (split_view plan.now.words.now) plan.now.header.now bytes (parts_of lanes.old))
+        (new_files plan.now.rules plan.now.base.now plan.now.header.now bytes (parts_of lanes.old))
         (D.requested folder.old) (D.requested folder.new) result) }
     // Of any file, also of one whose bytes change between the passes.
-    ensures leaves { LeavesFiles plan.now.words.now.base.now lanes.new
+    ensures leaves { LeavesFiles plan.now.base.now lanes.new
         (folder_seen D.Folder folder.old) (folder_seen D.Folder folder.new) result }
     ensures counts { KeepsCounts (D.counts folder.old) (D.counts folder.new) }
     ensures unfinished { LeavesUnfinished (D.counts folder.old).unfinished (D.counts folder.new).unfinished result }
@@ -101,12 +100,11 @@ pub fn split<F: File, D: Folder>(
 {
     // A file's length is a number of 64 bits, so there are fewer items than 128 bits count.
     let _size = file.len();
-    let rules = rules_of(plan.words);
     let Ok(()) = pass_start(
         &plan.header.layout,
         file,
         lanes,
-        &rules,
+        &plan.rules,
         &mut work.nexts,
         &mut work.next,
     ) else {
@@ -114,9 +112,9 @@ pub fn split<F: File, D: Folder>(
     };
     let mut name = FileName::new();
     for number in 1..u128::MAX {
-        match make_file(plan, &rules, number, &mut name, file, lanes, work, folder) {
+        match make_file(plan, number, &mut name, file, lanes, work, folder) {
             Ok(ends) => {
-                if !goes_on(&rules, ends) {
+                if !goes_on(&plan.rules, ends) {
                     return end_by(ends);
                 }
             }

@@ -8,6 +8,7 @@ use super::items::put_sub_buffers;
 use super::lanes::set_lanes;
 use dat_header::{Body, Header, read_header};
 use page_pool::Pool;
+use split_pieces::Rules;
 use split_tool::{End, SplitPlan, SplitWork, split};
 use std::alloc::{AllocError, Global};
 use std::test::Fail;
@@ -81,8 +82,8 @@ fn split_parts<F: File, D: Folder>(
     folder: &mut D,
 ) -> Result<End, Fail>
     requires allowed { IsHeader plan.now.header.now }
-    requires unit { IsUnit plan.now.words.now.unit }
-    requires base { length plan.now.words.now.base.now ≤ 4096 }
+    requires unit { IsUnit plan.now.rules.unit }
+    requires base { length plan.now.base.now ≤ 4096 }
     requires inside { first + length parts.now ≤ plan.now.header.now.cpus }
 {
     let count = parts.len() as u32;
@@ -110,7 +111,17 @@ pub(super) fn split_under<F: File, D: Folder>(
     if !is_allowed(words) {
         return Ok(End::Read);
     }
-    let plan = SplitPlan { words, header };
+    let plan = SplitPlan {
+        header,
+        rules: Rules {
+            unit: words.unit,
+            repeat: words.repeat,
+            per_cpu: words.per_cpu,
+            start: words.start,
+            stop: words.stop,
+        },
+        base: words.base,
+    };
     let (first, parts) = selected(words.cpu, parts.as_slice());
     split_parts(alloc, &plan, file, first, parts, folder)
 }

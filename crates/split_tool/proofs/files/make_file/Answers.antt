@@ -18,11 +18,11 @@ returns-in-Ok-finish_file-clause-told g c =
     let work = c.measure_file.new.work in
     told_again _ _ _ (g.F.File.bytes c.args.file.now) (g.F.File.bytes c.measure_file.new.file) c.measure_file.ensures.keeps.bytes (λ file m w s small.
     let p = m s small in
-    finished header file c.args.rules.now (file_name c.args.plan.now.words.now.base.now c.args.number) (g.D.Out.Sink.name c.write_file.new.out) c.args.lanes.now c.measure_file.new.lanes c.write_file.new.lanes
+    finished header file c.args.plan.now.rules (file_name c.args.plan.now.base.now c.args.number) (g.D.Out.Sink.name c.write_file.new.out) c.args.lanes.now c.measure_file.new.lanes c.write_file.new.lanes
     work.fronts.items work.tallies.items work.table.items (g.D.Folder.files c.args.folder.now) (g.D.Folder.files c.create_file.new.self) (g.D.Folder.files c.finish_file.new.self)
     (g.D.Out.Sink.written c.in-Ok-create_file.out) (g.D.Out.Sink.written c.write_file.new.out) c.in-Ok.ends
     c.in-Ok-create_file.ensures.files (c.write_file.ensures.keeps_out.name ∙ c.in-Ok-create_file.ensures.named ∙ c.as_str.ensures.value ∙ c.put_name.ensures) c.in-Ok-create_file.ensures.empty c.in-Ok-finish_file.ensures.stored
-    p (w p.left.stands (owns c.args.lanes.now (taken_of header.layout file c.args.rules.now c.args.lanes.now)) p.fronts_are))
+    p (w p.left.stands (owns c.args.lanes.now (taken_of header.layout file c.args.plan.now.rules c.args.lanes.now)) p.fronts_are))
     c.in-Ok.ensures.told c.in-Done.ensures.told
 
 pub returns-in-Err-clause-told : goal.returns-in-Err-clause-told
@@ -31,28 +31,28 @@ returns-in-Err-clause-told g c = told_all _ (g.F.File.bytes c.args.file.now) (λ
 pub returns-in-Ok-finish_file-clause-leaves : goal.returns-in-Ok-finish_file-clause-leaves
 returns-in-Ok-finish_file-clause-leaves g c =
     finished_is (g.D.Folder.files c.args.folder.now) (g.D.Folder.files c.create_file.new.self) (g.D.Folder.files c.finish_file.new.self) (g.D.Out.Sink.written c.in-Ok-create_file.out) (g.D.Out.Sink.written c.write_file.new.out)
-    (file_name c.args.plan.now.words.now.base.now c.args.number) (g.D.Out.Sink.name c.write_file.new.out)
+    (file_name c.args.plan.now.base.now c.args.number) (g.D.Out.Sink.name c.write_file.new.out)
     c.in-Ok-create_file.ensures.files (c.write_file.ensures.keeps_out.name ∙ c.in-Ok-create_file.ensures.named ∙ c.as_str.ensures.value ∙ c.put_name.ensures) c.in-Ok-create_file.ensures.empty (c.in-Done.ensures.gains refl)
     c.in-Ok-finish_file.ensures.stored
 
 pub returns-in-Err-clause-leaves : goal.returns-in-Err-clause-leaves
 returns-in-Err-clause-leaves g c =
-    unmade_finish _ _ _ (file_name c.args.plan.now.words.now.base.now c.args.number) (g.D.Out.Sink.name c.write_file.new.out) (g.D.Folder.files c.args.folder.now) (g.D.Folder.files c.create_file.new.self) (g.D.Folder.files c.finish_file.new.self)
+    unmade_finish _ _ _ (file_name c.args.plan.now.base.now c.args.number) (g.D.Out.Sink.name c.write_file.new.out) (g.D.Folder.files c.args.folder.now) (g.D.Folder.files c.create_file.new.self) (g.D.Folder.files c.finish_file.new.self)
     c.in-Ok-create_file.ensures.files (c.write_file.ensures.keeps_out.name ∙ c.in-Ok-create_file.ensures.named ∙ c.as_str.ensures.value ∙ c.put_name.ensures) c.create_file.ensures.counts.unfinished c.in-Err.ensures.counts.unfinished c.in-Err.ensures.others
 
 pub returns-in-Ok-finish_file-clause-requested : goal.returns-in-Ok-finish_file-clause-requested
 returns-in-Ok-finish_file-clause-requested g c =
-    asked_by (file_name c.args.plan.now.words.now.base.now c.args.number) _ (g.D.Folder.requested c.args.folder.now) (g.D.Folder.requested c.create_file.new.self) (g.D.Folder.requested c.finish_file.new.self)
+    asked_by (file_name c.args.plan.now.base.now c.args.number) _ (g.D.Folder.requested c.args.folder.now) (g.D.Folder.requested c.create_file.new.self) (g.D.Folder.requested c.finish_file.new.self)
     (c.as_str.ensures.value ∙ c.put_name.ensures) c.create_file.ensures.requested c.finish_file.ensures.requested
 
 pub returns-in-Err-clause-requested : goal.returns-in-Err-clause-requested
 returns-in-Err-clause-requested g c =
-    asked_by (file_name c.args.plan.now.words.now.base.now c.args.number) _ (g.D.Folder.requested c.args.folder.now) (g.D.Folder.requested c.create_file.new.self) (g.D.Folder.requested c.finish_file.new.self)
+    asked_by (file_name c.args.plan.now.base.now c.args.number) _ (g.D.Folder.requested c.args.folder.now) (g.D.Folder.requested c.create_file.new.self) (g.D.Folder.requested c.finish_file.new.self)
     (c.as_str.ensures.value ∙ c.put_name.ensures) c.create_file.ensures.requested c.finish_file.ensures.requested
 
 pub returns-in_default-create_file-clause-requested : goal.returns-in_default-create_file-clause-requested
 returns-in_default-create_file-clause-requested g c =
-    asked_by (file_name c.args.plan.now.words.now.base.now c.args.number) _ (g.D.Folder.requested c.args.folder.now) (g.D.Folder.requested c.create_file.new.self) (g.D.Folder.requested c.create_file.new.self)
+    asked_by (file_name c.args.plan.now.base.now c.args.number) _ (g.D.Folder.requested c.args.folder.now) (g.D.Folder.requested c.create_file.new.self) (g.D.Folder.requested c.create_file.new.self)
     (c.as_str.ensures.value ∙ c.put_name.ensures) c.create_file.ensures.requested refl
 
 pub returns-in_default-create_file-clause-leaves : goal.returns-in_default-create_file-clause-leaves
@@ -90,20 +90,20 @@ returns-in_default-write_file-clause-told g c =
     let work = c.measure_file.new.work in
     told_again _ _ _ (g.F.File.bytes c.args.file.now) (g.F.File.bytes c.measure_file.new.file) c.measure_file.ensures.keeps.bytes (λ file m w s small.
     let p = m s small in
-    stopped_by (record { header = header; rules = c.args.rules.now; name = file_name c.args.plan.now.words.now.base.now c.args.number }) header file work.table.items (owns c.args.lanes.now (taken_of header.layout file c.args.rules.now c.args.lanes.now))
+    stopped_by (record { header = header; rules = c.args.plan.now.rules; name = file_name c.args.plan.now.base.now c.args.number }) header file work.table.items (owns c.args.lanes.now (taken_of header.layout file c.args.plan.now.rules c.args.lanes.now))
     (record { lanes = c.measure_file.new.lanes; written = g.D.Out.Sink.written c.in-Ok-create_file.out }) (record { lanes = c.write_file.new.lanes; written = g.D.Out.Sink.written c.write_file.new.out })
     c.args.lanes.now c.write_file.new.lanes (g.D.Folder.files c.args.folder.now) (g.D.Folder.files c.drop_file.new.self) c.write_file.result c.in_default-write_file.not-Done
-    (w p.left.stands (owns c.args.lanes.now (taken_of header.layout file c.args.rules.now c.args.lanes.now)) p.fronts_are))
+    (w p.left.stands (owns c.args.lanes.now (taken_of header.layout file c.args.plan.now.rules c.args.lanes.now)) p.fronts_are))
     c.in-Ok.ensures.told c.write_file.ensures.told
 
 pub returns-in_default-write_file-clause-leaves : goal.returns-in_default-write_file-clause-leaves
 returns-in_default-write_file-clause-leaves g c =
-    cut_off (file_name c.args.plan.now.words.now.base.now c.args.number) c.write_file.new.lanes (folder_seen g.D.Folder c.args.folder.now) (folder_seen g.D.Folder c.drop_file.new.self) c.write_file.result c.in_default-write_file.not-Done
+    cut_off (file_name c.args.plan.now.base.now c.args.number) c.write_file.new.lanes (folder_seen g.D.Folder c.args.folder.now) (folder_seen g.D.Folder c.drop_file.new.self) c.write_file.result c.in_default-write_file.not-Done
     (tells_held c.measure_file.new.lanes c.write_file.new.lanes c.write_file.result c.write_file.ensures.malformed) (c.drop_file.ensures.files ∙ c.in-Ok-create_file.ensures.files)
 
 pub returns-in_default-write_file-clause-requested : goal.returns-in_default-write_file-clause-requested
 returns-in_default-write_file-clause-requested g c =
-    let name = file_name c.args.plan.now.words.now.base.now c.args.number in
+    let name = file_name c.args.plan.now.base.now c.args.number in
     asks_for_it name (g.D.Folder.requested c.args.folder.now) (g.D.Folder.requested c.drop_file.new.self) c.write_file.result
     (asked_by name _ (g.D.Folder.requested c.args.folder.now) (g.D.Folder.requested c.create_file.new.self) (g.D.Folder.requested c.drop_file.new.self)
     (c.as_str.ensures.value ∙ c.put_name.ensures) c.create_file.ensures.requested c.drop_file.ensures.requested)

@@ -27,9 +27,9 @@ returns-clause-told g c =
     let table_long : length c.fill_table.new.table ≡ work.table.len = omega (arith, c.as_mut_slice-4.ensures.len, c.fill_table.auto.table) in
     let cleared : c.as_mut_slice-3.result.now ≡ c.clear.new.tallies = c.as_mut_slice-3.ensures.value ∙ take_at c.clear.new.tallies _ work.tallies.len cleared_long in
     let counted : c.as_slice.result.now ≡ c.measure_lists.new.tallies = c.as_slice.ensures.value ∙ take_at c.measure_lists.new.tallies _ work.tallies.len tallies_long in
-    prepared_back header c.args.rules.now c.args.lanes.now c.measure_lists.new.lanes c.note_fronts.new.fronts _ c.measure_lists.new.tallies _ c.fill_table.new.table _ c.in_ok-ends.ends (g.F.File.bytes c.args.file.now)
+    prepared_back header c.args.plan.now.rules c.args.lanes.now c.measure_lists.new.lanes c.note_fronts.new.fronts _ c.measure_lists.new.tallies _ c.fill_table.new.table _ c.in_ok-ends.ends (g.F.File.bytes c.args.file.now)
     (take_at c.note_fronts.new.fronts _ work.fronts.len fronts_long) (take_at c.measure_lists.new.tallies _ work.tallies.len tallies_long) (take_at c.fill_table.new.table _ work.table.len table_long)
-    (prepared_told header c.args.rules.now c.args.lanes.now c.make_all_ready.new.lanes c.measure_lists.new.lanes c.note_fronts.new.fronts c.as_mut_slice-3.result.now c.measure_lists.new.tallies c.as_mut_slice-4.result.now c.fill_table.new.table
+    (prepared_told header c.args.plan.now.rules c.args.lanes.now c.make_all_ready.new.lanes c.measure_lists.new.lanes c.note_fronts.new.fronts c.as_mut_slice-3.result.now c.measure_lists.new.tallies c.as_mut_slice-4.result.now c.fill_table.new.table
     c.data_place-at.result c.in_ok-ends.ends (g.F.File.bytes c.args.file.now) (g.F.File.bytes c.make_all_ready.new.file) c.make_all_ready.ensures.loads.keeps.bytes
     c.requires.allowed c.requires.rise c.requires.cpus c.make_all_ready.ensures.loads.parts c.measure_lists.ensures.through.parts c.make_all_ready.ensures.loads.in_order c.in_ok-make_all_ready.ensures.ready
     c.note_fronts.ensures.noted c.data_place-at.ensures (ap length table_is ∙ c.requires.lent.table)

@@ -4,15 +4,11 @@ use Rattle.trace_outside.proofs.Keeping.{file_kept}
 use Rattle.subpage.specs.Arrangement.{CpusRise}
 use Rattle.trace_base.proofs.Layouts.{carried}
 use Rattle.event_cursor.proofs.Told.{told_all, told_both, told_map, told_again}
-use Rattle.trace_args.specs.Command.{split_view}
-use Rattle.split_pieces.specs.declared.rules.Rules.{Rules}
 use Rattle.split_pieces.specs.Cuts.{bad_reached, file_items}
-use Rattle.split_pieces.specs.Pieces.{IsUnit}
 use Rattle.split_file.specs.Names.{file_name}
 use Rattle.new_files.specs.Requested.{names_of}
 use Rattle.split_tool.specs.NewFiles.{new_files}
 use Rattle.time_merge.proofs.Advancing.{same_length}
-use Rattle.split_tool.specs.Rules.{rules_of}
 use Rattle.time_merge.specs.LaneRows.{parts_of}
 use Rattle.split_tool.proofs.Budget.{loaded_stops, passed_spent, same_spent, spent_all, spent_more, spent_stops, start_less}
 use Rattle.split_tool.proofs.Making.{created_last, created_stops, last_counted, progress_none, progress_more, progress_last, progress_stops, same_cpus, some_counted, fresh_stand}
@@ -24,7 +20,7 @@ pub returns-in_default-clause-told : goal.returns-in_default-clause-told
 returns-in_default-clause-told g c =
     let old = g.D.Folder.files c.args.folder.now in
     told_all _ (g.F.File.bytes c.args.file.now) (λ file.
-    let news = new_files (split_view c.args.plan.now.words.now) c.args.plan.now.header.now file (parts_of c.args.lanes.now) in
+    let news = new_files c.args.plan.now.rules c.args.plan.now.base.now c.args.plan.now.header.now file (parts_of c.args.lanes.now) in
     some_stored news news old old old refl (stages_none news old))
 
 pub loop-number-init : goal.loop-number-init
@@ -49,7 +45,7 @@ loop-number-init g c =
       };
       parts = c.pass_start.ensures.through.parts;
       progress = told_both _ _ _ (g.F.File.bytes c.args.file.now) (λ file long started.
-          progress_none c.args.plan.now.header.now (split_view c.args.plan.now.words.now) c.rules_of-rules.result file c.args.lanes.now c.pass_start.new.lanes (g.D.Folder.files c.args.folder.now) c.requires.allowed c.rules_of-rules.ensures c.requires.rise c.requires.cpus
+          progress_none c.args.plan.now.header.now c.args.plan.now.base.now c.args.plan.now.rules file c.args.lanes.now c.pass_start.new.lanes (g.D.Folder.files c.args.folder.now) c.requires.allowed c.requires.rise c.requires.cpus
           c.requires.fresh c.pass_start.ensures.through.parts (omega (arith, long, size)) (started (fresh_stand c.args.plan.now.header.now.layout file c.args.lanes.now c.requires.fresh)))
           (g.met.F.File.size_is c.args.file.now) c.in-Ok.ensures.told;
       spent = passed_spent c.args.plan.now.header.now.layout (g.F.File.size c.args.file.now) (omega (arith, (carried c.args.plan.now.header.now.layout).page_least)) c.args.lanes.now c.pass_start.new.lanes _ _
@@ -57,7 +53,7 @@ loop-number-init g c =
       keeps = c.pass_start.ensures.through.keeps;
       counts = record { reading = omega arith; writing = omega arith; unfinished = omega arith; misses = refl; opened = refl; closed = refl; bytes = refl };
       unfinished = refl;
-      numbered = numbered_none c.args.plan.now.words.now.base.now _ (folder_seen g.D.Folder c.args.folder.now) (omega arith);
+      numbered = numbered_none c.args.plan.now.base.now _ (folder_seen g.D.Folder c.args.folder.now) (omega arith);
       created = omega arith;
       least = omega arith;
     }
@@ -65,32 +61,33 @@ loop-number-init g c =
 pub returns-then-not-goes_on-clause-told : goal.returns-then-not-goes_on-clause-told
 returns-then-not-goes_on-clause-told g c =
     let header = c.args.plan.now.header.now in
-    let words = split_view c.args.plan.now.words.now in
+    let rules = c.args.plan.now.rules in
+    let base = c.args.plan.now.base.now in
     let old = g.D.Folder.files c.args.folder.now in
     let mid = g.D.Folder.files c.loop-number.folder in
     let new = g.D.Folder.files c.make_file.new.folder in
     told_again _ _ _ (g.F.File.bytes c.args.file.now) (g.F.File.bytes c.loop-number.file) c.loop-number.invariant.keeps.bytes (λ file p m.
-    let news = new_files words header file (parts_of c.args.lanes.now) in
-    let bad = bad_reached (rules_of words) header.layout file (parts_of c.args.lanes.now) in
-    progress_last header words.base file c.rules_of-rules.result news bad c.loop-number.number c.loop-number.lanes c.make_file.new.lanes old mid new c.in-Ok-make_file.ends c.end_by.result (g.D.Folder.counts c.args.folder.now) (g.D.Folder.counts c.make_file.new.folder) (sym c.goes_on.ensures ∙ c.if-not-goes_on.true) c.end_by.ensures
+    let news = new_files rules base header file (parts_of c.args.lanes.now) in
+    let bad = bad_reached rules header.layout file (parts_of c.args.lanes.now) in
+    progress_last header base file rules news bad c.loop-number.number c.loop-number.lanes c.make_file.new.lanes old mid new c.in-Ok-make_file.ends c.end_by.result (g.D.Folder.counts c.args.folder.now) (g.D.Folder.counts c.make_file.new.folder) (sym c.goes_on.ensures ∙ c.if-not-goes_on.true) c.end_by.ensures
     (m p.stands p.small) p)
     c.loop-number.invariant.progress c.in-Ok-make_file.ensures.told
 
 pub loop-number-preserved : goal.loop-number-preserved
 loop-number-preserved g c =
     let header = c.args.plan.now.header.now in
-    let words = split_view c.args.plan.now.words.now in
+    let rules = c.args.plan.now.rules in
+    let base = c.args.plan.now.base.now in
     let old = g.D.Folder.files c.args.folder.now in
     let mid = g.D.Folder.files c.loop-number.folder in
     let new = g.D.Folder.files c.make_file.new.folder in
-    let unit = subst (λ (r : Rules). IsUnit r.unit) (sym c.rules_of-rules.ensures) c.requires.unit in
     record {
       cut = c.make_file.ensures.cut;
       parts = c.make_file.ensures.parts ∙ c.loop-number.invariant.parts;
       progress = told_again _ _ _ (g.F.File.bytes c.args.file.now) (g.F.File.bytes c.loop-number.file) c.loop-number.invariant.keeps.bytes (λ file p m.
-          let news = new_files words header file (parts_of c.args.lanes.now) in
-          let bad = bad_reached (rules_of words) header.layout file (parts_of c.args.lanes.now) in
-          progress_more header words.base file c.rules_of-rules.result news bad c.loop-number.number c.loop-number.lanes c.make_file.new.lanes old mid new c.in-Ok-make_file.ends unit (sym c.goes_on.ensures ∙ c.if-not-goes_on.false)
+          let news = new_files rules base header file (parts_of c.args.lanes.now) in
+          let bad = bad_reached rules header.layout file (parts_of c.args.lanes.now) in
+          progress_more header base file rules news bad c.loop-number.number c.loop-number.lanes c.make_file.new.lanes old mid new c.in-Ok-make_file.ends c.requires.unit (sym c.goes_on.ensures ∙ c.if-not-goes_on.false)
           (m p.stands p.small) p)
           c.loop-number.invariant.progress c.in-Ok-make_file.ensures.told;
       spent = spent_more _ _ _ _ _ _ c.loop-number.invariant.spent
@@ -98,7 +95,7 @@ loop-number-preserved g c =
       keeps = file_kept c.loop-number.invariant.keeps c.make_file.ensures.keeps;
       counts = kept_twice _ _ _ c.loop-number.invariant.counts c.make_file.ensures.counts.keeps;
       unfinished = c.in-Ok-make_file.ensures.counts.unfinished ∙ c.loop-number.invariant.unfinished;
-      numbered = numbered_more words.base (c.loop-number.number - 1) c.loop-number.number _ (folder_seen g.D.Folder c.args.folder.now) (folder_seen g.D.Folder c.loop-number.folder) (folder_seen g.D.Folder c.make_file.new.folder)
+      numbered = numbered_more base (c.loop-number.number - 1) c.loop-number.number _ (folder_seen g.D.Folder c.args.folder.now) (folder_seen g.D.Folder c.loop-number.folder) (folder_seen g.D.Folder c.make_file.new.folder)
           (omega (arith, c.loop-number.invariant.least)) (omega arith) c.in-Ok-make_file.ensures.leaves c.in-Ok-make_file.ensures.requested c.loop-number.invariant.numbered;
       created = omega (arith, c.loop-number.invariant.created, c.in-Ok-make_file.ensures.counts.created, c.loop-number.invariant.least);
       least = omega (arith, c.loop-number.invariant.least);
@@ -107,14 +104,15 @@ loop-number-preserved g c =
 pub returns-in-Err-clause-told : goal.returns-in-Err-clause-told
 returns-in-Err-clause-told g c =
     let header = c.args.plan.now.header.now in
-    let words = split_view c.args.plan.now.words.now in
+    let rules = c.args.plan.now.rules in
+    let base = c.args.plan.now.base.now in
     let old = g.D.Folder.files c.args.folder.now in
     let mid = g.D.Folder.files c.loop-number.folder in
     let new = g.D.Folder.files c.make_file.new.folder in
     told_again _ _ _ (g.F.File.bytes c.args.file.now) (g.F.File.bytes c.loop-number.file) c.loop-number.invariant.keeps.bytes (λ file p m.
-    let news = new_files words header file (parts_of c.args.lanes.now) in
-    let bad = bad_reached (rules_of words) header.layout file (parts_of c.args.lanes.now) in
-    progress_stops header words.base file c.rules_of-rules.result news bad c.loop-number.number c.loop-number.lanes c.make_file.new.lanes old mid new c.in-Err.end c.in-Err.end (g.D.Folder.counts c.args.folder.now) (g.D.Folder.counts c.loop-number.folder) (g.D.Folder.counts c.make_file.new.folder)
+    let news = new_files rules base header file (parts_of c.args.lanes.now) in
+    let bad = bad_reached rules header.layout file (parts_of c.args.lanes.now) in
+    progress_stops header base file rules news bad c.loop-number.number c.loop-number.lanes c.make_file.new.lanes old mid new c.in-Err.end c.in-Err.end (g.D.Folder.counts c.args.folder.now) (g.D.Folder.counts c.loop-number.folder) (g.D.Folder.counts c.make_file.new.folder)
     (g.D.Folder.requested c.loop-number.folder) (g.D.Folder.requested c.make_file.new.folder) refl c.loop-number.invariant.counts.unfinished (m p.stands p.small) c.in-Err.ensures.leaves p)
     c.loop-number.invariant.progress c.in-Err.ensures.told
 
@@ -135,14 +133,15 @@ returns-in_default-clause-created g c = told_all _ (g.F.File.bytes c.args.file.n
 pub returns-then-not-goes_on-clause-created : goal.returns-then-not-goes_on-clause-created
 returns-then-not-goes_on-clause-created g c =
     let header = c.args.plan.now.header.now in
-    let words = split_view c.args.plan.now.words.now in
+    let rules = c.args.plan.now.rules in
+    let base = c.args.plan.now.base.now in
     let old = g.D.Folder.files c.args.folder.now in
     let mid = g.D.Folder.files c.loop-number.folder in
     let new = g.D.Folder.files c.make_file.new.folder in
     told_again _ _ _ (g.F.File.bytes c.args.file.now) (g.F.File.bytes c.loop-number.file) c.loop-number.invariant.keeps.bytes (λ file p m.
-    let news = new_files words header file (parts_of c.args.lanes.now) in
-    let bad = bad_reached (rules_of words) header.layout file (parts_of c.args.lanes.now) in
-    created_last header words.base file c.rules_of-rules.result news bad c.loop-number.number c.loop-number.lanes c.make_file.new.lanes old mid new c.in-Ok-make_file.ends c.end_by.result
+    let news = new_files rules base header file (parts_of c.args.lanes.now) in
+    let bad = bad_reached rules header.layout file (parts_of c.args.lanes.now) in
+    created_last header base file rules news bad c.loop-number.number c.loop-number.lanes c.make_file.new.lanes old mid new c.in-Ok-make_file.ends c.end_by.result
     (g.D.Folder.counts c.args.folder.now).created (g.D.Folder.counts c.loop-number.folder).created (g.D.Folder.counts c.make_file.new.folder).created
     (sym c.goes_on.ensures ∙ c.if-not-goes_on.true) c.end_by.ensures
     (m p.stands p.small)
@@ -152,14 +151,15 @@ returns-then-not-goes_on-clause-created g c =
 pub returns-in-Err-clause-created : goal.returns-in-Err-clause-created
 returns-in-Err-clause-created g c =
     let header = c.args.plan.now.header.now in
-    let words = split_view c.args.plan.now.words.now in
+    let rules = c.args.plan.now.rules in
+    let base = c.args.plan.now.base.now in
     let old = g.D.Folder.files c.args.folder.now in
     let mid = g.D.Folder.files c.loop-number.folder in
     let new = g.D.Folder.files c.make_file.new.folder in
     told_again _ _ _ (g.F.File.bytes c.args.file.now) (g.F.File.bytes c.loop-number.file) c.loop-number.invariant.keeps.bytes (λ file p m.
-    let news = new_files words header file (parts_of c.args.lanes.now) in
-    let bad = bad_reached (rules_of words) header.layout file (parts_of c.args.lanes.now) in
-    created_stops header words.base file c.rules_of-rules.result news bad c.loop-number.number c.loop-number.lanes c.make_file.new.lanes old mid new c.in-Err.end c.in-Err.end
+    let news = new_files rules base header file (parts_of c.args.lanes.now) in
+    let bad = bad_reached rules header.layout file (parts_of c.args.lanes.now) in
+    created_stops header base file rules news bad c.loop-number.number c.loop-number.lanes c.make_file.new.lanes old mid new c.in-Err.end c.in-Err.end
     (g.D.Folder.counts c.args.folder.now).created (g.D.Folder.counts c.loop-number.folder).created (g.D.Folder.counts c.make_file.new.folder).created refl
     (m p.stands p.small)
     c.loop-number.invariant.least c.loop-number.invariant.created c.in-Err.ensures.counts.created p)
@@ -210,40 +210,41 @@ returns-clause-reads g c =
 
 pub returns-in_default-clause-requested : goal.returns-in_default-clause-requested
 returns-in_default-clause-requested g c =
-    told_all _ (g.F.File.bytes c.args.file.now) (λ file. asked_none (names_of (new_files (split_view c.args.plan.now.words.now) c.args.plan.now.header.now file (parts_of c.args.lanes.now))) (g.D.Folder.requested c.args.folder.now))
+    told_all _ (g.F.File.bytes c.args.file.now) (λ file. asked_none (names_of (new_files c.args.plan.now.rules c.args.plan.now.base.now c.args.plan.now.header.now file (parts_of c.args.lanes.now))) (g.D.Folder.requested c.args.folder.now))
 
 pub returns-then-not-goes_on-clause-requested : goal.returns-then-not-goes_on-clause-requested
 returns-then-not-goes_on-clause-requested g c =
     let header = c.args.plan.now.header.now in
-    let words = split_view c.args.plan.now.words.now in
+    let rules = c.args.plan.now.rules in
+    let base = c.args.plan.now.base.now in
     let old = g.D.Folder.files c.args.folder.now in
     let mid = g.D.Folder.files c.loop-number.folder in
     let new = g.D.Folder.files c.make_file.new.folder in
-    let more = numbered_more words.base (c.loop-number.number - 1) c.loop-number.number c.loop-number.number (folder_seen g.D.Folder c.args.folder.now) (folder_seen g.D.Folder c.loop-number.folder) (folder_seen g.D.Folder c.make_file.new.folder)
+    let more = numbered_more base (c.loop-number.number - 1) c.loop-number.number c.loop-number.number (folder_seen g.D.Folder c.args.folder.now) (folder_seen g.D.Folder c.loop-number.folder) (folder_seen g.D.Folder c.make_file.new.folder)
     (omega (arith, c.loop-number.invariant.least)) refl c.in-Ok-make_file.ensures.leaves c.in-Ok-make_file.ensures.requested c.loop-number.invariant.numbered in
     told_again _ _ _ (g.F.File.bytes c.args.file.now) (g.F.File.bytes c.loop-number.file) c.loop-number.invariant.keeps.bytes (λ file p m.
-    let news = new_files words header file (parts_of c.args.lanes.now) in
-    let bad = bad_reached (rules_of words) header.layout file (parts_of c.args.lanes.now) in
-    let long = last_counted header words.base file c.rules_of-rules.result news bad c.loop-number.number c.loop-number.lanes c.make_file.new.lanes old mid new c.in-Ok-make_file.ends (sym c.goes_on.ensures ∙ c.if-not-goes_on.true) (m p.stands p.small) p in
-    asked_all words.base news (c.loop-number.number + 0) (g.D.Folder.requested c.args.folder.now) (g.D.Folder.requested c.make_file.new.folder) c.in-Ok-make_file.ends.bad c.end_by.result c.end_by.ensures
-    (names_new header words.base (file_items (rules_of words) header.layout file (parts_of c.args.lanes.now))) (omega (arith, long)) more.requested)
+    let news = new_files rules base header file (parts_of c.args.lanes.now) in
+    let bad = bad_reached rules header.layout file (parts_of c.args.lanes.now) in
+    let long = last_counted header base file rules news bad c.loop-number.number c.loop-number.lanes c.make_file.new.lanes old mid new c.in-Ok-make_file.ends (sym c.goes_on.ensures ∙ c.if-not-goes_on.true) (m p.stands p.small) p in
+    asked_all base news (c.loop-number.number + 0) (g.D.Folder.requested c.args.folder.now) (g.D.Folder.requested c.make_file.new.folder) c.in-Ok-make_file.ends.bad c.end_by.result c.end_by.ensures
+    (names_new header base (file_items rules header.layout file (parts_of c.args.lanes.now))) (omega (arith, long)) more.requested)
     c.loop-number.invariant.progress c.in-Ok-make_file.ensures.told
 
 pub returns-in-Err-clause-requested : goal.returns-in-Err-clause-requested
 returns-in-Err-clause-requested g c =
     let header = c.args.plan.now.header.now in
-    let words = split_view c.args.plan.now.words.now in
-    let rules = c.rules_of-rules.result in
+    let rules = c.args.plan.now.rules in
+    let base = c.args.plan.now.base.now in
     let old = g.D.Folder.files c.args.folder.now in
     let mid = g.D.Folder.files c.loop-number.folder in
     let new = g.D.Folder.files c.make_file.new.folder in
     told_again _ _ _ (g.F.File.bytes c.args.file.now) (g.F.File.bytes c.loop-number.file) c.loop-number.invariant.keeps.bytes (λ file p m.
-    let news = new_files words header file (parts_of c.args.lanes.now) in
-    let bad = bad_reached (rules_of words) header.layout file (parts_of c.args.lanes.now) in
-    asked_stops (record { header = header; rules = rules; name = file_name words.base c.loop-number.number }) file c.loop-number.lanes c.make_file.new.lanes mid new words.base news (c.loop-number.number - 1) c.loop-number.number
+    let news = new_files rules base header file (parts_of c.args.lanes.now) in
+    let bad = bad_reached rules header.layout file (parts_of c.args.lanes.now) in
+    asked_stops (record { header = header; rules = rules; name = file_name base c.loop-number.number }) file c.loop-number.lanes c.make_file.new.lanes mid new base news (c.loop-number.number - 1) c.loop-number.number
     (g.D.Folder.requested c.args.folder.now) (g.D.Folder.requested c.loop-number.folder) (g.D.Folder.requested c.make_file.new.folder) c.in-Err.end (m p.stands p.small)
-    (names_new header words.base (file_items (rules_of words) header.layout file (parts_of c.args.lanes.now))) (omega (arith, c.loop-number.invariant.least))
-    (some_counted header words.base file rules news bad c.loop-number.number c.loop-number.lanes c.make_file.new.lanes old mid new p)
+    (names_new header base (file_items rules header.layout file (parts_of c.args.lanes.now))) (omega (arith, c.loop-number.invariant.least))
+    (some_counted header base file rules news bad c.loop-number.number c.loop-number.lanes c.make_file.new.lanes old mid new p)
     c.loop-number.invariant.numbered.requested c.in-Err.ensures.requested)
     c.loop-number.invariant.progress c.in-Err.ensures.told
 
@@ -253,11 +254,11 @@ returns-clause-requested g c =
     c.loop-number.invariant.progress
 
 pub returns-in_default-clause-leaves : goal.returns-in_default-clause-leaves
-returns-in_default-clause-leaves g c = inl (0, numbered_none c.args.plan.now.words.now.base.now 0 (folder_seen g.D.Folder c.args.folder.now) refl)
+returns-in_default-clause-leaves g c = inl (0, numbered_none c.args.plan.now.base.now 0 (folder_seen g.D.Folder c.args.folder.now) refl)
 
 pub returns-then-not-goes_on-clause-leaves : goal.returns-then-not-goes_on-clause-leaves
 returns-then-not-goes_on-clause-leaves g c =
-    let base = c.args.plan.now.words.now.base.now in
+    let base = c.args.plan.now.base.now in
     let old = folder_seen g.D.Folder c.args.folder.now in
     let new = folder_seen g.D.Folder c.make_file.new.folder in
     finished_all base c.make_file.new.lanes c.loop-number.number old new c.in-Ok-make_file.ends.bad c.end_by.result c.end_by.ensures
@@ -266,7 +267,7 @@ returns-then-not-goes_on-clause-leaves g c =
 
 pub returns-in-Err-clause-leaves : goal.returns-in-Err-clause-leaves
 returns-in-Err-clause-leaves g c =
-    stops_there c.args.plan.now.words.now.base.now c.make_file.new.lanes (c.loop-number.number - 1) c.loop-number.number (folder_seen g.D.Folder c.args.folder.now) (folder_seen g.D.Folder c.loop-number.folder) (folder_seen g.D.Folder c.make_file.new.folder)
+    stops_there c.args.plan.now.base.now c.make_file.new.lanes (c.loop-number.number - 1) c.loop-number.number (folder_seen g.D.Folder c.args.folder.now) (folder_seen g.D.Folder c.loop-number.folder) (folder_seen g.D.Folder c.make_file.new.folder)
     c.in-Err.end (omega (arith, c.loop-number.invariant.least)) c.loop-number.invariant.counts.unfinished c.loop-number.invariant.numbered c.in-Err.ensures.leaves c.in-Err.ensures.requested
 
 pub returns-clause-leaves : goal.returns-clause-leaves
