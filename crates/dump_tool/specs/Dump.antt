@@ -1,7 +1,6 @@
 -- What a dump prints of a header. Source: trace-cmd-dump(1).
 use Rattle.std.specs.Prelude.{ℕ, Bool, false, List, slice_index_or, codes}
 use Rattle.std.specs.List.{filter, flat_map}
-use Rattle.trace_args.specs.Command.{DumpData}
 use Rattle.word_values.specs.Sections.{sections, place_of}
 use Rattle.word_values.specs.declared.section.Section.{Section}
 use Rattle.word_values.specs.declared.section.Section.TheVariants.{Summary, HeadPage, HeadEvent, FtraceEvents, Systems, Events, Kallsyms, Printk, CmdLines, Options, Flyrecord, Validate}
@@ -26,14 +25,14 @@ section_text name header Options = list_text (codes "options") option_line (opti
 section_text name header Flyrecord = body_text header.body
 section_text name header Validate = codes "valid\n"
 
--- a section is chosen by the words
-abbrev pub is_chosen : DumpData → Section → Bool
-is_chosen words section = slice_index_or words.sections (place_of section) false
+-- whether a section is chosen, told for each by its place
+abbrev pub is_chosen : List Bool → Section → Bool
+is_chosen chosen section = slice_index_or chosen (place_of section) false
 
--- the texts of those of these sections that are chosen
-abbrev pub chosen_text : DumpData → Header → List Section → List ℕ
-chosen_text words header some = flat_map (section_text words.input header) (filter (is_chosen words) some)
+-- the texts of those of these sections that are chosen, for the header of a file with this name
+abbrev pub chosen_text : List ℕ → List Bool → Header → List Section → List ℕ
+chosen_text name chosen header some = flat_map (section_text name header) (filter (is_chosen chosen) some)
 
 -- the texts of the chosen sections, in the order of the sections and not of the words
-abbrev pub dump_text : DumpData → Header → List ℕ
-dump_text words header = chosen_text words header sections
+abbrev pub dump_text : List ℕ → List Bool → Header → List ℕ
+dump_text name chosen header = chosen_text name chosen header sections

@@ -2,7 +2,6 @@ ghost use Rattle.std.specs.Prelude.{◌≡◌, [], OnOk, OnErr};
 ghost use Rattle.trace_outside.specs.Causes.{HasCause};
 ghost use Rattle.trace_outside.specs.Pending.{PutsText, on_way};
 ghost use Rattle.trace_outside.specs.Writing.{Gained, GainedPrefix};
-ghost use Rattle.trace_args.specs.Command.{dump_view};
 ghost use Rattle.dump_tool.specs.Dump.{dump_text, section_text};
 
 use crate::entries::{put_each, put_list};
@@ -10,45 +9,47 @@ use crate::lines::put_text;
 use crate::lists::{options_of, put_body, put_events, put_option, put_system};
 use crate::summary::put_summary;
 use dat_header::Header;
-use trace_args::DumpWords;
 use trace_outside::{Failed, Pending, Sink};
 use word_values::Section;
 
-/// Prints the sections of a header that the words choose, in the order of `Section::ALL` (trace-cmd-dump(1)).
+/// Prints the chosen sections of the header of a file with this name, in the order of `Section::ALL` (trace-cmd-dump(1)).
+/// `sections` has for each whether it is.
 ///
 /// Takes no memory: the text goes out through `pending`, and after `Ok` none of it waits there. After `Failed` the sink has a
 /// prefix of it.
 pub fn dump<O: Sink>(
-    words: &DumpWords<'_>,
+    name: &str,
+    sections: &[bool; 12],
     header: &Header,
     pending: &mut Pending,
     out: &mut O,
 ) -> Result<(), Failed>
     requires { pending.old ≡ [] }
-    ensures gained { OnOk result (Gained (O.written out.old) (O.written out.new) (dump_text (dump_view words.now) header.now)) }
-    ensures prefix { OnErr result (GainedPrefix (O.written out.old) (O.written out.new) (dump_text (dump_view words.now) header.now)) }
+    ensures gained { OnOk result (Gained (O.written out.old) (O.written out.new) (dump_text name.now sections.now header.now)) }
+    ensures prefix { OnErr result (GainedPrefix (O.written out.old) (O.written out.new) (dump_text name.now sections.now header.now)) }
     ensures empty { OnOk result (pending.new ≡ []) }
     ensures name { O.name out.new ≡ O.name out.old }
     ensures cause { HasCause (O.faults out.old) (O.faults out.new) result }
 {
-    put_chosen(pending, out, words, header)?;
+    put_chosen(pending, out, name, sections, header)?;
     pending.flush(out)
 }
 
-// Puts the sections that the words choose.
+// Puts the chosen sections.
 fn put_chosen<O: Sink>(
     pending: &mut Pending,
     out: &mut O,
-    words: &DumpWords<'_>,
+    name: &str,
+    sections: &[bool; 12],
     header: &Header,
 ) -> Result<(), Failed>
-    ensures { PutsText (dump_text (dump_view words.now) header.now) (on_way O.written O.name O.faults out.old pending.old) (on_way O.written O.name O.faults out.new pending.new) result }
+    ensures { PutsText (dump_text name.now sections.now header.now) (on_way O.written O.name O.faults out.old pending.old) (on_way O.written O.name O.faults out.new pending.new) result }
 {
     let chosen = Section::ALL
         .iter()
-        .filter(|section| words.sections[section.place()]);
+        .filter(|section| sections[section.place()]);
     put_each(pending, out, chosen, |pending, out, section| {
-        put_section(pending, out, *section, words.input, header)
+        put_section(pending, out, *section, name, header)
     })
 }
 

@@ -5,7 +5,6 @@ use dump_tool::dump;
 use std::alloc::{AllocError, Global};
 use std::process::Abort;
 use std::test::Fail;
-use trace_args::DumpWords;
 use trace_base::ByteText;
 use trace_outside::{MemFile, MemSink, Pending};
 use word_values::Section;
@@ -94,14 +93,11 @@ fn prints(
     sections: &[Section],
     expected: &[u8],
 ) -> Result<(), AllocError> {
-    let mut words = DumpWords {
-        input: "trace.dat",
-        sections: [false; 12],
-    };
-    choose(&mut words.sections, sections);
+    let mut chosen = [false; 12];
+    choose(&mut chosen, sections);
     let mut pending = Pending::new(alloc)?;
     let mut out = MemSink::new(alloc);
-    let dumped = dump(&words, header, &mut pending, &mut out);
+    let dumped = dump("trace.dat", &chosen, header, &mut pending, &mut out);
     assert!(rt; dumped.is_ok() && out.bytes() == expected);
     Ok(())
 }

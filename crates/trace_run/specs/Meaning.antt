@@ -22,7 +22,7 @@ use Rattle.several_report.specs.Meaning.{files_meaning}
 
 -- the header's sections
 abbrev pub dump_of : DumpData → Header → Meaning
-dump_of words header = prints (dump_text words header ∷ []) Done
+dump_of words header = prints (dump_text words.input words.sections header ∷ []) Done
 
 -- the line of a self-test
 abbrev pub self_test : SelfData → Meaning

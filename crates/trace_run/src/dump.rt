@@ -22,7 +22,7 @@ pub(crate) fn print_dump<O: Sink>(
     let Ok(mut pending) = Pending::new(alloc) else {
         return Status::NoMemory;
     };
-    match dump_tool::dump(words, header, &mut pending, out) {
+    match dump_tool::dump(words.input, &words.sections, header, &mut pending, out) {
         Ok(()) => Status::Done,
         Err(Failed) => Status::WriteFault,
     }
