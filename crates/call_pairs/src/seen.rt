@@ -1,7 +1,7 @@
 ghost use Rattle.std.specs.Prelude.{◌≡◌, ◌-ℤ◌};
 ghost use Rattle.call_pairs.specs.Durations.{clip};
 
-use line_columns::Common;
+use trace_base::Common;
 
 /// An entry into a function, or an exit from one (`funcgraph_entry` and `funcgraph_exit` in the kernel's trace_entries.h).
 #[derive(Clone, Copy, Debug, PartialEq, Eq)]

@@ -3,7 +3,7 @@ use Rattle.std.specs.Prelude.{◌≡◌, ◌<◌, ℕ, false, List, ◌++◌, co
 use Rattle.std.specs.Fmt.{decimal, signed_decimal}
 use Rattle.line_columns.specs.Columns.{left, zeros, time_text}
 use Rattle.line_columns.specs.declared.widths.TheConstants.{USUAL_TIMES}
-use Rattle.line_columns.specs.declared.common.Common.{Common}
+use Rattle.trace_base.specs.declared.common.Common.{Common}
 use Rattle.report_print.specs.declared.show.Show.{Show}
 use Rattle.report_print.specs.ContextData.{ContextData}
 use Rattle.report_print.specs.Line.{id_of, flags_of, preempt_count_of, pid_of, task_text, place_text}

@@ -18,9 +18,9 @@ use crate::fronts::put_front;
 use crate::head::Known;
 use fmt_print::print;
 use itoa::Buffer;
-use line_columns::{Common, Front, LONGEST_BEHIND};
+use line_columns::{Front, LONGEST_BEHIND};
 use subpage::Item;
-use trace_base::{Rec, Tail};
+use trace_base::{Common, Rec, Tail};
 
 /// Puts the text of an item. Gives where an event's time ends.
 pub(crate) fn put_item(context: &Context, cpu: u32, item: &Item<'_>, into: &mut Tail<'_>) -> usize

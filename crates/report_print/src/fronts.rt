@@ -17,10 +17,10 @@ use crate::fields::put_pair;
 use crate::show::Show;
 use crate::tasks::{TaskStart, USUAL_TASK, WIDE_TASK};
 use line_columns::{
-    BEFORE_PID, BEFORE_PLACE, Common, Front, LONGEST_BEHIND, LONGEST_PLACE, LONGEST_TASK,
-    USUAL_COLUMNS, USUAL_LABEL, USUAL_TIMES,
+    BEFORE_PID, BEFORE_PLACE, Front, LONGEST_BEHIND, LONGEST_PLACE, LONGEST_TASK, USUAL_COLUMNS,
+    USUAL_LABEL, USUAL_TIMES,
 };
-use trace_base::{Order, Tail};
+use trace_base::{Common, Order, Tail};
 
 /// How long most fronts are.
 const USUAL_FRONT: usize = USUAL_COLUMNS + USUAL_LABEL;

@@ -2,13 +2,15 @@
 //! records, and text that goes into memory that is there already.
 //!
 //! `read_u16` and its sisters read a number that bytes begin with, in a file's [`Order`]; of a record, a [`Rec`], [`number_of`]
-//! gives a field's value and [`bytes_of`] its bytes. [`read_field_line`] gives the field that a line of a format declares, and
-//! [`field_named`] finds a [`Field`] by its name. Text that is formed goes into a [`Tail`], which keeps what there is room for and
-//! tells how long it truly is; text and lists that are kept are a [`ByteText`] and a [`ListOf`], which contracts see as lists.
-//! [`until_nul`] ends a text of C where C does. [`puts_join`] and [`kept_of_text`] do nothing: they are laws.
+//! gives a field's value and [`bytes_of`] its bytes; a [`Common`] is what every event begins with. [`read_field_line`] gives
+//! the field that a line of a format declares, and [`field_named`] finds a [`Field`] by its name. Text that is formed goes into
+//! a [`Tail`], which keeps what there is room for and tells how long it truly is; text and lists that are kept are a
+//! [`ByteText`] and a [`ListOf`], which contracts see as lists. [`until_nul`] ends a text of C where C does. [`puts_join`] and
+//! [`kept_of_text`] do nothing: they are laws.
 #![tactic(auto)]
 
 mod byte_text;
+mod common;
 mod digits;
 mod field;
 mod field_line;
@@ -24,6 +26,7 @@ mod times;
 mod words;
 
 pub use byte_text::ByteText;
+pub use common::Common;
 pub use digits::{two_digits, write_digits};
 pub use field::{Field, FieldKind, FieldPlace, field_named};
 pub use field_line::{FieldLine, after_word, decimal, is_identifier, one_field, read_field_line};

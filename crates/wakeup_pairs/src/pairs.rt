@@ -3,10 +3,10 @@ ghost use Rattle.wakeup_pairs.specs.Gathered.{and_seen, none_gathered};
 ghost use Rattle.wakeup_pairs.specs.Pairs as spec;
 
 use crate::seen::{Pair, Seen, Switch};
-use line_columns::Common;
 use std::alloc::{AllocError, Global};
 use std::collections::BTreeMap;
 use std::marker::Model;
+use trace_base::Common;
 
 /// The pairs of what was seen so far, and the tasks that wait. Contracts see both.
 ///

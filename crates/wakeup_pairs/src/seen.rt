@@ -1,6 +1,6 @@
 // What an item of a trace is for the latencies, and what is told of a switch to a task that waited.
 
-use line_columns::Common;
+use trace_base::Common;
 
 /// A task was woken.
 #[derive(Clone, Copy, Debug, PartialEq, Eq)]

@@ -3,12 +3,11 @@
 use call_pairs::Call;
 use format_parse::FormatTable;
 use graph_report::put_line;
-use line_columns::Common;
 use report_print::{Context, Show};
 use std::alloc::{AllocError, Global};
 use std::test::Fail;
 use symbols::Symbols;
-use trace_base::{ByteText, ListOf, Order, Tail};
+use trace_base::{ByteText, Common, ListOf, Order, Tail};
 
 /// A context with these formats and symbols, and the task `sh` of pid 7.
 pub(super) fn context(

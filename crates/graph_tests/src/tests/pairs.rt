@@ -1,9 +1,9 @@
 // Which calls are told of what is seen.
 
 use call_pairs::{Call, GraphEvent, Seen, Tracing, clipped};
-use line_columns::Common;
 use std::alloc::Global;
 use std::test::Fail;
+use trace_base::Common;
 
 /// A row a line: what is seen, and what is told of it.
 ///
