@@ -10,6 +10,9 @@ use crate::token::Token;
 use byte_classes::is_blank;
 use std::alloc::{AllocError, Global};
 
+/// Most tokens take at least so many bytes, with the blanks before them: memory for so many is taken at once.
+const USUAL_BYTES: usize = 3;
+
 /// The token that begins at a place of a text.
 #[tactic(auto, using(crate::proofs::Rows::token_inside), unfolding(crate::specs::Reading::token_at))]
 fn token_at(text: &[u8], at: usize) -> Option<Token>
@@ -31,7 +34,7 @@ fn row(alloc: Global, text: &[u8]) -> Result<Option<Vec<Token>>, AllocError>
     requires { length text.now < 2 ^ 32 }
     ensures { IfOk result (λ row. option_map (λ v. v.items) row ≡ tokens_from 0 0 text.now) }
 {
-    let mut tokens = Vec::new(alloc);
+    let mut tokens = Vec::with_capacity(alloc, text.len() / USUAL_BYTES + 4)?;
     let mut at = 0;
     while at < text.len() {
         if is_blank(text[at]) {

@@ -24,7 +24,29 @@ fn is_long_mark(first: u8, second: u8) -> bool
 fn is_short_mark(byte: u8) -> bool
     ensures { result ≡ is_short_mark byte }
 {
-    b"()[]{},?:+-*/%<>&^|!~".contains(&byte)
+    matches!(
+        byte,
+        b'(' | b')'
+            | b'['
+            | b']'
+            | b'{'
+            | b'}'
+            | b','
+            | b'?'
+            | b':'
+            | b'+'
+            | b'-'
+            | b'*'
+            | b'/'
+            | b'%'
+            | b'<'
+            | b'>'
+            | b'&'
+            | b'^'
+            | b'|'
+            | b'!'
+            | b'~'
+    )
 }
 
 /// The length of the longest mark that the text begins with.
