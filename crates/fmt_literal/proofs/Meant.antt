@@ -1,6 +1,8 @@
 -- What bytes stand for, one item after another.
-use Rattle.std.proofs.Common.{◌≡◌, ℕ, zero, suc, ◌<◌, ◌≤◌, List, [], ◌∷◌, ◌++◌, length, drop, Some, None, refl, sym, ap, ◌∙◌, arith, append_assoc, append-nil}
-use Rattle.fmt_literal.specs.Escape.{Item, spelled, item, meant}
+use Rattle.std.proofs.Common.{◌≡◌, ℕ, zero, suc, ◌<◌, ◌≤◌, Bool, true, false, not, ◌||◌, ◌==◌, if◌then◌else◌, List, [], ◌∷◌, ◌++◌, length, drop, Some, None, refl, sym, ap, ◌∙◌, arith, append_assoc, append-nil}
+use Rattle.std.specs.List.{list_any}
+use Rattle.fmt_lexer.specs.Bytes.{backslash}
+use Rattle.fmt_literal.specs.Escape.{Item, spelled, escape, item, is_plain, meant}
 use Rattle.fmt_literal.specs.Quoted.{inside, only, letter_of}
 
 pub meant_skip : (n : ℕ) (bytes : List ℕ) → meant n bytes ≡ meant 0 (drop n bytes)
@@ -24,6 +26,23 @@ meant_over zero [] le = refl
 meant_over zero (b ∷ bytes) le = absurd (omega arith)
 meant_over (suc n) [] le = refl
 meant_over (suc n) (b ∷ bytes) le = meant_over n bytes (omega arith)
+
+-- a byte that begins no escape stands for itself
+item_plain : (b : ℕ) (bytes : List ℕ) → (b == backslash) ≡ false → item b bytes ≡ spelled b 0
+unfolding item
+item_plain b bytes e = ap (λ (c : Bool). if c then escape bytes else spelled b 0) e
+
+not_either : (c d : Bool) → not (c || d) ≡ true → (c ≡ false) × (not d ≡ true)
+not_either true d none = absurd cc
+not_either false d none = (refl, none)
+
+pub meant_plain : (bytes : List ℕ) → is_plain bytes ≡ true → meant 0 bytes ≡ bytes
+meant_plain [] plain = meant_end
+meant_plain (b ∷ bytes) plain =
+    let parts = not_either (b == backslash) (list_any (λ c. c == backslash) bytes) plain in
+    meant_next b bytes
+    ∙ ap (λ (i : Item). i.byte ∷ meant 0 (drop i.len bytes)) (item_plain b bytes parts.0)
+    ∙ ap (λ (out : List ℕ). b ∷ out) (meant_plain bytes parts.1)
 
 two : (b : ℕ) (n : ℕ) (bytes : List ℕ) → n < length bytes → only (b ∷ meant n bytes) ≡ None
 unfolding meant

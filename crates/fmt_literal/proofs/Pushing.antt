@@ -1,6 +1,6 @@
 -- A text behind which more and more of a piece is put.
-use Rattle.std.proofs.Common.{◌≡◌, ℕ, List, [], ◌∷◌, ◌++◌, length, take, drop, refl, sym, ap, ◌∙◌, append_assoc, append-nil}
-use Rattle.std.proofs.Math.Seq.{take-append_seam}
+use Rattle.std.proofs.Common.{◌≡◌, ℕ, Bool, true, false, if◌then◌else◌, List, [], ◌∷◌, ◌++◌, length, take, drop, refl, sym, ap, ◌∙◌, append_assoc, append-nil}
+use Rattle.std.proofs.Math.Seq.{take-append_seam, take-length}
 use Rattle.fmt_literal.specs.Escape.{spelled, item, meant}
 use Rattle.fmt_literal.specs.Quoted.{inside, text_of}
 use Rattle.fmt_literal.specs.Pushed.{GainedFront}
@@ -22,6 +22,17 @@ grows_more before now piece rest behind first len byte r e h = record {
   gained = ap (λ (l : List ℕ). l ++ byte ∷ []) h.gained ∙ append_assoc before h.front (byte ∷ []);
   whole = meant_turn rest behind h.front (h.front ++ byte ∷ []) first len byte r e refl ∙ h.whole;
 }
+
+-- nothing was put, or all of it
+gained_none : (before now piece : List ℕ) → now ≡ before → GainedFront before now piece
+gained_none before now piece same = record { count = 0; gained = same ∙ sym (append-nil before) }
+
+gained_all : (before now piece : List ℕ) → now ≡ before ++ piece → GainedFront before now piece
+gained_all before now piece all = record { count = length piece; gained = all ∙ ap (λ (l : List ℕ). before ++ l) (sym (take-length piece)) }
+
+pub gained_by : (before now piece : List ℕ) (all : Bool) → now ≡ (if all then before ++ piece else before) → GainedFront before now piece
+gained_by before now piece true is = gained_all before now piece is
+gained_by before now piece false is = gained_none before now piece is
 
 pub grown_front : (before now left piece later : List ℕ) → later ≡ now → Grows before now left piece → GainedFront before later piece
 grown_front before now left piece later same h = record {

@@ -1,5 +1,6 @@
 -- The bytes that letters and texts stand for (C11 6.4.4.4 and 6.4.5): each byte for itself, and each escape for one byte.
-use Rattle.std.specs.Prelude.{◌≡◌, ◌≢◌, ℕ, zero, suc, ◌+◌, ◌-◌, ◌*◌, ◌%◌, false, ◌&&◌, ◌==◌, nat_le, if◌then◌else◌, List, [], ◌∷◌, length, slice_index, Option, Some, None, IsTrue}
+use Rattle.std.specs.Prelude.{◌≡◌, ◌≢◌, ℕ, zero, suc, ◌+◌, ◌-◌, ◌*◌, ◌%◌, Bool, false, not, ◌&&◌, ◌==◌, nat_le, if◌then◌else◌, List, [], ◌∷◌, length, slice_index, Option, Some, None, IsTrue}
+use Rattle.std.specs.List.{list_any}
 use Rattle.std.specs.Char.{is_ascii_hexdigit, digit_value}
 use Rattle.fmt_lexer.specs.Bytes.{backslash, is_octal}
 
@@ -75,6 +76,10 @@ escape bytes = or_else (hexadecimal_in bytes) 3 (or_else (three_in bytes) 3 (or_
 -- what a byte and some of those behind it stand for
 unfoldable pub item : ℕ → List ℕ → Item
 item b bytes = if b == backslash then escape bytes else spelled b 0
+
+-- whether no byte begins an escape
+abbrev pub is_plain : List ℕ → Bool
+is_plain bytes = not (list_any (λ b. b == backslash) bytes)
 
 -- what bytes stand for, where so many of them were read already
 unfoldable pub meant : ℕ → List ℕ → List ℕ

@@ -4,7 +4,7 @@ ghost use Rattle.std.specs.Prelude.{◌≡◌, ◌+◌, ◌<◌, ◌≤◌, ◌+
 ghost use Rattle.std.specs.Char.{is_ascii_hexdigit, digit_value};
 ghost use Rattle.fmt_lexer.specs.Bytes.{is_octal};
 ghost use Rattle.fmt_literal.specs.Pushed.{GainedFront};
-ghost use Rattle.fmt_literal.specs.Escape.{named, octal, hexadecimal_in, three_in, two_in, one_in, escape, item, meant};
+ghost use Rattle.fmt_literal.specs.Escape.{is_plain, named, octal, hexadecimal_in, three_in, two_in, one_in, escape, item, meant};
 ghost use Rattle.fmt_literal.specs.Views.{item_view};
 
 use std::alloc::AllocError;
@@ -151,13 +151,33 @@ pub fn item(first: u8, behind: &[u8]) -> Spelled
     }
 }
 
-/// Puts what bytes stand for behind what is there.
+/// Whether each of these bytes stands for itself.
+fn is_plain(bytes: &[u8]) -> bool
+    ensures { result ≡ is_plain bytes.now }
+{
+    !bytes.contains(&b'\\')
+}
+
+/// Puts what bytes stand for behind what is there. Most have no escape, and are put at once.
 ///
 /// # Errors
 ///
 /// Want of memory alone; then the first of it may have been put there, and nothing else has changed.
-#[tactic(auto, using(crate::proofs::Pushing::grows_first, crate::proofs::Pushing::grows_more))]
+#[tactic(auto, using(crate::proofs::Meant::meant_plain))]
 pub fn push_meant(into: &mut Vec<u8>, bytes: &[u8]) -> Result<(), AllocError>
+    ensures whole { IfOk result (λ _. into.new.items ≡ into.old.items ++ meant 0 bytes.now) }
+    ensures front { GainedFront into.old.items into.new.items (meant 0 bytes.now) }
+{
+    if is_plain(bytes) {
+        into.extend_from_slice(bytes)
+    } else {
+        push_items(into, bytes)
+    }
+}
+
+/// Puts what bytes stand for behind what is there, byte by byte.
+#[tactic(auto, using(crate::proofs::Pushing::grows_first, crate::proofs::Pushing::grows_more))]
+fn push_items(into: &mut Vec<u8>, bytes: &[u8]) -> Result<(), AllocError>
     ensures whole { IfOk result (λ _. into.new.items ≡ into.old.items ++ meant 0 bytes.now) }
     ensures front { GainedFront into.old.items into.new.items (meant 0 bytes.now) }
 {

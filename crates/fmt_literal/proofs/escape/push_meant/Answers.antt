@@ -1,20 +1,12 @@
-use Rattle.std.proofs.Common.{rules, ◌≡◌, length, refl}
-use Rattle.fmt_literal.specs.Escape.{meant}
-use Rattle.fmt_literal.proofs.Pushing.{grown_front, grown_whole}
+use Rattle.std.proofs.Common.{is_ok, sym, subst}
+use Rattle.fmt_literal.specs.Pushed.{GainedFront}
+use Rattle.fmt_literal.proofs.Meant.{meant_plain}
+use Rattle.fmt_literal.proofs.Pushing.{gained_by}
 use Rattle.fmt_literal.proofs.escape.push_meant.Goals as goal
 
-pub returns-in_err-push-clause-front : goal.returns-in_err-push-clause-front
-returns-in_err-push-clause-front c =
-    let l = c.loop-first in
-    let same : c.push.new.self.items ≡ l.into.items = search rules in
-    grown_front c.args.into.now.items l.into.items (meant 0 l.rest.now) (meant 0 c.args.bytes.now) c.push.new.self.items same l.invariant
-
-pub returns-clause-whole : goal.returns-clause-whole
-returns-clause-whole c =
-    let l = c.loop-first in
-    let over : length l.rest.now ≡ 0 = search rules in
-    grown_whole c.args.into.now.items l.into.items l.rest.now (meant 0 c.args.bytes.now) over l.invariant
-
-pub returns-clause-front : goal.returns-clause-front
-returns-clause-front c =
-    let l = c.loop-first in grown_front c.args.into.now.items l.into.items (meant 0 l.rest.now) (meant 0 c.args.bytes.now) l.into.items refl l.invariant
+pub returns-then-is_plain-clause-front : goal.returns-then-is_plain-clause-front
+returns-then-is_plain-clause-front c =
+    let before = c.args.into.now.items in
+    let now = c.extend_from_slice.new.self.items in
+    subst (GainedFront before now) (sym (meant_plain c.args.bytes.now (sym c.if-is_plain.ensures)))
+    (gained_by before now c.args.bytes.now (is_ok c.extend_from_slice.result) c.extend_from_slice.ensures.items)

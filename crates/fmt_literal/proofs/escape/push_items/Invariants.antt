@@ -1,7 +1,7 @@
 use Rattle.std.proofs.Common.{length}
 use Rattle.fmt_literal.specs.Escape.{meant}
 use Rattle.fmt_literal.proofs.Pushing.{Grows}
-use Rattle.fmt_literal.proofs.escape.push_meant.Given as goal
+use Rattle.fmt_literal.proofs.escape.push_items.Given as goal
 
 -- The first of what the bytes stand for was put behind the text, and what the bytes behind stand for is left.
 abbrev pub invariant-loop-first : goal.invariant-loop-first
