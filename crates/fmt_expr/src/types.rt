@@ -12,6 +12,9 @@ use crate::taken::TypePlace;
 use fmt_literal::{CastTo, cast_of, is_qualifier, size_of};
 use std::alloc::AllocError;
 
+/// Most types have no more bytes with a blank before each name: memory for so many is taken at once.
+const USUAL_WORDS: usize = 24;
+
 /// Puts a name with a blank before it behind what is there, unless it is a qualifier.
 fn push_name(into: &mut Vec<u8>, name: Option<&[u8]>) -> Result<(), AllocError>
     ensures { IfOk result (λ _. into.new.items ≡ into.old.items ++ spaced (option_map (λ n. n.now) name.entry)) }
@@ -82,7 +85,7 @@ impl<'a> Reader<'a> {
         requires { at + names ≤ length self.now.tokens.now }
         ensures { IfOk result (λ v. v.items ≡ spaced_names (source self.now) names at) }
     {
-        let mut words = Vec::new(self.alloc);
+        let mut words = Vec::with_capacity(self.alloc, USUAL_WORDS)?;
         for place in at..at + names {
             push_name(&mut words, self.name(place))?;
         }

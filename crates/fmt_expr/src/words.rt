@@ -12,6 +12,7 @@ use fmt_literal::{CKind, Numeral, letter, number};
 
 impl<'a> Reader<'a> {
     /// The mark at a place.
+    #[inline(always)]
     #[tactic(auto, unfolding(crate::specs::Source::mark_at))]
     pub fn mark(&self, at: usize) -> Option<&'a [u8]>
         ensures value { option_map (λ m. m.now) result ≡ mark_at (source self.now) at }
@@ -25,6 +26,7 @@ impl<'a> Reader<'a> {
     }
 
     /// The name at a place.
+    #[inline(always)]
     #[tactic(auto, unfolding(crate::specs::Source::name_at))]
     pub fn name(&self, at: usize) -> Option<&'a [u8]>
         ensures value { option_map (λ m. m.now) result ≡ name_at (source self.now) at }
@@ -69,6 +71,7 @@ impl<'a> Reader<'a> {
     }
 
     /// Whether the token at a place is this mark.
+    #[inline(always)]
     #[tactic(auto, unfolding(crate::specs::Source::is_mark))]
     pub fn is_mark(&self, at: usize, mark: &[u8]) -> bool
         ensures value { result ≡ is_mark (source self.now) at mark.now }

@@ -21,7 +21,8 @@ use std::alloc::{AllocError, Global};
 fn padded(alloc: Global, text: &[u8]) -> Result<Vec<u8>, AllocError>
     ensures { IfOk result (λ all. all.items ≡ text.now ++ replicate 16 0) }
 {
-    let mut all = text.to_vec(alloc)?;
+    let mut all = Vec::with_capacity(alloc, text.len() + 16)?;
+    all.extend_from_slice(text)?;
     all.extend_from_slice(&[0; 16])?;
     Ok(all)
 }
@@ -31,7 +32,7 @@ fn padded(alloc: Global, text: &[u8]) -> Result<Vec<u8>, AllocError>
 fn folded_arguments(alloc: Global, args: &[Expr]) -> Result<Vec<Argument>, AllocError>
     ensures { IfOk result (λ made. SameTrees (map argument_tree made.items) (map tree_of args.now)) }
 {
-    let mut made = Vec::new(alloc);
+    let mut made = Vec::with_capacity(alloc, args.len())?;
     for arg in args {
         made.push(Argument::new(folded(alloc, arg)?))?;
     }

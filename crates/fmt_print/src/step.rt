@@ -120,7 +120,7 @@ fn first_shown(directives: &[Directive]) -> (Shown, &[Directive])
 pub fn steps_of(alloc: Global, directives: &[Directive]) -> Result<Vec<Step>, AllocError>
     ensures { IfOk result (λ steps. flat_map directives_of steps.items ≡ directives.now) }
 {
-    let mut steps = Vec::new(alloc);
+    let mut steps = Vec::with_capacity(alloc, directives.len() / 2 + 1)?;
     let mut left = directives;
     while !left.is_empty() {
         let (literal, behind) = first_literal(left);

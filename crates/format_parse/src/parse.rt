@@ -17,6 +17,9 @@ use std::alloc::{AllocError, Global};
 use text_lines::{first_after, first_line};
 use trace_base::{ByteText, Field, FieldLine, ListOf, decimal, is_identifier, read_field_line};
 
+/// Most formats have no more fields, those of all events included: memory for so many is taken at once.
+const USUAL_FIELDS: usize = 12;
+
 /// The format of an event of this system that the text spells; none exactly where its name or its id is unread.
 ///
 /// The name is the rest of the first line that begins with `name: `, an identifier; the id that of the first line that begins
@@ -125,7 +128,7 @@ fn read_fields(alloc: Global, text: &[u8]) -> Result<(Vec<Field>, &[u8]), AllocE
     ensures fields { IfOk result (λ r. r.0.items ≡ map field_of (field_data (lines_of text.now))) }
     ensures print { IfOk result (λ r. r.1.now ≡ print_text (lines_of text.now)) }
 {
-    let mut fields = Vec::new(alloc);
+    let mut fields = Vec::with_capacity(alloc, USUAL_FIELDS)?;
     let mut left = Some(text);
     while let Some(lines) = left {
         if let Some(print) = after_front(b"print fmt:", lines) {
