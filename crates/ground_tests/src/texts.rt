@@ -41,6 +41,8 @@ fn texts_and_lists(rt: HostRuntime) -> Result<(), Fail> {
     let alloc = rt.alloc();
     let large = vec![in alloc; b'x'; 100_000]?;
     let text = ByteText::copy(alloc, &large)?;
+    let short = ByteText::copy(alloc, b"short")?;
+    assert!(rt; short.as_bytes() == b"short".as_slice());
     let list = ListOf::from_vec(vec![in alloc; 3, 4]?);
     assert!(rt; text.as_bytes() == large.as_slice() && list.as_slice() == [3, 4].as_slice());
     assert!(rt; list.into_vec().len() == 2);

@@ -12,6 +12,7 @@
 mod byte_text;
 mod common;
 mod digits;
+mod few_bytes;
 mod field;
 mod field_line;
 mod layout;
