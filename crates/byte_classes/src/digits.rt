@@ -17,7 +17,7 @@ pub fn number_written(radix: u32, text: &[u8]) -> Option<u64>
     Some(number)
 }
 
-// The number with one more digit behind it, where it fits 64 bits.
+// The number with one more digit after it, where it fits 64 bits.
 fn with_digit(number: u64, radix: u32, digit: u32) -> Option<u64>
     ensures { SomeIff result (number * radix + digit < 2 ^ 64) (number * radix + digit) }
 {

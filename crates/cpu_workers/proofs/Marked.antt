@@ -1,4 +1,4 @@
--- How many lanes are busy, up to one more with a mark, and before and behind a cut.
+-- How many lanes are busy, up to one more that is dirty, and before and after a cut.
 use Rattle.std.proofs.Common.{◌≡◌, ℕ, zero, suc, ◌+◌, ◌<◌, ◌≤◌, Bool, true, false, cond, List, [], ◌∷◌, length, get_or, take, drop, refl, sym, ap, ◌∙◌, arith}
 use Rattle.std.specs.Prelude.{count_by}
 use Rattle.std.specs.List.{zip}
@@ -75,7 +75,7 @@ module _ (l : Layout) (lanes : List Lane) (moved : List Bool) where
       passing (λ j. busy_lanes l (take j lanes) (take j moved) ≡ busy_lanes l (take from lanes) (take from moved)) moved from to behind none
       (λ j _ inside unmarked same. one_passed j marks (omega (arith, inside, within)) unmarked ∙ same) refl
 
-  -- up to the next lane with a mark, and that one
+  -- up to the next dirty lane, and that one
   pub busy_more : (from i : ℕ) (a : Lane) (b : Bool) → length moved ≡ length lanes → IsFirstMark moved from i → a ≡ get_or lanes i a
       → b ≡ may_form l a
       → busy_lanes l (take (i + 1) lanes) (take (i + 1) moved) ≡ busy_lanes l (take from lanes) (take from moved) + cond b 1 0
@@ -83,7 +83,7 @@ module _ (l : Layout) (lanes : List Lane) (moved : List Bool) where
       one_more i a b marks mark.inside at (still_busy l a (get_or moved i false) b mark.marked is)
       ∙ ap (λ (n : ℕ). n + cond b 1 0) (busy_passed from i marks mark.behind (omega (arith, mark.inside)) mark.none)
 
-  -- where none has a mark any more
+  -- where none is dirty any more
   pub busy_all : (from : ℕ) → length moved ≡ length lanes → from ≤ length moved → NoneMarked moved from (length moved)
       → busy_lanes l lanes moved ≡ busy_lanes l (take from lanes) (take from moved)
   busy_all from marks within none =
@@ -96,7 +96,7 @@ module _ (l : Layout) (lanes : List Lane) (moved : List Bool) where
   pub busy_most : busy_lanes l lanes moved ≤ length lanes
   busy_most = omega (arith, count_by-le-length (is_busy l) (zip lanes moved), length-zip lanes moved)
 
-  -- before and behind a cut
+  -- before and after a cut
   pub busy_parts : (cut : ℕ) → busy_lanes l (take cut lanes) (take cut moved) + busy_lanes l (drop cut lanes) (drop cut moved) ≡ busy_lanes l lanes moved
   busy_parts cut =
       let back : busy_lanes l (drop cut lanes) (drop cut moved) ≡ count_by (is_busy l) (drop cut (zip lanes moved)) = ap (count_by (is_busy l)) (zip_drop cut lanes moved) in

@@ -11,11 +11,11 @@ use Rattle.event_cursor.specs.Standing.{keyed_held}
 abbrev pub may_form : Layout → Lane → Bool
 may_form layout lane = not (nat_le most_lines lane.region.used) && is_some (first_of (keyed_held layout lane))
 
--- whether a lane is busy: it has a mark, and may form a line
+-- whether a lane is busy: it is dirty, and may form a line
 abbrev pub is_busy : Layout → Lane × Bool → Bool
 is_busy layout marked = marked.1 && may_form layout marked.0
 
--- how many lanes are busy, by their marks
+-- how many lanes are busy, by their dirty bits
 abbrev pub busy_lanes : Layout → List Lane → List Bool → ℕ
 busy_lanes layout lanes moved = count_by (is_busy layout) (zip lanes moved)
 

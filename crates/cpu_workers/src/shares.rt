@@ -17,7 +17,7 @@ fn may_form(layout: &Layout, lane: &Lane) -> bool
     !lane.region.is_used_up() && head_key(lane).is_some()
 }
 
-/// How many lanes are busy, by their marks.
+/// How many lanes are busy, by their dirty bits.
 fn busy_lanes(layout: &Layout, lanes: &[Lane], moved: &[bool]) -> usize
     requires in_order { All (IsInOrder layout.now) lanes.now }
     requires marks { length moved.now ≡ length lanes.now }
@@ -42,7 +42,7 @@ fn are_worth(shared_from: u64, layout: &Layout, busy: usize) -> bool
     shared_from <= (busy as u64).saturating_mul(u64::from(each))
 }
 
-/// On how many threads lanes are formatted, by their marks.
+/// On how many threads lanes are formatted, by their dirty bits.
 pub(crate) fn threads_for(
     asked: u32,
     shared_from: u64,
@@ -70,7 +70,7 @@ pub(crate) fn threads_for(
     }
 }
 
-/// The place behind the first so many busy lanes.
+/// The place after the first `count` busy lanes.
 fn place_behind(layout: &Layout, lanes: &[Lane], moved: &[bool], count: usize) -> usize
     requires in_order { All (IsInOrder layout.now) lanes.now }
     requires marks { length moved.now ≡ length lanes.now }

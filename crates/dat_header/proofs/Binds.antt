@@ -1,4 +1,4 @@
--- Steps one behind another, joined in one way or in another.
+-- Steps one after another, joined in one way or in another.
 use Rattle.std.proofs.Common.{◌≡◌, ℕ, Result, Ok, Err, refl}
 use Rattle.dat_options.specs.declared.fault.OpenFault.{OpenFault}
 use Rattle.dat_header.specs.Found.{◌>>=◌}
@@ -13,7 +13,7 @@ pub bind_same : {V W : Type 0} (found : Result V OpenFault) (next other : V → 
 bind_same (Ok v) next other same = same v
 bind_same (Err fault) next other same = refl
 
--- a word, of which only the place behind it counts
+-- a word, of which only the place after it counts
 pub bind_word : {W : Type 0} (found : Result ℕ OpenFault) (next : (Unit {0}) × ℕ → Result W OpenFault) (other : ℕ → Result W OpenFault)
     → ((n : ℕ) → next (tt, n) ≡ other n) → ((found >>= λ n. found_value tt n) >>= next) ≡ (found >>= other)
 bind_word (Ok n) next other same = same n

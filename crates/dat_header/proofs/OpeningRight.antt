@@ -41,7 +41,7 @@ section_read fixed file at = read_fixed (word (fixed ∷ []) BadSection) fixed (
 abbrev opening_of : Machine → PageText → Opening
 opening_of machine page = record { machine = machine; page = page }
 
--- what is read behind each piece
+-- what is read after each piece
 abbrev read_5 : Machine → PageText → List ℕ → ℕ → Found Opening
 read_5 m p file at = section_read event_word file at >>= λ u. Ok (opening_of m p, u.1)
 

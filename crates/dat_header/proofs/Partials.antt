@@ -127,7 +127,7 @@ is_with header cmdlines end is same ends =
     ∙ ap (λ (c : List ℕ). record header { cmdlines = c; end = end }) (sym same)
     ∙ ap (λ (n : ℕ). record header { end = n }) (sym ends)
 
--- a header's first fourteen items, and those behind them
+-- a header's first fourteen items, and those that follow them
 in_two : (header : Header) → (rest : List Item) × (items header ≡ all_items (descriptions_in header) ++ rest)
 unfolding items
 in_two header = (drop 14 (items header), refl)
@@ -238,7 +238,7 @@ has_is file header has = elim has.spelled [ inl ends ↦ stops_is file header ha
 pub one_partial : OnePartial
 one_partial file header other one two = ok_is header other (sym (has_is file header one) ∙ has_is file other two)
 
--- a whole header without what stands behind its command lines
+-- a whole header without what follows its command lines
 cut : (header : Header) → IsHeader header → IsPartial (without_tail header)
 cut header is = partial_with (descriptions_in header) (length (front 14 header)) (are_in header is)
 
@@ -391,7 +391,7 @@ wrong_of_all file fault e = elim (err_or_ok (begun_at file 0)) [
       ]
 ]
 
--- a fault of the fourteen is one of the file, unless it stops behind the thirteen
+-- a fault of the fourteen is one of the file, unless it stops after the thirteen
 wrong_of_file : (file : List ℕ) (fault : OpenFault) → all_at file 0 ≡ Err fault → ((b : Begun) → begun_at file 0 ≡ Ok (b, length file) → ⊥) → partial_of file ≡ Err fault
 wrong_of_file file fault e goes = elim (err_or_ok (begun_at file 0)) [
   | inl wrong ↦
@@ -411,7 +411,7 @@ wrong_of_file file fault e goes = elim (err_or_ok (begun_at file 0)) [
       ]
 ]
 
--- a file that is refused does not stop behind the thirteen
+-- a file that is refused does not stop after the thirteen
 never_stops : (file : List ℕ) (fault : OpenFault) → AreBytes file → RefusesPartial file fault → (b : Begun) → begun_at file 0 ≡ Ok (b, length file) → ⊥
 never_stops file fault bytes refusal b e =
     let refuses = refusal.refuses in

@@ -23,7 +23,7 @@ GoesOn {V} whole at before rest place now =
 goes_on_itself : {V : Type 0} (whole rest : List ℕ → Found V) (at : ℕ) (now : FileSeen) → ((bytes : List ℕ) → rest bytes ≡ whole bytes) → GoesOn whole at now rest at now
 goes_on_itself whole rest at now same later result steps = steps_same (λ found. found.1) rest whole at now later result same steps
 
--- one step of a row, and the rest behind it
+-- one step of a row, and the rest after it
 goes_on_step : {V W : Type 0} (whole rest : List ℕ → Found V) (first : List ℕ → Found W) (next : W → ℕ → List ℕ → Found V) (at place after : ℕ) (value : W) (before mid now : FileSeen)
     → ((bytes : List ℕ) → (first bytes >>= λ found. next found.0 found.1 bytes) ≡ rest bytes)
     → GoesOn whole at before rest place mid → Steps (λ found. found.1) first place mid now (Ok (value, after)) → GoesOn whole at before (next value after) after now
@@ -71,7 +71,7 @@ name_from front place bytes = with_front front (name_at bytes place)
 abbrev pub name_next : List ℕ → ℕ → ℕ → List ℕ → Found (List ℕ)
 name_next front byte after bytes = if eqb byte 0 then found_row front after else name_from (front ++ byte ∷ []) after bytes
 
--- so many items behind these
+-- so many items after these
 abbrev pub row_from : {V : Type 0} → (List ℕ → ℕ → Found V) → List V → ℕ → ℕ → List ℕ → Found (List V)
 row_from item_at front count place bytes = with_front front (row_at item_at count bytes place)
 

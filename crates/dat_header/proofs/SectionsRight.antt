@@ -1,4 +1,4 @@
--- The sections behind the number of processors are read as they are spelled, or their first wrong item is found.
+-- The sections after the number of processors are read as they are spelled, or their first wrong item is found.
 use Rattle.std.proofs.Common.{◌≡◌, ℕ, zero, suc, ◌+◌, ◌≤◌, Bool, true, false, if◌then◌else◌, List, [], ◌∷◌, ◌++◌, length, take, drop, Option, None, Some, Result, Ok, Err, refl, sym, ap, subst, ◌∙◌, inl, inr, arith}
 use Rattle.std.proofs.lemmas.Bool.{cases_Bool}
 use Rattle.std.proofs.lemmas.List.{length-drop, length-take, take_at, take-append-drop, drop-drop}
@@ -206,7 +206,7 @@ module _ (order : Order) (cpus : ℕ) where
   right_rest kind.Fly = right_made (one_item carried (table_text order)) (λ parts. (length parts ≡ cpus) × All IsPart parts) (λ file at. table_from order cpus at file) (λ parts. Fly parts) parts_of (λ parts. refl)
       (right_carried (table_text order) (λ parts. (length parts ≡ cpus) × All IsPart parts) (λ file at. table_from order cpus at file) (no_parts cpus) (no_parts_are cpus) (reads_table order cpus) (table_end order cpus))
 
-  -- behind the first word
+  -- after the first word
   abbrev behind_items : Option LastSection → Sections → List Item
   behind_items None sections = one_item carried (options_text order) (options_in sections) ++ (one_item (word body_words BadSection) last_text (last_of sections.body) ++ rest_items (last_of sections.body) sections.body)
   behind_items (Some last) sections = rest_items last sections.body

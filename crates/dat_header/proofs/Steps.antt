@@ -1,4 +1,4 @@
--- One step of reading behind another.
+-- One step of reading after another.
 use Rattle.std.proofs.Common.{◌≡◌, ℕ, ◌≤◌, ◌-◌, List, Option, None, Some, Result, Ok, Err, refl, sym, ap, subst, ◌∙◌, arith}
 use Rattle.trace_outside.specs.Causes.{Rose, raised}
 use Rattle.dat_options.specs.declared.fault.OpenFault.{OpenFault}
@@ -74,7 +74,7 @@ steps_then place end first next at before mid now value (Err fault) one two = re
   inside = tt;
 }
 
--- a step that found something wrong, and no other behind it
+-- a step that found something wrong, and no other after it
 pub steps_failed : {V W : Type 0} (place : V → ℕ) (end : W → ℕ) (first : List ℕ → Result V OpenFault) (next : V → List ℕ → Result W OpenFault)
     (at : ℕ) (before now : FileSeen) (fault : OpenFault)
     → Steps place first at before now (Err fault) → Steps {V = W} end (λ bytes. first bytes >>= λ v. next v bytes) at before now (Err fault)

@@ -96,7 +96,7 @@ name_end file at fault bytes within e = elim (name_cases (before_nul (drop at fi
   | inr found ↦ absurd (not_both _ (found.0, at + length found.0 + 1) fault (checked_is (Truncated (length file)) (before_nul (drop at file)) (after_name at) found.0 found.1) e)
 ]
 
--- formats behind their number
+-- formats, preceded by their number
 pub reads_formats : (order : Order) → Reads (formats_text order) AreFormats (formats_at order)
 unfolding formats_at
 reads_formats order = reads_as _ (formats_text order) _ AreFormats _ (formats_at order)
@@ -125,7 +125,7 @@ system_end order = then_end name_text IsSystemName name_at (λ name file named. 
     (λ name is. then_end (formats_text order) AreFormats (formats_at order) (λ formats file end. Ok (record { name = name; formats = formats }, end)) (reads_formats order) (formats_end order)
     (λ formats are. none_end (record { name = name; formats = formats })))
 
--- systems behind their number
+-- systems, preceded by their number
 pub reads_systems : (order : Order) → Reads (systems_text order) AreSystems (systems_at order)
 unfolding systems_at
 reads_systems order = reads_as _ (systems_text order) _ AreSystems _ (systems_at order)

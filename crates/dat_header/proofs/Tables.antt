@@ -13,7 +13,7 @@ use Rattle.dat_header.specs.Written.{header_text, options_section}
 use Rattle.dat_header.proofs.Written.{end_text, whole_text}
 use Rattle.dat_header.proofs.Wrapped.{length-header_text}
 
--- behind so many bytes
+-- after so many bytes
 abbrev shifted : ℕ → ℕ → ℕ
 shifted zero k = k
 shifted (suc count) k = shifted count k * 256

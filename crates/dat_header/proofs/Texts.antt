@@ -95,7 +95,7 @@ number_end width order file at fault bytes within e = elim (err_or_ok (bytes_at 
   | inr found ↦ absurd (not_both _ (num order found.0, found.1) fault (at_ok (bytes_at width file at) (λ f. Ok (num order f.0, f.1)) found.0 found.1 found.2) e)
 ]
 
--- a reader that can only meet the file's end, behind another such
+-- a reader that can only meet the file's end, after another such
 pub then_end : {V W : Type 0} (spell : V → List ℕ) (allowed : V → Type 0) (read : List ℕ → ℕ → Found V) (next : V → List ℕ → ℕ → Found W) → Reads spell allowed read → EndsEarly read
     → ((value : V) → allowed value → EndsEarly (next value)) → EndsEarly (λ file at. read file at >>= λ found. next found.0 file found.1)
 then_end spell allowed read next reads one two file at fault bytes within e = elim (err_or_ok (read file at)) [
@@ -108,7 +108,7 @@ then_end spell allowed read next reads one two file at fault bytes within e = el
 pub none_end : {V : Type 0} (value : V) → EndsEarly (λ file at. Ok (value, at))
 none_end value file at fault bytes within e = absurd (not_both (found_value value at) (value, at) fault refl e)
 
--- a text behind its size
+-- a text, preceded by its size
 abbrev pub SizedBy : ℕ → List ℕ → Type 0
 SizedBy width text = (length text < limit width) × (length text ≡ length text)
 

@@ -33,7 +33,7 @@ carried_in header = record { described = described_in header; cmdlines = header.
 abbrev sections_in : Header → Sections
 sections_in header = record { options = header.options; body = header.body }
 
--- what is read behind each piece; the end is told apart
+-- what is read after each piece; the end is told apart
 abbrev read_3 : Opening → Carried → ℕ → List ℕ → ℕ → Found Header
 read_3 o t n file at = sections_at o.machine.order n file at >>= λ s. Ok (joined o t n s.0 0, s.1)
 

@@ -1,4 +1,4 @@
--- One piece written behind another.
+-- One piece written after another.
 use Rattle.std.proofs.Common.{◌≡◌, ℕ, ◌+◌, ◌<◌, ◌≤◌, List, [], ◌∷◌, ◌++◌, length, take, drop, get_or, Option, None, Some, Result, Ok, Err, OnOk, OnErr, IfOk, IfSome, not, refl, sym, ap, subst, ◌∙◌, append_assoc, arith}
 use Rattle.std.proofs.lemmas.List.{append-nil, take_more, take-append-drop, take_all, drop-drop}
 use Rattle.std.proofs.lemmas.List.Concat.{flat_map-cons}
@@ -55,7 +55,7 @@ writes_then {O} {E} {o} one two before mid now done (Err fault) first second = r
   kept = tt;
 }
 
--- a piece that failed, and no other behind it
+-- a piece that failed, and no other after it
 pub writes_failed : {O E : Type 0} {o : sink.Ghosts O} (one two : List ℕ) (before now : O) (fault : E) → Writes one o before now (Err fault) → Writes (one ++ two) o before now (Err fault)
 writes_failed {O} {E} {o} one two before now fault first = record {
   gained = tt;
@@ -167,7 +167,7 @@ five_joined a b c d e t =
     ∙ ap (λ (s : List ℕ). a ++ (b ++ s)) (append_assoc c (d ++ e) t)
     ∙ ap (λ (s : List ℕ). a ++ (b ++ (c ++ s))) (append_assoc d e t)
 
--- the table stands behind all else
+-- the table stands after all else
 pub table_behind : (header : Header) (parts : List Part) → text_before_table header ++ table_text header.order parts ≡ header_text header parts
 table_behind header parts =
     let one = text (take 7 (items header)) in

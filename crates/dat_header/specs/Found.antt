@@ -2,11 +2,11 @@
 use Rattle.std.specs.Prelude.{Option, None, Some, Result, Ok, Err, ℕ}
 use Rattle.dat_options.specs.declared.fault.OpenFault.{OpenFault}
 
--- a value with the place behind it
+-- a value with the place after it
 abbrev pub Found : Type 0 → Type 0
 Found V = Result (V × ℕ) OpenFault
 
--- one step behind another, until one is wrong
+-- one step after another, until one is wrong
 infixl 10 ◌>>=◌
 abbrev pub ◌>>=◌ : {V W : Type 0} → Result V OpenFault → (V → Result W OpenFault) → Result W OpenFault
 Ok value >>= next = next value

@@ -53,7 +53,7 @@ first_word_at file at = do
   first ← first_word_in at (drop at file) (length file)
   Ok (first, at + 10)
 
--- what stands behind the last section's word
+-- what follows the last section's word
 abbrev pub body_at : Order → ℕ → LastSection → List ℕ → ℕ → Found Body
 body_at order cpus kind.Latency file at = Ok (Latency, at)
 body_at order cpus kind.Fly file at = do
@@ -74,7 +74,7 @@ behind_first_at order cpus (Some last) file at = do
   (body, end) ← body_at order cpus last file at
   Ok (record { options = None; body = body }, end)
 
--- the sections behind the number of processors
+-- the sections after the number of processors
 unfoldable pub sections_at : Order → ℕ → List ℕ → ℕ → Found Sections
 sections_at order cpus file at = do
   (first, after) ← first_word_at file at

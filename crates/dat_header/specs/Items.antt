@@ -1,4 +1,4 @@
--- The items that a header is made of, one behind another.
+-- The items that a header is made of, one after another.
 -- Source: trace-cmd.dat.v6(5).
 use Rattle.std.specs.Prelude.{ℕ, List, [], ◌∷◌, ◌++◌, length, Option, Some, None, codes}
 use Rattle.std.specs.List.{flat_map}
@@ -23,7 +23,7 @@ pub data Kind : Type 0 where
   version : Kind
   -- a value of so many bytes, and the fault of one that is not allowed
   value : ℕ → (ℕ → OpenFault) → Kind
-  -- a text behind its size that has to give a layout
+  -- a text, preceded by its size, that has to give a layout
   page_text : Order → Kind
   -- numbers and texts of which any will do
   carried : Kind
@@ -61,15 +61,15 @@ abbrev pub order_byte : Order → ℕ
 order_byte Little = 0
 order_byte Big = 1
 
--- a text behind its size, a number of so many bytes
+-- a text, preceded by its size, a number of so many bytes
 abbrev pub sized : ℕ → Order → List ℕ → List ℕ
 sized width order text = bytes_of order width (length text) ++ text
 
--- texts behind their 64-bit sizes
+-- texts, each preceded by its 64-bit size
 abbrev pub sized_texts : Order → List (List ℕ) → List ℕ
 sized_texts order texts = flat_map (sized 8 order) texts
 
--- texts behind their number
+-- texts, preceded by their number
 abbrev pub formats_text : Order → List (List ℕ) → List ℕ
 formats_text order formats = bytes_of order 4 (length formats) ++ sized_texts order formats
 
@@ -80,14 +80,14 @@ system_text order system = system.name ++ 0 ∷ formats_text order system.format
 abbrev pub systems_text : Order → List System → List ℕ
 systems_text order systems = bytes_of order 4 (length systems) ++ flat_map (system_text order) systems
 
--- the words that may stand behind the number of processors, and those that may stand behind options
+-- the words that may follow the number of processors, and those that may follow options
 abbrev pub body_words : List (List ℕ)
 body_words = latency_word ∷ fly_word ∷ []
 
 abbrev pub section_words : List (List ℕ)
 section_words = options_word ∷ body_words
 
--- a word, and behind `flyrecord` the table of parts
+-- a word, and after `flyrecord` the table of parts
 abbrev pub body_items : Order → List (List ℕ) → Body → List Item
 body_items order words Latency = record { kind = word words BadSection; bytes = latency_word } ∷ []
 body_items order words (Fly parts) = record { kind = word words BadSection; bytes = fly_word } ∷ record { kind = carried; bytes = table_text order parts } ∷ []

@@ -1,4 +1,4 @@
--- The items of a header read from a place of the file on, each with the place behind it or with what is wrong.
+-- The items of a header read from a place of the file on, each with the place after it or with what is wrong.
 use Rattle.std.specs.Prelude.{ℕ, zero, suc, ◌+◌, ◌==◌, ◌||◌, nat_lt, List, [], ◌∷◌, length, take, drop, Option, Some, None, Result, Ok, Err, if◌then◌else◌}
 use Rattle.std.specs.Option.{option_map}
 use Rattle.std.specs.List.{list_any}
@@ -12,7 +12,7 @@ use Rattle.dat_header.specs.declared.header.System.{System}
 use Rattle.dat_header.specs.Found.{Found, ◌>>=◌, or_wrong}
 use Rattle.dat_header.specs.Refusal.{begins_with, word_fault}
 
--- the place behind a word, where these bytes are there of it in a file of that size
+-- the place after a word, where these bytes are there of it in a file of that size
 abbrev pub word_in : List ℕ → OpenFault → List ℕ → ℕ → ℕ → Result ℕ OpenFault
 word_in word wrong there at size =
     if bytes_eq there word then Ok (at + length word)
@@ -55,13 +55,13 @@ value_at width order value_of wrong file at = do
   value ← or_wrong wrong (value_of number)
   Ok (value, after)
 
--- a text behind its size
+-- a text, preceded by its size
 unfoldable pub text_at : ℕ → Order → List ℕ → ℕ → Found (List ℕ)
 text_at width order file at = do
   (size, after) ← number_at width order file at
   bytes_at size file after
 
--- so many items of a kind, one behind another
+-- so many items of a kind, one after another
 unfoldable pub row_at : {V : Type 0} → (List ℕ → ℕ → Found V) → ℕ → List ℕ → ℕ → Found (List V)
 row_at item_at zero file at = Ok ([], at)
 row_at item_at (suc count) file at = do
@@ -69,11 +69,11 @@ row_at item_at (suc count) file at = do
   (items, end) ← row_at item_at count file after
   Ok (item ∷ items, end)
 
--- so many texts, each behind its 64-bit size
+-- so many texts, each preceded by its 64-bit size
 abbrev pub texts_at : ℕ → Order → List ℕ → ℕ → Found (List (List ℕ))
 texts_at count order file at = row_at (text_at 8 order) count file at
 
--- texts behind their number
+-- texts, preceded by their number
 unfoldable pub formats_at : Order → List ℕ → ℕ → Found (List (List ℕ))
 formats_at order file at = do
   (count, after) ← number_at 4 order file at
@@ -99,7 +99,7 @@ system_at order file at = do
 abbrev pub each_system_at : ℕ → Order → List ℕ → ℕ → Found (List System)
 each_system_at count order file at = row_at (system_at order) count file at
 
--- systems behind their number
+-- systems, preceded by their number
 unfoldable pub systems_at : Order → List ℕ → ℕ → Found (List System)
 systems_at order file at = do
   (count, after) ← number_at 4 order file at

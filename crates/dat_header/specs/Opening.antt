@@ -1,4 +1,4 @@
--- The items that a header begins with, whether the file has all of it or stops behind its texts.
+-- The items that a header begins with, whether the file has all of it or stops after its texts.
 -- Source: trace-cmd.dat.v6(5).
 use Rattle.std.specs.Prelude.{ℕ, List, drop, Result, Ok}
 use Rattle.trace_base.specs.declared.order.Order.{Order}

@@ -68,7 +68,7 @@ partial_of file = do
 abbrev pub ReadsPartial : Option (List ℕ) → Result Header OpenFault → Type 0
 ReadsPartial told result = AnswersTold partial_of told result
 
--- a header without what stands behind the command lines
+-- a header without what follows the command lines
 abbrev pub without_tail : Header → Header
 without_tail header = record header { cpus = 0; options = None; body = Fly []; end = length (front 14 header) }
 

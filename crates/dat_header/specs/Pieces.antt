@@ -1,4 +1,4 @@
--- The values that the pieces of a header may have, as they are read one behind another.
+-- The values that the pieces of a header may have, as they are read one after another.
 use Rattle.std.specs.Prelude.{◌≡◌, ℕ, ◌^◌, ◌<◌, length, Some, IfSome}
 use Rattle.std.specs.List.{All}
 use Rattle.dat_options.specs.Options.{IsOption}

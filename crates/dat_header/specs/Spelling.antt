@@ -9,7 +9,7 @@ use Rattle.dat_header.specs.Items.{items, text}
 abbrev pub BeginsWith : List ℕ → List ℕ → Type 0
 BeginsWith file bytes = (rest : List ℕ) × (file ≡ bytes ++ rest)
 
--- the bytes are the header's items, one behind another, and the header says how many they are
+-- the bytes are the header's items, one after another, and the header says how many they are
 pub record SpellsHeader (header : Header) (bytes : List ℕ) : Type 0 where
   pub allowed : IsHeader header
   pub joined : bytes ≡ text (items header)

@@ -23,11 +23,11 @@ pub record Steps {V : Type 0} (next : V → ℕ) (expected : List ℕ → Result
   pub forward : IfOk result (λ value. at ≤ next value)
   pub inside : IfOk result (λ value. next value ≤ before.size)
 
--- a step from a place on that finds a value there, and the place behind it
+-- a step from a place on that finds a value there, and the place after it
 abbrev pub Finds : {V F : Type 0} → (List ℕ → ℕ → Found V) → ℕ → file.Ghosts F → F → F → Found V → Type 0
 Finds value_at at f before now result = Steps (λ found. found.1) (λ bytes. value_at bytes at) at (file_seen f before) (file_seen f now) result
 
--- a step from a place on of which only the place behind counts
+-- a step from a place on of which only the place after counts
 abbrev pub Passes : {F : Type 0} → (List ℕ → ℕ → Result ℕ OpenFault) → ℕ → file.Ghosts F → F → F → Result ℕ OpenFault → Type 0
 Passes word_at at f before now result = Steps (λ next. next) (λ bytes. word_at bytes at) at (file_seen f before) (file_seen f now) result
 

@@ -1,5 +1,5 @@
 -- The tables of new files.
--- Source: trace-cmd.dat.v6(5), the entries behind `flyrecord`: eight bytes for an offset and eight for a size.
+-- Source: trace-cmd.dat.v6(5), the entries after `flyrecord`: eight bytes for an offset and eight for a size.
 use Rattle.std.specs.Prelude.{ℕ, ◌%◌, ◌^◌, List, replicate}
 use Rattle.trace_base.specs.declared.part.Part.{Part}
 

@@ -24,7 +24,7 @@ header_text header parts = text (items (with_parts header parts))
 abbrev pub text_before_table : Header → List ℕ
 text_before_table header = header_text header []
 
--- the header that is written: these parts, and the place behind it
+-- the header that is written: these parts, and the place after it
 abbrev pub written : Header → List Part → Header
 written header parts = record header { body = Fly parts; end = length (header_text header parts) }
 

@@ -62,7 +62,7 @@ pub(crate) fn read_described<F: File>(
     Ok((described, after))
 }
 
-// Format texts behind their number.
+// Format texts, preceded by their number.
 fn read_formats<F: File>(
     alloc: Global,
     order: Order,
@@ -77,7 +77,7 @@ fn read_formats<F: File>(
     read_texts(alloc, order, count, file, after)
 }
 
-// So many texts, each behind its 64-bit size. Memory is taken only for those that are there.
+// So many texts, each preceded by its 64-bit size. Memory is taken only for those that are there.
 fn read_texts<F: File>(
     alloc: Global,
     order: Order,
@@ -116,7 +116,7 @@ fn read_system<F: File>(
     Ok((System { name, formats }, after))
 }
 
-// Systems behind their number. Memory is taken only for those that are there.
+// Systems, preceded by their number. Memory is taken only for those that are there.
 fn read_systems<F: File>(
     alloc: Global,
     order: Order,

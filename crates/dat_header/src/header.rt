@@ -4,7 +4,7 @@ use trace_base::{ByteText, Layout, ListOf, Order, Part};
 /// What a trace file says before its data (trace-cmd.dat.v6(5)).
 #[derive(Drop)]
 pub struct Header {
-    /// The order of every number behind the byte that says so.
+    /// The byte order of every number after the byte that tells it.
     pub order: Order,
     /// The size of the user's long, 4 or 8 bytes.
     pub long: u32,
@@ -32,7 +32,7 @@ pub struct Header {
     pub options: Option<ListOf<Opt>>,
     /// What follows the header.
     pub body: Body,
-    /// The place behind the header, in bytes.
+    /// The place just after the header, in bytes.
     pub end: u64,
 }
 

@@ -1,4 +1,4 @@
-// Words, numbers and texts, each read at its place and answered with the place behind it.
+// Words, numbers and texts, each read at its place and answered with the place after it.
 
 ghost use Rattle.std.specs.Prelude.{◌≡◌, ◌+◌, ◌^◌, ◌<◌, ◌≤◌, length, IfOk};
 ghost use Rattle.trace_base.specs.declared.order.Order.TheVariants.{Little};
@@ -43,7 +43,7 @@ pub(crate) fn read_word<F: File, const N: usize>(
     word_in(&buffer[..count], word, wrong, at, file.len())
 }
 
-// The place behind a word that begins at `at`, where these bytes are there of it in a file of that size.
+// The place after a word that begins at `at`, where these bytes are there of it in a file of that size.
 pub(crate) fn word_in(
     there: &[u8],
     word: &[u8],
@@ -115,7 +115,7 @@ pub(crate) fn read_content<F: File>(
     Ok((text, at + size))
 }
 
-// A text behind its 32-bit size.
+// A text, preceded by its 32-bit size.
 pub(crate) fn read_text<F: File>(
     alloc: Global,
     order: Order,
@@ -130,7 +130,7 @@ pub(crate) fn read_text<F: File>(
     read_content(alloc, size as u64, file, after)
 }
 
-// A text behind its 64-bit size.
+// A text, preceded by its 64-bit size.
 pub(crate) fn read_long_text<F: File>(
     alloc: Global,
     order: Order,
@@ -145,7 +145,7 @@ pub(crate) fn read_long_text<F: File>(
     read_content(alloc, size, file, after)
 }
 
-// A name and the NUL behind it.
+// A name and the NUL after it.
 pub(crate) fn read_name<F: File>(
     alloc: Global,
     file: &mut F,

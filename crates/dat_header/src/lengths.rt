@@ -22,7 +22,7 @@ const AROUND_OPTIONS: u64 = 12;
 // The size in front of a text.
 const TEXT_SIZE: u64 = 8;
 
-// The NUL behind a system's name, and the number of its formats.
+// The NUL after a system's name, and the number of its formats.
 const BEHIND_NAME: u64 = 5;
 
 // The id of an option and its size.

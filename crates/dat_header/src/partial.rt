@@ -1,4 +1,4 @@
-// The header of a partial file, which stops in front of the command lines or behind them.
+// The header of a partial file, which stops before the command lines or after them.
 
 ghost use Rattle.std.specs.Prelude.{◌≡◌, ◌^◌, ◌<◌, ◌≤◌, [], length, IfOk, IsErrOf};
 ghost use Rattle.trace_outside.specs.Causes.{Rose, raised};
@@ -22,7 +22,7 @@ use trace_outside::File;
 /// a header up to the command lines, or up to those in front of them where the file ends there. What follows is not read, so
 /// that a whole trace file serves too.
 ///
-/// The header has no processor, no options and an empty table, and ends behind the last of these items that is there.
+/// The header has no processor, no options and an empty table, and ends after the last of these items that is there.
 ///
 /// # Errors
 /// As those of `read_header`, for these items.

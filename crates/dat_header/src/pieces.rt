@@ -1,4 +1,4 @@
-// What the pieces of a header say, as they are read one behind another.
+// What the pieces of a header say, as they are read one after another.
 
 ghost use Rattle.std.specs.Prelude.{◌≡◌};
 ghost use Rattle.dat_header.specs.Header.{joined};
@@ -46,7 +46,7 @@ pub(crate) struct Carried {
     pub(crate) cmdlines: ByteText,
 }
 
-// What stands behind the number of processors.
+// What follows the number of processors.
 #[derive(Drop)]
 pub(crate) struct Sections {
     pub(crate) options: Option<ListOf<Opt>>,

@@ -92,7 +92,7 @@ fn write_number<O: Sink>(order: Order, number: u32, out: &mut O) -> Result<(), F
     write_all(out, &number_bytes(order, number))
 }
 
-// A text behind its 32-bit size.
+// A text, preceded by its 32-bit size.
 fn write_text<O: Sink>(order: Order, content: &ByteText, out: &mut O) -> Result<(), Failed>
     requires { length content.now < 2 ^ 32 }
     ensures { Writes (sized 4 order content.now) O.Sink out.old out.new result }
@@ -101,7 +101,7 @@ fn write_text<O: Sink>(order: Order, content: &ByteText, out: &mut O) -> Result<
     write_parts(out, &[&number_bytes(order, bytes.len() as u32), bytes])
 }
 
-// A text behind its 64-bit size.
+// A text, preceded by its 64-bit size.
 fn write_long_text<O: Sink>(order: Order, content: &ByteText, out: &mut O) -> Result<(), Failed>
     ensures { Writes (sized 8 order content.now) O.Sink out.old out.new result }
 {
@@ -111,7 +111,7 @@ fn write_long_text<O: Sink>(order: Order, content: &ByteText, out: &mut O) -> Re
     write_parts(out, &[&size, bytes])
 }
 
-// Texts behind their number.
+// Texts, preceded by their number.
 fn write_formats<O: Sink>(
     order: Order,
     formats: &ListOf<ByteText>,

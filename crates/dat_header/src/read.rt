@@ -20,12 +20,12 @@ use std::alloc::Global;
 use trace_outside::File;
 
 /// Reads the header that a file begins with (trace-cmd.dat.v6(5)). Each byte of the header is read once, and no other byte; of a
-/// file that has no header at most each byte once.
+/// file without a header no byte is read more than once.
 ///
 /// # Errors
 /// Every fault but the last two says what is wrong with the file, and where: the place of the first byte of the first item
-/// that is wrong (of `BadHeaderPage` the text's), or the file's length where the file ends inside an item. `Read` comes only
-/// where a read failed, and `Memory` only where there was no memory; no memory is taken for what is not there.
+/// that is wrong (for `BadHeaderPage` that of the text), or the file's length where the file ends inside an item. `Read` comes
+/// only where a read failed, and `Memory` only where there was no memory; no memory is taken for what is not there.
 pub fn read_header<F: File>(alloc: Global, file: &mut F) -> Result<Header, OpenFault>
     ensures answer { ReadsHeader (F.bytes file.old) result }
     ensures read { IsErrOf result OpenFault.Read → Rose (F.faults file.old) (F.faults file.new) }

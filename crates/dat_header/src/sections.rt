@@ -1,4 +1,4 @@
-// The sections behind the number of processors: options, and a latency file's word or the table of parts.
+// The sections after the number of processors: options, and a latency file's word or the table of parts.
 
 ghost use Rattle.std.specs.Prelude.{◌≡◌, ◌≤◌, map, IfOk};
 ghost use Rattle.std.specs.List.{list_any};
@@ -95,7 +95,7 @@ fn read_first_word<F: File>(file: &mut F, at: u64) -> Result<(Option<LastSection
     Ok((first, at + count as u64))
 }
 
-// The word behind options.
+// The word that follows the options.
 fn read_last_word<F: File>(file: &mut F, at: u64) -> Result<(LastSection, u64), OpenFault>
     requires inside { at ≤ F.size file.old }
     ensures { Finds (last_word_at body_words) at F.File file.old file.new result }

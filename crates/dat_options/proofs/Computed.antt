@@ -21,7 +21,7 @@ use Rattle.dat_options.proofs.Sound.{Front, AreParts, options_sound, table_sound
 abbrev Places : Type 0 → Type 0
 Places X = Result (X × ℕ) OpenFault
 
--- what is at the front of the bytes from a place on, with the place behind it
+-- what is at the front of the bytes from a place on, with the place after it
 abbrev from : {X : Type 0} → (List ℕ → Option (X × List ℕ)) → List ℕ → ℕ → Places X
 from at_front bytes at = found_in bytes (cond (ltb (length bytes) at) None (at_front (drop at bytes)))
 

@@ -1,4 +1,4 @@
--- The entries of a table, put one behind another and read from their bytes.
+-- The entries of a table, put one after another and read from their bytes.
 use Rattle.std.proofs.Common.{◌≡◌, ℕ, ◌+◌, ◌*◌, ◌<◌, ◌≤◌, List, [], ◌∷◌, ◌++◌, length, take, drop, get_or, sym, ap, subst, ◌∙◌, inl, inr, arith}
 use Rattle.std.proofs.lemmas.Bool.{cases_lt}
 use Rattle.std.proofs.lemmas.List.{append-nil, take_at, drop_at, take_all, take-append-le, take_more, length-take, length-drop, take-append-drop, get_or-take, get_or-drop, get_or_past}
@@ -30,7 +30,7 @@ table_more order parts i d inside =
     ∙ flat_map-append (part_text order) (take i parts) (get_or parts i d ∷ [])
     ∙ ap (λ last. table_text order (take i parts) ++ last) (flat_map-cons (part_text order) (get_or parts i d) [] ∙ append-nil (part_text order (get_or parts i d)))
 
--- one more entry behind those that are there
+-- one more entry after those that are there
 pub entry_put : (order : Order) (parts : List Part) (i room : ℕ) (into entry : List ℕ) (d : Part) → i < length parts → 16 * i ≤ length into
     → take (16 * i) into ≡ table_text order (take i parts) → entry ≡ part_text order (get_or parts i d)
     → take (16 * (i + 1)) (put_mid (16 * i) room into entry) ≡ table_text order (take (i + 1) parts)

@@ -42,7 +42,7 @@ never_found order at bytes fault is options has =
     let found = options_has order options at bytes has in
     cc
 
--- what a call answers that met a fault behind these options
+-- what a call answers that met a fault after these options
 pub record Faulty (order : Order) (told : Option (List ℕ)) (size at : ℕ) (fault : OpenFault) : Type 0 where
   pub found : FindsOptions order at told (Err fault)
   pub exact : AnswersTold (options_from order at) told (Err fault)
@@ -77,7 +77,7 @@ all_found order (Some bytes) size at place end options whole are is on first =
     let has : HasOptions order options at bytes = record { allowed = are; stands = stands_from (options_text order options) at bytes (omega (arith, behind, first.inside, whole)) holds } in
     record { found = has; exact = options_has order options at bytes has ∙ ap (λ n. Ok (options, n)) (sym behind); behind = behind }
 
--- one more option behind those that were read
+-- one more option after those that were read
 pub texts_more : (order : Order) (options : List Opt) (option : Opt) → texts order (options ++ option ∷ []) ≡ texts order options ++ option_text order option
 texts_more order options option = flat_map-append (option_text order) options (option ∷ []) ∙ ap (λ last. texts order options ++ last) (flat_map-cons (option_text order) option [] ∙ append-nil (option_text order option))
 

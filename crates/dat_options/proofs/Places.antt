@@ -13,7 +13,7 @@ stands_inside text at bytes s =
 pub stands_behind : (text : List ℕ) (at : ℕ) (bytes : List ℕ) (s : StandsAt text at bytes) → drop at bytes ≡ text ++ s.back
 stands_behind text at bytes s = ap (drop at) s.whole ∙ drop_at s.front (text ++ s.back) at s.place
 
--- what goes on with a text is the text, and then the bytes behind it
+-- what goes on with a text is the text, and then the bytes after it
 pub goes_on : (text : List ℕ) (at : ℕ) (bytes : List ℕ) → GoesOnWith text at bytes → drop at bytes ≡ text ++ drop (at + length text) bytes
 goes_on text at bytes on =
     sym (take-append-drop (length text) (drop at bytes))

@@ -18,7 +18,7 @@ use Rattle.dat_options.proofs.Numbers.{IsBytes, limit, bytes_back, are_bytes, nu
 use Rattle.dat_options.proofs.Steps.{some_is}
 use Rattle.dat_options.specs.Place.{AreBytes}
 
--- a value at the front of some bytes, with those behind it
+-- a value at the front of some bytes, with those after it
 pub record Front {X : Type 0} (spell : X → List ℕ) (allowed : X → Type 0) (bytes : List ℕ) (value : X) (rest : List ℕ) : Type 0 where
   pub is : allowed value
   pub whole : bytes ≡ spell value ++ rest

@@ -16,7 +16,7 @@ AnswersUnlessFaulty (Err fault) expected = expected ≡ Err fault
 abbrev pub AnswersTold : {T : Type 0} → (List ℕ → Result T OpenFault) → Option (List ℕ) → Result T OpenFault → Type 0
 AnswersTold expected told result = IfSome told (λ bytes. AnswersUnlessFaulty result (expected bytes))
 
--- what was found with the place behind it, or the length of a file that has none there
+-- what was found with the place after it, or the length of a file that has none there
 abbrev pub found_in : {X : Type 0} → List ℕ → Option (X × List ℕ) → Result (X × ℕ) OpenFault
 found_in bytes None = Err (Truncated (length bytes))
 found_in bytes (Some found) = Ok (found.0, length bytes - length found.1)

@@ -1,4 +1,4 @@
--- Pieces that bytes begin with, each beside the bytes behind it.
+-- Pieces that bytes begin with, each beside the bytes after it.
 use Rattle.std.specs.Prelude.{ℕ, nat_lt, if◌then◌else◌, List, length, take, drop, Option, Some, None}
 use Rattle.trace_base.specs.declared.order.Order.{Order}
 use Rattle.trace_base.specs.Number.{num}

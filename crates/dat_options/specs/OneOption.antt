@@ -13,7 +13,7 @@ abbrev pub first_text : Order → Option Opt → List ℕ
 first_text order None = bytes_of order 2 0
 first_text order (Some option) = option_text order option
 
--- it stands there, and the place is the one behind it
+-- it stands there, and the place is the one after it
 pub record IsFirst (order : Order) (told : Option (List ℕ)) (size at : ℕ) (found : Option Opt × ℕ) : Type 0 where
   pub allowed : IfSome found.0 IsOption
   pub behind : found.1 ≡ at + length (first_text order found.0)

@@ -1,4 +1,4 @@
--- The options of a trace file: an id, a size and the bytes of each, and the id 0 behind the last.
+-- The options of a trace file: an id, a size and the bytes of each, and the id 0 after the last.
 -- Source: trace-cmd.dat.v6(5), `options`.
 use Rattle.std.specs.Prelude.{◌≡◌, ◌≢◌, ◌↔◌, ◌+◌, ℕ, zero, suc, ◌^◌, ◌<◌, nat_lt, ◌==◌, if◌then◌else◌, List, [], ◌∷◌, ◌++◌, length, drop, Option, Some, None, Result, Ok, Err, IfSome}
 use Rattle.std.specs.Option.{option_map}
@@ -40,7 +40,7 @@ FindsOptions order at told (Ok found) = IfSome told (λ bytes. HasOptions order 
 FindsOptions order at told (Err (Truncated place)) = IfSome told (λ bytes. (options : List Opt) → HasOptions order options at bytes → ⊥)
 FindsOptions order at told (Err fault) = Unit {0}
 
--- the option behind its id
+-- the option after its id
 unfoldable pub option_behind : Order → ℕ → List ℕ → Option (Option Opt × List ℕ)
 option_behind order id bytes = do
   size ← leading_number order 4 bytes
@@ -64,7 +64,7 @@ options_below (suc n) order bytes = do
   first ← option_at order bytes
   with_first first.0 first.1 (options_below n order first.1)
 
--- the options that bytes begin with, and the bytes behind them
+-- the options that bytes begin with, and the bytes after them
 unfoldable pub options_at : Order → List ℕ → Option (List Opt × List ℕ)
 options_at order bytes = options_below (length bytes) order bytes
 
@@ -80,7 +80,7 @@ OneOptions = (order : Order) (options others : List Opt) (at : ℕ) (bytes : Lis
 abbrev pub OptionsReadBack : Type 0
 OptionsReadBack = (order : Order) (options : List Opt) (rest : List ℕ) → All IsOption options → options_at order (options_text order options ++ rest) ≡ Some (options, rest)
 
--- The computed options are those that a file has at the place, with the place behind them.
+-- The computed options are those that a file has at the place, with the place after them.
 abbrev pub ComputesOptions : Type 0
 ComputesOptions = (order : Order) (options : List Opt) (at end : ℕ) (bytes : List ℕ) → AreBytes bytes
     → options_from order at bytes ≡ Ok (options, end) ↔ HasOptions order options at bytes × (end ≡ at + length (options_text order options))

@@ -1,5 +1,5 @@
 -- The table of a trace file: the offset and the size of each processor's data, in order.
--- Source: trace-cmd.dat.v6(5), the entries behind `flyrecord`.
+-- Source: trace-cmd.dat.v6(5), the entries after `flyrecord`.
 use Rattle.std.specs.Prelude.{◌≡◌, ◌↔◌, ◌+◌, ◌*◌, ℕ, zero, suc, ◌^◌, ◌<◌, nat_lt, if◌then◌else◌, List, [], ◌∷◌, ◌++◌, length, drop, Option, Some, None, Result, Ok, Err, IfSome}
 use Rattle.std.specs.Option.{option_map}
 use Rattle.std.specs.List.{All, flat_map}
@@ -43,7 +43,7 @@ part_at order bytes = do
   size ← leading_number order 8 offset.1
   Some (record { offset = offset.0; size = size.0 }, size.1)
 
--- the parts of so many processors that bytes begin with, and the bytes behind them
+-- the parts of so many processors that bytes begin with, and the bytes after them
 unfoldable pub table_at : Order → ℕ → List ℕ → Option (List Part × List ℕ)
 table_at order zero bytes = Some ([], bytes)
 table_at order (suc cpus) bytes = do
@@ -62,7 +62,7 @@ OneTable = (order : Order) (cpus : ℕ) (parts others : List Part) (at : ℕ) (b
 abbrev pub TableReadsBack : Type 0
 TableReadsBack = (order : Order) (parts : List Part) (rest : List ℕ) → All IsPart parts → table_at order (length parts) (table_text order parts ++ rest) ≡ Some (parts, rest)
 
--- The computed table is the one that a file has at the place, with the place behind it.
+-- The computed table is the one that a file has at the place, with the place after it.
 abbrev pub ComputesTable : Type 0
 ComputesTable = (order : Order) (cpus : ℕ) (parts : List Part) (at end : ℕ) (bytes : List ℕ) → AreBytes bytes
     → table_from order cpus at bytes ≡ Ok (parts, end) ↔ HasTable order cpus parts at bytes × (end ≡ at + 16 * cpus)

@@ -17,7 +17,7 @@ pub enum OpenFault {
     /// The file is of version 7, which may be compressed.
     #[error("version 7 is not read at byte {0}")]
     Compressed(u64),
-    /// The file is of another version than 6 and 7.
+    /// The file is of a version other than 6 and 7.
     #[error("unknown version at byte {0}")]
     OtherVersion(u64),
     /// The byte order is neither 0 nor 1.

@@ -1,4 +1,4 @@
-//! The options of a trace file and its table of parts, both ways, with the faults that opening a file may have.
+//! The options of a trace file and its table of parts, read and written, and the faults that opening a file may meet.
 #![tactic(auto)]
 
 mod fault;

@@ -16,7 +16,7 @@ use std::alloc::Global;
 use trace_base::{ListOf, Order, put_u16, put_u32, read_u16, read_u32};
 use trace_outside::{Failed, File, Sink, read_bytes, read_piece, write_all, write_parts};
 
-/// The options that stand in a file from `at` on, and the place behind the id that ends them. Each of their bytes is read
+/// The options that stand in a file from `at` on, and the place after the id that ends them. Each of their bytes is read
 /// once, and no other byte.
 ///
 /// # Errors
@@ -56,7 +56,7 @@ pub fn read_options<F: File>(
     }
 }
 
-// The option at a place, or none where the list ends there, and the place behind it.
+// The option at a place, or none where the list ends there, and the place after it.
 #[tactic(auto, using(crate::proofs::Pieces::read_of_piece))]
 fn read_option<F: File>(
     alloc: Global,

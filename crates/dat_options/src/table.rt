@@ -1,4 +1,4 @@
-// The table of a trace file: where each processor's data stand (trace-cmd.dat.v6(5), behind `flyrecord`).
+// The table of a trace file: where each processor's data stand (trace-cmd.dat.v6(5), after `flyrecord`).
 
 ghost use Rattle.std.specs.Prelude.{◌≡◌, ◌+◌, ◌-◌, ◌*◌, ◌%◌, ◌≤◌, length, IfOk, IfErr, OnOk, OnErr, IsErrOf};
 ghost use Rattle.std.specs.List.{All};
@@ -16,7 +16,7 @@ use trace_outside::{Failed, File, Sink, read_bytes, write_all};
 // How many parts one write takes.
 const BLOCK: usize = 64;
 
-/// The parts of so many processors that stand in a file from `at` on, and the place behind them. Each of their bytes is read
+/// The parts of so many processors that stand in a file from `at` on, and the place after them. Each of their bytes is read
 /// once, and no other byte.
 ///
 /// # Errors

@@ -60,7 +60,7 @@ at_malformed l file b part k h p n lt none =
     let t = stops l file part k (page_count l part) lt (sym none) in
     (left_is l file b [] part k h p n ∙ t.0, bad_is l file b part k p n ∙ t.1)
 
--- behind the last
+-- after the last
 pub at_end : (l : Layout) (file : List ℕ) (b : Lane) → held_left l b ≡ [] → page_count l b.part ≤ b.cursor.next → (left_of l file b ≡ []) × (bad_left l file b ≡ None)
 at_end l file b h le =
     let none : page_count l b.part - b.cursor.next ≡ 0 = omega arith in

@@ -21,7 +21,7 @@ run_passed l page mark behind count r = record {
   enough = omega (arith, ap length r.left, length-append r.items (items_from l page behind), r.long);
 }
 
--- and more behind them
+-- and more after them
 pub passed_on : (l : Layout) (page : List ℕ) (mark middle behind : Mark) (count more : ℕ) → IsPassedBy l page mark middle count → IsPassedBy l page middle behind more → IsPassedBy l page mark behind (count + more)
 passed_on l page mark middle behind count more a b = record {
   there = b.there;

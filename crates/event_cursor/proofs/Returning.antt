@@ -23,7 +23,7 @@ pub items_held : (l : Layout) (file : List ℕ) (a : Lane) → HoldsOwn l file a
 unfolding items_at
 items_held l file a h = cond-true _ _ _ h.there ∙ ap (items l) (sym h.page)
 
--- the mark before its first item, where the buffer is not checked again
+-- the position before its first item, where the buffer is not checked again
 pub holds_checked : (l : Layout) (page bytes : List ℕ) (all : List ItemData) (first : Mark) → bytes ≡ page → items l page ≡ Some all → length all < 2 ^ 32
     → IsMark l bytes first → Some (items_from l bytes first) ≡ items l bytes → HoldsItems l page (Some first)
 holds_checked l page bytes all first same are few mark exact =

@@ -31,7 +31,7 @@ open_unread Held next sound = refl
 open_unread Ended next sound = refl
 open_unread Malformed next sound = absurd (sound refl)
 
--- before and behind sub-buffer k
+-- before and after sub-buffer k
 module _ (l : Layout) (len : ℕ) (part : Part) (s : LaneState) (k : ℕ) (fresh : s ≡ Fresh) (lt : k < page_count l part) where
   pub one_less : size_from l len part (first_unread s k) ≡ size_from l len part (k + 1) + size_there l len part k
   one_less =

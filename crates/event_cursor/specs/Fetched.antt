@@ -1,4 +1,4 @@
--- What a sub-buffer that was asked for is: the mark before its items, or none where it is malformed or not there.
+-- What a sub-buffer that was asked for is: the position before its items, or none where it is malformed or not there.
 use Rattle.std.specs.Prelude.{◌≡◌, ℕ, ◌^◌, ◌<◌, true, List, length, option_map, IfSome, Option, Some, None}
 use Rattle.trace_base.specs.declared.layout.Layout.{Layout}
 use Rattle.trace_base.specs.declared.part.Part.{Part}

@@ -1,13 +1,13 @@
--- Keys that go on behind items that were used up.
+-- Keys that go on after items that were used up.
 use Rattle.std.specs.Prelude.{ℕ, max, List, [], ◌∷◌, Option, Some, None, unwrap_or}
 use Rattle.subpage.specs.ItemData.{ItemData, item_time}
 use Rattle.subpage.specs.Arrangement.{Keyed, keyed_from}
 
--- the key of an item behind those whose greatest time is high, if there are any
+-- the key of an item that follows those whose greatest time is high, if there are any
 abbrev pub key_behind : Option ℕ → ItemData → ℕ
 key_behind high item = max (unwrap_or high 0) (item_time item)
 
--- a processor's items behind those, with their keys
+-- a processor's items that follow those, with their keys
 abbrev pub keyed_behind : ℕ → Option ℕ → List ItemData → List Keyed
 keyed_behind cpu high items = keyed_from cpu (unwrap_or high 0) items
 

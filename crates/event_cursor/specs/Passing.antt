@@ -4,7 +4,7 @@ use Rattle.trace_base.specs.declared.layout.Layout.{Layout}
 use Rattle.subpage.specs.declared.mark.Mark.{Mark}
 use Rattle.subpage.specs.Marks.{IsMark, items_from}
 
--- The second place stands behind so many of the items at the first.
+-- The second place stands after so many of the items at the first.
 pub record IsPassedBy (layout : Layout) (page : List ℕ) (mark behind : Mark) (count : ℕ) : Type 0 where
   pub there : IsMark layout page behind
   pub left : items_from layout page behind ≡ drop count (items_from layout page mark)

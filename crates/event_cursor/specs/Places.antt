@@ -22,12 +22,12 @@ place_at cursor = record { page = cursor.held; at = cursor.at; high = cursor.hig
 abbrev pub place_in : Lane → Place
 place_in lane = place_at lane.cursor
 
--- the sub-buffers behind that of a place
+-- the sub-buffers after that of a place
 abbrev pub pages_behind : Layout → List ℕ → Part → Place → List (Option (List ItemData))
 pages_behind layout file part place =
     pages_from layout file part (place.page + 1) (page_count layout part - (place.page + 1))
 
--- what is left of a processor's items behind a place
+-- what is left of a processor's items after a place
 abbrev pub left_behind : Layout → List ℕ → Part → Place → List ItemData
 left_behind layout file part place =
     drop place.at (unwrap_or (items_at layout file part place.page) []) ++ joined (pages_behind layout file part place)
@@ -41,7 +41,7 @@ pub record HasPlace (layout : Layout) (file : List ℕ) (part : Part) (place : P
   pub all_are : items_at layout file part place.page ≡ Some all
   pub within : place.at ≤ length all
 
--- A place of a processor's items, which it parts into those before it and those behind it.
+-- A place of a processor's items, which it parts into those before it and those after it.
 pub record IsPlace (layout : Layout) (file : List ℕ) (part : Part) (place : Place) : Type 0 where
   pub has : HasPlace layout file part place
   pub used : List ItemData
@@ -62,7 +62,7 @@ abbrev pub IsSought : Place → Lane → Sought → Type 0
 IsSought place lane sought.Held = HoldsAt place lane
 IsSought place lane sought.Malformed = lane.cursor.state ≡ Fresh
 
--- The lane stands at the place, and has left what is behind it.
+-- The lane stands at the place, and has left what is after it.
 pub record StandsAt (layout : Layout) (file : List ℕ) (place : Place) (lane : Lane) : Type 0 where
   pub stands : Stands layout file lane
   pub left : left_of layout file lane ≡ left_behind layout file lane.part place

@@ -15,7 +15,7 @@ use Rattle.page_pool.specs.declared.cursor.LaneState.{LaneState}
 use Rattle.page_pool.specs.declared.cursor.LaneState.TheVariants.{Fresh, Held, Ended, Malformed}
 use Rattle.event_cursor.specs.Keys.{key_behind, keyed_behind}
 
--- The first item at a place of a sub-buffer, behind items whose greatest time is high: its key, the place behind it, and
+-- The first item at a place of a sub-buffer, after items whose greatest time is high: its key, the place after it, and
 -- its payload.
 pub record HasAhead (layout : Layout) (page : List ℕ) (mark : Mark) (high : Option ℕ) (ahead : Ahead) : Type 0 where
   pub first : ItemData
@@ -31,8 +31,8 @@ abbrev pub TellsAhead : Layout → List ℕ → Mark → Option ℕ → Option A
 TellsAhead layout page mark high None = items_from layout page mark ≡ []
 TellsAhead layout page mark high (Some ahead) = HasAhead layout page mark high ahead
 
--- The buffer is a sub-buffer that is not malformed, the lane's place in it is behind so many of its items, the item
--- there is known, and the next one to load is that behind it.
+-- The buffer is a sub-buffer that is not malformed, the lane's place in it is after so many of its items, the item
+-- there is known, and the next one to load is that after it.
 pub record HoldsPage (layout : Layout) (lane : Lane) : Type 0 where
   pub all : List ItemData
   pub all_are : items layout lane.page ≡ Some all
@@ -85,7 +85,7 @@ abbrev pub OwnIfHeld : Layout → List ℕ → Lane → Type 0
 OwnIfHeld layout file lane = lane.cursor.state ≡ Held → HoldsOwn layout file lane
 
 -- The lane stands at a place of its processor's items, which it parts into those that are used up and those that are
--- left, and its greatest time is that of the used ones. Behind the last item, and before a malformed sub-buffer, nothing
+-- left, and its greatest time is that of the used ones. After the last item, and before a malformed sub-buffer, nothing
 -- is left.
 pub record Stands (layout : Layout) (file : List ℕ) (lane : Lane) : Type 0 where
   pub used : List ItemData

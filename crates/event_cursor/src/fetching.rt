@@ -47,7 +47,7 @@ fn read_buffer<F: File>(file: &mut F, place: u64, page: &mut ByteBuffer) -> Resu
     read_all(file, place, page.bytes_mut())
 }
 
-/// Reads a sub-buffer of a part into the buffer, and tells the mark before its items. `None`: it is malformed, or not there,
+/// Reads a sub-buffer of a part into the buffer, and tells the position before its items. `None`: it is malformed, or not there,
 /// and where it is not there nothing is read.
 pub(crate) fn fetch<F: File>(
     layout: &Layout,

@@ -13,7 +13,7 @@ use page_pool::{Lane, LaneState};
 use trace_base::Layout;
 use trace_outside::{Failed, File};
 
-/// What loading came to.
+/// How loading ended.
 #[derive(Clone, Copy, Debug, PartialEq, Eq)]
 pub enum Loaded {
     /// The lane holds a sub-buffer with an item.

@@ -17,7 +17,7 @@ use subpage::{Mark, RunLimits, open_checked, pass_item, plain_run};
 use trace_base::Layout;
 use trace_outside::{Failed, File};
 
-/// What going back came to.
+/// How going back ended.
 #[derive(Clone, Copy, Debug, PartialEq, Eq)]
 pub enum Sought {
     /// The lane stands at the place.
@@ -26,8 +26,8 @@ pub enum Sought {
     Malformed,
 }
 
-/// The mark behind the run of plain records at a mark, or else behind its one item, and how many items these are: at most
-/// `most`. `None`: no item is left.
+/// The position after the run of plain records at a position, or else after its one item, and how many items these are: at
+/// most `most`. `None`: no item is left.
 fn pass_some(layout: &Layout, page: &[u8], mark: Mark, most: u32) -> Option<(Mark, u32)>
     requires mark { IsMark layout.now page.now mark }
     requires some { 0 < most }
@@ -50,7 +50,7 @@ fn pass_some(layout: &Layout, page: &[u8], mark: Mark, most: u32) -> Option<(Mar
     Some((behind, 1))
 }
 
-/// The mark behind the first `count` items of a sub-buffer. `None`: it has fewer.
+/// The position after the first `count` items of a sub-buffer. `None`: it has fewer.
 fn pass(layout: &Layout, page: &[u8], first: Mark, count: u32) -> Option<Mark>
     requires { IsMark layout.now page.now first }
     ensures mark { IfSome result (λ mark. IsMark layout.now page.now mark) }
@@ -78,8 +78,8 @@ fn holds_page(lane: &Lane, number: u64) -> bool
     lane.cursor.state == LaneState::Held && lane.cursor.held == number
 }
 
-/// The mark before the first item of a sub-buffer of the lane's part. It is read and checked unless it is held. `None`: it is
-/// malformed.
+/// The position before the first item of a sub-buffer of the lane's part, which is read and checked unless it is held.
+/// `None`: it is malformed.
 fn turn_to<F: File>(
     layout: &Layout,
     number: u64,

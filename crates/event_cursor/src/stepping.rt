@@ -11,7 +11,7 @@ use page_pool::{Ahead, Cursor, Lane, LaneState};
 use subpage::{Item, Mark, item_between, pass_item};
 use trace_base::Layout;
 
-/// The key of an item behind those whose greatest time is `high`: the greatest time up to it, in nanoseconds.
+/// The key of an item that follows those whose greatest time is `high`: the greatest time up to it, in nanoseconds.
 pub fn key_behind(high: Option<u64>, item: &Item<'_>) -> u64
     ensures { result ≡ key_behind high (item_view item.now) }
 {
@@ -25,7 +25,7 @@ pub fn key_behind(high: Option<u64>, item: &Item<'_>) -> u64
     }
 }
 
-/// The item at a place in a sub-buffer, behind items whose greatest time is `high`. It is put together right where the caller
+/// The item at a place in a sub-buffer, after items whose greatest time is `high`. It is put together right where the caller
 /// keeps it.
 #[inline(always)]
 pub(crate) fn ahead_at(layout: &Layout, page: &[u8], mark: Mark, high: Option<u64>) -> Option<Ahead>

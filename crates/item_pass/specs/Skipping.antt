@@ -35,7 +35,7 @@ pub record IsSkipped (matters : ℕ → ItemData → Bool) (layout : Layout) (be
   pub stands : (file : List ℕ) → Stands layout file before → Stands layout file now
   pub same : (file : List ℕ) → filter (by_item matters) (row_of layout file before).items ≡ filter (by_item matters) (row_of layout file now).items
 
--- The first item of a lane was used up, and behind it some that do not matter.
+-- The first item of a lane was used up, and after it some that do not matter.
 pub record IsUsedUp (matters : ℕ → ItemData → Bool) (layout : Layout) (before now : Lane) : Type 0 where
   pub mid : Lane
   pub stepped : IsStepped layout before mid

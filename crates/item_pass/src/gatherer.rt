@@ -7,7 +7,7 @@ ghost use Rattle.item_pass.specs.Skipping.{and_item};
 use std::alloc::AllocError;
 use subpage::Item;
 
-/// Whoever gathers something of the items of a trace.
+/// What gathers something from the items of a trace.
 pub trait Gatherer {
     /// What is gathered.
     type Gathered;
@@ -15,7 +15,7 @@ pub trait Gatherer {
     /// Whether it pays to look at items before their turn, to pass over those that do not matter.
     const LOOKS_AHEAD: bool;
 
-    /// What must be so of it, that it can tell what items are.
+    /// What must hold of it so that it can tell what items are.
     ghost is_sound: { Self → Type 0 };
 
     /// Whether an item of a processor matters. The others are left out.

@@ -1,7 +1,7 @@
 //! One pass over the reached items of several processors, in their order.
 //!
-//! [`pass`] hands each item to a [`Gatherer`], as far as items are reached, and tells where they end before their end. What is
-//! gathered, and which items do not matter to it, is the gatherer's own.
+//! [`pass`] hands each reached item to a [`Gatherer`], and tells the malformed sub-buffer that ends the items, if one does. What
+//! is gathered, and which items do not matter to it, is the gatherer's own.
 #![tactic(auto)]
 
 mod gatherer;

@@ -40,7 +40,7 @@ fn skip_others<G: Gatherer>(gatherer: &G, layout: &Layout, lane: &mut Lane)
     }
 }
 
-/// Uses up the first item of a lane, and behind it those that do not matter.
+/// Uses up the first item of a lane, and after it those that do not matter.
 pub(crate) fn use_up<G: Gatherer>(gatherer: &G, layout: &Layout, lane: &mut Lane)
     requires sound { G.is_sound gatherer.now }
     requires in_order { IsInOrder layout.now lane.old }

@@ -1,4 +1,4 @@
--- The least mark of all leaves but one.
+-- The least of all leaves but one.
 use Rattle.std.proofs.Common.{◌≡◌, ◌≢◌, ℕ, zero, suc, ◌+◌, ◌-◌, ◌*◌, ◌/◌, ◌%◌, ◌<◌, ◌≤◌, ◌⊎◌, min, List, length, get_or, set, Option, Some, None, refl, sym, ap, subst, ◌∙◌, arith, inl, inr}
 use Rattle.std.specs.Prelude.{IfSome}
 use Rattle.std.proofs.lemmas.List.{get_or-set_same, get_or-set_other, length-set}
@@ -19,7 +19,7 @@ above_le (suc steps) q = let h = above_le steps (q / 2) in omega (arith, h)
 halves : (q : ℕ) → (q ≡ 2 * (q / 2)) ⊎ (q ≡ 2 * (q / 2) + 1)
 halves q = grind arith
 
--- a node has no greater mark than one that it stands above
+-- a node is not greater than one that it stands above
 above_least : (slots : ℕ) (nodes : List ℕ) → ((q : ℕ) → 1 ≤ q → q < slots → IsSettled nodes q) → (steps q : ℕ) → 1 ≤ above steps q → q < 2 * slots → node nodes (above steps q) ≤ node nodes q
 above_least slots nodes settled zero q one lt = omega arith
 above_least slots nodes settled (suc steps) q one lt =
@@ -42,7 +42,7 @@ to_first (suc fuel) (suc (suc n)) few one =
     let up = to_first fuel (q / 2) (omega (arith, few)) (omega arith) in
     (suc up.0, up.1)
 
--- no leaf that a node stands above has a lesser mark, but for one
+-- no leaf that a node stands above is less, but for one
 abbrev pub IsLeastBelow : ℕ → List ℕ → ℕ → ℕ → ℕ → Type 0
 IsLeastBelow slots nodes place at least =
     (steps q : ℕ) → above steps q ≡ at → slots ≤ q → q < 2 * slots → q ≢ place → least ≤ node nodes q
@@ -84,7 +84,7 @@ all_below slots nodes place at least one below q from lt other some =
     let up = to_first q q (omega arith) some in
     below up.0 q (up.1 ∙ sym one) from lt other
 
--- a slot whose mark stands before those of all others has the least key
+-- a slot whose leaf is less than those of all others has the least key
 pub least_with : (keys : List (Option (Option ℕ))) (nodes : List ℕ) (slot mark key : ℕ) → slot < length keys → length keys ≤ most → HasLeaves nodes keys
     → ((q : ℕ) → length keys ≤ q → q < 2 * length keys → q ≢ length keys + slot → mark ≤ node nodes q) → mark_of slot (Some (Some key)) < mark
     → IsLeastAt (set keys slot (Some (Some key))) (Some slot)

@@ -1,4 +1,4 @@
--- A tree over slots: the slots' marks are its leaves, and each node above has the lesser mark of the two below it.
+-- A tournament tree over slots: each slot has a leaf, and each node above is the lesser of the two below it.
 use Rattle.std.specs.Prelude.{◌≡◌, ◌≢◌, ℕ, zero, suc, ◌+◌, ◌*◌, ◌/◌, ◌<◌, ◌≤◌, min, IfSome, List, length, slice_index_or, Option, Some, None}
 use Rattle.least_tree.specs.declared.trees.LeastTree.TheInside.{Inside}
 use Rattle.least_tree.specs.Least.{rank}
@@ -7,11 +7,11 @@ use Rattle.least_tree.specs.Least.{rank}
 abbrev pub most : ℕ
 most = 4294967296
 
--- the rank of a slot with nothing, behind all keys
+-- the rank of a slot with nothing, above those of all keys
 abbrev pub nothing : ℕ
 nothing = 18446744073709551617
 
--- A slot's place among all: lesser ranks stand before, and slots of one rank in their order.
+-- The leaf of a slot, by which slots are compared: lesser ranks come first, and slots of one rank in their order.
 abbrev pub mark_of : ℕ → Option (Option ℕ) → ℕ
 mark_of slot None = nothing * most
 mark_of slot (Some next) = rank next * most + slot
@@ -31,7 +31,7 @@ above (suc steps) p = above steps (p / 2)
 abbrev pub AllBut : ℕ → List ℕ → ℕ → Type 0
 AllBut slots nodes p = (q : ℕ) → 1 ≤ q → q < slots → ((steps : ℕ) → q ≢ above steps p) → IsSettled nodes q
 
--- the leaves have the slots' marks
+-- the leaves are those of the slots
 abbrev pub HasLeaves : List ℕ → List (Option (Option ℕ)) → Type 0
 HasLeaves nodes keys = (i : ℕ) → i < length keys → node nodes (length keys + i) ≡ mark_of i (slice_index_or keys i None)
 

@@ -8,15 +8,15 @@ use std::marker::Model;
 /// A number that all slots stand below.
 const MOST: u128 = 4_294_967_296;
 
-/// The mark of a slot with nothing, behind those of all keys.
+/// The leaf of an empty slot, greater than those of all keys.
 const NOTHING: u128 = 18_446_744_073_709_551_617 * 4_294_967_296;
 
-/// Slots with keys, and which of them has the least. A contract sees it as the list of the keys.
+/// A tournament tree over slots with keys, which tells which of them has the least. A contract sees it as the list of the keys.
 #[derive(Drop)]
 pub struct LeastTree {
     keys: Vec<Option<Option<u64>>>,
-    // The marks of slots stand behind as many others. That at place p is the lesser of those at 2 p and 2 p + 1, so that
-    // the least of all stands at place 1.
+    // The leaves, one for each slot, stand after as many other nodes. The node at place p is the lesser of those at 2 p and
+    // 2 p + 1, so that the least of all stands at place 1.
     nodes: Vec<u128>,
 }
 
@@ -31,7 +31,7 @@ impl Model for LeastTree {
     ghost invariant = { IsTree };
 }
 
-/// A slot's place among all: lesser keys stand before, and slots of one key in their order.
+/// The leaf of a slot, by which slots are compared: lesser keys come first, and slots of one key in their order.
 fn mark_of(slot: usize, key: Option<Option<u64>>) -> u128
     requires { slot < most }
     ensures value { result ≡ mark_of slot key }
@@ -44,7 +44,7 @@ fn mark_of(slot: usize, key: Option<Option<u64>>) -> u128
     }
 }
 
-/// Settles the nodes above a place.
+/// Brings the nodes above a place up to date.
 fn settle(nodes: &mut [u128], slots: usize, place: usize)
     requires size { length nodes.old ≡ 2 * slots }
     requires small { slots ≤ most }
@@ -61,7 +61,7 @@ fn settle(nodes: &mut [u128], slots: usize, place: usize)
     }
 }
 
-/// The least mark of the places of slots but one.
+/// The least of all leaves but one.
 fn least_but(nodes: &[u128], slots: usize, place: usize) -> u128
     requires size { length nodes.now ≡ 2 * slots }
     requires small { slots ≤ most }
@@ -80,7 +80,7 @@ fn least_but(nodes: &[u128], slots: usize, place: usize) -> u128
     least
 }
 
-/// The greatest key of which a slot's mark stands before this one.
+/// The greatest key with which a slot's leaf is less than this one.
 fn key_before(slot: usize, mark: u128) -> Option<u64>
     requires slot { slot < most }
     requires mark { mark ≤ nothing * most }
@@ -94,7 +94,7 @@ fn key_before(slot: usize, mark: u128) -> Option<u64>
 }
 
 impl LeastTree {
-    /// So many slots, with nothing in them.
+    /// So many empty slots.
     pub fn new(alloc: Global, slots: u32) -> Result<LeastTree, AllocError>
         ensures { IfOk result (λ tree. tree ≡ replicate slots None) }
     {
@@ -103,7 +103,7 @@ impl LeastTree {
         Ok(LeastTree { keys, nodes })
     }
 
-    /// Gives a slot another key, or nothing. Where it has that already it takes no steps.
+    /// Gives a slot another key, or empties it. Where that changes nothing it takes no steps.
     pub fn set(&mut self, slot: usize, key: Option<Option<u64>>)
         requires { slot < length self.old }
         ensures { self.new ≡ slice_set self.old slot key }
@@ -133,8 +133,8 @@ impl LeastTree {
         }
     }
 
-    /// The greatest key with which a slot would have the least, and would be the first of several such: with each key up to it
-    /// the slot has. `None`: with no key.
+    /// The greatest key with which a slot would have the least of all keys, and would be the first of several such: with each
+    /// key up to it the slot has. `None`: with no key.
     pub fn up_to(&self, slot: usize) -> Option<u64>
         requires { slot < length self.now }
         ensures { IfSome result (λ most. (key : ℕ) → key ≤ most → IsLeastAt (slice_set self.now slot (Some (Some key))) (Some slot)) }

@@ -21,7 +21,7 @@ same_rest page place whole p is =
 pub page_some : (page : ℕ) → IsPage page → 0 < page
 page_some page p = omega (arith, p.2, pow_pos p.0)
 
--- nothing is missing behind a multiple
+-- nothing is missing after a multiple
 pub at_page : (page whole : ℕ) → IsPage page → whole % page ≡ 0 → up_to_page page whole ≡ whole
 at_page page whole p none =
     let quotient : whole / page + min 1 0 ≡ whole / page = omega arith in

@@ -9,15 +9,15 @@ drop_one [] i less = absurd (omega (arith, less))
 drop_one (n ∷ ns) zero less = refl
 drop_one (n ∷ ns) (suc i) less = let more : suc i + 1 ≡ suc (i + 1) = omega arith in rw more (drop_one ns i (omega (arith, less)))
 
--- the places so far, and what the numbers from one on make of them
+-- the entries so far, and what the numbers from one on make of them
 abbrev pub AreNoted : List ℕ → List ℕ → ℕ → Type 0
 AreNoted places ns i = noted_from (length places) i places (drop i ns) ≡ noted (length places) ns
 
--- as many places as there are to be
+-- as many entries as there are to be
 abbrev pub AreEnough : List ℕ → List ℕ → Type 0
 AreEnough places ns = IsNextPowerOfTwo (wanted (length ns)) (length places)
 
--- places at which nothing is noted yet
+-- entries in which nothing is noted yet
 pub long : (places : List ℕ) (room count : ℕ) → places ≡ replicate room count → length places ≡ room
 long places room count is = ap length is ∙ length-replicate {A = ℕ} room count
 

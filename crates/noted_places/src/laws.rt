@@ -3,8 +3,8 @@
 ghost use Rattle.std.specs.Prelude.{◌≡◌, ◌<◌, ◌%◌, ℕ, List, length, slice_index};
 ghost use Rattle.noted_places.specs.Noted.{noted};
 
-/// Of so many places one is noted for each remainder: that of the last number with this remainder, and the list's end exactly
-/// where no number has it.
+/// Of so many entries there is one for each remainder: it has the place of the last number with this remainder, and the list's
+/// end exactly where no number has it.
 pub fn last_of_equals()
     ensures count { (room : ℕ) (ns : List ℕ) → length (noted room ns) ≡ room }
     ensures last { (room : ℕ) (ns : List ℕ) (i : ℕ) → 0 < room → i < length ns

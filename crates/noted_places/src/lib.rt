@@ -1,7 +1,7 @@
-//! Where numbers may stand in a list.
+//! A direct-mapped cache of where numbers stand in a list.
 //!
-//! [`Places`] notes the place of each number of a list under what is left of it modulo the number of places, and gives it in
-//! one step. Its users look elsewhere where another number has the place.
+//! [`Places`] has an entry for each remainder modulo the number of its entries. It notes the place of each number of a list in
+//! the number's entry, and gives it in one step. Where another number has taken the entry, its users look elsewhere.
 #![tactic(auto)]
 
 mod laws;

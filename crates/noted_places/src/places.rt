@@ -1,4 +1,4 @@
-// Where numbers may stand in a list.
+// A direct-mapped cache of where numbers stand in a list.
 
 ghost use Rattle.std.specs.Prelude.{◌≡◌, ◌+◌, ◌<◌, ◌≤◌, ◌%◌, length, replicate, set, slice_index, IfOk};
 ghost use Rattle.std.specs.Int.{IsPowerOfTwo, IsNextPowerOfTwo};
@@ -7,7 +7,7 @@ ghost use Rattle.noted_places.specs.Noted.{noted, wanted};
 use std::alloc::{AllocError, Global};
 use std::marker::Model;
 
-/// How many places there are for each number, so that few numbers share one.
+/// How many entries there are for each number, so that few numbers share one.
 const EACH: usize = 8;
 
 /// How many there are at the least.
@@ -16,13 +16,14 @@ const LEAST: usize = 64;
 /// How many there are at the most: more of them would take more memory than they save steps.
 const MOST: usize = 1 << 20;
 
-/// A place for each number, which is found in one step. There are as many places as the least power of two that gives each
-/// number eight. Numbers that are equal modulo that share one: the place is that of the number that was noted last, and who
-/// asks for another looks elsewhere. Where no number is noted the place is the list's end. Contracts see the places.
+/// A direct-mapped cache: the place of a number is found in one step. There are as many entries as the least power of two that
+/// gives each number eight. Numbers that are equal modulo that share an entry. It has the place of the one that was noted last,
+/// and whoever asks for another looks elsewhere. An entry in which no number is noted has the list's end. Contracts see the
+/// entries.
 #[derive(Drop)]
 pub struct Places {
     slots: Vec<usize>,
-    /// One less than there are slots: what is left of a number modulo these is what this leaves of its bits.
+    /// One less than there are entries: what is left of a number modulo these is what this leaves of its bits.
     mask: usize,
 }
 
@@ -37,7 +38,7 @@ impl Model for Places {
     ghost invariant = { λ p. (length p.slots.items ≡ p.mask + 1) × IsPowerOfTwo (p.mask + 1) };
 }
 
-/// How many places so many numbers are to have at the least.
+/// How many entries so many numbers are to have at the least.
 fn wanted(count: usize) -> usize
     ensures { result ≡ wanted count }
 {
@@ -54,7 +55,7 @@ fn masked(number: u64, mask: usize) -> usize
     number as usize & mask
 }
 
-/// So many slots, each with this place.
+/// So many entries, each with this place.
 fn filled(alloc: Global, room: usize, place: usize) -> Result<Vec<usize>, AllocError>
     ensures { IfOk result (λ slots. slots.items ≡ replicate room place) }
 {
@@ -62,7 +63,7 @@ fn filled(alloc: Global, room: usize, place: usize) -> Result<Vec<usize>, AllocE
 }
 
 impl Places {
-    /// The places of these numbers.
+    /// A cache of the places of these numbers.
     pub fn noted(alloc: Global, numbers: &[u64]) -> Result<Places, AllocError>
         ensures places { IfOk result (λ places. places ≡ noted (length places) numbers.now) }
         ensures room { IfOk result (λ places. IsNextPowerOfTwo (wanted (length numbers.now)) (length places)) }
@@ -74,7 +75,7 @@ impl Places {
         Ok(places)
     }
 
-    /// Places for so many numbers, at none of which one is noted.
+    /// Entries for so many numbers, in none of which one is noted.
     fn new(alloc: Global, count: usize) -> Result<Places, AllocError>
         ensures places { IfOk result (λ places. places ≡ replicate (length places) count) }
         ensures room { IfOk result (λ places. IsNextPowerOfTwo (wanted count) (length places)) }
@@ -85,7 +86,7 @@ impl Places {
         Ok(Places { slots, mask })
     }
 
-    /// Notes the place of a number.
+    /// Notes the place of a number in its entry.
     fn note(&mut self, number: u64, place: usize)
         ensures { self.new ≡ set self.old (number % length self.old) place }
     {
@@ -93,7 +94,7 @@ impl Places {
         self.slots[slot] = place;
     }
 
-    /// The place that was noted last for the number, or for one that shares it.
+    /// The place that was noted last for the number, or for one that shares its entry.
     #[inline(always)]
     pub fn of(&self, number: u64) -> usize
         ensures value { result ≡ slice_index self.now (number % length self.now) }

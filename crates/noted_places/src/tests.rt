@@ -3,7 +3,7 @@ use std::test::Fail;
 
 #[test]
 fn numbers_that_are_equal_modulo_the_room_share_a_place(rt: HostRuntime) -> Result<(), Fail> {
-    // Three numbers have 64 places. The list's end is the place of a number that was not noted.
+    // Three numbers have 64 entries. The list's end is the place of a number that was not noted.
     let places = Places::noted(rt.alloc(), &[5, 7, 69])?;
     for (number, place) in [(5, 2), (7, 1), (69, 2), (133, 2), (6, 3), (70, 3)] {
         assert_eq!(rt; places.of(number), place);
@@ -18,7 +18,7 @@ fn many_numbers_have_places_of_their_own(rt: HostRuntime) -> Result<(), Fail> {
     for number in 0..3_000 {
         numbers.push(number)?;
     }
-    // They are to have 24,000 places, and 32,768 is the next power of two.
+    // They are to have 24,000 entries, and 32,768 is the next power of two.
     let places = Places::noted(alloc, &numbers)?;
     for (number, place) in [
         (2_999, 2_999),

@@ -61,7 +61,7 @@ impl PageCount {
         self.room.last_time()
     }
 
-    /// For how many bytes more the open sub-buffer has room.
+    /// How many more bytes the open sub-buffer has room for.
     pub fn room(&self, layout: &Layout) -> usize
         ensures most { result ≤ area_len layout.now }
         ensures room { (xs : List ItemData) → (count : IsPageCount layout.now self.now xs)
@@ -81,7 +81,7 @@ impl PageCount {
         self.room.add_run(layout, run, end);
     }
 
-    /// How many sub-buffers the items take that were counted.
+    /// How many sub-buffers the counted items take.
     pub fn pages(&self) -> u64
         ensures value { result ≡ self.now.pages }
         ensures counts { (layout : Layout) (xs : List ItemData) → IsPageCount layout self.now xs → result ≡ length (packed layout xs) }

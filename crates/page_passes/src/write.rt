@@ -39,7 +39,7 @@ pub fn write_item<O: Sink>(
     }
 }
 
-/// Writes the open sub-buffer, if one is open, which ends a processor's items. None is open then.
+/// Writes the open sub-buffer, if one is open, which ends a processor's items. Afterwards none is open.
 ///
 /// # Errors
 /// `Failed` where a write failed; a prefix of the processor's sub-buffers was written then.

@@ -1,4 +1,4 @@
--- What a lane keeps over one call behind another.
+-- What a lane keeps over one call after another.
 use Rattle.std.proofs.Common.{◌≡◌, ◌≤◌, Bool, true, false, refl, ◌∙◌, arith}
 use Rattle.page_pool.specs.declared.lane.Lane.{Lane}
 use Rattle.page_pool.specs.Keeping.{MayChange, Unless, KeepsLane}

@@ -1,11 +1,11 @@
--- Places that are passed over, as they have no mark.
+-- Places that are passed over, as their dirty bits are clear.
 use Rattle.std.proofs.Common.{◌≡◌, ℕ, zero, suc, ◌+◌, ◌-◌, ◌<◌, ◌≤◌, Bool, true, false, List, length, get_or, take, drop, inl, inr, refl, sym, ap, subst, ◌∙◌, arith}
 use Rattle.std.proofs.Math.Bool.{beq}
 use Rattle.std.proofs.lemmas.Bool.{cases_lt}
 use Rattle.std.proofs.lemmas.List.{get_or-drop, get_or-take}
 use Rattle.page_pool.specs.Moved.{NoneMarked}
 
--- the places from one up to another, none of which has a mark
+-- the places from one up to another, none of which has its dirty bit set
 pub record PassedOver (moved : List Bool) (from at : ℕ) : Type 0 where
   pub behind : from ≤ at
   pub within : at ≤ length moved
@@ -15,7 +15,7 @@ unmarked : (b : Bool) → beq b true ≡ false → b ≡ false
 unmarked true is = is
 unmarked false is = refl
 
--- more places, none of which has a mark
+-- more places, none of which has its dirty bit set
 pub group_more : (moved : List Bool) (from at to : ℕ) → PassedOver moved from at → at ≤ to → to ≤ length moved
     → ((k : ℕ) (d : Bool) → k < to - at → beq (get_or (take (to - at) (drop at moved)) k d) true ≡ false)
     → PassedOver moved from to
@@ -44,7 +44,7 @@ module _ (P : ℕ → Type 0) (moved : List Bool) (from : ℕ) where
       let here : from + n < from + suc n = omega arith in
       subst P (omega arith) (step (from + n) (omega arith) here (none (from + n) (omega arith) here) before)
 
-  -- what holds at a place holds at a later one, where it goes on over each place without a mark
+  -- what holds at a place holds at a later one, where it goes on over each place whose dirty bit is clear
   pub passing : (to : ℕ) → from ≤ to → NoneMarked moved from to
       → ((j : ℕ) → from ≤ j → j < to → get_or moved j true ≡ false → P j → P (j + 1))
       → P from → P to

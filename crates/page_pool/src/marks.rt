@@ -1,10 +1,10 @@
 ghost use Rattle.std.specs.Prelude.{◌≤◌, length};
 ghost use Rattle.page_pool.specs.Moved.{IsNextMark};
 
-/// So many places are asked at once whether one of them has a mark.
+/// So many dirty bits are tested at once.
 const GROUP: usize = 16;
 
-/// The first place from `from` on that has a mark. Where few have one, it costs an instruction or two a place.
+/// The first place from `from` on whose dirty bit is set. Where few are set, it costs an instruction or two a place.
 pub fn next_marked(moved: &[bool], from: usize) -> Option<usize>
     requires { from ≤ length moved.now }
     ensures { IsNextMark moved.now from result }

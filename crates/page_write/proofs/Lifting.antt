@@ -52,7 +52,7 @@ at_there : (l : Layout) (file : List ℕ) (part : Part) (k : ℕ) → is_there l
 unfolding items_at
 at_there l file part k there = rw there refl
 
--- sub-buffers from number k on, behind a front that ends where the first of them begins
+-- sub-buffers from number k on, after a front that ends where the first of them begins
 pages_again : (l : Layout) (file : List ℕ) (part : Part) (pages : List (List ItemData)) (k : ℕ) (front after : List ℕ) → All (TellsBack l) pages → file ≡ front ++ (flat_map (page_of l) pages ++ after) → length front ≡ part.offset + k * l.page
     → (k + length pages) * l.page ≤ part.size → part.offset + part.size ≤ 2 ^ 64
     → pages_from l file part k (length pages) ≡ map (λ page. Some page) pages

@@ -49,7 +49,7 @@ front_ok l xs allowed =
 pub front_long : (l : Layout) (xs : List ItemData) → IsLayout l → length (front_text l xs) ≡ l.data_at
 front_long l xs allowed = (front_ok l xs allowed).long
 
--- what the data area begins with is there, and behind it zero bytes
+-- what the data area begins with is there, and after it zero bytes
 record DataOk (l : Layout) (xs : List ItemData) (page : List ℕ) : Type 0 where
   time : timestamp l page ≡ start_of xs
   word : commit_word l page ≡ word_of l xs
@@ -73,7 +73,7 @@ data_ok l xs allowed early small =
       area = drop_at front back l.data_at long;
     }
 
--- the loss that items begin with, and what is behind it
+-- the loss that items begin with, and what is after it
 abbrev pub front_loss : List ItemData → List ItemData
 front_loss [] = []
 front_loss (EventAt time payload ∷ xs) = []

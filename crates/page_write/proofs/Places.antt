@@ -30,7 +30,7 @@ before_at at piece bytes a k fits apart =
     ∙ ap (drop a) (take-append-le (a + k) (take at bytes) rest (omega arith) ∙ take-take (a + k) at bytes apart)
     ∙ drop-take a k bytes
 
--- a part behind it
+-- a part after it
 behind_at : (at : ℕ) (piece bytes : List ℕ) (a k : ℕ) → at + length piece ≤ length bytes → at + length piece ≤ a → take k (drop a (put_at at piece bytes)) ≡ take k (drop a bytes)
 unfolding put_at
 behind_at at piece bytes a k fits apart =
@@ -60,7 +60,7 @@ pub put_behind : (at : ℕ) (bytes piece : List ℕ) (k : ℕ) → length piece 
 unfolding put_at
 put_behind at bytes piece k long = rw (drop-drop, long) refl
 
--- one piece behind another
+-- one piece after another
 pub put_more : (at : ℕ) (first second bytes : List ℕ) → at + length first ≤ length bytes → put_at (at + length first) second (put_at at first bytes) ≡ put_at at (first ++ second) bytes
 unfolding put_at
 put_more at first second bytes fits =

@@ -40,7 +40,7 @@ unfoldable pub filled : Layout → Option Fill → ItemData → Option Fill
 filled layout None x = Some (opened layout x)
 filled layout (Some fill) x = gone_on layout fill x
 
--- the answer that this is, and the numbers behind it
+-- the answer that this is, and the numbers after it
 abbrev pub Fills : Option Fill → Option Fill → Option Fill → Added → Type 0
 Fills (Some fill) old new code.Added = new ≡ Some fill
 Fills (Some fill) old new code.Full = ⊥

@@ -17,7 +17,7 @@ pub data Packed (layout : Layout) : List ItemData → List (List ItemData) → T
       → one_page layout (x ∷ xs) ≡ true → IsEnough layout (x ∷ xs) rest → Packed layout rest pages
       → Packed layout (x ∷ xs ++ rest) ((x ∷ xs) ∷ pages)
 
--- The same, computed, behind the items that an open sub-buffer holds.
+-- The same, computed, after the items that an open sub-buffer holds.
 unfoldable pub packed_behind : Layout → List ItemData → List ItemData → List (List ItemData)
 packed_behind layout held [] = held ∷ []
 packed_behind layout held (x ∷ xs) =

@@ -10,7 +10,7 @@ use Rattle.page_write.specs.Record.{zeros, records_text}
 unfoldable pub put_at : ℕ → List ℕ → List ℕ → List ℕ
 put_at at piece bytes = take at bytes ++ (piece ++ drop (at + length piece) bytes)
 
--- it was put, and this is the place behind it
+-- it was put, and this is the place after it
 pub record IsPut (at : ℕ) (piece old new : List ℕ) (behind : ℕ) : Type 0 where
   pub put : new ≡ put_at at piece old
   pub end : behind ≡ at + length piece
@@ -34,7 +34,7 @@ loss_bits (EventAt time payload ∷ xs) = 0
 loss_bits (LossAt time None ∷ xs) = 2 ^ 31
 loss_bits (LossAt time (Some count) ∷ xs) = 2 ^ 31 + 2 ^ 30
 
--- what the data area begins with: the records, and behind them the number of a loss
+-- what the data area begins with: the records, and after them the number of a loss
 abbrev pub records : Layout → List ItemData → List ℕ
 records layout items = records_text layout.order (start_of items) items
 

@@ -1,6 +1,6 @@
 -- The bytes of events that follow one another in a sub-buffer.
 -- Source: the kernel's ring_buffer.h (`enum ring_buffer_type`): a length in the first word where it has room for it, else in the
--- word behind it; a step of time of more than 27 bits as a time extend. That what is written is this spelling, of those that
+-- word after it; a step of time of more than 27 bits as a time extend. That what is written is this spelling, of those that
 -- are read, is a choice of this project.
 use Rattle.std.specs.Prelude.{ℕ, ◌+◌, ◌-◌, ◌*◌, ◌/◌, ◌%◌, ◌^◌, Bool, ◌&&◌, nat_le, nat_lt, ◌==◌, if◌then◌else◌, List, [], ◌∷◌, ◌++◌, length, replicate}
 use Rattle.trace_base.specs.declared.order.Order.{Order}

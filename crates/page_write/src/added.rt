@@ -1,4 +1,4 @@
-/// What adding an item to a sub-buffer answers.
+/// Whether an item was added to a sub-buffer.
 #[derive(Clone, Copy, Debug, PartialEq, Eq)]
 pub enum Added {
     /// The sub-buffer has the item.

@@ -47,7 +47,7 @@ fn fill_front(layout: &Layout, start: u64, word: u64, front: &mut [u8])
     );
 }
 
-// Puts the number of a loss, where it has one, and gives the place behind it.
+// Puts the number of a loss, where it has one, and gives the place after it.
 fn put_lost(layout: &Layout, lost: Lost, at: usize, area: &mut [u8]) -> usize
     requires fits { LostFits layout.now lost }
     requires room { at + length (lost_text layout.now lost) ≤ length area.old }
@@ -60,7 +60,7 @@ fn put_lost(layout: &Layout, lost: Lost, at: usize, area: &mut [u8]) -> usize
     at + layout.commit_size as usize
 }
 
-// Puts what stands behind the records: the number of a loss, and zero bytes.
+// Puts what follows the records: the number of a loss, and zero bytes.
 fn fill_behind(layout: &Layout, lost: Lost, at: usize, area: &mut [u8])
     requires fits { LostFits layout.now lost }
     requires room { at + length (lost_text layout.now lost) ≤ length area.old }

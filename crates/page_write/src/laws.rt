@@ -63,7 +63,7 @@ pub fn short_events_can_be_packed()
         → time < 2 ^ 64 → length payload ≤ 2048 → IsPackable layout (EventAt time payload) }
 {}
 
-/// Behind any front, the sub-buffers of processors' items, where their parts follow one another, read back to just these items,
+/// After any front, the sub-buffers of processors' items, where their parts follow one another, read back to just these items,
 /// and none of them is malformed.
 pub fn file_reads_back()
     ensures items { (layout : Layout) (front : List ℕ) (lists : List (List ItemData))

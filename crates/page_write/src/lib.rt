@@ -1,7 +1,7 @@
 //! Items packed into sub-buffers: the rule in numbers alone, and the bytes. Nothing here takes memory.
 //!
 //! A [`Packer`] packs items into one sub-buffer, in a buffer that it borrows. Give it each item by `add`; where the answer is
-//! [`Added::Full`], and behind the last item, `close` gives the bytes of the sub-buffer, and after `restart` the item that had no
+//! [`Added::Full`], and after the last item, `close` gives the bytes of the sub-buffer, and after `restart` the item that had no
 //! room opens the next one. Events whose records stand elsewhere just as the packer would write them are added at once by
 //! `add_run`, as far as there is `room`. A [`Room`] answers `add` alike, so that it tells where sub-buffers end before any is
 //! written. The other functions are laws, which a program need not call: their contracts say what is read back from packed items.

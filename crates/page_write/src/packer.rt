@@ -89,7 +89,7 @@ impl<'a> Packer<'a> {
         }
     }
 
-    /// For how many bytes more there is room.
+    /// How many more bytes there is room for.
     pub fn room(&self) -> usize
         ensures { length (data_text self.now.layout self.now.held) + result ≡ area_len self.now.layout }
     {

@@ -111,7 +111,7 @@ fn put_first_word(order: Order, kind: u32, delta: u32, at: usize, into: &mut [u8
     put_word(order, pair_word_of(order, kind, delta), at, into);
 }
 
-// Puts an event whose first word does not tell the length of its payload, and gives the place behind it.
+// Puts an event whose first word does not tell the length of its payload, and gives the place after it.
 #[inline(never)]
 #[tactic(auto, unfolding(crate::specs::Fill::event_len))]
 fn put_long_event(order: Order, delta: u32, payload: &[u8], at: usize, into: &mut [u8]) -> usize
@@ -130,7 +130,7 @@ fn put_long_event(order: Order, delta: u32, payload: &[u8], at: usize, into: &mu
     at + 8 + filled
 }
 
-// Puts an event, and gives the place behind it.
+// Puts an event, and gives the place after it.
 #[inline(always)]
 #[tactic(auto, unfolding(crate::specs::Fill::event_len))]
 fn put_event(order: Order, delta: u32, payload: &[u8], at: usize, into: &mut [u8]) -> usize
@@ -159,7 +159,7 @@ fn put_extend(order: Order, step: u64, at: usize, into: &mut [u8])
     put_word(order, (step / (1 << DELTA_BITS)) as u32, at + 4, into);
 }
 
-// Puts an event behind a step of time that needs a time extend, and gives the place behind it.
+// Puts an event after a step of time that needs a time extend, and gives the place after it.
 #[inline(never)]
 #[tactic(auto, unfolding(crate::specs::Fill::record_len))]
 fn put_far_record(order: Order, step: u64, payload: &[u8], at: usize, into: &mut [u8]) -> usize
@@ -173,7 +173,7 @@ fn put_far_record(order: Order, step: u64, payload: &[u8], at: usize, into: &mut
     put_event(order, 0, payload, at + 8, into)
 }
 
-/// Puts an event behind a step of time, with a time extend where the step needs it, and gives the place behind it.
+/// Puts an event after a step of time, with a time extend where the step needs it, and gives the place after it.
 #[inline(always)]
 #[tactic(auto, unfolding(crate::specs::Fill::record_len))]
 pub fn put_record(order: Order, step: u64, payload: &[u8], at: usize, into: &mut [u8]) -> usize

@@ -69,7 +69,7 @@ impl Room {
         }
     }
 
-    /// For how many bytes more there is room.
+    /// How many more bytes there is room for.
     pub fn room(&self, layout: &Layout) -> usize
         ensures most { result ≤ area_len layout.now }
         ensures left { IfSome self.now (λ fill. result ≡ area_len layout.now - fill.used) }

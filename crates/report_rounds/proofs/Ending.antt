@@ -34,7 +34,7 @@ use Rattle.report_rounds.proofs.Shown.{all_shown, shown_rises}
 use Rattle.report_rounds.proofs.RoundsPrinted.{after, left_after, own_lines, rising_lines, start_later}
 use Rattle.report_rounds.proofs.Horizons.{IsAround, ended_row, parts_all}
 
--- a line that is not due stands behind the horizon
+-- a line that is not due stands after the horizon
 behind_horizon : (k c key cpu : ℕ) → up_to_key (Some k) c key cpu ≡ false → (k ≤ key) × (cpu ≤ c → k < key)
 behind_horizon k c key cpu e = elim (cases_lt key k) as (λ _. (k ≤ key) × (cpu ≤ c → k < key)) [
   | inl lt ↦ absurd (never (rw (lt-ltb key k lt) at e))
@@ -125,7 +125,7 @@ bound_from n cpu [] (x ∷ more) cut first from up = All-head (λ y. n ≤ key_i
 bound_from n cpu [] [] None first from up = tt
 bound_from n cpu [] [] (Some cut) first from up = up
 
--- What a horizon says of lines that are not due: those of earlier processors stand behind its key, no other stands before
+-- What a horizon says of lines that are not due: those of earlier processors stand after its key, no other stands before
 -- it, and its own lane keeps none.
 pub record IsHorizonAt (h : Horizon) (high : Option ℕ) (cpu : ℕ) : Type 0 where
   pub sooner : (key other : ℕ) → other < cpu → is_due h key other ≡ false → rank high + 1 ≤ key + 1
@@ -158,7 +158,7 @@ high_is a Held high e = cc
 high_is a Ended high e = absurd cc
 high_is a Malformed high e = cc
 
--- the lane of the horizon keeps no line behind it
+-- the lane of the horizon keeps no line after it
 pub none_later : (h : Horizon) (high : Option ℕ) (cpu : ℕ) (lane : Lane) → IsHorizonAt h high cpu → IsSorted lane → lane.cpu ≡ cpu → high_of lane ≡ Some high → later_of h lane ≡ []
 none_later h high cpu lane at s own here = at.none lane s own (high_is lane lane.cursor.state high here)
 

@@ -1,4 +1,4 @@
--- Lanes without a mark, while those that moved are loaded, formatted, looked at and printed.
+-- Clean lanes, while those that moved are loaded, formatted, looked at and printed.
 use Rattle.std.proofs.Common.{◌≡◌, ℕ, ◌+◌, ◌<◌, ◌≤◌, Bool, true, false, List, length, get_or, set, map, replicate, Option, None, sym, ap, subst, ◌∙◌, arith, inl, inr, get_or-set_same, get_or-set_other}
 use Rattle.std.proofs.lemmas.Bool.{cases_eq}
 use Rattle.std.proofs.lemmas.List.{ext_get_or, get_or-map, get_or-replicate, get_or_default, length-map}
@@ -18,7 +18,7 @@ use Rattle.report_rounds.specs.Between.{NeedNoLook, SlotsTell}
 use Rattle.report_rounds.specs.declared.work.RoundWork.{RoundWork}
 use Rattle.report_rounds.proofs.Pairs.{some_lane}
 
--- every lane has a mark at first
+-- every lane is dirty at first
 pub look_at_all : (text : ℕ → ItemData → LineText) (l : Layout) (lanes : List Lane) (work : RoundWork) → work.moved.items ≡ replicate (length lanes) true → NeedNoLook text l lanes work
 look_at_all text l lanes work is = record {
   ready = λ i d lt unmarked. absurd (marked i lt unmarked);
@@ -42,11 +42,11 @@ module _ (moved : List Bool) (before now : List Lane) (long : length now ≡ len
       let inside : i < length before = omega (arith, lt, long) in
       tell i d inside unmarked ∙ ap f (sym (keeps i d inside unmarked))
 
--- a tree that has all lanes as they are tells of those without a mark
+-- a tree that has all lanes as they are tells of the clean ones
 pub told_all : (f : Lane → Option (Option ℕ)) (moved : List Bool) (slots : List (Option (Option ℕ))) (lanes : List Lane) → slots ≡ map f lanes → SlotsTell f moved slots lanes
 told_all f moved slots lanes is i d lt unmarked = ap (λ (keys : List (Option (Option ℕ))). get_or keys i None) is ∙ get_or-map f lanes i d None lt
 
--- a round was printed: the lanes that have no mark behind it had none before, and are as they were
+-- a round was printed: the lanes that are clean after it were clean before, and are as they were
 module _ (text : ℕ → ItemData → LineText) (l : Layout) (marks moved : List Bool) (formed now : List Lane) (long : length now ≡ length formed) (keeps : KeepsUnmoved moved formed now) (still : KeepsMarks marks moved) where
   pub need_no_look : (work : RoundWork) → work.moved.items ≡ moved → work.heads ≡ map head_kept now → work.highs ≡ map high_of formed → AllUnmoved (IsReady l) marks formed → All (IsSettled text l) formed
       → NeedNoLook text l now work
@@ -63,7 +63,7 @@ module _ (text : ℕ → ItemData → LineText) (l : Layout) (marks moved : List
       kept : KeepsUnmoved work.moved.items formed now
       kept i d lt unmarked = keeps i d lt (unmarked_in i unmarked)
 
--- The slots of the first few lanes, and of those without a mark, tell what the lanes do.
+-- The slots of the first few lanes, and of the clean ones, tell what the lanes do.
 abbrev pub TellsSoFar : (Lane → Option (Option ℕ)) → List Bool → List (Option (Option ℕ)) → List Lane → ℕ → Type 0
 TellsSoFar f moved slots lanes count =
     (i : ℕ) → (d : Lane) → i < length lanes → (count ≤ i → get_or moved i true ≡ false) → get_or slots i None ≡ f (get_or lanes i d)
@@ -80,7 +80,7 @@ module _ (f : Lane → Option (Option ℕ)) (moved : List Bool) (slots : List (O
       tell i d inside (λ le. absurd (omega (arith, le, inside))) ∙ sym (get_or-map f lanes i d None inside))
 
   module _ (count : ℕ) (tell : TellsSoFar f moved slots lanes count) where
-    -- a lane without a mark is passed over
+    -- a clean lane is passed over
     pub tells_passed : get_or moved count true ≡ false → TellsSoFar f moved slots lanes (count + 1)
     tells_passed here i d lt unmarked = tell i d lt (λ le. elim (cases_eq i count) as (λ _. get_or moved i true ≡ false) [
       | inl same ↦ ap (λ (k : ℕ). get_or moved k true) same ∙ here
@@ -102,11 +102,11 @@ module _ (f : Lane → Option (Option ℕ)) (moved : List Bool) (slots : List (O
         at : get_or now i None ≡ get_or (set slots count key) i None
         at = ap (λ (keys : List (Option (Option ℕ))). get_or keys i None) is
 
-  -- lanes without a mark are passed over
+  -- clean lanes are passed over
   pub tells_along : (from to : ℕ) → from ≤ to → NoneMarked moved from to → TellsSoFar f moved slots lanes from → TellsSoFar f moved slots lanes to
   tells_along from to behind none = passing (TellsSoFar f moved slots lanes) moved from to behind none (λ j later inside here tell. tells_passed j tell here)
 
--- Of the first few lanes those that are ready have no mark.
+-- Of the first few lanes those that are ready are clean.
 abbrev pub ReadyUnmarked : (Lane → Type 0) → List Bool → List Lane → ℕ → Type 0
 ReadyUnmarked R moved lanes count = (i : ℕ) → (d : Lane) → i < length lanes → i < count → R (get_or lanes i d) → get_or moved i true ≡ false
 
@@ -120,19 +120,19 @@ unmarked_more R moved lanes count e mark inside unmarked all i d lt before ready
   | inr other ↦ get_or-set_other moved count i mark true other ∙ (let sooner : i < count = grind (arith, before, other) in all i d lt sooner ready)
 ]
 
--- a lane without a mark is passed over
+-- a clean lane is passed over
 pub unmarked_passed : (R : Lane → Type 0) (moved : List Bool) (lanes : List Lane) (count : ℕ) → get_or moved count true ≡ false → ReadyUnmarked R moved lanes count → ReadyUnmarked R moved lanes (count + 1)
 unmarked_passed R moved lanes count here all i d lt before ready = elim (cases_eq i count) as (λ _. get_or moved i true ≡ false) [
   | inl same ↦ ap (λ (k : ℕ). get_or moved k true) same ∙ here
   | inr other ↦ let sooner : i < count = grind (arith, before, other) in all i d lt sooner ready
 ]
 
--- lanes without a mark are passed over
+-- clean lanes are passed over
 pub unmarked_along : (R : Lane → Type 0) (moved : List Bool) (lanes : List Lane) (from to : ℕ) → from ≤ to → NoneMarked moved from to → ReadyUnmarked R moved lanes from → ReadyUnmarked R moved lanes to
 unmarked_along R moved lanes from to behind none =
     passing (ReadyUnmarked R moved lanes) moved from to behind none (λ j later inside here all. unmarked_passed R moved lanes j here all)
 
--- a lane that was looked at has no mark where it is ready
+-- a lane that was looked at is clean where it is ready
 pub ready_more : (R : Lane → Type 0) (moved : List Bool) (lanes : List Lane) (count : ℕ) (e : Lane) (mark : Bool) → count < length moved → (mark ≡ false → R (get_or lanes count e))
     → AllUnmoved R moved lanes → AllUnmoved R (set moved count mark) lanes
 ready_more R moved lanes count e mark inside ready all i d lt unmarked = elim (cases_eq i count) as (λ _. R (get_or lanes i d)) [

@@ -26,8 +26,8 @@ use trace_outside::{File, Gate, Sink};
 /// its lines on as many threads as `workers.count` allows, whatever its lanes hold. A later one does so where they hold as
 /// much as `workers.shared_from` says, and on one thread elsewhere ([`cpu_workers::format_lanes`]). The bytes are the same for
 /// any number of threads. After `Read` the lines of the first few reached items are written, after `Write` a prefix of the
-/// text. It takes no memory: `work` has a slot in each tree and a mark for each lane, whatever is in them, and room in which
-/// nothing waits.
+/// text. It takes no memory: `work` has a slot in each tree and a dirty bit for each lane, whatever is in them, and room in
+/// which nothing waits.
 ///
 /// No more bytes are read than the parts of the processors have, and none ahead of what is written: of the lines before
 /// a sub-buffer that is read no more than a region keeps were not written yet.

@@ -1,4 +1,4 @@
-// Trees and marks, once the lanes that moved are formatted.
+// Trees and dirty bits, once the lanes that moved are formatted.
 
 ghost use Rattle.std.specs.Prelude.{◌≡◌, All, true, length, map, replicate};
 ghost use Rattle.page_pool.specs.Moved.{AllUnmoved};
@@ -14,15 +14,15 @@ use round_print::head_kept;
 use time_merge::{high_of, wants_load};
 use trace_base::Layout;
 
-/// Marks every lane.
+/// Makes every lane dirty.
 pub(crate) fn mark_all(moved: &mut [bool])
     ensures { moved.new ≡ replicate (length moved.old) true }
 {
     moved.fill(true);
 }
 
-/// Brings both trees in step with the lanes, by a look at those that have a mark. Of these only the ones that are to be
-/// loaded keep it.
+/// Brings both trees into step with the lanes, by a look at the dirty ones. Of these only the ones that are to be loaded stay
+/// dirty.
 pub(crate) fn settle(layout: &Layout, lanes: &[Lane], work: &mut RoundWork)
     requires in_order { All (IsInOrder layout.now) lanes.now }
     requires slots { HasSlots lanes.now work.old }

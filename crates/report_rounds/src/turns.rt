@@ -17,8 +17,8 @@ use time_merge::{End, horizon, make_moved_ready};
 use trace_base::Layout;
 use trace_outside::{File, Gate, Sink};
 
-/// One round: makes the lanes ready, forms lines, and prints those up to the horizon. It looks at the lanes that have a mark
-/// alone, and behind it those have one that it printed lines of, or that are to be loaded.
+/// One round: makes the lanes ready, forms lines, and prints those up to the horizon. It looks at the dirty lanes alone, and
+/// after it those are dirty that it printed lines of, or that are to be loaded.
 pub(crate) fn turn<R: Threads + Sync, F: File, L: LineFormat, G: Gate, O: Sink>(
     workers: &Workers<'_, R, G>,
     form: &L,

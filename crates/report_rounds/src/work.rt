@@ -8,7 +8,7 @@ pub struct RoundWork {
     pub heads: LeastTree,
     /// Another such tree: that of the lanes' greatest times.
     pub highs: LeastTree,
-    /// A mark for each lane, whatever it is: whether the lane moved, so that it is looked at.
+    /// A dirty bit for each lane, whatever it is: whether the lane moved, so that it is looked at.
     pub moved: Vec<bool>,
     /// Room for the text of a round. Nothing waits in it.
     pub pending: Pending,

@@ -19,7 +19,7 @@ use Rattle.time_merge.proofs.LaneLaws.{after_above}
 use Rattle.time_merge.proofs.Choosing.{heads}
 use Rattle.round_print.proofs.Printing.{rise_after}
 
--- what stands behind a line that is not due is not due
+-- what follows a line that is not due is not due
 later_due : (h : Horizon) (k c key cpu : ℕ) → is_due h k c ≡ false → (k < key) ⊎ ((k ≤ key) × (c ≤ cpu)) → is_due h key cpu ≡ false
 later_due code.All k c key cpu e behind = absurd (never e)
   where

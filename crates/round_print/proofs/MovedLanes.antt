@@ -1,4 +1,4 @@
--- A lane that changes: its slot in the tree and its mark follow.
+-- A lane that changes: its slot in the tree and its dirty bit follow.
 use Rattle.std.proofs.Common.{◌≡◌, ◌≢◌, ◌<◌, ◌≤◌, ◌⊎◌, inl, inr, ℕ, zero, suc, Bool, true, false, List, [], ◌∷◌, get_or, set, map, length, Option, refl, sym, ap, ◌∙◌, arith, get_or-set_same}
 use Rattle.std.proofs.lemmas.Bool.{cases_eq}
 use Rattle.std.proofs.lemmas.List.{get_or_default, get_or-set_other, length-drop, map-set}
@@ -58,7 +58,7 @@ module _ (first lanes : List Lane) (k : ℕ) (d now : Lane) (inside : k < length
     | inr other ↦ omega (arith, other_kept i e other, fewer i e lt)
   ]
 
--- a lane of which a line was printed is marked
+-- a lane of which a line was printed is dirty
 pub anew_on : (before moved : List Bool) (first lanes : List Lane) (k : ℕ) (d now : Lane) → k < length lanes → length now.region.kept < length (get_or lanes k d).region.kept → KeepNoMore first lanes
     → MarksPrinted first lanes before moved → MarksPrinted first (set lanes k now) before (set moved k true)
 anew_on before moved first lanes k d now inside shorter fewer anew i e lt unmarked =

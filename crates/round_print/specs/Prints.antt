@@ -56,7 +56,7 @@ line_time line = hole_time line.text
 abbrev pub fill_line : Option ℕ → CpuLine → CpuLine
 fill_line last line = record line { text = line_text (filled_bytes last line.text) None }
 
--- lines that are filled, one behind another, from the last time on
+-- lines that are filled, one after another, from the last time on
 abbrev pub filled : Option ℕ → List CpuLine → List CpuLine
 filled last lines = along line_time fill_line last lines
 
@@ -64,7 +64,7 @@ filled last lines = along line_time fill_line last lines
 abbrev pub filled_text : Option ℕ → List CpuLine → List ℕ
 filled_text last lines = text_of (filled last lines)
 
--- the last time behind lines
+-- the last time after lines
 abbrev pub last_of : Option ℕ → List CpuLine → Option ℕ
 last_of last lines = last_time line_time last lines
 

@@ -94,7 +94,7 @@ fn run_up_to(horizon: &Horizon, cpu: u32, heads: &LeastTree, i: usize) -> Option
 
 /// How many lines of the lane that is next go out at once: those up to the first that has a hole or does not come next, or one.
 /// It is one where another lane's line went out alone just before, so that lanes that take turns line by line are not asked,
-/// and behind a line with a hole, since the others have one too.
+/// and after a line with a hole, since the others have one too.
 pub(crate) fn run_of(
     horizon: &Horizon,
     lane: &Lane,

@@ -37,7 +37,7 @@ fn print_front<O: Sink>(
     Ok(())
 }
 
-/// Puts the lines that are due, by key, then processor, then position, keeps them no longer, and marks their lanes.
+/// Puts the lines that are due, by key, then processor, then position, keeps them no longer, and makes their lanes dirty.
 fn put_round<O: Sink>(
     horizon: &Horizon,
     lanes: &mut [Lane],
@@ -79,15 +79,15 @@ fn put_round<O: Sink>(
 }
 
 /// Writes the lines that the lanes keep and that stand at or before the horizon, by key, then processor, then position,
-/// and keeps them no longer. Each is filled from the last time, `last` at first; behind the call it is that of the last
+/// and keeps them no longer. Each is filled from the last time, `last` at first; after the call it is that of the last
 /// line with a hole. A region that keeps no line any more has all its bytes free.
 ///
-/// The lines go through `pending`, in which nothing waits before or behind: all of them are written when the call returns,
+/// The lines go through `pending`, in which nothing waits before or after: all of them are written when the call returns,
 /// in pieces as large as it has room for, or as lines of a lane lie side by side. `heads` is a tree of the lanes' first
-/// lines, a slot for each lane with its `head_kept`, in step before and behind: the next line, with those that come right
-/// behind it in its lane, costs a step or two for each doubling of their number. `moved` has a mark for each lane: a lane
-/// that has none behind the call is as it was before, no mark is taken away, and only a lane of which a line was printed is
-/// marked anew. After `Failed` the sink has a prefix of the lines' text, and the lanes, which are still those of their
+/// lines, a slot for each lane with its `head_kept`, in step before and after: the next line, with those that come right
+/// after it in its lane, costs a step or two for each doubling of their number. `moved` has a dirty bit for each lane: a lane
+/// that is clean after the call is as it was before, no bit is cleared, and only that of a lane of which a line was printed is
+/// set anew. After `Failed` the sink has a prefix of the lines' text, and the lanes, which are still those of their
 /// processors, keep no longer what was put: they are not to be used again.
 pub fn print_round<O: Sink>(
     horizon: &Horizon,

@@ -67,7 +67,7 @@ module _ {X : Type 0} (key : X → ℕ) where
     | inr b ↦ rw b (put_behind y x ys (let lt = leb-false (key x) (key y) b in omega arith) r (put_rising x ys (rising_tail y ys r)))
   ]
 
-  -- the elements of a key behind the same front
+  -- the elements of a key after the same front
   with_key-behind : (k : ℕ) (x : X) (xs ys : List X) → with_key key k xs ≡ with_key key k ys → with_key key k (x ∷ xs) ≡ with_key key k (x ∷ ys)
   with_key-behind k x xs ys e = elim (cases_Bool (eqb (key x) k)) [
     | inl b ↦ rw b (ap (λ (zs : List X). x ∷ zs) e)

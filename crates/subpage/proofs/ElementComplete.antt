@@ -44,7 +44,7 @@ at_stamp : (order : Order) (delta : ℕ) (bytes : List ℕ) → rest_at order 31
 unfolding rest_at
 at_stamp order delta bytes = refl
 
--- reading goes on behind a first word
+-- reading goes on after a first word
 first_again : (order : Order) (first middle rest : List ℕ) (kind delta : ℕ) → IsFirstWord order first kind delta → element_at order ((first ++ middle) ++ rest) ≡ rest_at order kind delta (middle ++ rest)
 unfolding element_at
 first_again order first middle rest kind delta f =

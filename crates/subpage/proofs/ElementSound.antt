@@ -20,7 +20,7 @@ pub record Takes (order : Order) (bytes : List ℕ) (e : ElementData) (rest : Li
   pub long : 4 ≤ length front
   pub last : EndsAt e rest
 
--- the same behind any first word of a pair
+-- the same after any first word of a pair
 record RestTakes (order : Order) (kind delta : ℕ) (bytes : List ℕ) (e : ElementData) (rest : List ℕ) : Type 0 where
   middle : List ℕ
   whole : bytes ≡ middle ++ rest

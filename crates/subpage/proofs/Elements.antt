@@ -65,7 +65,7 @@ elements_again order es bytes (begins_with e others front back row last behind) 
     let ends : EndsAt e back = λ h. no_bytes order others back behind (last h) in
     elements_step order (front ++ back) e back (element_again order e front back row ends) ∙ ap (option_map (λ xs. e ∷ xs)) (elements_again order others back behind)
 
--- no elements are read behind an end
+-- no elements are read after an end
 none_behind : (order : Order) (e : ElementData) (es : List ElementData) (rest : List ℕ) → EndsAt e rest → elements order rest ≡ Some es → e ≡ End → es ≡ []
 none_behind order e es rest ends h is = sym (some_is [] es (sym (elements_nil order) ∙ ap (elements order) (sym (ends is)) ∙ h))
 

@@ -94,7 +94,7 @@ some_more : (o p : Option (List ItemData)) (x : ItemData) → IsSome o → o ≡
 some_more o None x some is = let none = subst (λ (q : Option (List ItemData)). IsSome q) is some in absurd cc
 some_more o (Some xs) x some is = (ap (λ (q : Option (List ItemData)). unwrap_or q []) is, refl)
 
--- one event on, from a mark at which no loss is told
+-- one event on, from a position at which no loss is told
 pub one_on : (l : Layout) (page : List ℕ) (mark behind : Mark) (x : ItemData) → mark.loss ≡ None → behind.loss ≡ None → IsMark l page mark
     → walk l.order mark.time (bytes_from page mark) ≡ option_map (λ xs. x ∷ xs) (walk l.order behind.time (bytes_from page behind)) → behind.from ≤ behind.to → behind.to ≤ length page
     → (items_from l page mark ≡ x ∷ items_from l page behind) × IsMark l page behind
@@ -102,7 +102,7 @@ one_on l page mark behind x event further here is forward within =
     let t = some_more (walk l.order mark.time (bytes_from page mark)) (walk l.order behind.time (bytes_from page behind)) x here.readable is in
     (rw (event, further) t.0, record { readable = t.1; forward = forward; within = within })
 
--- a piece of the bytes behind a mark is one of the page
+-- a piece of the bytes from a position on is one of the page
 pub piece_of : (page : List ℕ) (from to k len : ℕ) → from + k + len ≤ to → take len (drop k (drop from (take to page))) ≡ take len (drop (from + k) page)
 piece_of page from to k len fits =
     let at = from + k in
@@ -110,7 +110,7 @@ piece_of page from to k len fits =
     let whole : to ≡ at + more = omega (arith, fits) in
     ap (take len) (drop-drop k from (take to page)) ∙ ap (λ (n : ℕ). take len (drop at (take n page))) whole ∙ ap (take len) (drop-take at more page) ∙ take-take len more (drop at page) (omega (arith, fits))
 
--- one event on, by the places of what stands behind it and of its payload
+-- one event on, by the places of what follows it and of its payload
 event_passed : (l : Layout) (page : List ℕ) (m : Mark) (time at len n : ℕ) (payload rest : List ℕ) → m.loss ≡ None → IsMark l page m
     → walk l.order m.time (bytes_from page m) ≡ option_map (λ xs. EventAt time payload ∷ xs) (walk l.order time rest)
     → payload ≡ take len (drop at page) → rest ≡ drop n (take m.to page) → n ≤ m.to → at + len ≤ length page

@@ -156,7 +156,7 @@ plain_too_late l page m time len bytes until found late = λ delta payload front
 
 -- BYTES UP TO A PLACE
 
--- they are the first of those behind a mark
+-- they are the first of those from a position on
 cut_bytes : (page : List ℕ) (from end to : ℕ) → from ≤ end → end ≤ to → drop from (take end page) ≡ take (end - from) (drop from (take to page))
 cut_bytes page from end to forward within =
     let size = end - from in
@@ -190,7 +190,7 @@ plain_is_short order time after len bytes room plain =
     subst (λ (n : ℕ). IsShort order time bytes (Some (after, n))) same
     (short_told order time bytes (num order (take 4 bytes)) q.kind delta after refl (sym q.kind_is) (sym q.delta_is) (omega (arith, room)) q.least q.most (omega (arith, same, room)) timed)
 
--- a plain record that was found in the bytes up to a place stands in all bytes behind the mark
+-- a plain record that was found in the bytes up to a place stands in all bytes from the position on
 pub record FoundBefore (l : Layout) (page : List ℕ) (m : Mark) (time len end : ℕ) : Type 0 where
   pub plain : IsPlainFront l.order m.time (bytes_from page m) (Some (time, len))
   pub enough : 4 + len ≤ length (bytes_from page m)
@@ -227,7 +227,7 @@ none_before l page m end until bytes here forward within are none = λ delta pay
     are ∙ cut_bytes page m.from end m.to forward within ∙ ap (take size) whole ∙ front_taken front back size fits in
     absurd (plain_in_time l page m delta payload front back here whole is (none delta payload front (take (size - length front) back) cut is))
 
--- none ends within so many bytes where none ends before the place behind them, or before the end of the committed ones
+-- none ends within so many bytes where none ends before the place after them, or before the end of the committed ones
 pub none_within : (l : Layout) (page : List ℕ) (m : Mark) (end bytes until : ℕ) → IsMark l page m → end ≡ min (m.from + bytes) m.to → NonePlain l page m (end - m.from) until → NonePlain l page m bytes until
 none_within l page m end bytes until here is none = λ delta payload front back whole plain fits due.
     let forward = here.forward in

@@ -1,4 +1,4 @@
--- Bytes that are left of the bytes behind a mark.
+-- Bytes that are left of the bytes from a position on.
 use Rattle.std.proofs.Common.{◌≡◌, ℕ, ◌+◌, ◌-◌, ◌<◌, ◌≤◌, true, false, ltb, List, ◌++◌, length, take, drop, Option, Some, None, refl, sym, ap, subst, ◌∙◌, inl, inr, arith}
 use Rattle.std.specs.Option.{IsSome, option_map}
 use Rattle.std.proofs.lemmas.Bool.{le-ltb, lt-ltb, ltb-false}
@@ -35,7 +35,7 @@ map_none : {A B : Type 0} (f : A → B) (o : Option A) (y : B) → Some y ≡ op
 map_none f None y e = absurd cc
 map_none f (Some x) y e = (x, refl)
 
--- the mark before the first item of a page
+-- the position before the first item of a page
 pub opens : (l : Layout) (page : List ℕ) (loss : Option Loss) (time word size : ℕ) (summary : Summary)
     → time ≡ timestamp l page → word ≡ commit_word l page → size ≡ committed_size word → size ≤ length (data_area l page) → l.data_at ≤ length page
     → loss_items loss ≡ losses l word time (drop size (data_area l page))
@@ -82,7 +82,7 @@ room_checked l page area word size w s is checked =
     let room = (was_read l page checked).room in
     omega (arith, room, same, ap length is)
 
--- the mark before its first item
+-- the position before its first item
 pub opens_checked : (l : Layout) (page : List ℕ) (loss : Option Loss) (time word size : ℕ)
     → time ≡ timestamp l page → word ≡ commit_word l page → size ≡ committed_size word → l.data_at ≤ length page
     → loss_items loss ≡ losses l word time (drop size (data_area l page)) → IsSome (items l page)

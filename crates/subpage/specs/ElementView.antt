@@ -12,6 +12,6 @@ element_view (code.Discarded delta) = Discarded delta
 element_view (code.Extend delta) = Extend delta
 element_view (code.Stamp time) = Stamp time
 
--- an element, and the bytes behind it
+-- an element, and the bytes after it
 abbrev pub split_view : Element × Bor (List ℕ) → ElementData × List ℕ
 split_view x = (element_view x.0, x.1.now)

@@ -30,6 +30,6 @@ told_by time (Discarded delta) = []
 told_by time (Extend delta) = []
 told_by time (Stamp stamp) = []
 
--- each event with the running time behind it
+-- each event with the running time after it
 abbrev pub events : ℕ → List ElementData → List ItemData
 events time es = flat_map (λ x. told_by x.0 x.1) (zip (running_times time es) es)

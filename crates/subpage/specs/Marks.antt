@@ -1,4 +1,4 @@
--- A place among the items of a sub-buffer, and the items behind it.
+-- A position among the items of a sub-buffer, and the items from it on.
 use Rattle.std.specs.Prelude.{◌≡◌, ℕ, ◌+◌, ◌≤◌, List, [], ◌∷◌, length, take, drop, Option, Some, None, IsSome}
 use Rattle.trace_base.specs.declared.layout.Layout.{Layout}
 use Rattle.subpage.specs.declared.loss.Loss.{Loss}
@@ -16,13 +16,13 @@ bytes_from page mark = drop mark.from (take mark.to page)
 abbrev pub items_from : Layout → List ℕ → Mark → List ItemData
 items_from layout page mark = left mark.loss layout.order mark.time (bytes_from page mark)
 
--- A place in this page: the bytes behind it can be read.
+-- A position in this page: the bytes from it on can be read.
 pub record IsMark (layout : Layout) (page : List ℕ) (mark : Mark) : Type 0 where
   pub readable : IsSome (walk layout.order mark.time (bytes_from page mark))
   pub forward : mark.from ≤ mark.to
   pub within : mark.to ≤ length page
 
--- The first item behind a mark, with the mark behind it.
+-- The first item from a position on, with the position after that item.
 abbrev pub IsFirst : Layout → List ℕ → Mark → Option (Item × Mark) → Type 0
 IsFirst layout page mark None = items_from layout page mark ≡ []
 IsFirst layout page mark (Some first) =
@@ -35,20 +35,20 @@ IsInside page span = span.from + span.len ≤ length page
 abbrev pub span_bytes : List ℕ → Span → List ℕ
 span_bytes page span = take span.len (drop span.from page)
 
--- the loss that is to be told at a mark, or else the event of this time and payload
+-- the loss that is to be told at a position, or else the event of this time and payload
 abbrev pub item_by : Option Loss → ℕ → List ℕ → ItemData
 item_by None time payload = EventAt time payload
 item_by (Some loss) time payload = LossAt loss.time loss.count
 
--- The item between a mark and the mark behind it: an event's time is the running time behind it.
+-- The item between a position and the one after it: an event's time is the running time after it.
 abbrev pub item_between : List ℕ → Mark → Mark → Span → ItemData
 item_between page mark behind payload = item_by mark.loss behind.time (span_bytes page payload)
 
--- the place behind the loss that is told at a mark
+-- the position after the loss that is told at a position
 abbrev pub past_loss : Mark → Mark
 past_loss mark = record { loss = None; time = mark.time; from = mark.from; to = mark.to }
 
--- The mark behind the first item, at which no loss is told, and its payload.
+-- The position after the first item, at which no loss is told, and its payload.
 abbrev pub IsPassed : Layout → List ℕ → Mark → Option (Mark × Span) → Type 0
 IsPassed layout page mark None = items_from layout page mark ≡ []
 IsPassed layout page mark (Some passed) =

@@ -14,13 +14,13 @@ IsNext order time bytes (code.Event after payload rest) =
     (walk order time bytes ≡ option_map (λ xs. EventAt after payload.now ∷ xs) (walk order after rest.now))
     × (length rest.now < length bytes)
 
--- the bytes behind the event are the last ones
+-- the bytes after the event are the last ones
 abbrev pub IsSuffix : List ℕ → Next → Type 0
 IsSuffix bytes code.Malformed = Unit {0}
 IsSuffix bytes code.Done = Unit {0}
 IsSuffix bytes (code.Event after payload rest) = rest.now ≡ drop (length bytes - length rest.now) bytes
 
--- the payload, filled up to whole words, stands right before the bytes behind the event
+-- the payload, filled up to whole words, stands right before the bytes after the event
 abbrev pub HasPayload : List ℕ → Next → Type 0
 HasPayload bytes code.Malformed = Unit {0}
 HasPayload bytes code.Done = Unit {0}
@@ -28,7 +28,7 @@ HasPayload bytes (code.Event after payload rest) =
     (length rest.now + round4 (length payload.now) ≤ length bytes)
     × (payload.now ≡ take (length payload.now) (drop (length bytes - (length rest.now + round4 (length payload.now))) bytes))
 
--- an event at the front of bytes, with its payload right behind its first word
+-- an event at the front of bytes, with its payload right after its first word
 abbrev pub IsShort : Order → ℕ → List ℕ → Option (ℕ × ℕ) → Type 0
 IsShort order time bytes None = Unit {0}
 IsShort order time bytes (Some event) =

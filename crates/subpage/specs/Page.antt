@@ -33,14 +33,14 @@ has_missed word = word / 2 ^ 31 % 2 == 1
 abbrev pub has_stored : ℕ → Bool
 has_stored word = word / 2 ^ 30 % 2 == 1
 
--- the committed bytes, and those of the data area behind them
+-- the committed bytes, and those of the data area after them
 abbrev pub committed : Layout → List ℕ → List ℕ
 committed layout page = take (committed_size (commit_word layout page)) (data_area layout page)
 
 abbrev pub behind_committed : Layout → List ℕ → List ℕ
 behind_committed layout page = drop (committed_size (commit_word layout page)) (data_area layout page)
 
--- the number of missed events, which stands behind the committed bytes where there is room for it
+-- the number of missed events, which follows the committed bytes where there is room for it
 abbrev pub stored_number : Layout → ℕ → List ℕ → Option ℕ
 stored_number layout word behind =
     if has_stored word && nat_le layout.commit_size (length behind) then Some (long_at_front layout behind) else None

@@ -8,7 +8,7 @@ use Rattle.trace_base.specs.declared.part.Part.{Part}
 use Rattle.subpage.specs.ItemData.{ItemData}
 use Rattle.subpage.specs.Page.{items}
 
--- the place in the file behind a part's sub-buffer k
+-- the place in the file after a part's sub-buffer k
 abbrev pub page_end : Layout → Part → ℕ → ℕ
 page_end layout part k = part.offset + (k + 1) * layout.page
 

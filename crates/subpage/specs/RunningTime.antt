@@ -9,14 +9,14 @@ use Rattle.subpage.specs.Element.{ElementData, Event, End, Discarded, Extend, St
 abbrev pub upper_bits : ℕ → ℕ
 upper_bits time = time - time % 2 ^ 59
 
--- the running time behind a stamp
+-- the running time after a stamp
 abbrev pub stamped : ℕ → ℕ → ℕ
 stamped time stamp =
     if upper_bits time == 0 then stamp
     else (if nat_le time (upper_bits time + stamp) then upper_bits time + stamp
     else upper_bits time + stamp + 2 ^ 59)
 
--- the running time behind an element
+-- the running time after an element
 abbrev pub time_after : ℕ → ElementData → ℕ
 time_after time (Event delta payload) = time + delta
 time_after time End = time
@@ -24,7 +24,7 @@ time_after time (Discarded delta) = time + delta
 time_after time (Extend delta) = time + delta
 time_after time (Stamp stamp) = stamped time stamp
 
--- the running times behind each element
+-- the running times after each element
 abbrev pub running_times : ℕ → List ElementData → List ℕ
 running_times time [] = []
 running_times time (e ∷ es) = time_after time e ∷ running_times (time_after time e) es

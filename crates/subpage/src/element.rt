@@ -4,9 +4,9 @@
 pub enum Element<'a> {
     /// A data record.
     Event { delta: u32, payload: &'a [u8] },
-    /// The end of the elements: the committed bytes behind it are padding.
+    /// The end of the elements: the committed bytes after it are padding.
     End,
-    /// A record that was thrown away, whose time counts.
+    /// A discarded record, whose time counts.
     Discarded { delta: u32 },
     /// The running time moves on.
     Extend { delta: u64 },

@@ -1,10 +1,10 @@
 //! Sub-buffers of a trace.dat file: what stands in one, and the items that it tells.
 //!
-//! [`open_page`] finds whether a sub-buffer is well formed, and gives the [`Mark`] before its first item: plain numbers that
-//! a cursor keeps beside the bytes. [`open_checked`] gives it again. [`pass_item`] passes over an item and tells where its
-//! payload stands, by which [`item_between`] gives it again without decoding it. [`plain_run`] passes over events whose
-//! records can be copied as they stand, and [`run_between`] gives their bytes. Nothing here takes memory, and no size that
-//! stands in the page is trusted.
+//! [`open_page`] finds whether a sub-buffer is well formed, and gives the position before its first item, a [`Mark`]: plain
+//! numbers that a cursor keeps beside the bytes. [`open_checked`] gives it again. [`pass_item`] passes over an item and tells
+//! where its payload stands, by which [`item_between`] gives it again without decoding it. [`plain_run`] passes over events
+//! whose records can be copied as they stand, and [`run_between`] gives their bytes. Nothing here takes memory, and no size
+//! that stands in the page is trusted.
 //!
 //! [`check_page`] is the plain way to the same items, for whoever keeps nothing beside the bytes: a [`Page`] gives them by an
 //! iterator, with their number and times. Tests call it; the program opens each sub-buffer by [`open_page`].

@@ -9,7 +9,7 @@ use crate::next::{Next, next_event, pass_silent};
 use crate::reading::{filled_up, short_event};
 use trace_base::Layout;
 
-/// A place among the items of a sub-buffer, as plain numbers: it can be kept beside the sub-buffer's bytes, and the
+/// A position among the items of a sub-buffer, as plain numbers: it can be kept beside the sub-buffer's bytes, and the
 /// item there is read in the time that this one item takes.
 #[derive(Clone, Copy, Debug)]
 pub struct Mark {
@@ -23,7 +23,7 @@ pub struct Mark {
 }
 
 impl Mark {
-    /// The place of no item.
+    /// The position of no item.
     pub const NONE: Mark = Mark {
         loss: None,
         time: 0,
@@ -39,7 +39,7 @@ impl Mark {
         self.time
     }
 
-    /// The place behind the loss, where one is told there. Behind an item none is, and it is this very place.
+    /// The position after the loss, where one is told here. After an item none is told, and it is this very position.
     #[inline(always)]
     pub fn past_loss(&self) -> Mark
         ensures { result ≡ past_loss self.now }
@@ -53,7 +53,7 @@ impl Mark {
     }
 }
 
-/// The committed bytes behind a mark.
+/// The committed bytes from a position on.
 pub(crate) fn bytes_behind(page: &[u8], mark: Mark) -> &[u8]
     requires forward { mark.from ≤ mark.to }
     requires within { mark.to ≤ length page.now }
@@ -64,7 +64,7 @@ pub(crate) fn bytes_behind(page: &[u8], mark: Mark) -> &[u8]
     rest
 }
 
-/// The same place, with everything passed over that tells no item.
+/// The same position, with everything passed over that tells no item.
 pub(crate) fn settle(layout: &Layout, page: &[u8], mark: Mark) -> Mark
     requires { IsMark layout.now page.now mark }
     ensures same { items_from layout.now page.now result ≡ items_from layout.now page.now mark }
@@ -91,7 +91,7 @@ impl Span {
     pub const NONE: Span = Span { from: 0, len: 0 };
 }
 
-/// The item between a mark and the mark behind it, as [`pass_item`] found them. It is not read again.
+/// The item between a position and the one after it, as [`pass_item`] found them. It is not decoded again.
 #[inline(always)]
 pub fn item_between<'a>(page: &'a [u8], mark: &Mark, behind: &Mark, payload: Span) -> Item<'a>
     requires { IsInside page.now payload }
@@ -113,7 +113,7 @@ pub fn item_between<'a>(page: &'a [u8], mark: &Mark, behind: &Mark, payload: Spa
     }
 }
 
-/// The mark behind the first event from a mark on, whatever stands before it, and its payload.
+/// The position after the first event from a position on, whatever stands before it, and its payload.
 #[inline(never)]
 fn pass_next(layout: &Layout, page: &[u8], mark: Mark) -> Option<(Mark, Span)>
     requires mark { IsMark layout.now page.now mark }
@@ -141,13 +141,13 @@ fn pass_next(layout: &Layout, page: &[u8], mark: Mark) -> Option<(Mark, Span)>
             };
             Some((behind, payload))
         }
-        // The bytes behind a mark can be read.
+        // The bytes from a position on can be read.
         Next::Done | Next::Malformed => None,
     }
 }
 
-/// The mark behind the event at a mark at which no loss is told, and its payload. Most events have their length in their
-/// first word.
+/// The position after the event at a position at which no loss is told, and its payload. Most events have their length in
+/// their first word.
 #[inline(always)]
 fn pass_event(layout: &Layout, page: &[u8], mark: Mark) -> Option<(Mark, Span)>
     requires mark { IsMark layout.now page.now mark }
@@ -169,7 +169,7 @@ fn pass_event(layout: &Layout, page: &[u8], mark: Mark) -> Option<(Mark, Span)>
     }
 }
 
-/// The mark behind the item at a mark, and its payload.
+/// The position after the item at a position, and the item's payload.
 #[inline(always)]
 pub fn pass_item(layout: &Layout, page: &[u8], mark: Mark) -> Option<(Mark, Span)>
     requires { IsMark layout.now page.now mark }
@@ -182,7 +182,7 @@ pub fn pass_item(layout: &Layout, page: &[u8], mark: Mark) -> Option<(Mark, Span
     pass_event(layout, page, mark)
 }
 
-/// The item at a mark, and the mark behind it.
+/// The item at a position, and the position after it.
 pub fn first_at<'a>(layout: &Layout, page: &'a [u8], mark: Mark) -> Option<(Item<'a>, Mark)>
     requires { IsMark layout.now page.now mark }
     ensures { IsFirst layout.now page.now mark result }

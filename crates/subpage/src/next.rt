@@ -12,7 +12,7 @@ use trace_base::Order;
 /// What follows in a sub-buffer's committed bytes.
 #[derive(Clone, Copy, Debug)]
 pub enum Next<'a> {
-    /// An event, the running time behind it, and the bytes behind it.
+    /// An event, the running time after it, and the bytes after it.
     Event {
         time: u64,
         payload: &'a [u8],

@@ -57,7 +57,7 @@ fn read_long(order: Order, size: u32, bytes: &[u8]) -> u64
     }
 }
 
-/// The number of missed events, where the commit word says that it stands behind the committed bytes and it does.
+/// The number of missed events, where the commit word says that it follows the committed bytes and it does.
 fn stored_number_of(layout: &Layout, word: u64, behind: &[u8]) -> Option<u64>
     ensures { result ≡ stored_number layout.now word behind.now }
 {
@@ -87,7 +87,7 @@ fn loss_of(layout: &Layout, word: u64, time: u64, behind: &[u8]) -> Option<Loss>
 /// or where a running time would be 2^64 or more.
 ///
 /// Of the commit word the low 27 bits are the number of committed bytes, bit 31 tells a loss, and bit 30 beside it that
-/// the number of lost events stands behind the committed bytes; where it does not fit there the loss has no number.
+/// the number of lost events follows the committed bytes; where it does not fit there the loss has no number.
 /// Bits 27 to 29, bits above 31, and bit 30 alone are ignored.
 pub fn check_page<'a>(layout: &Layout, bytes: &'a [u8]) -> Option<Page<'a>>
     requires whole { length bytes.now ≡ layout.now.page }
@@ -114,7 +114,7 @@ fn read_page<'a>(layout: &Layout, bytes: &'a [u8]) -> Option<Page<'a>>
     })
 }
 
-/// The place before the first item of the sub-buffer that these bytes are, or `None` where it is malformed.
+/// The position before the first item of the sub-buffer that these bytes are, or `None` where it is malformed.
 pub fn open_page(layout: &Layout, bytes: &[u8]) -> Option<Mark>
     requires whole { length bytes.now ≡ layout.now.page }
     ensures exact { option_map (λ mark. items_from layout.now bytes.now mark) result ≡ items layout.now bytes.now }
@@ -179,7 +179,7 @@ fn data_area_of<'a>(layout: &Layout, bytes: &'a [u8]) -> &'a [u8]
     &bytes[layout.data_at as usize..]
 }
 
-/// The place before the first item, and how many items there are and when.
+/// The position before the first item, and how many items there are and when.
 fn read_front(layout: &Layout, bytes: &[u8]) -> Option<(Mark, Summary)>
     requires whole { length bytes.now ≡ layout.now.page }
     ensures exact { option_map (λ front. items_from layout.now bytes.now front.0) result ≡ items layout.now bytes.now }

@@ -1,4 +1,4 @@
-// The elements of committed bytes, read from the front: each function gives what it read, and the bytes behind it.
+// The elements of committed bytes, read from the front: each function gives what it read, and the bytes after it.
 
 ghost use Rattle.std.specs.Prelude.{◌≡◌, ◌-◌, ◌^◌, ◌<◌, ◌≤◌, IfSome, length, option_map};
 ghost use Rattle.subpage.specs.Element.{round4, type_len, time_delta};
@@ -11,7 +11,7 @@ use crate::element::Element;
 use crate::running_time::time_past;
 use trace_base::{Order, read_u32};
 
-/// How many bits of a first word are its delta; the word behind it goes on above them.
+/// How many bits of a first word are its delta; the word after it goes on above them.
 const DELTA_BITS: u32 = 27;
 
 const DELTA_MASK: u32 = (1 << DELTA_BITS) - 1;
@@ -47,7 +47,7 @@ fn split_word(order: Order, bytes: &[u8]) -> Option<(u32, &[u8])>
     Some((read_u32(order, bytes), rest))
 }
 
-/// A length filled up to whole words.
+/// A length rounded up to whole words.
 pub fn filled_up(len: usize) -> usize
     requires { len < 2 ^ 32 }
     ensures { result ≡ round4 len }
@@ -55,7 +55,7 @@ pub fn filled_up(len: usize) -> usize
     (len + 3) / 4 * 4
 }
 
-/// A length that counts its own word, and the bytes that it counts, filled up to whole words.
+/// A length that counts its own word, and the bytes that it counts, padded to whole words.
 #[tactic(auto, unfolding(crate::specs::Reading::counted_at))]
 fn split_counted(order: Order, bytes: &[u8]) -> Option<(u32, &[u8], &[u8])>
     ensures value { option_map (λ x. (x.0, x.1.now, x.2.now)) result ≡ counted_at order bytes.now }
@@ -150,7 +150,7 @@ pub fn split_element(order: Order, bytes: &[u8]) -> Option<(Element<'_>, &[u8])>
     split_rest(order, kind, time_delta_of(order, word), after)
 }
 
-/// The running time behind the event at the front and its payload's length, where its first word tells the length.
+/// The running time after the event at the front and its payload's length, where its first word tells the length.
 #[inline(always)]
 pub fn short_event(order: Order, time: u64, bytes: &[u8]) -> Option<(u64, u32)>
     ensures told { IsShort order time bytes.now result }

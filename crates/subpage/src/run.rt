@@ -20,7 +20,7 @@ pub struct RunLimits {
     pub until: u64,
 }
 
-/// Where a run from a mark on ends at the latest: so many bytes behind it, or where the committed bytes end.
+/// Where a run from a position on ends at the latest: so many bytes after it, or where the committed bytes end.
 #[inline(always)]
 fn end_within(mark: Mark, bytes: u32) -> u32
     requires { mark.from ≤ mark.to }
@@ -32,8 +32,8 @@ fn end_within(mark: Mark, bytes: u32) -> u32
     mark.to
 }
 
-/// The mark after the plain record at a mark, where the record ends no later than at `end`, and its event is no later than
-/// `until`. No byte from `end` on is looked at.
+/// The position after the plain record at a position, where the record ends no later than at `end`, and its event is no later
+/// than `until`. No byte from `end` on is looked at.
 #[inline(always)]
 fn pass_plain(layout: &Layout, page: &[u8], mark: Mark, end: u32, until: u64) -> Option<Mark>
     requires mark { IsMark layout.now page.now mark }
@@ -63,7 +63,7 @@ fn pass_plain(layout: &Layout, page: &[u8], mark: Mark, end: u32, until: u64) ->
     })
 }
 
-/// The mark after a run that begins with one record, and how many records it has.
+/// The position after a run that begins with one record, and how many records it has.
 fn longest_run(
     layout: &Layout,
     page: &[u8],
@@ -98,8 +98,8 @@ fn longest_run(
     (next, count)
 }
 
-/// The longest run of plain records from a mark on within the limits: the mark after it, and how many events it has. `None`
-/// where a loss is told at the mark, or no such record stands there.
+/// The longest run of plain records from a position on within the limits: the position after it, and how many events it has.
+/// `None` where a loss is told at the position, or no such record stands there.
 ///
 /// A plain record is an event's whose first word tells the length of its payload. In a run they stand one right after
 /// another, so that nothing moves the running time between them.
@@ -125,7 +125,7 @@ pub fn plain_run(
     Some(longest_run(layout, page, mark, first, end, limits))
 }
 
-/// The bytes between two marks.
+/// The bytes between two positions.
 pub fn run_between<'a>(page: &'a [u8], mark: &Mark, next: &Mark) -> &'a [u8]
     requires { IsBetween page.now mark.now next.now }
     ensures { result.now ≡ run_bytes page.now mark.now next.now }

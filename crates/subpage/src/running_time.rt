@@ -7,7 +7,7 @@ use crate::element::Element;
 /// A stamp has this many bits.
 const STAMP_BITS: u32 = 59;
 
-/// The running time behind a stamp, where it is below 2^64.
+/// The running time after a stamp, where it is below 2^64.
 fn time_at_stamp(time: u64, stamp: u64) -> Option<u64>
     ensures { result ≡ in_64_bits (stamped time stamp) }
 {
@@ -30,7 +30,7 @@ pub fn time_past(time: u64, delta: u32) -> Option<u64>
     time.checked_add(u64::from(delta))
 }
 
-/// The running time behind an element, where it is below 2^64.
+/// The running time after an element, where it is below 2^64.
 pub fn time_behind(time: u64, element: &Element<'_>) -> Option<u64>
     ensures { result ≡ in_64_bits (time_after time (element_view element.now)) }
 {

@@ -59,7 +59,7 @@ fn bytes_past(bytes: &[u8], len: usize) -> &[u8]
     rest
 }
 
-/// The items in short, where the bytes can be read. Most events have their length in their first word, and are passed over
+/// A summary of the items, where the bytes can be read. Most events have their length in their first word, and are passed over
 /// before anything else is looked for.
 #[inline(always)]
 fn summarize_in(order: Order, loss: Option<Loss>, start: u64, bytes: &[u8]) -> Option<Summary>
@@ -93,7 +93,7 @@ fn summarize_in(order: Order, loss: Option<Loss>, start: u64, bytes: &[u8]) -> O
     }
 }
 
-/// The items in short, where the bytes can be read.
+/// A summary of the items, where the bytes can be read.
 pub fn summarize(loss: Option<Loss>, order: Order, start: u64, bytes: &[u8]) -> Option<Summary>
     requires { length bytes.now < 2 ^ 31 }
     ensures { result

@@ -49,12 +49,12 @@ pub record LoadedSoFar {F : Type 0} (f : file.Ghosts F) (l : Layout) (start now 
   pub kept : (j : ℕ) (d : Lane) → j < length first → IsReady l (get_or first j d) → get_or lanes j d ≡ get_or first j d
   pub stopped : HasStopped l (f.size start) first lanes (f.reads start) (f.reads now)
 
--- a read that failed, behind loads that left the count of faults as it was
+-- a read that failed, after loads that left the count of faults as it was
 pub read_failed : {T E : Type 0} (start mid now : ℕ) (result : Result T E) → mid ≡ start → IsErr result → mid ≤ now → Rose mid now → HasCause start now result
 read_failed start mid now (Ok value) same failed later rose = absurd (let bad : ⊥ = cc in bad)
 read_failed start mid now (Err error) same failed later rose = record { later = omega (arith, same, later); failed = omega (arith, same, rose); kept = tt }
 
--- a lane that was ready stays as it was, as long as those behind are as they were
+-- a lane that was ready stays as it was, as long as those after it are as they were
 still_kept : (l : Layout) (first lanes : List Lane) (i : ℕ) (d now : Lane) → i < length lanes → (IsReady l (get_or lanes i d) → now ≡ get_or lanes i d)
     → ((j : ℕ) (e : Lane) → i ≤ j → get_or lanes j e ≡ get_or first j e)
     → ((j : ℕ) (e : Lane) → j < length first → IsReady l (get_or first j e) → get_or lanes j e ≡ get_or first j e)
@@ -165,7 +165,7 @@ module _ {F : Type 0} (f : file.Ghosts F) (l : Layout) (start : F) (first : List
           }
 
   module _ (now : F) (lanes : List Lane) (moved : List Bool) (from : ℕ) (marks : length moved ≡ length first) (unmoved : AllUnmoved (IsReady l) moved first) (so_far : ReadySoFar f l start now first lanes from) where
-    -- lanes without a mark, which are ready, are passed over
+    -- clean lanes, which are ready, are passed over
     up_to : (at : ℕ) → from ≤ at → at ≤ length moved → NoneMarked moved from at → ReadySoFar f l start now first lanes at
     up_to at behind inside none =
         passing (λ n. ReadySoFar f l start now first lanes n) moved from at behind none

@@ -76,7 +76,7 @@ module _ {X : Type 0} (key cpu : X → ℕ) where
 
 -- LANES
 
--- the keys of items, and of those behind them
+-- the keys of items, and of those after them
 keyed_parts : (cpu high : ℕ) (xs ys : List ItemData) → keyed_from cpu high (xs ++ ys) ≡ keyed_from cpu high xs ++ keyed_from cpu (fold max high (map item_time xs)) ys
 keyed_parts cpu high [] ys = refl
 keyed_parts cpu high (x ∷ xs) ys = ap (λ (zs : List Keyed). record { key = max high (item_time x); cpu = cpu; item = x } ∷ zs) (keyed_parts cpu (max high (item_time x)) xs ys)

@@ -16,7 +16,7 @@ use page_pool::Lane;
 use trace_base::Layout;
 use trace_outside::{Failed, File};
 
-/// Brings a tree in step with ready lanes: each slot has what comes next of its lane.
+/// Brings a tree into step with ready lanes: each slot has what comes next of its lane.
 fn take_nexts(layout: &Layout, lanes: &[Lane], nexts: &mut LeastTree)
     requires in_order { All (IsInOrder layout.now) lanes.now }
     requires slots { length nexts.old ≡ length lanes.now }

@@ -1,13 +1,13 @@
 //! The order of several processors' items, over one held sub-buffer of each.
 //!
-//! Items stand by key, then processor, then position, and end before the least cut. What lanes have to come in that order
+//! Items stand by key, then processor, then position, and end before the least cut. What is still to come of lanes in that order
 //! is one list, `to_come` in `specs/LaneRows.antt`: [`next_lane_by`] tells its first item, by a tree of what comes next of
 //! each lane, and whoever steps that lane has its rest. [`next_lane`] tells the same by a look at every lane: it is the
 //! plain call beside the fast one, which tests compare with it, while every command goes by the tree. Over fresh lanes the
 //! list is that of the reached items ([`laws`]).
 //!
-//! Whoever takes many items at once makes the lanes ready, all of them ([`make_all_ready`]) or, where a mark tells which
-//! ones moved, those alone ([`make_moved_ready`]; [`wants_load`] tells which lanes are to have a mark), and asks for the
+//! Whoever takes many items at once makes the lanes ready, all of them ([`make_all_ready`]) or, where dirty bits tell which
+//! ones moved, those alone ([`make_moved_ready`]; [`wants_load`] tells which lanes are to be dirty), and asks for the
 //! [`horizon`] up to which their items are known, by a tree of the lanes' greatest times ([`high_of`]).
 #![tactic(auto)]
 

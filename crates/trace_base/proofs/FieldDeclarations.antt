@@ -112,7 +112,7 @@ split_text text inner at whole inside mark =
     let back : drop at inner ≡ 91 ∷ drop (at + 1) inner = drop-cons inner at 0 inside ∙ ap (λ byte. byte ∷ drop (suc at) inner) mark ∙ ap (λ n. 91 ∷ drop n inner) next in
     whole ∙ ap (λ t. t ++ codes "]") (sym (take-append-drop at inner) ∙ ap (λ b. take at inner ++ b) back) ∙ append_assoc (take at inner) (91 ∷ drop (at + 1) inner) (codes "]")
 
--- no opening bracket stands behind the greatest place of one
+-- no opening bracket stands after the greatest place of one
 none_later : (text inner : List ℕ) (at : ℕ) → text ≡ inner ++ codes "]" → IsGreatest (opens inner) (length inner) at → (longer rest other name : List ℕ)
     → text ≡ longer ++ (codes "[" ++ rest) → at < length longer → EndsInName longer other name → ⊥
 none_later text inner at whole greatest longer rest other name is over ends = elim (cases_lt (length longer) (length inner)) [

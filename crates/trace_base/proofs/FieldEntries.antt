@@ -1,4 +1,4 @@
--- The entries of a field line: a word, a number and a semicolon, behind blanks.
+-- The entries of a field line: a word, a number and a semicolon, after blanks.
 use Rattle.std.proofs.Common.{◌≡◌, ℕ, ◌+◌, ◌^◌, ◌<◌, inl, inr, Bool, true, false, not, cond, ltb, eqb, ◌==◌, ◌&&◌, codes, List, [], ◌∷◌, ◌++◌, length, take, drop, get_or, None, Some, refl, sym, ap, subst, ◌∙◌, append_assoc, append-nil, arith}
 use Rattle.std.proofs.lemmas.Bool.{ltb-true, lt-ltb, eqb-true, ne_eqb}
 use Rattle.std.proofs.lemmas.List.{take_at, drop_at, take-append-drop, length-append, drop-drop}

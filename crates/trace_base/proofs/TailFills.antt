@@ -1,4 +1,4 @@
--- A piece that is put behind others, as far as there is room.
+-- A piece that is put after others, as far as there is room.
 use Rattle.std.proofs.Common.{◌≡◌, ℕ, ◌+◌, ◌-◌, ◌^◌, ◌<◌, ◌≤◌, min, List, [], ◌∷◌, ◌++◌, length, take, drop, Option, Some, None, refl, sym, ap, ◌∙◌, append_assoc, length-append, length-drop, arith, inl, inr}
 use Rattle.std.specs.Prelude.{slice_get, nat_lt, if◌then◌else◌, Bool}
 use Rattle.std.specs.List.{last_or, prefix_len}
@@ -28,8 +28,8 @@ pub last_none : (before : Option ℕ) (xs : List ℕ) → None ≡ slice_get xs 
 last_none before [] e = refl
 last_none before (y ∷ xs) e = absurd (some_last before y xs (sym (e ∙ last_of before y xs)))
 
--- What a slice holds after a piece was put behind its first bytes, as far as there is room: other is what
--- would stand behind the piece.
+-- What a slice holds after a piece was put after its first bytes, as far as there is room: other is what
+-- would follow the piece.
 written : (into piece other : List ℕ) (at : ℕ) → at ≤ length into → put_mid at (length into - at) into (take (length into - at) (piece ++ other)) ≡ take (length into) (take at into ++ (piece ++ other))
 written into piece other at le =
     let front : length (take at into) ≡ at = omega (arith, length-take at into) in
@@ -73,7 +73,7 @@ length_put into piece other at le room =
 nul_bound : (total : ℕ) (piece : List ℕ) → nul_in total piece ≡ nul_in (min total most) piece
 nul_bound total piece = ap (λ (n : ℕ). if nat_lt (prefix_len is_letter piece) (length piece) then Some n else None) (omega arith)
 
--- what the part of the slice behind the first bytes held
+-- what the part of the slice after the first bytes held
 abbrev behind : List ℕ → ℕ → List ℕ
 behind into at = take (length into - at) (drop at into)
 

@@ -1,4 +1,4 @@
--- The first bytes of a text, of which sixteen are copied behind what was put.
+-- The first bytes of a text, of which sixteen are copied after what was put.
 use Rattle.std.proofs.Common.{◌≡◌, ℕ, ◌+◌, ◌^◌, ◌<◌, ◌≤◌, min, List, ◌++◌, length, take, drop, refl, sym, ap, ◌∙◌, length-append, length-drop, arith}
 use Rattle.std.proofs.Math.Seq.{take-append-add}
 use Rattle.std.proofs.lemmas.List.{length-take, take-take, take_all}

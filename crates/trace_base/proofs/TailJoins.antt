@@ -1,4 +1,4 @@
--- Pieces that are put one behind another.
+-- Pieces that are put one after another.
 use Rattle.std.proofs.Common.{◌≡◌, ℕ, ◌+◌, ◌<◌, ◌≤◌, min, List, [], ◌∷◌, ◌++◌, length, take, drop, get_or, Option, Some, None, refl, sym, ap, ◌∙◌, append_assoc, length-append, arith, inl, inr}
 use Rattle.std.specs.Prelude.{Bool, true, false}
 use Rattle.std.specs.List.{last_or, flat_map, prefix_len}

@@ -59,7 +59,7 @@ pub record IsPlain (text : List ℕ) (declaration : Declaration) : Type 0 where
   pub array_is : declaration.array ≡ false
   pub count_is : declaration.count ≡ 0
 
--- a declaration with brackets behind the name: of the places where an opening one could stand, the last one counts
+-- a declaration with brackets after the name: of the places where an opening one could stand, the last one counts
 pub record IsArray (text : List ℕ) (declaration : Declaration) : Type 0 where
   pub front : List ℕ
   pub inside : List ℕ

@@ -12,19 +12,19 @@ use Rattle.trace_base.specs.declared.field_line.Declared.{Declared}
 unfoldable pub after_word : List ℕ → List ℕ → Option (List ℕ)
 after_word word text = if bytes_eq (take (length word) text) word then Some (drop (length word) text) else None
 
--- what stands before the first semicolon, and what behind it
+-- what stands before the first semicolon, and what after it
 unfoldable pub cut_at : List ℕ → Option (List ℕ × List ℕ)
 cut_at text = do
   at ← position (λ byte. byte == 59) text
   Some (take at text, drop (at + 1) text)
 
--- the identifier that the text ends in, behind what stands before it
+-- the identifier that the text ends in, after what stands before it
 unfoldable pub named_at : List ℕ → Option (List ℕ × List ℕ)
 named_at text =
     let start = length text - suffix_len is_word text in
     if is_identifier (drop start text) then Some (take start text, drop start text) else None
 
--- an opening bracket directly behind an identifier
+-- an opening bracket directly after an identifier
 unfoldable pub opens : List ℕ → ℕ → Bool
 opens text at = (slice_index text at == 91) && is_some (named_at (take at text))
 
@@ -48,7 +48,7 @@ array_at text = do
 unfoldable pub declaration_at : List ℕ → Option Declaration
 declaration_at text = if bytes_eq (drop (length text - 1) text) (codes "]") then array_at (take (length text - 1) text) else plain_at text
 
--- the number behind blanks and a word, and what follows its semicolon
+-- the number after blanks and a word, and what follows its semicolon
 unfoldable pub entry_at : List ℕ → List ℕ → Option (ℕ × List ℕ)
 entry_at word text = do
   rest ← after_word word (skip_blanks text)

@@ -28,7 +28,7 @@ is_letter byte = not (byte == 0)
 abbrev pub until_nul : List ℕ → List ℕ
 until_nul text = take (prefix_len is_letter text) text
 
--- the place of the first NUL of a piece that is put behind so many bytes
+-- the place of the first NUL of a piece that is put after so many bytes
 abbrev pub nul_in : ℕ → List ℕ → Option ℕ
 nul_in total piece = if nat_lt (prefix_len is_letter piece) (length piece) then Some (min (total + prefix_len is_letter piece) most) else None
 

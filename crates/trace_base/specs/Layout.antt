@@ -13,7 +13,7 @@ abbrev pub layout_from : Order → (time_at commit_at commit_size data_at page :
 layout_from order time_at commit_at commit_size data_at page allowed =
     record { order = order; time_at = time_at; commit_at = commit_at; commit_size = commit_size; data_at = data_at; page = page; allowed = allowed }
 
--- the timestamp, a commit word of a long, and the data behind it
+-- the timestamp, a commit word of a long, and the data after it
 abbrev pub plain_layout : Order → (long page : ℕ) → IsAllowed 0 8 long (8 + long) page → Layout
 plain_layout order long page allowed = layout_from order 0 8 long (8 + long) page allowed
 

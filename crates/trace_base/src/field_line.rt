@@ -16,7 +16,7 @@ pub struct FieldLine<'a> {
     pub name: &'a [u8],
     /// What stands before the name, without blanks at its ends: the type, as C writes it.
     pub kind_text: &'a [u8],
-    /// Whether brackets stand behind the name.
+    /// Whether brackets follow the name.
     pub array: bool,
     /// The number of 32 bits in the brackets, or 0 where there is none.
     pub count: u32,
@@ -30,8 +30,8 @@ pub struct FieldLine<'a> {
 
 /// The field that the line declares, or none exactly where it is no field line.
 ///
-/// A field line is blanks, `field:`, a declaration, `;` and then `offset:N;`, `size:N;` and maybe `signed:N;`, each behind
-/// blanks, where N is decimal and below 2^32. Nothing may stand behind the last `;`.
+/// A field line is blanks, `field:`, a declaration, `;` and then `offset:N;`, `size:N;` and maybe `signed:N;`, each after
+/// blanks, where N is decimal and below 2^32. Nothing may follow the last `;`.
 pub fn read_field_line(line: &[u8]) -> Option<FieldLine<'_>>
     ensures found { IfSome result (λ field. IsFieldLine line.now (field_view field)) }
     ensures none { IfNone result ((field : FieldData) → IsFieldLine line.now field → ⊥) }
@@ -112,7 +112,7 @@ fn array(text: &[u8]) -> Option<Declared<'_>>
     })
 }
 
-// The last opening bracket directly behind an identifier.
+// The last opening bracket directly after an identifier.
 fn opening(text: &[u8]) -> Option<usize>
     ensures value { result ≡ greatest_below (opens text.now) (length text.now) }
     ensures inside { IfSome result (λ at. at < length text.now) }

@@ -56,7 +56,7 @@ impl Layout {
         }
     }
 
-    /// The layout that a kernel with a long of 4 or 8 bytes uses: the timestamp, the commit word, and the data behind it.
+    /// The layout that a kernel with a long of 4 or 8 bytes uses: the timestamp, the commit word, and the data after it.
     ///
     /// The sub-buffer has 4,096 to 262,144 bytes.
     pub fn plain(order: Order, long: u32, page: u32) -> Layout

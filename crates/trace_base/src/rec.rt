@@ -56,7 +56,7 @@ pub fn number_of(rec: &Rec<'_>, field: &Field) -> i128
     sized(signed, field.size, number)
 }
 
-/// So many bytes as a number, by a sign.
+/// The value of a number of `size` bytes: as two's complement, if it is signed.
 pub fn sized(signed: bool, size: u32, number: u64) -> i128
     ensures { result ≡ sized signed size number }
 {

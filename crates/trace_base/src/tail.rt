@@ -32,7 +32,7 @@ impl<'a> Tail<'a> {
         }
     }
 
-    /// Puts a piece behind what was put.
+    /// Puts a piece after what was put.
     #[inline(always)]
     pub fn put(&mut self, piece: &[u8])
         ensures same_slice { lent self.new ≡ lent self.old }
@@ -46,7 +46,8 @@ impl<'a> Tail<'a> {
         note_last(&mut self.last, piece);
     }
 
-    /// Puts the first bytes of a longer text, as the pieces of a line are. Of the tail what stays through cuts is told.
+    /// Puts the first `len` bytes of a longer text, as pieces of a line are put. Of the tail the contract tells what stays true
+    /// through cuts.
     #[inline(always)]
     pub fn put_front(&mut self, text: &[u8], len: usize)
         requires within { len ≤ length text.now }
@@ -67,7 +68,7 @@ impl<'a> Tail<'a> {
         }
     }
 
-    /// The true length of what was put. It stays at the greatest number of 64 bits.
+    /// The true length of what was put. It saturates at the greatest number of 64 bits.
     pub fn total(&self) -> u64
         ensures value { result ≡ (kept self.now).total }
         ensures room { (kept self.now).room < 2 ^ 63 }
@@ -111,7 +112,7 @@ impl<'a> Tail<'a> {
         self.nul = None;
     }
 
-    /// Where a watched text ends: at its first NUL, or else where all ends.
+    /// Where a watched text ends: at its first NUL, or else at the end of what was put.
     pub fn text_end(&self) -> u64
         ensures { result ≡ text_end (kept self.now) }
     {
@@ -146,7 +147,7 @@ fn note_last(last: &mut Option<u8>, piece: &[u8])
     }
 }
 
-// The place of the first NUL, with a piece that is put behind so many bytes. A text that is not watched pays for one branch.
+// The place of the first NUL, with a piece that is put after so many bytes. A text that is not watched pays for one branch.
 #[inline(always)]
 fn note_nul(watches: bool, nul: &mut Option<u64>, total: u64, piece: &[u8])
     ensures { nul.new ≡ nul_after watches nul.old total piece.now }
@@ -159,13 +160,13 @@ fn note_nul(watches: bool, nul: &mut Option<u64>, total: u64, piece: &[u8])
     }
 }
 
-/// Two pieces that are put are the two joined.
+/// Putting two pieces one after the other is putting the two joined.
 #[tactic(auto, using(crate::proofs::TailJoins::put_put))]
 pub fn puts_join()
     ensures { (kept : Kept) (one two : List ℕ) → put (put kept one) two ≡ put kept (one ++ two) }
 {}
 
-/// What is kept and told of a text.
+/// What a tail keeps of a text, and tells of it.
 #[tactic(auto, unfolding(crate::specs::Kept::put))]
 pub fn kept_of_text()
     ensures { (room : ℕ) (text : List ℕ) → put (nothing room) text ≡ of_text room text }

@@ -11,7 +11,7 @@ pub copied_nothing : (told : Option (List ℕ)) (at : ℕ) (old : Option (List �
 copied_nothing None at old = tt
 copied_nothing (Some bytes) at old = gained_nothing old
 
--- the next piece behind what was copied
+-- the next piece after what was copied
 pub copied_more : (told : Option (List ℕ)) (at done count : ℕ) (before mid now : Option (List ℕ)) → Copied told at done before mid → Copied told (at + done) count mid now
     → Copied told at (done + count) before now
 copied_more None at done count before mid now one two = tt
@@ -19,7 +19,7 @@ copied_more (Some bytes) at done count before mid now one two =
     gained_both before mid now (take done (drop at bytes)) (take count (drop (at + done) bytes)) one two
     ∙ ap (append_known before) (ap (λ tail. take done (drop at bytes) ++ take count tail) (sym (drop-drop done at bytes)) ∙ sym (take-add done count (drop at bytes)))
 
--- a piece was stopped behind what was copied
+-- a piece was stopped after what was copied
 pub copy_stopped : {T E : Type 0} (told : Option (List ℕ)) (at done count size : ℕ) (before mid now : Option (List ℕ)) (result : Result T E)
     → done + count ≤ size → IsErr result → Copied told at done before mid
     → IfSome told (λ bytes. GainedPrefix mid now (take count (drop (at + done) bytes))) → Copies told at size before now result

@@ -1,4 +1,4 @@
--- What a buffer holds after one read behind another.
+-- What a buffer holds after one read after another.
 use Rattle.std.proofs.Common.{◌≡◌, ℕ, ◌+◌, ◌≤◌, length, arith, List, ◌++◌, take, drop, Option, None, Some, sym, ap, ◌∙◌}
 use Rattle.std.proofs.lemmas.List.{take_at, drop_at, take-append-le, length-take, drop-drop}
 use Rattle.std.proofs.Math.Seq.{take-add}
@@ -16,7 +16,7 @@ take-put_mid_front done room count buffer fresh within few =
     long : length (take done buffer) ≡ done
     long = rw (length-take done buffer) (omega arith)
 
--- the next bytes of a range, behind those that are there
+-- the next bytes of a range, after those that are there
 pub given_more : (told : Option (List ℕ)) (at done count room : ℕ) (buffer fresh : List ℕ) → done ≤ length buffer → count ≤ length fresh
     → GivesBytesAt told at done buffer → GivesBytesAt told (at + done) count fresh → GivesBytesAt told at (done + count) (put_mid done room buffer fresh)
 given_more None at done count room buffer fresh within few one two = tt

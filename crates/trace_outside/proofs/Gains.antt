@@ -20,7 +20,7 @@ gained_twice (Some bytes) first then = ap Some (append_assoc bytes first then)
 pub gained_both : (before mid now : Option (List ℕ)) (first then : List ℕ) → Gained before mid first → Gained mid now then → Gained before now (first ++ then)
 gained_both before mid now first then one two = two ∙ ap (λ told. append_known told then) one ∙ gained_twice before first then
 
--- the next few bytes of a text behind those that are there
+-- the next few bytes of a text after those that are there
 pub gained_more : (before mid now : Option (List ℕ)) (text : List ℕ) (done count : ℕ) → Gained before mid (take done text)
     → Gained mid now (take count (drop done text)) → Gained before now (take (done + count) text)
 gained_more before mid now text done count one two =
@@ -36,7 +36,7 @@ front_of_both front part rest count few =
     ∙ ap (λ tail. front ++ take count tail) (drop_at front (part ++ rest) (length front) refl)
     ∙ ap (λ tail. front ++ tail) (take-append-le count part rest few)
 
--- a prefix of a part, behind a front that is there whole, is a prefix of any text that goes on so
+-- a prefix of a part, after a front that is there whole, is a prefix of any text that goes on so
 pub prefix_behind : (before mid now : Option (List ℕ)) (front part rest whole : List ℕ) → whole ≡ front ++ (part ++ rest)
     → Gained before mid front → GainedPrefix mid now part → GainedPrefix before now whole
 prefix_behind before mid now front part rest whole is one two = elim (cases_lt (length part) two.0) [
@@ -47,7 +47,7 @@ prefix_behind before mid now front part rest whole is one two = elim (cases_lt (
     both : Gained before now (front ++ take two.0 part)
     both = gained_both before mid now front (take two.0 part) one two.1
 
--- a row of parts: those before one, that one, and those behind it
+-- a row of parts: those before one, that one, and those after it
 pub flat_map-parted : {X : Type 0} (f : X → List ℕ) (xs : List X) (i : ℕ) (d : X) → i < length xs
     → flat_map f xs ≡ flat_map f (take i xs) ++ (f (get_or xs i d) ++ flat_map f (drop (suc i) xs))
 flat_map-parted f xs i d inside =
@@ -55,7 +55,7 @@ flat_map-parted f xs i d inside =
     ∙ flat_map-append f (take i xs) (get_or xs i d ∷ drop (suc i) xs)
     ∙ ap (λ tail. flat_map f (take i xs) ++ tail) (flat_map-cons f (get_or xs i d) (drop (suc i) xs))
 
--- a prefix of a part, behind the parts before it, is a prefix of the row
+-- a prefix of a part, after the parts before it, is a prefix of the row
 pub prefix_of_parts : {X : Type 0} (f : X → List ℕ) (xs : List X) (i : ℕ) (d : X) (before mid now : Option (List ℕ)) → i < length xs
     → Gained before mid (flat_map f (take i xs)) → GainedPrefix mid now (f (get_or xs i d)) → GainedPrefix before now (flat_map f xs)
 prefix_of_parts f xs i d before mid now inside one two =

@@ -1,4 +1,4 @@
--- What a file or a sink keeps over one call behind another.
+-- What a file or a sink keeps over one call after another.
 use Rattle.std.proofs.Common.{refl, ◌∙◌, arith}
 use Rattle.trace_outside.specs.declared.outside.File as file
 use Rattle.trace_outside.specs.declared.outside.Sink as sink

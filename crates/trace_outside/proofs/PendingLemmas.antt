@@ -22,7 +22,7 @@ flush_stopped before old now waiting text held stopped =
     (sym (take-append-drop held.count text) ∙ ap (λ rest. take held.count text ++ rest) (sym held.waits ∙ sym (append-nil waiting)))
     held.gained stopped
 
--- the piece waits behind the rest
+-- the piece waits after the rest
 held_more : (before old : Option (List ℕ)) (waiting piece text : List ℕ) → Holds before old waiting text → Holds before old (waiting ++ piece) (text ++ piece)
 held_more before old waiting piece text held = record {
   count = held.count;
@@ -59,7 +59,7 @@ pub prefix_longer : (before now : Option (List ℕ)) (text piece : List ℕ) →
 prefix_longer before now text piece stopped =
     prefix_behind before before now [] text piece (text ++ piece) refl (gained_nothing before) stopped
 
--- a piece that waits behind a text that was flushed
+-- a piece that waits after a text that was flushed
 pub puts_flushed : (piece : List ℕ) (old mid : Option (List ℕ)) (waiting same waiting_mid waiting_now : List ℕ) (before : Option (List ℕ)) (text : List ℕ)
     → same ≡ waiting → Gained old mid same → waiting_mid ≡ [] → waiting_now ≡ waiting_mid ++ piece → Holds before old waiting text → Holds before mid waiting_now (text ++ piece)
 puts_flushed piece old mid waiting same waiting_mid waiting_now before text kept gained none is held =

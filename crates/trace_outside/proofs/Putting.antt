@@ -1,4 +1,4 @@
--- Texts that are put one behind another.
+-- Texts that are put one after another.
 use Rattle.std.proofs.Common.{◌≡◌, ℕ, ◌+◌, ◌<◌, ◌≤◌, List, [], ◌∷◌, ◌++◌, length, take, get_or, append_assoc, Option, Result, Ok, Err, IsErr, OnOk, OnErr, subst, sym, ap, ◌∙◌}
 use Rattle.std.proofs.lemmas.List.{append-nil, take_all, take_more}
 use Rattle.std.proofs.lemmas.List.Concat.{flat_map-cons}
@@ -8,12 +8,12 @@ use Rattle.trace_outside.specs.Writing.{Gained, GainedPrefix}
 use Rattle.trace_outside.specs.Pending.{Holds, Puts, Flushes}
 use Rattle.trace_outside.proofs.PendingLemmas.{holds_nothing, prefix_longer, parts_stopped, flushed, flush_stopped}
 
--- a piece was put behind any text
+-- a piece was put after any text
 abbrev pub Put : List ℕ → Option (List ℕ) → List ℕ → Option (List ℕ) → List ℕ → Type 0
 Put piece old waiting now waiting_now =
     (before : Option (List ℕ)) (text : List ℕ) → Holds before old waiting text → Holds before now waiting_now (text ++ piece)
 
--- a sink was stopped within a piece behind any text
+-- a sink was stopped within a piece after any text
 abbrev pub Stopped : List ℕ → Option (List ℕ) → List ℕ → Option (List ℕ) → Type 0
 Stopped piece old waiting now =
     (before : Option (List ℕ)) (text : List ℕ) → Holds before old waiting text → GainedPrefix before now (text ++ piece)
@@ -33,7 +33,7 @@ stopped_first first then old now waiting waiting_now (Ok value) failed stopped =
 stopped_first first then old now waiting waiting_now (Err error) failed stopped = λ before text held.
     subst (λ (whole : List ℕ). GainedPrefix before now whole) (append_assoc text first then) (prefix_longer before now (text ++ first) then (stopped before text held))
 
--- the piece of an entry was stopped behind those of the entries before it
+-- the piece of an entry was stopped after those of the entries before it
 pub stopped_at : {T E X : Type 0} (f : X → List ℕ) (xs : List X) (i : ℕ) (d : X) (piece : List ℕ) (old mid now : Option (List ℕ))
     (waiting waiting_mid waiting_now : List ℕ) (result : Result T E)
     → i < length xs → IsErr result → Put (flat_map f (take i xs)) old waiting mid waiting_mid → Stopped piece mid waiting_mid now → piece ≡ f (get_or xs i d)

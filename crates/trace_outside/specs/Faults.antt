@@ -32,7 +32,7 @@ abbrev pub is_from : Option ℕ → ℕ → Bool
 is_from None number = false
 is_from (Some call) number = nat_le call number
 
--- the number that the failing call has behind the first so many
+-- the number that the failing call has after the first so many
 abbrev pub due_after : Option ℕ → ℕ → Option ℕ
 due_after None before = None
 due_after (Some call) before = if nat_lt before call then Some (call - before) else None

@@ -77,7 +77,7 @@ pub record IsSetFile (set : Settings) (file : MemFile) : Type 0 where
   pub fault : file.fault ≡ set.byte
   pub limit : file.limit ≡ set.limit
 
--- a sink just created, behind others with so many writes, has what is set for the folder
+-- a sink just created, after others with so many writes, has what is set for the folder
 pub record IsSetSink (set : Settings) (before : ℕ) (sink : MemSink) : Type 0 where
   pub due : sink.due ≡ due_after set.write before
   pub from : sink.from ≡ None

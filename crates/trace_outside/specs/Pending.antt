@@ -10,7 +10,7 @@ pub record Holds (before now : Option (List ℕ)) (waiting text : List ℕ) : Ty
   pub gained : Gained before now (take count text)
   pub waits : waiting ≡ drop count text
 
--- a piece was put behind the text; after a fault the sink has a prefix of both
+-- a piece was put after the text; after a fault the sink has a prefix of both
 abbrev pub Puts : {T E : Type 0} → List ℕ → Option (List ℕ) → List ℕ → Option (List ℕ) → List ℕ → Result T E → Type 0
 Puts piece old waiting now waiting_now result = MatchResult result
     (λ _. (before : Option (List ℕ)) (text : List ℕ) → Holds before old waiting text → Holds before now waiting_now (text ++ piece))

@@ -1,4 +1,4 @@
-/// What a folder counts. No count falls, and one that reaches the last 64-bit number stays there.
+/// What a folder counts. No count falls, and each saturates at the greatest number of 64 bits.
 #[derive(Clone, Copy, Debug, PartialEq, Eq)]
 pub struct Counts {
     /// Faults of reading.

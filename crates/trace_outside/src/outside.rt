@@ -48,7 +48,7 @@ pub trait File {
     ghost size_is: { (file : Self) → IfSome (bytes file) (λ told. length told ≡ size file) };
 }
 
-/// Something that bytes are written to, one piece behind another.
+/// Something that bytes are written to, one piece after another.
 pub trait Sink {
     /// Its name, empty for a sink that no folder made.
     ghost name: { Self → List ℕ };

@@ -38,7 +38,7 @@ impl Pending {
         Ok(Pending { bytes })
     }
 
-    /// Puts a piece behind what waits. After `Failed` the sink has a prefix of all that was put.
+    /// Puts a piece after what waits. After `Failed` the sink has a prefix of all that was put.
     pub fn put<O: Sink>(&mut self, out: &mut O, piece: &[u8]) -> Result<(), Failed>
         ensures { PutsText piece.now (on_way O.written O.name O.faults out.old self.old) (on_way O.written O.name O.faults out.new self.new) result }
     {
@@ -63,7 +63,7 @@ impl Pending {
         self.bytes.extend_from_slice(piece).is_ok()
     }
 
-    /// Puts pieces, one behind another.
+    /// Puts pieces, one after another.
     pub fn put_parts<O: Sink>(&mut self, out: &mut O, parts: &[&[u8]]) -> Result<(), Failed>
         ensures { PutsText (flat_map (λ part. part.now) parts.now) (on_way O.written O.name O.faults out.old self.old) (on_way O.written O.name O.faults out.new self.new) result }
     {

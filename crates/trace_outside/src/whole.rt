@@ -42,7 +42,7 @@ pub fn write_all<O: Sink>(out: &mut O, text: &[u8]) -> Result<(), Failed>
     Ok(())
 }
 
-/// Writes the pieces one behind another. After `Failed` a prefix of them was written.
+/// Writes the pieces one after another. After `Failed` a prefix of them was written.
 pub fn write_parts<O: Sink>(out: &mut O, parts: &[&[u8]]) -> Result<(), Failed>
     ensures gained { OnOk result (Gained (O.written out.old) (O.written out.new) (flat_map (λ part. part.now) parts.now)) }
     ensures prefix { OnErr result (GainedPrefix (O.written out.old) (O.written out.new) (flat_map (λ part. part.now) parts.now)) }

@@ -45,7 +45,7 @@ pub added_to_none : (n : ℕ) (ranges : List Range) → added (replicate n false
 added_to_none n ranges =
     added_is (replicate n false) ranges ∙ marked-replicate 0 n (λ cpu. list_any (is_in cpu) ranges)
 
--- numbers behind a range
+-- numbers after a range
 behind : (k : ℕ) (range : Range) (members : List Bool) → range.last < k → marked k (λ cpu. is_in cpu range) members ≡ members
 behind k range [] h = refl
 behind k range (m ∷ members) h =

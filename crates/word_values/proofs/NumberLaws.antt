@@ -1,4 +1,4 @@
--- Numbers within a range, and what they come to with zeros behind them.
+-- Numbers within a range, and what they come to with zeros after them.
 use Rattle.std.proofs.Common.{◌≡◌, ℕ, ◌*◌, ◌^◌, ◌<◌, ◌≤◌, Bool, true, false, ltb, ◌&&◌, nat_le, List, length, Option, Some, None, if◌then◌else◌, lit<, refl, arith, inl, inr}
 use Rattle.std.specs.List.{list_all}
 use Rattle.std.specs.Char.{is_digit}

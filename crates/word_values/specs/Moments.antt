@@ -1,4 +1,4 @@
--- A moment on a command line: seconds of one to eleven digits, and behind a point one to nine decimals, where there is one.
+-- A moment on a command line: seconds of one to eleven digits, and after a point one to nine decimals, where there is one.
 -- Source: trace-cmd-split(1), `OPTIONS`: the start and the end time in seconds; trace-cmd-report(1) prints six decimals, or
 -- nine under `-t`.
 use Rattle.std.specs.Prelude.{ℕ, ◌+◌, ◌-◌, ◌*◌, ◌^◌, ◌==◌, nat_le, Bool, true, false, List, length, Option, None, option_map, if◌then◌else◌}

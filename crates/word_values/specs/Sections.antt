@@ -36,7 +36,7 @@ place_of Options = 9
 place_of Flyrecord = 10
 place_of Validate = 11
 
--- the name of a section's option, behind the two dashes
+-- the name of a section's option, after the two dashes
 abbrev pub section_name : Section → List ℕ
 section_name Summary = codes "summary"
 section_name HeadPage = codes "head-page"

@@ -25,7 +25,7 @@ pub fn cpu_set(text: &[u8]) -> Option<CpuSet>
     Some(set)
 }
 
-// What stands before the first separator, and behind it, where there is one.
+// What stands before the first separator, and after it, where there is one.
 #[tactic(auto, using(crate::proofs::CutLaws::split_by_position, crate::proofs::CutLaws::position_inside))]
 fn first_piece(text: &[u8]) -> (&[u8], Option<&[u8]>)
     ensures split { slice_split is_separator text.now

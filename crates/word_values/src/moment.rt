@@ -11,7 +11,7 @@ use crate::number::number_within;
 pub struct Moment {
     /// Whether the value is in microseconds, as for up to six decimals, and not in nanoseconds.
     pub micro: bool,
-    /// Micro- or nanoseconds.
+    /// How many micro- or nanoseconds.
     pub value: u128,
 }
 
@@ -91,7 +91,7 @@ fn moment_with(seconds: u64, places: usize, part: u64) -> Moment
     }
 }
 
-// The number with so many zeros behind it.
+// The number with so many zeros after it.
 #[tactic(auto, using(crate::proofs::NumberLaws::power_bound, crate::proofs::NumberLaws::scaled_bound))]
 fn scaled(part: u64, zeros: usize) -> u128
     requires part { part ≤ 999999999 }

@@ -56,7 +56,7 @@ impl Section {
         self as usize
     }
 
-    /// The name of its option, behind the two dashes.
+    /// The name of its option, after the two dashes.
     pub fn name(self) -> &'static str
         ensures { result.now ≡ section_name self }
     {

@@ -98,7 +98,7 @@ impl Calls {
     };
 }
 
-// The number of the next call behind so many.
+// The number of the next call after so many.
 pub(super) fn next_number(calls: u64) -> u64
     ensures { result ≡ raised calls 1 }
 {
@@ -125,7 +125,7 @@ pub(super) fn is_from(call: Option<u64>, number: u64) -> bool
     }
 }
 
-// The number that the failing call has behind the first so many.
+// The number that the failing call has after the first so many.
 pub(super) fn due_after(call: Option<u64>, before: u64) -> Option<u64>
     ensures { result ≡ due_after call before }
 {

@@ -23,7 +23,7 @@ use trace_base::ByteText;
 #[derive(Drop)]
 pub struct MemFolder {
     alloc: Global,
-    // What was stored, the newest first: an older entry of a name is behind a newer one.
+    // What was stored, the newest first: an older entry of a name comes after a newer one.
     log: VecDeque<(ByteText, ByteText)>,
     counts: Counts,
     wants: u64,
@@ -108,7 +108,7 @@ impl MemFolder {
         self.counts
     }
 
-    /// How many calls of the folder found no memory, with those of its sinks that were finished or dropped.
+    /// How many calls of the folder found no memory, including those of its sinks that were finished or dropped.
     pub fn wants(&self) -> u64
         ensures { result ≡ folder_wants self.now }
     {

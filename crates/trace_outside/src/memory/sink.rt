@@ -95,7 +95,7 @@ impl MemSink {
         &self.kept
     }
 
-    /// How often it was written to, with the writes that failed.
+    /// How often it was written to, including the writes that failed.
     pub fn writes(&self) -> u64
         ensures { result ≡ sink_writes self.now }
     {

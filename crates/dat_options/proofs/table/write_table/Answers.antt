@@ -9,7 +9,7 @@ use Rattle.trace_outside.proofs.Gains.{gained_both, prefix_behind, on_err}
 use Rattle.dat_options.specs.Table.{part_text, table_text}
 use Rattle.dat_options.proofs.table.write_table.Goals as goal
 
--- the parts that are left are a block and those behind it
+-- the parts that are left are a block and those after it
 parted : (done block behind rest all : List Part) (count : ℕ) → all ≡ done ++ rest → block ≡ take count rest → behind ≡ drop count rest → all ≡ done ++ (block ++ behind)
 parted done block behind rest all count is front back = is ∙ ap (λ left. done ++ left) (sym (take-append-drop count rest) ∙ ap (λ head. head ++ drop count rest) (sym front) ∙ ap (λ tail. block ++ tail) (sym back))
 
