@@ -45,7 +45,7 @@ pub enum BinaryOp {
 }
 
 impl BinaryOp {
-    /// The operator that a mark is.
+    /// The operator that these bytes spell.
     #[tactic(auto, unfolding(crate::specs::Operators::op_of))]
     pub fn from_mark(mark: &[u8]) -> Option<BinaryOp>
         ensures { result ≡ op_of mark.now }

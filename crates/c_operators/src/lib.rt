@@ -1,4 +1,4 @@
-//! C's operators between two operands: their marks, and how tightly they bind.
+//! C's operators between two operands: how they are spelled, and how tightly they bind.
 #![tactic(auto)]
 
 mod binary;

@@ -2,7 +2,7 @@
 
 use crate::BinaryOp;
 
-/// Each mark with its operator and its level, from 6.5.5 on.
+/// Each operator's spelling, with the operator and its level, from 6.5.5 on.
 const OPERATORS: [(&[u8], BinaryOp, u32); 18] = [
     (b"*", BinaryOp::Times, 1),
     (b"/", BinaryOp::Divide, 1),
@@ -24,7 +24,7 @@ const OPERATORS: [(&[u8], BinaryOp, u32); 18] = [
     (b"||", BinaryOp::LogicOr, 10),
 ];
 
-/// Marks that are no operator between two operands.
+/// Punctuators that are no operator between two operands.
 const OTHERS: [&[u8]; 6] = [b"", b"!", b"~", b"=", b"->", b"<<="];
 
 #[test]

@@ -108,7 +108,7 @@ over_here es (closing ∷ ts) e = refl
 pub comma_stops : (es : List EventNameData) (ts us rs : List PlainToken) → ts ≡ comma ∷ us → names us naming ≡ refused rs → closing_with es ts ≡ refused rs
 comma_stops es ts us rs is e = ap (closing_with es) is ∙ rw e refl
 
--- what stands behind the events
+-- what follows the events
 pub no_events : (ts rs : List PlainToken) → names ts naming ≡ refused rs → filter_in ts ≡ refused rs
 unfolding filter_in
 no_events ts rs e = rw e refl

@@ -1,4 +1,4 @@
--- A code for the trees of filters, by which a proof tells them apart: the cells of a tree, each behind those of its parts.
+-- A code for the trees of filters, by which a proof tells them apart: the cells of a tree, each after those of its parts.
 use Rattle.std.specs.Prelude.{◌≡◌, ◌⊎◌, ℕ, List, [], ◌∷◌, Option}
 use Rattle.std.specs.Coded.{Coded, code_by, coded_ℕ, coded_list, coded_option, coded×, coded⊎}
 use mathlib.Core.Path.{refl, ap, ◌∙◌}

@@ -307,7 +307,7 @@ refusal_of ts rs us more f written is e on stops = record {
 }
 
 module _ (ts : List PlainToken) (r : Ran ts naming) where
-  -- what stands behind the tokens that are taken
+  -- what follows the tokens that are taken
   ends_in : (vs : List PlainToken) → names vs r.at ≡ over r.at vs → names (r.us ++ vs) naming ≡ over r.at vs >>= with_events r.es
   ends_in vs e = r.law vs ∙ ap (λ (o : Outcome Events). o >>= with_events r.es) e
 
@@ -340,7 +340,7 @@ module _ (ts : List PlainToken) (r : Ran ts naming) where
         let c = completed r.at in
         refusal_of ts r.rs r.us c.more (filter (r.es ++ c.event ∷ []) None) (subst (λ (b : Bool). AreWritten b c.more) (sym r.no_colon) c.written) r.is refused_there (completes c) (λ t vs ws same. no_event (t ∷ ws) (halts_at t vs ws same))
 
-  -- behind a whole event
+  -- after a whole event
   module _ (event : EventNameData) (shut : (zs : List PlainToken) → over r.at zs ≡ found (event ∷ []) zs) where
     all : Events
     all = r.es ++ event ∷ []
@@ -372,7 +372,7 @@ module _ (ts : List PlainToken) (r : Ran ts naming) where
     past_cond : (us ws : List PlainToken) (x : Tree) (t : PlainToken) → cond_at deepest us ≡ found x (t ∷ ws) → behind_events (r.es ++ event ∷ []) (colon ∷ us) ≡ refused (t ∷ ws)
     past_cond us ws x t e = rw e refl
 
-    -- a colon, and a condition that is refused or has something behind it
+    -- a colon, and a condition that is refused or has something after it
     with_colon : (vs rs : List PlainToken) → r.rs ≡ colon ∷ vs → filter_in ts ≡ refused rs → behind_events (r.es ++ event ∷ []) (colon ∷ vs) ≡ refused rs → RefusedBefore ts rs
     with_colon vs rs is here e = elim (bind_refused (cond_at deepest vs) (whole (r.es ++ event ∷ [])) rs e) [
       | inl first' ↦

@@ -1,4 +1,4 @@
--- What stands before the place where a text is refused goes on, with a blank and some further text behind it.
+-- What stands before the place where a text is refused goes on, with a blank and some further text after it.
 use Rattle.std.proofs.Common.{◌≡◌, ℕ, ◌≤◌, Bool, true, false, ◌||◌, List, [], ◌∷◌, ◌++◌, length, take, drop, Some, refl, ap, sym, ◌∙◌, subst, arith}
 use Rattle.std.specs.List.{list_any}
 use Rattle.std.proofs.Math.Seq.{drop-append_seam}
@@ -35,7 +35,7 @@ pub record LexesAs (b : Bool) (text : List ℕ) (ts : List PlainToken) : Type 0 
   pub lexes : AreLexemes b text row []
   pub same : tokens_in row ≡ ts
 
--- a front of the text has these tokens, also with a blank and anything behind it
+-- a front of the text has these tokens, also with a blank and anything after it
 pub record Front (b : Bool) (text rs : List ℕ) (us : List PlainToken) : Type 0 where
   pub before : List ℕ
   pub is : text ≡ before ++ rs
@@ -102,7 +102,7 @@ front {b} {rest = rest} (u ∷ us) vs (token {c = c} {n = n} {bytes = bytes} {ro
     subst (λ (z : PlainToken). Front b (c ∷ bytes) (from_first vs rest) (z ∷ tokens_in us)) same
     (token_front b c n bytes (from_first vs rest) t (tokens_in us) i (front us vs d (tail_is (lexeme t (c ∷ bytes)) u row (us ++ vs) e)) is)
 
--- text that writes tokens, each behind a blank
+-- text that writes tokens, each after a blank
 pub record Spelled (b : Bool) (ts : List PlainToken) : Type 0 where
   pub text : List ℕ
   pub row : List Lexeme

@@ -19,7 +19,7 @@ abbrev pub append : Operands → Operands → Operands
 append no_operands os = os
 append (operand op t rest) os = operand op t (append rest os)
 
--- the tree of a first operand, operands that were read and a row behind them
+-- the tree of a first operand, operands that were read and a row after them
 abbrev pub ends : Tree → Operands → Outcome Operands → Outcome Tree
 ends x os (found r rs) = found (chained x (append os r)) rs
 ends x os (refused rs) = refused rs

@@ -44,7 +44,7 @@ refused_is A rs vs e = cc
 halt_is : (A B : Type 0) (rs vs : List PlainToken) → halt A rs ≡ halt A vs → halt B rs ≡ halt B vs
 halt_is A B rs vs e = ap (halt B) (refused_is A rs vs e)
 
--- the ways of a step behind a step
+-- the ways of a step after a step
 pub bind_found : {A B : Type 0} (o : Outcome A) (f : A → List PlainToken → Outcome B) (y : B) (rs : List PlainToken) → (o >>= f) ≡ found y rs → (x : A) × (vs : List PlainToken) × (o ≡ found x vs) × (f x vs ≡ found y rs)
 bind_found (found x vs) f y rs e = (x, vs, refl, e)
 bind_found (refused vs) f y rs e = absurd cc

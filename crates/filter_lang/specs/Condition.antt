@@ -1,4 +1,4 @@
--- The condition of a filter: from the tokens that begin with it to its tree and the tokens behind it.
+-- The condition of a filter: from the tokens that begin with it to its tree and the tokens after it.
 use Rattle.std.specs.Prelude.{◌≡◌, ℕ, zero, suc, List, ◌∷◌, Some, None}
 use Rattle.filter_lang.specs.PlainToken.{PlainToken, digits, quoted, identifier, mark, opening, closing}
 use Rattle.filter_lang.specs.Tree.{Tree, number, text, field, prefix, chain, Operands, no_operands, operand}
@@ -16,7 +16,7 @@ mutual
     several : {n l : ℕ} {ts us vs rs : List PlainToken} {t u : Tree} {op : BinaryOp} {rest : Operands} → IsLevel n l ts t (mark op ∷ us) → level_of op ≡ suc l
         → IsLevel n l us u vs → IsRow n l vs rest rs → IsLevel n (suc l) ts (chain t (operand op u rest)) rs
 
-  -- operators with what stands behind each, for as long as the next token is one of them
+  -- operators with what follows each, for as long as the next token is one of them
   pub data IsRow : ℕ → ℕ → List PlainToken → Operands → List PlainToken → Type 0 where
     no_more : {n l : ℕ} {ts : List PlainToken} → op_first (suc l) ts ≡ None → IsRow n l ts no_operands ts
     goes_on : {n l : ℕ} {us vs rs : List PlainToken} {u : Tree} {op : BinaryOp} {rest : Operands} → level_of op ≡ suc l → IsLevel n l us u vs → IsRow n l vs rest rs

@@ -6,7 +6,7 @@ use Rattle.filter_lang.specs.Ops.{op_first, prefix_in}
 use Rattle.c_operators.specs.declared.binary.BinaryOp.{BinaryOp}
 use Rattle.filter_lang.specs.declared.expr.FilterPrefix.{FilterPrefix}
 
--- what was found and the tokens behind it, or the tokens that nothing goes on with
+-- what was found and the tokens after it, or the tokens that nothing goes on with
 pub data Outcome (A : Type 0) : Type 0 where
   found : A → List PlainToken → Outcome A
   refused : List PlainToken → Outcome A
@@ -29,7 +29,7 @@ abbrev pub row_step : Read → (List PlainToken → Outcome Operands) → List P
 row_step read more ts None = found no_operands ts
 row_step read more ts (Some o) = read o.1 >>= behind_operand more o.0
 
--- operators of a level with what stands behind each; the number bounds the turns, and that of the tokens is enough
+-- operators of a level with what follows each; the number bounds the turns, and that of the tokens is enough
 unfoldable pub row : Read → ℕ → ℕ → List PlainToken → Outcome Operands
 row read level zero ts = found no_operands ts
 row read level (suc m) ts = row_step read (row read level m) ts (op_first level ts)
@@ -57,7 +57,7 @@ close t rs = refused rs
 abbrev pub below : FilterPrefix → Tree → List PlainToken → Outcome Tree
 below op t rs = found (prefix op t) rs
 
--- what may open a bracket or stand behind a prefix operator: nothing, or a reader of what a prefix operator applies to
+-- what may open a bracket or follow a prefix operator: nothing, or a reader of what a prefix operator applies to
 abbrev pub bracket_in : Read → Read
 bracket_in inner ts = level_by inner 10 ts >>= close
 

@@ -22,7 +22,7 @@ name_of e = named e.first e.second
 abbrev pub filter_of : Filter → FilterData
 filter_of f = filter (map name_of f.events) (option_map tree_of f.cond)
 
--- events that were read, and what stands behind them: further ones behind a comma
+-- events that were read, and what follows them: further ones after a comma
 abbrev pub closing_with : List EventNameData → List PlainToken → Outcome (List EventNameData)
 closing_with es (comma ∷ ts) = names ts naming >>= with_events es
 closing_with es ts = found es ts

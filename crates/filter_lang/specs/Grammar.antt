@@ -1,4 +1,4 @@
--- A filter, as tokens: names of events, and a condition behind `:`. Source: trace-cmd-report(1), `-F`.
+-- A filter, as tokens: names of events, and a condition after `:`. Source: trace-cmd-report(1), `-F`.
 -- And the tokens before which tokens that are no filter are refused.
 use Rattle.std.specs.Prelude.{◌≡◌, ℕ, List, [], ◌∷◌, ◌++◌, Some, None}
 use Rattle.std.specs.List.{list_any}

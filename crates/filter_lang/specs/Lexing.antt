@@ -1,5 +1,5 @@
 -- The token that bytes begin with, as long as it can be. What stands before the first `:` of a filter has other tokens
--- than what stands behind it. Numbers and words are spelled as in C11 6.4.4.1 and 6.4.2.1.
+-- than what follows it. Numbers and words are spelled as in C11 6.4.4.1 and 6.4.2.1.
 use Rattle.std.specs.Prelude.{◌≡◌, ℕ, ◌+◌, ◌==◌, Bool, true, false, not, ◌||◌, List, [], ◌∷◌, length, take, nat_lt, bytes_eq, codes, Option, Some, None, if◌then◌else◌}
 use Rattle.std.specs.List.{prefix_len}
 use Rattle.std.specs.Char.{is_ascii_digit}
@@ -17,7 +17,7 @@ use Rattle.filter_lang.specs.PlainToken.{PlainToken, name, comma, slash, colon, 
 abbrev pub is_name_byte : ℕ → Bool
 is_name_byte c = not (((is_blank c || c == 44) || c == 47) || c == 58)
 
--- a token, and how many bytes of it stand behind its first
+-- a token, and how many bytes of it follow its first
 abbrev pub Cut : Type 0
 Cut = PlainToken × ℕ
 
@@ -46,7 +46,7 @@ abbrev pub number_cut : ℕ → Option ℕ → Option Cut
 number_cut n None = None
 number_cut n (Some value) = Some (digits value, n)
 
--- a text between two of its quotes, from behind the first; there are no escapes
+-- a text between two of its quotes, from just after the first; there are no escapes
 abbrev pub text_cut : ℕ → List ℕ → Option Cut
 text_cut mark' bytes =
     let n = prefix_len (λ c. not (c == mark')) bytes in if nat_lt n (length bytes) then Some (quoted (take n bytes), n + 1) else None
@@ -80,7 +80,7 @@ marked (Some op) short = Some (mark op, 1)
 marked None None = None
 marked None (Some t) = Some (t, 0)
 
--- behind the first `:`: a number, a word, a text, or a mark
+-- after the first `:`: a number, a word, a text, or a mark
 unfoldable pub behind_colon : ℕ → List ℕ → Option Cut
 behind_colon c bytes =
     let n = prefix_len is_word bytes in
@@ -106,7 +106,7 @@ pub record IsWritten (b : Bool) (t : PlainToken) : Type 0 where
   pub begins : is_blank first ≡ false
   pub is : token_in b (first ∷ bytes) ≡ Some (t, length bytes)
 
--- text can write these tokens, from before or from behind the first `:` on
+-- text can write these tokens, from before or from after the first `:` on
 abbrev pub AreWritten : Bool → List PlainToken → Type 0
 AreWritten b [] = Unit {0}
 AreWritten b (t ∷ ts) = IsWritten b t × AreWritten (b || is_colon t) ts

@@ -10,7 +10,7 @@ use Rattle.filter_lang.specs.declared.expr.FilterPrefix.TheVariants.{Not, Minus,
 abbrev pub if_level : ℕ → BinaryOp → List PlainToken → Option (BinaryOp × List PlainToken)
 if_level level op ts = if level_of op == level then Some (op, ts) else None
 
--- the first token, if it is an operator of the level, and the tokens behind it
+-- the first token, if it is an operator of the level, and the tokens after it
 abbrev pub op_first : ℕ → List PlainToken → Option (BinaryOp × List PlainToken)
 op_first level (mark op ∷ ts) = if_level level op ts
 op_first level ts = None

@@ -8,7 +8,7 @@ pub data PlainToken : Type 0 where
   comma : PlainToken
   slash : PlainToken
   colon : PlainToken
-  -- behind it
+  -- after it
   digits : ℕ → PlainToken
   quoted : List ℕ → PlainToken
   identifier : List ℕ → PlainToken

@@ -29,7 +29,7 @@ lex (suc turns) b (c ∷ bytes) =
     if is_blank c then lex turns b bytes
     else behind_token (c ∷ bytes) (λ t n. lex turns (b || is_colon t) (drop n bytes)) (token_in b (c ∷ bytes))
 
--- the text from the first of some tokens on, or from behind all tokens on
+-- the text from the first of some tokens on, or from the end of all tokens on
 abbrev pub from_first : List Lexeme → List ℕ → List ℕ
 from_first [] rest = rest
 from_first (l ∷ ls) rest = l.at

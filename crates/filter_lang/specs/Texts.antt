@@ -33,13 +33,13 @@ pub record IsFilterText (text : List ℕ) (f : FilterData) : Type 0 where
   pub is_filter : IsFilter (tokens_in row) f
 
 -- Where a text is refused, as what stands from that place on: a token with which no filter goes on; the end of the
--- tokens, where more are wanted; or where no token begins behind a whole filter.
+-- tokens, where more are wanted; or where no token begins after a whole filter.
 pub data RefusedText : List ℕ → List ℕ → Type 0 where
   at_token : {text rest : List ℕ} (us vs : List Lexeme) (l : Lexeme) → AreLexemes false text (us ++ l ∷ vs) rest → RefusedBefore (tokens_in (us ++ l ∷ vs)) (tokens_in (l ∷ vs)) → RefusedText text l.at
   too_short : {text rest : List ℕ} {row : List Lexeme} → AreLexemes false text row rest → RefusedBefore (tokens_in row) [] → RefusedText text rest
   no_token : {text rest : List ℕ} {row : List Lexeme} {f : FilterData} → AreLexemes false text row rest → rest ≢ [] → IsFilter (tokens_in row) f → RefusedText text rest
 
--- With a blank and some further text behind it the text is a filter's.
+-- With a blank and some further text after it the text is a filter's.
 pub record TextGoesOn (text : List ℕ) : Type 0 where
   pub more : List ℕ
   pub made : FilterData

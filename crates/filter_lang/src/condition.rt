@@ -33,7 +33,7 @@ impl<'a> Reader<'a> {
         self.row(level, room, first)
     }
 
-    /// The operators of a level behind their first operand.
+    /// The operators of a level after their first operand.
     #[cycle(parser)]
     fn row(&self, level: u32, room: u32, first: Taken) -> Result<Taken, Stop>
         requires inside { first.next ≤ length self.now.tokens.now }
@@ -92,7 +92,7 @@ impl<'a> Reader<'a> {
         Ok(Taken { expr, next: at + 1 })
     }
 
-    /// A condition in brackets, from behind the opening one.
+    /// A condition in brackets, from just after the opening one.
     #[cycle(parser)]
     fn bracket(&self, room: u32, at: usize) -> Result<Taken, Stop>
         requires inside { at ≤ length self.now.tokens.now }

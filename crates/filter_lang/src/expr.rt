@@ -35,7 +35,7 @@ pub enum FilterExpr {
     },
 }
 
-/// An operator between two operands, and what stands behind it.
+/// An operator between two operands, and what follows it.
 #[derive(Drop)]
 #[cycle(expr)]
 pub struct FilterOperand {

@@ -71,7 +71,7 @@ fn short_at(first: u8) -> Option<Word<'static>>
     }
 }
 
-/// The longer mark that begins here, and how many bytes of it stand behind its first.
+/// The longer mark that begins here, and how many bytes of it follow its first.
 fn mark_token(first: u8, rest: &[u8]) -> Option<(Word<'static>, usize)>
     ensures value { option_map cut_of result ≡ marked (long_at first rest.now) (short_at first) }
     ensures within { IfSome result (λ cut. cut.1 ≤ length rest.now) }
@@ -116,7 +116,7 @@ fn text_token(mark: u8, rest: &[u8]) -> Option<(Word<'_>, usize)>
     }
 }
 
-/// The first token before the first `:`, and how many bytes of it stand behind its first.
+/// The first token before the first `:`, and how many bytes of it follow its first.
 #[tactic(auto, unfolding(crate::specs::Lexing::before_colon))]
 fn before_colon<'a>(bytes: &'a [u8], first: u8, rest: &[u8]) -> (Word<'a>, usize)
     requires { bytes.now ≡ first ∷ rest.now }
@@ -134,7 +134,7 @@ fn before_colon<'a>(bytes: &'a [u8], first: u8, rest: &[u8]) -> (Word<'a>, usize
     }
 }
 
-/// The first token behind the first `:`, and how many bytes of it stand behind its first.
+/// The first token after the first `:`, and how many bytes of it follow its first.
 #[tactic(auto, unfolding(crate::specs::Lexing::behind_colon))]
 fn behind_colon<'a>(bytes: &'a [u8], first: u8, rest: &'a [u8]) -> Option<(Word<'a>, usize)>
     requires { bytes.now ≡ first ∷ rest.now }
@@ -153,7 +153,7 @@ fn behind_colon<'a>(bytes: &'a [u8], first: u8, rest: &'a [u8]) -> Option<(Word<
     mark_token(first, rest)
 }
 
-/// The token that bytes begin with, and how many bytes of it stand behind its first.
+/// The token that bytes begin with, and how many bytes of it follow its first.
 pub fn first_token(bytes: &[u8], colon_before: bool) -> Option<(Word<'_>, usize)>
     ensures value { option_map cut_of result ≡ token_in colon_before bytes.now }
     ensures within { IfSome result (λ cut. cut.1 < length bytes.now) }

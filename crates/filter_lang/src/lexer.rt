@@ -19,7 +19,7 @@ pub struct Lexed<'a> {
 }
 
 impl Lexed<'_> {
-    /// The place of a token, or of what stands behind all of them.
+    /// The place of a token, or of what follows all of them.
     pub fn place(&self, i: usize) -> usize
         ensures { result ≡ place_in self.now.end self.now.tokens.items i }
     {
@@ -30,7 +30,7 @@ impl Lexed<'_> {
     }
 }
 
-/// The token that begins at a place, and how many bytes of it stand behind its first.
+/// The token that begins at a place, and how many bytes of it follow its first.
 fn token_at(text: &[u8], at: usize, colon_before: bool) -> Option<(Word<'_>, usize)>
     requires { at ≤ length text.now }
     ensures value { option_map cut_of result ≡ token_in colon_before (drop at text.now) }

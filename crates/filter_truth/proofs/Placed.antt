@@ -1,4 +1,4 @@
--- What the places of a column lead to, while fields are put behind the others.
+-- What the places of a column lead to, while fields are appended to the others.
 use Rattle.std.proofs.Common.{◌≡◌, ℕ, ◌<◌, ◌≤◌, List, [], ◌∷◌, ◌++◌, Option, length, map, refl, ap, ap₂, suc, ◌∙◌, arith}
 use Rattle.std.specs.List.{All}
 use Rattle.std.proofs.lemmas.List.{map-append}

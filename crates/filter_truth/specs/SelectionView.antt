@@ -43,7 +43,7 @@ is_open_at conditions (Some i) = option_open (slice_get conditions i)
 abbrev pub some_open : List BoundUse → Option ℕ → Bool
 some_open uses i = list_any (λ u. is_open_at (conditions_of u.bound) i) uses
 
--- the rest of some filters, behind those that hide nothing
+-- the rest of some filters, after those that hide nothing
 abbrev pub rest_shows : Bool → Bool → List BoundUse → Option ℕ → EventData → Bool
 rest_shows showing shown uses i e =
     ((shown || list_any (λ u. not u.hide && option_holds (conditions_of u.bound) i e) uses) || not (showing || list_any (λ u. not u.hide) uses)) && not (list_any (λ u. u.hide && option_holds (conditions_of u.bound) i e) uses)

@@ -26,7 +26,7 @@ pub enum BoundExpr {
     },
 }
 
-/// An operator and what stands behind it.
+/// An operator and what follows it.
 #[derive(Drop)]
 #[cycle(bound)]
 pub struct BoundOperand {

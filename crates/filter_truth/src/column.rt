@@ -10,7 +10,7 @@ use std::marker::Model;
 use trace_base::Field;
 
 /// The field that a name stands for in each format, where there is one. A format costs four bytes, and fields that are
-/// the same in formats behind one another are kept once.
+/// the same in consecutive formats are kept once.
 #[derive(Drop)]
 pub struct Column {
     fields: Vec<Field>,
@@ -68,7 +68,7 @@ fn is_last(fields: &[Field], field: &Field) -> bool
     }
 }
 
-/// The place of a field, which is put behind the others unless it is the last of them. More than 2^32 fields find no room.
+/// The place of a field, which is appended to the others unless it is the last of them. More than 2^32 fields find no room.
 fn place_of(alloc: Global, fields: &mut Vec<Field>, field: &Field) -> Result<u32, AllocError>
     ensures grown { length fields.old.items ≤ length fields.new.items }
     ensures kept { (p : ℕ) → p ≤ length fields.old.items → field_placed fields.new.items p ≡ field_placed fields.old.items p }
@@ -112,7 +112,7 @@ impl Column {
         })
     }
 
-    /// Puts what the name stands for in one more format behind the others.
+    /// Appends what the name stands for in one more format.
     #[tactic(auto, using(crate::proofs::Placed::pushed))]
     pub fn push(&mut self, alloc: Global, field: Option<&Field>) -> Result<(), AllocError>
         ensures { OnOk result (self.new ≡ self.old ++ option_copied field.entry ∷ []) }

@@ -55,7 +55,7 @@ fn field_value<'a>(event: &Event<'a>, field: Option<&Field>) -> Value<'a>
     }
 }
 
-/// Whether a value before this operator decides, whatever stands behind it.
+/// Whether a value before this operator decides, whatever follows it.
 fn decides(op: BinaryOp, value: Value<'_>) -> bool
     ensures { (other : ValueData) → result ≡ true → binary op (data_of value.entry) other ≡ bit (is_true (data_of value.entry)) }
 {
@@ -82,7 +82,7 @@ pub fn value<'a>(expr: &'a BoundExpr, fields: &FormatFields<'_>, event: &Event<'
     }
 }
 
-/// The value of the operators of one level, from the left. What stands behind a decision is not looked at.
+/// The value of the operators of one level, from the left. What follows a decision is not looked at.
 #[cycle(walk)]
 fn along<'a>(
     start: Value<'a>,

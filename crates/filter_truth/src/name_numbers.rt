@@ -14,7 +14,7 @@ const FEW: usize = 16;
 #[derive(Drop)]
 pub struct NameNumbers<'a> {
     names: Vec<&'a [u8]>,
-    /// The numbers of the names behind the first few. They are tried, and never trusted.
+    /// The numbers of the names after the first few. They are tried, and never trusted.
     numbers: BTreeMap<&'a [u8], usize>,
 }
 

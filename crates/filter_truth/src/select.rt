@@ -17,7 +17,7 @@ use std::alloc::{AllocError, Global};
 use std::marker::Model;
 use trace_base::{Order, Rec};
 
-/// A filter, and whether the events at which it holds are hidden, in place of shown.
+/// A filter, and whether the events at which it holds are hidden instead of shown.
 #[derive(Drop)]
 pub struct FilterUse {
     pub hide: bool,

@@ -138,7 +138,7 @@ pub precision_begins : (text : List ℕ) (a : Amount) (rest : List ℕ) → IsPr
 precision_begins text a rest no_dot out = outside_less before_precision before_size rest not_before_precision out
 precision_begins text a rest (dot of b is) out = λ some. refl
 
--- what stands behind all flags does not begin with 0, which is a flag
+-- what follows all flags does not begin with 0, which is a flag
 pub no_zero : (bytes : List ℕ) (n : ℕ) → BeginsOutside is_flag bytes → get_or (take n bytes) 0 0 ≢ 48
 no_zero bytes zero out e = absurd cc
 no_zero [] (suc n) out e = absurd cc

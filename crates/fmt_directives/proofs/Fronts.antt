@@ -1,4 +1,4 @@
--- What stands at the front of bytes, and what the bytes behind it begin with.
+-- What stands at the front of bytes, and what the bytes after it begin with.
 use Rattle.std.proofs.Common.{◌≡◌, ℕ, ◌≤◌, Bool, false, ◌||◌, List, length, take, get_or, Some, refl, subst}
 use Rattle.std.specs.Prelude.{◌==◌}
 use Rattle.std.proofs.lemmas.Bool.{or_parts}

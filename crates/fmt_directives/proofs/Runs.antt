@@ -37,7 +37,7 @@ decimal_value b is = grind (arith, nat_tests, is)
 pub bounded_more : (digits : List ℕ) (i number : ℕ) → AllPass is_decimal digits → i < length digits → number ≡ min (digits_value 10 (take i digits)) 65536 → min (number * 10 + (get_or digits i 0 - 48)) 65536 ≡ min (digits_value 10 (take (i + 1) digits)) 65536
 bounded_more digits i number pass lt is = omega (arith, digits_value_more 10 digits i lt, is, decimal_value (get_or digits i 0) (pass i 0 lt))
 
--- all of xs pass and the first byte behind them does not
+-- all of xs pass and the first byte after them does not
 pub run_exact : (p : ℕ → Bool) (xs ys : List ℕ) → AllPass p xs → BeginsOutside p ys → prefix_len p (xs ++ ys) ≡ length xs
 run_exact p [] [] pass stop = refl
 run_exact p [] (y ∷ ys) pass stop = rw (stop (omega arith)) refl
@@ -50,7 +50,7 @@ one_more n = omega arith
 behind : (p : ℕ → Bool) (x : ℕ) (xs : List ℕ) → BeginsOutside p (drop (prefix_len p xs) xs) → BeginsOutside p (drop (1 + prefix_len p xs) (x ∷ xs))
 behind p x xs stops = subst (λ n. BeginsOutside p (drop n (x ∷ xs))) (one_more (prefix_len p xs)) stops
 
--- behind a run stands a byte that does not pass
+-- a run is followed by a byte that does not pass
 pub run_stops : (p : ℕ → Bool) (bytes : List ℕ) → BeginsOutside p (drop (prefix_len p bytes) bytes)
 run_stops p [] = λ some. absurd (omega arith)
 run_stops p (x ∷ xs) = elim (cases_Bool (p x)) as (λ _. BeginsOutside p (drop (prefix_len p (x ∷ xs)) (x ∷ xs))) [

@@ -23,7 +23,7 @@ pub record IsNumber (digits : List ℕ) (n : ℕ) : Type 0 where
   pub value : digits_value 10 digits ≡ n
   pub listed : n ≤ 65535
 
--- a width, or what stands behind the `.` of a precision
+-- a width, or what follows the `.` of a precision
 pub data IsAmount : List ℕ → Amount → Type 0 where
   absent : IsAmount [] Absent
   fixed : (digits : List ℕ) (n : ℕ) → IsNumber digits n → IsAmount digits (Fixed n)
@@ -50,7 +50,7 @@ length_text len.DiffSize = codes "t"
 length_text len.MaxSize = codes "j"
 length_text len.BigSize = codes "L"
 
--- what stands behind the `p` of a pointer
+-- what follows the `p` of a pointer
 pub data IsForm : List ℕ → PointerForm → Type 0 where
   plain : IsForm [] form.Plain
   name : IsForm (codes "s") form.Name
@@ -78,7 +78,7 @@ has flags flag = list_any (λ b. b == flag) flags
 abbrev pub spec_of : List ℕ → Amount → Amount → Length → Spec
 spec_of flags width precision length = record { left = has flags 45; zero = has flags 48; plus = has flags 43; space = has flags 32; alternate = has flags 35; width = width; precision = precision; length = length }
 
--- What stands behind the percent sign of a conversion: flags, a width, a precision, a length and a letter. A width does
+-- What follows the percent sign of a conversion: flags, a width, a precision, a length and a letter. A width does
 -- not begin with 0, which is a flag.
 pub record IsConversion (spelling : List ℕ) (d : Directive) : Type 0 where
   pub flags : List ℕ
@@ -95,7 +95,7 @@ pub record IsConversion (spelling : List ℕ) (d : Directive) : Type 0 where
   pub precision_is : IsPrecision precision_text precision
   pub kind_is : IsKind (spec_of flags width precision length) kind_text d
 
--- behind a pointer stands no letter or digit
+-- no letter or digit follows a pointer
 abbrev pub Ends : Directive → List ℕ → Type 0
 Ends (directive.Pointer spec f) rest = BeginsOutside is_alphanumeric rest
 Ends (directive.Literal start end) rest = ⊤

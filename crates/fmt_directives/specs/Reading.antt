@@ -38,7 +38,7 @@ length_of bytes =
     else (if a == 108 then (if b == 108 then (len.LongLongSize, 2) else (len.LongSize, 1))
     else (if a == 122 then (len.SizeSize, 1) else (if a == 116 then (len.DiffSize, 1) else (if a == 106 then (len.MaxSize, 1) else (if a == 76 then (len.BigSize, 1) else (len.Usual, 0))))))
 
--- the form of a pointer, by all letters and digits that stand behind its `p`
+-- the form of a pointer, by all letters and digits that follow its `p`
 abbrev pub one_letter_form : ℕ → Option PointerForm
 one_letter_form a = if a == 115 || a == 102 then Some form.Name else (if a == 83 || a == 70 then Some form.NameOffset else (if a == 77 then Some form.Mac else None))
 
@@ -68,7 +68,7 @@ kind_of spec (a ∷ bytes) =
     if a == 112 then option_and_then (λ f. Some (directive.Pointer spec f, 1 + run)) (pointer_form (take run bytes))
     else option_and_then (λ d. Some (d, 1)) (letter_kind spec a)
 
--- a conversion behind its percent sign, and its length
+-- a conversion after its percent sign, and its length
 unfoldable pub conversion : List ℕ → Option (Directive × ℕ)
 conversion bytes =
     let flags = prefix_len is_flag bytes in

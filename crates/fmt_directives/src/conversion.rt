@@ -140,7 +140,7 @@ fn length_of(bytes: &[u8]) -> (Length, usize)
     }
 }
 
-/// The form of a pointer, by all letters and digits behind its `p`.
+/// The form of a pointer, by all letters and digits after its `p`.
 fn pointer_form(run: &[u8]) -> Option<PointerForm>
     ensures { result ≡ pointer_form run.now }
 {
@@ -211,7 +211,7 @@ fn kind_of(spec: Spec, bytes: &[u8]) -> Option<(Directive, usize)>
     Some((Directive::Pointer { spec, form }, 1 + run))
 }
 
-/// A conversion behind its percent sign, and its length.
+/// A conversion after its percent sign, and its length.
 #[tactic(auto, unfolding(crate::specs::Reading::conversion))]
 pub fn conversion(bytes: &[u8]) -> Option<(Directive, usize)>
     ensures value { result ≡ conversion bytes.now }

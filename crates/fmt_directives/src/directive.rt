@@ -22,7 +22,7 @@ pub enum PointerForm {
     Plain,
     /// `ps` and `pf`: the name of its symbol.
     Name,
-    /// `pS` and `pF`: the name of its symbol, and how far behind it the address is.
+    /// `pS` and `pF`: the name of its symbol, and how far past it the address is.
     NameOffset,
     /// `pI4`: an IPv4 address.
     Ip4,

@@ -71,7 +71,7 @@ fn directive_at(text: &[u8], at: usize) -> Option<(Directive, usize)>
     first_directive(at, &text[at..])
 }
 
-/// The directives that spell a format text of less than 2^32 bytes, in order. None exactly where none begins behind some of
+/// The directives that spell a format text of less than 2^32 bytes, in order. None exactly where none begins after some of
 /// them: there stands a conversion that is not listed.
 ///
 /// # Errors

@@ -1,4 +1,4 @@
--- Elements that begin behind the bytes of their field.
+-- Elements that begin past the bytes of their field.
 use Rattle.std.proofs.Common.{◌≡◌, ℕ, zero, suc, ◌+◌, ◌*◌, Bool, true, false, ◌<◌, ◌≤◌, List, length, refl, ap, ◌∙◌, mul-suc, arith, inl, inr}
 use Rattle.std.specs.Prelude.{pos}
 use Rattle.std.proofs.lemmas.Bool.{cases_Bool, lt-ltb, lt-leb}
@@ -25,7 +25,7 @@ unfolding signed_of
 zero_is false size = refl
 zero_is true size = rw (lt-ltb 0 (half size) (some_half size)) refl
 
--- an element that begins behind the bytes is 0
+-- an element that begins past the bytes is 0
 pub past_element : (signed : Bool) (order : Order) (bytes : List ℕ) (at size : ℕ) → length bytes ≤ at → sized signed size (unsigned_in order bytes at size) ≡ pos 0
 past_element signed order bytes at size le = ap (sized signed size) (zero_past order bytes at size le) ∙ zero_is signed size
 

@@ -1,4 +1,4 @@
--- Pieces that are put one behind another, with a text between them.
+-- Pieces that are put one after another, with a text between them.
 use Rattle.std.proofs.Common.{◌≡◌, ℕ, zero, suc, ◌+◌, ◌-◌, ◌<◌, ◌≤◌, Bool, true, false, List, [], ◌∷◌, ◌++◌, length, map, take, drop, get_or, refl, sym, ap, ◌∙◌, arith}
 use Rattle.std.specs.Prelude.{if◌then◌else◌, codes}
 use Rattle.std.proofs.lemmas.List.{drop_more, drop_all}
@@ -13,7 +13,7 @@ use Rattle.trace_base.proofs.TailJoins.{put_put, put_nothing}
 use Rattle.fmt_eval.specs.Pieces.{join_behind, hexadecimal}
 use Rattle.fmt_eval.specs.Arrays.{elements, elements_from}
 
--- a piece, behind the text that stands between it and those before
+-- a piece, after the text that stands between it and those before
 abbrev pub behind : Bool → List ℕ → List ℕ → List ℕ
 behind some between piece = if some then between ++ piece else piece
 

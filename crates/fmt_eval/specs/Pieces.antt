@@ -7,7 +7,7 @@ abbrev pub join : List ℕ → List (List ℕ) → List ℕ
 join between [] = []
 join between (piece ∷ pieces) = piece ++ flat_map (λ p. between ++ p) pieces
 
--- pieces that stand behind others, or that are the first
+-- pieces that follow others, or that are the first
 abbrev pub join_behind : Bool → List ℕ → List (List ℕ) → List ℕ
 join_behind some between pieces = if some then flat_map (λ p. between ++ p) pieces else join between pieces
 

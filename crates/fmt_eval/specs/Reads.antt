@@ -65,7 +65,7 @@ cast_read Same read = read
 cast_read (Bits width signed) read = if width == 64 then (if signed then Walk else unsigned_read read) else Walk
 cast_read Truth read = Walk
 
--- A number is read at once where it is that of a field of four or eight bytes, also behind casts that change none.
+-- A number is read at once where it is that of a field of four or eight bytes, also under casts that change none.
 abbrev pub read_of : Tree → Read
 read_of (tree.field_number f) = field_read f
 read_of (tree.cast to t) = cast_read to (read_of t)

@@ -76,7 +76,7 @@ pub fn part_number(expr: &Expr, rec: &Rec<'_>) -> Num
     }
 }
 
-/// A number with the operators of one level behind it.
+/// A number with the operators of one level after it.
 #[cycle(walk)]
 fn folded(first: Num, rest: &[Operand], rec: &Rec<'_>) -> Num
     ensures { num_view result ≡ folded (given rec.now) (num_view first) (operands_of rest.now) }

@@ -9,8 +9,8 @@ use crate::eval::number;
 use fmt_expr::Expr;
 use trace_base::{Rec, bytes_of};
 
-/// The bytes that a tree is over a record: those of the whole field, also where it is a text. None where the tree is
-/// a number or another text.
+/// The bytes that a tree is over a record: those of the whole field, also where it is a text. No bytes where the tree
+/// is a number or another text.
 pub fn bytes<'a>(expr: &Expr, rec: &Rec<'a>) -> &'a [u8]
     ensures { result.now ≡ bytes_of (given rec.now) (tree_of expr.now) }
 {

@@ -5,7 +5,7 @@
 //!
 //! Of a tree whose kind is a text [`put_text`] puts it, and of one that has bytes [`bytes`] gives them; [`only_flag`] gives the text of
 //! flags without putting it, where it is that of one alone. [`put_hexadecimal`], [`put_octets`] and [`put_piece`] are for others who
-//! write as these texts are written, and [`cast_bits`] for who reads a number as a cast does. The functions of `laws` do nothing.
+//! write as these texts are written, and [`cast_bits`] for whoever reads a number as a cast does. The functions of `laws` do nothing.
 #![tactic(auto)]
 
 mod array;

@@ -51,7 +51,7 @@ pub fn exact(kind: CKind, bits: u64) -> i128
     Num { bits, kind }.exact()
 }
 
-/// Whether two numbers of a kind are one.
+/// Whether two numbers of a kind are equal.
 pub fn equal(kind: CKind, a: u64, b: u64) -> bool
     ensures { result ≡ int_eq (exact_bits kind a) (exact_bits kind b) }
 {

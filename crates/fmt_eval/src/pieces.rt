@@ -39,7 +39,7 @@ pub fn put_between(some: bool, between: &[u8], into: &mut Tail<'_>)
     }
 }
 
-/// Puts a piece, behind the text that stands between it and one before.
+/// Puts a piece, after the text that stands between it and one before.
 #[tactic(auto, using(trace_base::proofs::TailJoins::put_put))]
 pub fn put_piece(some: bool, between: &[u8], piece: &[u8], into: &mut Tail<'_>)
     ensures same_slice { lent into.new ≡ lent into.old }

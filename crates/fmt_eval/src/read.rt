@@ -49,7 +49,7 @@ fn field_read(field: &Field) -> Read
     }
 }
 
-/// How a number is read behind a cast to 64 bits without a sign.
+/// How a number is read under a cast to 64 bits without a sign.
 fn unsigned_read(read: Read) -> Read
     ensures { result ≡ unsigned_read read }
 {
@@ -59,7 +59,7 @@ fn unsigned_read(read: Read) -> Read
     }
 }
 
-/// How a number is read behind a cast.
+/// How a number is read under a cast.
 fn cast_read(to: CastTo, read: Read) -> Read
     ensures { result ≡ cast_read to read }
 {
@@ -83,7 +83,7 @@ fn tree_read(expr: &Expr) -> Read
     }
 }
 
-/// How the number of a tree is read: at once where it is that of a field of four or eight bytes, also behind casts that change none.
+/// How the number of a tree is read: at once where it is that of a field of four or eight bytes, also under casts that change none.
 #[tactic(auto, using(crate::proofs::ReadLemmas::reads_as))]
 pub fn read_of(expr: &Expr) -> Read
     // What is read is the number, over every record.
@@ -144,7 +144,7 @@ fn mask_test(read: Read, mask: &Expr) -> Test
     }
 }
 
-/// How a test of a number with an operator behind it is made.
+/// How a test of a number with an operator after it is made.
 fn operand_test(read: Read, operand: &Operand) -> Test
     ensures { result ≡ operand_test read operand.now.op (tree_of operand.now.value) }
 {
@@ -154,7 +154,7 @@ fn operand_test(read: Read, operand: &Operand) -> Test
     }
 }
 
-/// How a test of a number with operators behind it is made.
+/// How a test of a number with operators after it is made.
 #[tactic(auto, using(crate::proofs::ReadLemmas::no_mask, crate::proofs::ReadLemmas::one_mask))]
 fn chain_test(read: Read, rest: &[Operand]) -> Test
     ensures { result ≡ chain_test read (operands_of rest.now) }

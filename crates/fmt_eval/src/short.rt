@@ -16,7 +16,7 @@ use c_operators::BinaryOp;
 use fmt_expr::{CastTo, Expr, Operand};
 use trace_base::Rec;
 
-/// The number of a field with one operator and a written number behind it.
+/// The number of a field with one operator and a written number after it.
 #[inline(always)]
 #[tactic(auto, using(crate::proofs::Rows::operands_row))]
 fn field_with(first: &Expr, rest: &[Operand], rec: &Rec<'_>) -> Option<Num>
@@ -43,7 +43,7 @@ fn field_with(first: &Expr, rest: &[Operand], rec: &Rec<'_>) -> Option<Num>
     })
 }
 
-/// The number of a field behind a cast, as addresses have.
+/// The number of a field under a cast, as addresses have.
 #[inline(always)]
 fn field_as(to: CastTo, of: &Expr, rec: &Rec<'_>) -> Option<Num>
     ensures { IfSome result (λ n. num_view n ≡ cast to (number_of (given rec.now) (tree_of of.now))) }

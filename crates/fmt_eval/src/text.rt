@@ -15,7 +15,7 @@ use crate::short::{holds, number_now};
 use fmt_expr::Expr;
 use trace_base::{Rec, Tail, bytes_of, until_nul};
 
-/// Puts the text that a tree is over a record; none where it is a number or bytes.
+/// Puts the text that a tree is over a record; nothing where it is a number or bytes.
 #[tactic(auto, using(trace_base::proofs::TailJoins::put_nothing))]
 pub fn put_text(expr: &Expr, rec: &Rec<'_>, into: &mut Tail<'_>)
     ensures same_slice { lent into.new ≡ lent into.old }

@@ -120,7 +120,7 @@ module _ (s : Source) (n : ℕ) (inner : Inner) (deeper : Deeper s n inner) wher
   open_sound i (Some type) y is there e = cast_sound i type y is there e
   open_sound i None y is there e = bracket_sound i y is e
 
-  -- a number with a mark behind it
+  -- a number with a mark after it
   abbrev Numbered : List ℕ → ℕ → Found → Type 0
   Numbered mark i x = IsCond s i x.tree x.nest x.next × (kind_of x.tree ≡ Number) × (mark_at s x.next ≡ Some mark) × (x.nest < n)
 
@@ -200,7 +200,7 @@ module _ (s : Source) (n : ℕ) (inner : Inner) (deeper : Deeper s n inner) wher
         subst (λ (z : Listed). AreEntries s i z.entries z.nest z.next × (z.nest < n)) (some_is (listed no_entries 0 i) r never.1) (last (not_mark s i (codes ",") never.0), some)
   ]
 
-  -- one or more entries, and the bracket behind them
+  -- one or more entries, and the bracket after them
   abbrev Entered : ℕ → Listed → Type 0
   Entered i r = (u : Tree) × (text : List ℕ) × (rest : Entries) × (g : ℕ) × (e : ℕ) × (k : ℕ) × (l : ℕ)
       × IsEntry s i u text g k × AreEntries s k rest e l × (mark_at s l ≡ Some (codes ")")) × (r ≡ listed (entry u text rest) (max g e) (l + 1)) × (g < n) × (e < n)
@@ -219,7 +219,7 @@ module _ (s : Source) (n : ℕ) (inner : Inner) (deeper : Deeper s n inner) wher
       sym (ap (λ (z : Listed). listed z.entries z.nest (z.next + 1)) rest.2 ∙ some_is _ y close.1) in
       (first.0.value, first.0.text, rest.0.entries, first.0.nest, rest.0.nest, first.0.next, rest.0.next, one.0, tail.0, closed, same, one.1, tail.1)
 
-  -- the first argument of a call, and the comma behind it
+  -- the first argument of a call, and the comma after it
   abbrev Argued : ℕ → Found → Type 0
   Argued i y = (j : ℕ) × (mark_at s (i + 1) ≡ Some (codes "(")) × IsCond s (i + 2) y.tree y.nest j × (mark_at s j ≡ Some (codes ",")) × (j + 1 ≡ y.next) × (y.nest < n)
 

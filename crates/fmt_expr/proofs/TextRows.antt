@@ -33,7 +33,7 @@ pub texts_over : (s : Source) (i : ℕ) → literal_at s i ≡ None → texts_fr
 unfolding literal_at texts_from
 texts_over s i e = row_none s.text s.tokens i e
 
--- one turn of the loop: bytes that were read, with those behind, are all of them
+-- one turn of the loop: bytes that were read, with those that follow, are all of them
 pub texts_step : (s : Source) (i : ℕ) (b front more : List ℕ) (all : Texts) → literal_at s i ≡ Some b → more ≡ front ++ b → texts (front ++ (texts_from s i).bytes) (i + (texts_from s i).len) ≡ all
     → texts (more ++ (texts_from s (i + 1)).bytes) (i + 1 + (texts_from s (i + 1)).len) ≡ all
 texts_step s i b front more all e m h =

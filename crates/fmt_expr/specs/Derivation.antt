@@ -1,4 +1,4 @@
--- The trees of a print fmt: from a place in the tokens to a tree, how deep it nests, and the place behind it.
+-- The trees of a print fmt: from a place in the tokens to a tree, how deep it nests, and the place after it.
 -- One case a production, after C11 6.5 and Documentation/trace/events.rst.
 use Rattle.std.specs.Prelude.{◌≡◌, ◌≢◌, ℕ, zero, suc, ◌+◌, ◌≤◌, max, List, [], ◌∷◌, length, Some, None, codes, IsTrue}
 use Rattle.fmt_literal.specs.declared.ckind.CKind.{CKind}
@@ -34,7 +34,7 @@ mutual
     several : {l i j k h g : ℕ} {t u : Tree} {op : BinaryOp} {rest : Operands} → IsLevel s l i t h j → kind_of t ≡ Number
         → IsRow s l j (operand op u rest) g k → IsLevel s (suc l) i (chain t (operand op u rest)) (max h g) k
 
-  -- operators with what stands behind each, for as long as the next token is one of them
+  -- operators with what follows each, for as long as the next token is one of them
   pub data IsRow (s : Source) : ℕ → ℕ → Operands → ℕ → ℕ → Type 0 where
     no_more : {l i : ℕ} → op_at s (suc l) i ≡ None → IsRow s l i no_operands 0 i
     goes_on : {l i j k h g : ℕ} {t : Tree} {op : BinaryOp} {rest : Operands} → op_at s (suc l) i ≡ Some op → IsLevel s l (i + 1) t h j → kind_of t ≡ Number
@@ -89,7 +89,7 @@ mutual
     further : {i j k h g : ℕ} {t : Tree} {text : List ℕ} {rest : Entries} → mark_at s i ≡ Some (codes ",") → IsEntry s (i + 1) t text h j → AreEntries s j rest g k
         → AreEntries s i (entry t text rest) (max h g) k
 
--- the arguments from a place to the end, each behind a comma and nesting at most 64 deep
+-- the arguments from a place to the end, each after a comma and nesting at most 64 deep
 pub data AreArgs (s : Source) : ℕ → List Tree → Type 0 where
   ended : {i : ℕ} → i ≡ length s.tokens → AreArgs s i []
   argument : {i j h : ℕ} {t : Tree} {rest : List Tree} → mark_at s i ≡ Some (codes ",") → IsCond s (i + 1) t h j → h ≤ 64 → AreArgs s j rest → AreArgs s i (t ∷ rest)

@@ -30,7 +30,7 @@ is_indexed Pointer size = false
 is_indexed Text size = is_size size
 is_indexed Bytes size = is_size size
 
--- the field that is named behind `REC` and `->`, which stand at a place
+-- the field that is named after `REC` and `->`, which stand at a place
 unfoldable pub named_at : Source → ℕ → Option Field
 named_at s i = do
   is_mark s (i + 1) (codes "->")

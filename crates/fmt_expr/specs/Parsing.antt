@@ -21,7 +21,7 @@ use Rattle.fmt_expr.specs.declared.head.Call.TheVariants.{Get, SizeOf, Flags, Sy
 use Rattle.fmt_expr.specs.declared.head.Head.{Head}
 use Rattle.fmt_expr.specs.declared.head.Head.TheVariants.{Operator, Open, Record, Call as Called, Other}
 
--- a tree, how deep it nests, and the place behind it
+-- a tree, how deep it nests, and the place after it
 pub record Found : Type 0 where
   pub tree : Tree
   pub nest : ℕ
@@ -66,7 +66,7 @@ joined_with x nest next (operand op t rest) = is_number x.tree >> Some (found (c
 abbrev pub joined : Found → Row → Option Found
 joined x r = joined_with x (max x.nest r.nest) r.next r.operands
 
--- the row of a level behind its first operand
+-- the row of a level after its first operand
 unfoldable pub row_behind : Source → Read → ℕ → Found → Option Found
 row_behind s read level x = row_at s read level (length s.tokens + 1) x.next >>= joined x
 
@@ -75,7 +75,7 @@ unfoldable pub level_at : Source → Read → ℕ → Read
 level_at s read zero i = read i
 level_at s read (suc level) i = level_at s read level i >>= row_behind s (level_at s read level) (suc level)
 
--- the rows of a level and of those below it, behind what stands in front of all operators
+-- the rows of a level and of those below it, after what stands before all operators
 unfoldable pub rows_behind : Source → Read → ℕ → Found → Option Found
 rows_behind s read zero x = Some x
 rows_behind s read (suc level) x = rows_behind s read level x >>= row_behind s (level_at s read level) (suc level)
@@ -96,7 +96,7 @@ cond_with s left or inner i = do
   test ← or i
   if is_mark s test.next (codes "?") then choice_at s left inner test else Some test
 
--- a number with this mark behind it
+-- a number with this mark after it
 unfoldable pub number_before : Source → Read → List ℕ → Read
 number_before s inner mark i = do
   x ← inner i
@@ -116,7 +116,7 @@ field_at s inner i = do
   f ← named_at s i
   if is_mark s (i + 3) (codes "[") then element_at s inner i f else Some (found (field_tree f f.kind) 0 (i + 3))
 
--- a cast, from behind its type
+-- a cast, from just after its type
 unfoldable pub cast_at : Source → Read → TypeName → Option Found
 cast_at s inner type = do
   x ← inner (type.next + 1)
@@ -163,7 +163,7 @@ entry_at s inner i = do
 abbrev pub with_entry : Valued → Listed → Listed
 with_entry e r = listed (entry e.value e.text r.entries) (max e.nest r.nest) r.next
 
--- further entries, each behind a comma; the number bounds the turns
+-- further entries, each after a comma; the number bounds the turns
 unfoldable pub tail_at : Source → Read → ℕ → ℕ → Option Listed
 tail_at s inner zero i = None
 tail_at s inner (suc m) i =
@@ -184,7 +184,7 @@ entries_at s inner i = do
   is_mark s r.next (codes ")")
   Some (listed r.entries r.nest (r.next + 1))
 
--- the first argument of a call, up to the comma behind it
+-- the first argument of a call, up to the comma after it
 unfoldable pub argument_at : Source → Read → Read
 argument_at s inner i = do
   is_mark s (i + 1) (codes "(")
@@ -318,7 +318,7 @@ pub record FmtData : Type 0 where
 abbrev pub deepest : ℕ
 deepest = 64
 
--- the arguments from a place to the end, each behind a comma; the number bounds the turns
+-- the arguments from a place to the end, each after a comma; the number bounds the turns
 unfoldable pub args_at : Source → ℕ → ℕ → Option (List Tree)
 args_at s zero i = None
 args_at s (suc m) i =

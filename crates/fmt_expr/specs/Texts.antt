@@ -28,7 +28,7 @@ texts_in text (t ∷ ts) = with_text (as_text t.kind (bytes_of text t)) (texts_i
 unfoldable pub texts_from : Source → ℕ → Texts
 texts_from s i = texts_in s.text (drop i s.tokens)
 
--- joined texts, and the place behind them
+-- joined texts, and the place after them
 pub record Joined : Type 0 where
   pub text : List ℕ
   pub next : ℕ

@@ -24,7 +24,7 @@ mutual
     hex : Tree → Tree → Tree
     array : Tree → Tree → Tree → Tree
 
-  -- the operators of one level, each with what stands behind it
+  -- the operators of one level, each with what follows it
   pub data Operands : Type 0 where
     no_operands : Operands
     operand : BinaryOp → Tree → Operands → Operands

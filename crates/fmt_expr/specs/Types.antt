@@ -38,7 +38,7 @@ spaced_names s (suc n) i = spaced (name_at s i) ++ spaced_names s n (i + 1)
 abbrev pub words_at : Source → ℕ → ℕ → List ℕ
 words_at s i names = drop 1 (spaced_names s names i)
 
--- a type: its words and its stars, and the place behind it
+-- a type: its words and its stars, and the place after it
 pub record TypeName : Type 0 where
   pub words : List ℕ
   pub stars : ℕ

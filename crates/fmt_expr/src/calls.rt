@@ -14,7 +14,7 @@ use crate::stop::Stop;
 use crate::taken::{Taken, TakenEntries, TakenEntry};
 
 impl<'a> Reader<'a> {
-    /// The first argument of a call, up to the comma behind it.
+    /// The first argument of a call, up to the comma after it.
     #[cycle(parser)]
     #[tactic(auto, unfolding(crate::specs::Parsing::argument_at))]
     fn argument(&self, left: u32, at: usize) -> Result<Taken, Stop>

@@ -96,7 +96,7 @@ pub enum Expr {
     },
 }
 
-/// An operator with the operand behind it.
+/// An operator with the operand after it.
 #[derive(Drop)]
 #[cycle(expr)]
 pub struct Operand {

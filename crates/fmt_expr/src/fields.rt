@@ -51,7 +51,7 @@ pub fn got_expr(alloc: Global, field: &Field, got: Got) -> Result<Expr, AllocErr
 }
 
 impl<'a> Reader<'a> {
-    /// The field that is named behind `REC` and `->`, which stand at a place.
+    /// The field that is named after `REC` and `->`, which stand at a place.
     #[tactic(auto, unfolding(crate::specs::Fields::named_at))]
     pub fn named(&self, at: usize) -> Option<&'a Field>
         requires { at < length self.now.tokens.now }

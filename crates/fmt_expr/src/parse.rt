@@ -50,7 +50,7 @@ impl<'a> Reader<'a> {
         self.cond(left - 1, at)
     }
 
-    /// A number one level deeper, with this mark behind it: the place that is told is that of the mark.
+    /// A number one level deeper, with this mark after it: the place that is told is that of the mark.
     #[cycle(parser)]
     #[tactic(auto, unfolding(crate::specs::Parsing::number_before))]
     pub fn number_before(&self, left: u32, at: usize, mark: &[u8]) -> Result<Taken, Stop>
@@ -105,7 +105,7 @@ impl<'a> Reader<'a> {
         })
     }
 
-    /// The operators of a level and of those that bind tighter. Most operands have no operator behind them.
+    /// The operators of a level and of those that bind tighter. Most operands have no operator after them.
     #[cycle(parser)]
     #[tactic(auto, using(crate::proofs::RowTurns::level_stops, crate::proofs::RowTurns::level_alone, crate::proofs::RowTurns::level_rows))]
     fn level(&self, level: u32, left: u32, at: usize) -> Result<Taken, Stop>
@@ -121,7 +121,7 @@ impl<'a> Reader<'a> {
         }
     }
 
-    /// The operators of a level and of those that bind tighter, behind the first operand of all.
+    /// The operators of a level and of those that bind tighter, after the first operand of all.
     #[cycle(parser)]
     #[tactic(auto, using(crate::proofs::RowTurns::rows_none, crate::proofs::RowTurns::rows_row, crate::proofs::RowTurns::rows_zero))]
     fn rows(&self, level: u32, left: u32, first: Taken) -> Result<Taken, Stop>
@@ -138,7 +138,7 @@ impl<'a> Reader<'a> {
         self.row(level, left, tighter)
     }
 
-    /// The operators of a level behind their first operand.
+    /// The operators of a level after their first operand.
     #[cycle(parser)]
     fn row(&self, level: u32, left: u32, first: Taken) -> Result<Taken, Stop>
         requires inside { first.next ≤ length self.now.tokens.now }

@@ -1,9 +1,9 @@
-//! What was read, and the place behind it.
+//! What was read, and the place after it.
 
 use crate::expr::{Entry, Expr};
 use trace_base::ByteText;
 
-/// A tree, how deep it nests, and the place behind it. The tree is boxed, so that giving it up is one call.
+/// A tree, how deep it nests, and the place after it. The tree is boxed, so that giving it up is one call.
 #[derive(Drop)]
 pub struct Taken {
     pub expr: Box<Expr>,
@@ -11,14 +11,14 @@ pub struct Taken {
     pub next: usize,
 }
 
-/// Adjoining texts, joined, and the place behind them.
+/// Adjoining texts, joined, and the place after them.
 #[derive(Drop)]
 pub struct TakenText {
     pub text: ByteText,
     pub next: usize,
 }
 
-/// How many names and `*` a type has, and the place behind them.
+/// How many names and `*` a type has, and the place after them.
 #[derive(Clone, Copy)]
 pub struct TypePlace {
     pub names: usize,
@@ -26,7 +26,7 @@ pub struct TypePlace {
     pub next: usize,
 }
 
-/// An entry, how deep its value nests, and the place behind it.
+/// An entry, how deep its value nests, and the place after it.
 #[derive(Drop)]
 pub struct TakenEntry {
     pub value: Box<Expr>,
@@ -35,7 +35,7 @@ pub struct TakenEntry {
     pub next: usize,
 }
 
-/// A row of entries, how deep their values nest, and the place behind them.
+/// A row of entries, how deep their values nest, and the place after them.
 #[derive(Drop)]
 pub struct TakenEntries {
     pub entries: Vec<Entry>,

@@ -15,7 +15,7 @@ use std::alloc::AllocError;
 /// Most types have no more bytes with a blank before each name: memory for so many is taken at once.
 const USUAL_WORDS: usize = 24;
 
-/// Puts a name with a blank before it behind what is there, unless it is a qualifier.
+/// Appends a name with a blank before it, unless it is a qualifier.
 fn push_name(into: &mut Vec<u8>, name: Option<&[u8]>) -> Result<(), AllocError>
     ensures { IfOk result (λ _. into.new.items ≡ into.old.items ++ spaced (option_map (λ n. n.now) name.entry)) }
 {

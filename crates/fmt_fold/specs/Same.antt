@@ -31,7 +31,7 @@ pub record IsSame (t u : Tree) : Type 0 where
 abbrev pub nameless : Field → Field
 nameless f = record f { name = [] }
 
--- an operator with the number behind it
+-- an operator with the number after it
 abbrev pub step_of : RecData → Operand → BinaryOp × Number
 step_of g o = (o.op, number_of g (tree_of o.value))
 

@@ -48,7 +48,7 @@ fn is_fixed(expr: &Expr) -> bool
     }
 }
 
-/// The same tree, written out where it is made of numbers that are.
+/// The same tree; where it is made of written numbers alone, the number that it is, written out.
 #[tactic(auto, using(crate::proofs::Settled::settled_number, crate::proofs::Settled::settled_as_is))]
 pub fn settled(expr: Expr) -> Expr
     ensures { IsSettled (tree_of result) (tree_of expr) }

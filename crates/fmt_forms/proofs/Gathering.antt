@@ -1,4 +1,4 @@
--- Texts that are gathered one behind another.
+-- Texts that are gathered one after another.
 use Rattle.std.proofs.Common.{◌≡◌, ℕ, List, [], ◌∷◌, ◌++◌, length, sym, ap, ◌∙◌, arith}
 use Rattle.trace_base.specs.declared.tail.Tail.{Tail}
 use Rattle.trace_base.specs.Kept.{Held, put, put_held, held_of}

@@ -66,7 +66,7 @@ mark UpperHex form negative n = if form.alternate && not (n == 0) then codes "0X
 abbrev pub parts : ℕ → List ℕ → ℕ → List ℕ → ℕ → List ℕ
 parts before mark zeros text after = replicate before 32 ++ (mark ++ (replicate zeros 48 ++ (text ++ replicate after 32)))
 
--- A text in its width: spaces behind it by `-`, else zeros between its mark and its digits by `0` where no
+-- A text in its width: spaces after it by `-`, else zeros between its mark and its digits by `0` where no
 -- precision was given, else spaces before it.
 abbrev pub laid : Form → List ℕ → List ℕ → List ℕ
 laid form mark body =

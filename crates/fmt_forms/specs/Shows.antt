@@ -1,4 +1,4 @@
--- What was shown: a text behind what was gathered before, from one tail to another.
+-- What was shown: a text after what was gathered before, from one tail to another.
 use Rattle.std.specs.Prelude.{◌≡◌, ℕ, List}
 use Rattle.trace_base.specs.declared.tail.Tail.{Tail}
 use Rattle.fmt_forms.specs.Gathered.{gathered, joined}

@@ -34,7 +34,7 @@ fn is_decimal(base: Base) -> bool
     matches!(base, Base::Signed | Base::Unsigned)
 }
 
-/// Whether an integer is shown as its decimal digits, at most behind a minus.
+/// Whether an integer is shown as its decimal digits, with at most a minus before them.
 #[inline(always)]
 fn is_plain(base: Base, form: &Form) -> bool
     ensures { result ≡ is_plain base form.now }

@@ -2,8 +2,8 @@
 //!
 //! [`form_of`] gives the [`Form`] of a conversion. [`show_integer`] shows an integer in its form, [`show_text`] a text in its
 //! width, [`show_cut`] as much of it as the precision shows, [`show_until_nul`] and, where most have one letter or none,
-//! [`show_short`] as much of it up to its first NUL, and [`show_address`] an address; of the `Tail` that they show it in what
-//! stays through cuts is told. [`put_padded`] puts a text of three pieces in its width, and [`put_repeated`] so many spaces or
+//! [`show_short`] as much of it up to its first NUL, and [`show_address`] an address. Their contracts tell of the `Tail` what
+//! stays true through cuts. [`put_padded`] puts a text of three pieces in its width, and [`put_repeated`] so many spaces or
 //! zeros. [`is_signed`] says whether a conversion shows a sign, and [`written`] gives the digits of a number in base 8 or 16
 //! alone. No call takes memory.
 #![tactic(auto)]

@@ -47,7 +47,7 @@ fn cut_to(precision: Option<u32>, text: &[u8]) -> &[u8]
     }
 }
 
-/// What a precision shows behind two bytes.
+/// What a precision shows after two bytes.
 fn behind_prefix(precision: Option<u32>) -> Option<u32>
     ensures { result ≡ option_map (λ p. p - 2) precision }
 {

@@ -21,7 +21,7 @@ pub shifted_none : (len : Option ℕ) → shifted 0 len ≡ len
 shifted_none None = refl
 shifted_none (Some n) = ap (λ (m : ℕ). Some m) (omega arith)
 
--- what may stand at a place that closes nothing, and whether a backslash is open behind it
+-- what may stand at a place that closes nothing, and whether a backslash is open after it
 pub data Passes : Bool → ℕ → Bool → Type 0 where
   escaped : (b : ℕ) → Passes true b false
   other : (b : ℕ) → eqb b 34 ≡ false → Passes false b (eqb b 92)

@@ -43,7 +43,7 @@ splits_again _ _ _ (hexadecimal rest) = refl
 splits_again _ _ _ (octal rest no_x) = rw (ne_eqb (get_or rest 0 0) 120 no_x) refl
 splits_again _ _ _ (decimal rest no_zero) = rw (ne_eqb (get_or rest 0 0) 48 no_zero) refl
 
--- the parts behind a prefix
+-- the parts after a prefix
 record Behind (base : Base) (rest digits suffix : List ℕ) : Type 0 where
   parts : rest ≡ digits ++ suffix
   some : has_digits base digits ≡ true

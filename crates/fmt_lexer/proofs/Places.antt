@@ -46,7 +46,7 @@ pairs_head t ts p = λ k d lt. p 0 (suc k) d (omega arith) (omega arith)
 pairs_tail : (t : Token) (ts : List Token) → AllPairs IsBefore (t ∷ ts) → AllPairs IsBefore ts
 pairs_tail t ts p = λ i j d lt within. p (suc i) (suc j) d (omega arith) (omega arith)
 
--- the same from a place on, behind which all the tokens stand
+-- the same from a place on, at or after which all the tokens stand
 record From (text : List ℕ) (at : ℕ) (ts : List Token) : Type 0 where
   tokens : All (IsTokenOf text) ts
   pairs : AllPairs IsBefore ts

@@ -13,7 +13,7 @@ use Rattle.fmt_lexer.specs.Reading.{is_hexadecimal, escape_len, item_len, closed
 use Rattle.fmt_lexer.proofs.Steps.{chosen, bind_some, map_some}
 use Rattle.fmt_lexer.proofs.Runs.{run_passes}
 
--- the first n bytes of these, behind a backslash, are an escape
+-- the first n bytes of these, after a backslash, are an escape
 record EscapeOf (bytes : List ℕ) (n : ℕ) : Type 0 where
   within : n ≤ length bytes
   escape_is : IsEscape (backslash ∷ take n bytes)
@@ -107,7 +107,7 @@ item_sound (b ∷ bytes) n h = elim (chosen (eqb b 39) None (cond (eqb b 92) (es
   ]
 ]
 
--- a letter behind its first mark
+-- a letter after its first mark
 pub letter_sound : (bytes : List ℕ) (n : ℕ) → letter_len bytes ≡ Some n → (n ≤ length bytes) × IsLetter (apostrophe ∷ take n bytes)
 unfolding letter_len closed
 letter_sound bytes n h =
@@ -162,7 +162,7 @@ other_again b back =
     len_is b (39 ∷ back) ∙ ap (λ (t : Bool). cond t (Some 3) (short_len (b ∷ 39 ∷ back))) no
     ∙ (elim (cases_Bool (is_octal b)) [ inl is_one ↦ rw is_one refl | inr none ↦ rw none refl ])
 
--- what is an item is read whole, since the mark behind it is no digit
+-- what is an item is read whole, since the mark after it is no digit
 escape_again : (bytes back : List ℕ) → IsEscape bytes → item_len (bytes ++ 39 ∷ back) ≡ Some (length bytes)
 escape_again _ back (hexadecimal h l hh hl) = escaped (120 ∷ h ∷ l ∷ 39 ∷ back) 3 (hex_again h l (39 ∷ back) hh hl)
 escape_again _ back (octal digits some few each) = escaped (digits ++ 39 ∷ back) (length digits) (octal_again digits back some few each)

@@ -173,7 +173,7 @@ tokens_follow text ts h = follow_in (length text) text 0 ts (omega arith) h
 pub follow_tokens : (text : List ℕ) (ts : List Token) → Follow text 0 ts → tokens_from 0 0 text ≡ Some ts
 follow_tokens text ts f = follow_again ts text 0 f
 
--- the token at a place, as a slice from there on is read, ends behind the place and inside the text
+-- the token at a place, as a slice from there on is read, ends after the place and inside the text
 pub token_inside : (text : List ℕ) (at : ℕ) (kind : TokenKind) (n : ℕ) → at ≤ length text → Some (found kind n) ≡ first_token (take (length text - at) (drop at text)) → (at < at + n) × (at + n ≤ length text)
 token_inside text at kind n le h =
     let b = first_sound (drop at text) kind n (ap first_token (sym (take_rest text at)) ∙ sym h) in

@@ -17,7 +17,7 @@ pub run_passes : (p : ℕ → Bool) (xs : List ℕ) → AllPass p (take (prefix_
 run_passes p [] = All-nil (λ y. p y ≡ true)
 run_passes p (x ∷ xs) = passes_at p x xs (p x) refl (run_passes p xs)
 
--- all of xs pass and the first byte behind them does not
+-- all of xs pass and the first byte after them does not
 pub run_exact : (p : ℕ → Bool) (xs ys : List ℕ) → AllPass p xs → (0 < length ys → p (get_or ys 0 0) ≡ false) → prefix_len p (xs ++ ys) ≡ length xs
 run_exact p [] [] pass stop = refl
 run_exact p [] (y ∷ ys) pass stop = rw (stop (omega arith)) refl

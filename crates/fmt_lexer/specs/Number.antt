@@ -35,7 +35,7 @@ pub record AreLongs (longs : List ℕ) : Type 0 where
   pub few : length longs ≤ 2
   pub each : AllPass is_long longs
 
--- a `u` before the `l`s, behind them, or none
+-- a `u` before the `l`s, after them, or none
 pub data IsSuffix : List ℕ → Type 0 where
   unsigned_first : (u : ℕ) (longs : List ℕ) → IsTrue (is_unsigned u) → AreLongs longs → IsSuffix (u ∷ longs)
   unsigned_last : (longs : List ℕ) (u : ℕ) → AreLongs longs → IsTrue (is_unsigned u) → IsSuffix (longs ++ u ∷ [])

@@ -14,7 +14,7 @@ use Rattle.fmt_lexer.specs.Bytes.{apostrophe, quote, backslash, is_octal}
 use Rattle.fmt_lexer.specs.Number.{radix_of, is_unsigned, is_long}
 use Rattle.fmt_lexer.specs.Mark.{long_marks, short_marks}
 
--- the base of a number, and what stands behind its prefix
+-- the base of a number, and what follows its prefix
 unfoldable pub split_prefix : List ℕ → Base × List ℕ
 split_prefix bytes =
     if slice_index bytes 0 == 48 then
@@ -41,7 +41,7 @@ is_suffix suffix = nat_le (length (longs_of suffix)) 2 && list_all is_long (long
 abbrev pub digits_len : Base → List ℕ → ℕ
 digits_len base bytes = prefix_len (λ b. is_digit b (radix_of base)) bytes
 
--- the base, the digits and the suffix that stand behind a prefix
+-- the base, the digits and the suffix that follow a prefix
 unfoldable pub parts_behind : Base → List ℕ → Option (Base × List ℕ × List ℕ)
 parts_behind base rest =
     let digits = take (digits_len base rest) rest in
@@ -52,11 +52,11 @@ parts_behind base rest =
 unfoldable pub number_parts : List ℕ → Option (Base × List ℕ × List ℕ)
 number_parts bytes = parts_behind (split_prefix bytes).0 (split_prefix bytes).1
 
--- behind a backslash: `x` and two hexadecimal digits
+-- after a backslash: `x` and two hexadecimal digits
 unfoldable pub is_hexadecimal : List ℕ → Bool
 is_hexadecimal bytes = ((nat_le 3 (length bytes) && slice_index bytes 0 == 120) && is_ascii_hexdigit (slice_index bytes 1)) && is_ascii_hexdigit (slice_index bytes 2)
 
--- the length of an escape behind its backslash
+-- the length of an escape after its backslash
 unfoldable pub escape_len : List ℕ → Option ℕ
 escape_len bytes =
     if length bytes == 0 then None
@@ -73,7 +73,7 @@ item_len bytes =
 unfoldable pub closed : List ℕ → ℕ → Option ℕ
 closed bytes item = if nat_lt item (length bytes) && slice_index bytes item == apostrophe then Some (item + 1) else None
 
--- the length of a letter behind its first mark
+-- the length of a letter after its first mark
 unfoldable pub letter_len : List ℕ → Option ℕ
 letter_len bytes = option_and_then (closed bytes) (item_len bytes)
 
@@ -83,7 +83,7 @@ text_from escaped [] = None
 text_from true (b ∷ bytes) = option_map (λ n. 1 + n) (text_from false bytes)
 text_from false (b ∷ bytes) = if b == quote then Some 1 else option_map (λ n. 1 + n) (text_from (b == backslash) bytes)
 
--- the length of a text behind its first mark
+-- the length of a text after its first mark
 unfoldable pub text_len : List ℕ → Option ℕ
 text_len bytes = text_from false bytes
 

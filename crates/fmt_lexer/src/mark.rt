@@ -1,4 +1,4 @@
-//! Operators, brackets and the other marks of C's expressions.
+//! Punctuators: operators, brackets and the other marks of C's expressions.
 
 ghost use Rattle.std.specs.Prelude.{◌≡◌};
 ghost use Rattle.fmt_lexer.specs.Reading.{is_long_mark, is_short_mark, mark_len};

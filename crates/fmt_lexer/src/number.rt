@@ -19,7 +19,7 @@ pub enum Base {
     Decimal,
     /// `0x`.
     Hexadecimal,
-    /// `0`, which is a number without digits behind it too.
+    /// `0`, which is a number without digits after it too.
     Octal,
 }
 
@@ -37,7 +37,7 @@ impl Base {
     }
 }
 
-/// A number's spelling behind its prefix, and what it counts.
+/// A number's spelling after its prefix, and what it counts.
 #[derive(Clone, Copy, Debug)]
 pub struct NumberParts<'a> {
     pub base: Base,
@@ -47,7 +47,7 @@ pub struct NumberParts<'a> {
     pub value: u64,
 }
 
-/// The base of a spelling, and what stands behind its prefix.
+/// The base of a spelling, and what follows its prefix.
 #[tactic(auto, unfolding(crate::specs::Reading::split_prefix))]
 fn split_prefix(spelling: &[u8]) -> (Base, &[u8])
     ensures { (result.0, result.1.now) ≡ split_prefix spelling.now }
@@ -70,7 +70,7 @@ fn digits_len(base: Base, bytes: &[u8]) -> usize
         .count()
 }
 
-/// The digits at the front, and what stands behind them.
+/// The digits at the front, and what follows them.
 #[tactic(auto, using(crate::proofs::Runs::run_within, crate::proofs::Runs::run_passes))]
 fn split_digits(base: Base, bytes: &[u8]) -> (&[u8], &[u8])
     ensures digits { result.0.now ≡ take (digits_len base bytes.now) bytes.now }
@@ -108,7 +108,7 @@ fn digits_value(base: Base, digits: &[u8]) -> Option<u64>
     number_written(base.radix(), digits)
 }
 
-/// The parts behind a prefix, where they are a number of 64 bits.
+/// The parts after a prefix, where they are a number of 64 bits.
 #[tactic(auto, unfolding(crate::specs::Reading::parts_behind))]
 fn parts_behind(base: Base, rest: &[u8]) -> Option<NumberParts<'_>>
     ensures parts { option_map parts_view result ≡ parts_behind base rest.now }

@@ -51,7 +51,7 @@ fn item_len(after: &[u8]) -> Option<usize>
     }
 }
 
-/// The length of the letter whose first `'` stands before these bytes, without that mark.
+/// The length of the letter whose first `'` stands before these bytes, without that quote.
 #[tactic(auto, unfolding(crate::specs::Reading::letter_len, crate::specs::Reading::closed))]
 pub fn letter_len(after: &[u8]) -> Option<usize>
     ensures value { result ≡ letter_len after.now }
@@ -65,7 +65,7 @@ pub fn letter_len(after: &[u8]) -> Option<usize>
     }
 }
 
-/// The length of the text whose first `"` stands before these bytes, without that mark.
+/// The length of the text whose first `"` stands before these bytes, without that quote.
 pub fn text_len(after: &[u8]) -> Option<usize>
     ensures value { result ≡ text_len after.now }
     ensures within { IfSome result (λ n. n ≤ length after.now) }

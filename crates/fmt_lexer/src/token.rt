@@ -5,15 +5,15 @@ ghost use Rattle.std.specs.Prelude.{◌≡◌, ◌≤◌, length};
 /// The kind of a token.
 #[derive(Clone, Copy, Debug, PartialEq, Eq)]
 pub enum TokenKind {
-    /// A letter or `_`, and the letters, digits and `_` behind it.
+    /// A letter or `_`, and the letters, digits and `_` after it.
     Name,
     /// Decimal, `0x` hexadecimal or `0` octal digits, with C's suffixes of `u` and `l`.
     Number,
-    /// One byte or one escape between two `'`.
+    /// A character constant: one byte or one escape between two `'`.
     Letter,
-    /// Any bytes and escapes between two `"`.
+    /// A string literal: any bytes and escapes between two `"`.
     Text,
-    /// An operator, a bracket or another mark of C's expressions.
+    /// A punctuator: an operator, a bracket or another mark of C's expressions.
     Mark,
 }
 
@@ -23,7 +23,7 @@ pub struct Token {
     pub kind: TokenKind,
     /// The place of its first byte in the text.
     pub start: u32,
-    /// The place behind its last byte.
+    /// The place after its last byte.
     pub end: u32,
 }
 

@@ -102,7 +102,7 @@ no_hex_two b c = refl
 abbrev Some_out : List ℕ → Type 0
 Some_out bytes = (out : List ℕ) × StandsFor bytes out
 
--- a name behind a backslash, or a hexadecimal escape
+-- a name after a backslash, or a hexadecimal escape
 from_name : (n : ℕ) → ((bytes : List ℕ) → length bytes ≤ n → Some_out bytes) → (b : ℕ) (rest : List ℕ) → length rest ≤ n → is_octal b ≡ false → Some_out (backslash ∷ b ∷ rest)
 from_name n more b [] le h = let r = more [] le in (named b ∷ r.0, by_name h (no_hex_one b) r.1)
 from_name n more b (c ∷ []) le h = let r = more (c ∷ []) le in (named b ∷ r.0, by_name h (no_hex_two b c) r.1)

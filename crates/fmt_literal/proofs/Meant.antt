@@ -15,7 +15,7 @@ pub meant_end : meant 0 [] ≡ []
 unfolding meant
 meant_end = refl
 
--- one item, and what stands behind it
+-- one item, and what follows it
 pub meant_next : (b : ℕ) (bytes : List ℕ) → meant 0 (b ∷ bytes) ≡ (item b bytes).byte ∷ meant 0 (drop (item b bytes).len bytes)
 unfolding meant
 meant_next b bytes = ap (λ (out : List ℕ). (item b bytes).byte ∷ out) (meant_skip (item b bytes).len bytes)

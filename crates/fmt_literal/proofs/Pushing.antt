@@ -1,4 +1,4 @@
--- A text behind which more and more of a piece is put.
+-- A text to which more and more of a piece is appended.
 use Rattle.std.proofs.Common.{◌≡◌, ℕ, Bool, true, false, if◌then◌else◌, List, [], ◌∷◌, ◌++◌, length, take, drop, refl, sym, ap, ◌∙◌, append_assoc, append-nil}
 use Rattle.std.proofs.Math.Seq.{take-append_seam, take-length}
 use Rattle.fmt_literal.specs.Escape.{spelled, item, meant}
@@ -6,7 +6,7 @@ use Rattle.fmt_literal.specs.Quoted.{inside, text_of}
 use Rattle.fmt_literal.specs.Pushed.{GainedFront}
 use Rattle.fmt_literal.proofs.Meant.{meant_turn, meant_done}
 
--- the front of the piece stands behind the text, and the rest of it is left
+-- the front of the piece was appended to the text, and the rest of it is left
 pub record Grows (before now left piece : List ℕ) : Type 0 where
   pub front : List ℕ
   pub gained : now ≡ before ++ front

@@ -17,7 +17,7 @@ abbrev pub NoOctal : List ℕ → Type 0
 NoOctal [] = Unit {0}
 NoOctal (b ∷ bytes) = is_octal b ≡ false
 
--- the bytes of these escapes behind their backslash, where they stand at the front
+-- the bytes of these escapes after their backslash, where they stand at the front
 unfoldable pub hexadecimal_in : List ℕ → Option ℕ
 hexadecimal_in bytes =
     if nat_le 3 (length bytes) && (slice_index bytes 0 == 120 && (is_ascii_hexdigit (slice_index bytes 1) && is_ascii_hexdigit (slice_index bytes 2)))
@@ -73,7 +73,7 @@ plain_in (b ∷ bytes) = spelled (named b) 1
 unfoldable pub escape : List ℕ → Item
 escape bytes = or_else (hexadecimal_in bytes) 3 (or_else (three_in bytes) 3 (or_else (two_in bytes) 2 (or_else (one_in bytes) 1 (plain_in bytes))))
 
--- what a byte and some of those behind it stand for
+-- what a byte and some of those after it stand for
 unfoldable pub item : ℕ → List ℕ → Item
 item b bytes = if b == backslash then escape bytes else spelled b 0
 

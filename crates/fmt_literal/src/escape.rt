@@ -16,7 +16,7 @@ pub struct Spelled {
     pub len: usize,
 }
 
-/// What the byte behind a backslash names.
+/// What the byte after a backslash names.
 fn named(byte: u8) -> u8
     ensures { result ≡ named byte }
 {
@@ -53,7 +53,7 @@ fn hexadecimal(digit: u8) -> u32
     char::from(digit).to_digit(16).unwrap_or(0)
 }
 
-/// The byte of a hexadecimal escape, behind its backslash.
+/// The byte of a hexadecimal escape, after its backslash.
 #[tactic(auto, unfolding(crate::specs::Escape::hexadecimal_in))]
 fn hexadecimal_in(after: &[u8]) -> Option<u8>
     ensures value { result ≡ hexadecimal_in after.now }
@@ -135,7 +135,7 @@ fn escape(after: &[u8]) -> Spelled
     }
 }
 
-/// What a byte stands for together with those behind it, and how many of these belong to it.
+/// What a byte stands for together with those after it, and how many of these belong to it.
 #[tactic(auto, unfolding(crate::specs::Escape::item))]
 pub fn item(first: u8, behind: &[u8]) -> Spelled
     ensures value { item_view result ≡ item first behind.now }
@@ -158,7 +158,7 @@ fn is_plain(bytes: &[u8]) -> bool
     !bytes.contains(&b'\\')
 }
 
-/// Puts what bytes stand for behind what is there. Most have no escape, and are put at once.
+/// Appends what bytes stand for. Most have no escape, and are put at once.
 ///
 /// # Errors
 ///
@@ -175,7 +175,7 @@ pub fn push_meant(into: &mut Vec<u8>, bytes: &[u8]) -> Result<(), AllocError>
     }
 }
 
-/// Puts what bytes stand for behind what is there, byte by byte.
+/// Appends what bytes stand for, byte by byte.
 #[tactic(auto, using(crate::proofs::Pushing::grows_first, crate::proofs::Pushing::grows_more))]
 fn push_items(into: &mut Vec<u8>, bytes: &[u8]) -> Result<(), AllocError>
     ensures whole { IfOk result (λ _. into.new.items ≡ into.old.items ++ meant 0 bytes.now) }

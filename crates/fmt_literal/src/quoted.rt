@@ -7,7 +7,7 @@ ghost use Rattle.fmt_literal.specs.Quoted.{inside, text_of, letter_of, IsTextOf,
 use crate::escape::{item, push_meant};
 use std::alloc::AllocError;
 
-/// What stands between the two marks of a letter or a text.
+/// What stands between the two quotes of a letter or a text.
 fn inside(spelling: &[u8]) -> &[u8]
     ensures { result.now ≡ inside spelling.now }
 {
@@ -17,7 +17,7 @@ fn inside(spelling: &[u8]) -> &[u8]
     }
 }
 
-/// The one byte that stands between the marks.
+/// The one byte that stands between the quotes.
 #[tactic(auto, using(crate::proofs::Meant::letter_is, crate::proofs::Meant::no_letter, crate::proofs::Meant::empty_letter))]
 fn only_byte(spelling: &[u8]) -> Option<u8>
     ensures { result ≡ letter_of spelling.now }
@@ -31,7 +31,7 @@ fn only_byte(spelling: &[u8]) -> Option<u8>
     }
 }
 
-/// The byte that a letter is, by its spelling with both marks. None exactly where not one byte stands between them.
+/// The byte that a letter is, by its spelling with both quotes. None exactly where what stands between them does not spell one.
 #[tactic(auto, using(crate::proofs::Letters::found_letter, crate::proofs::Letters::none_letter))]
 pub fn letter(spelling: &[u8]) -> Option<u8>
     ensures found { IfSome result (λ b. IsLetterOf spelling.now b) }
@@ -41,7 +41,7 @@ pub fn letter(spelling: &[u8]) -> Option<u8>
     only_byte(spelling)
 }
 
-/// Puts a text behind what is there, by its spelling with both marks.
+/// Appends a text, by its spelling with both quotes.
 ///
 /// # Errors
 ///

@@ -179,7 +179,7 @@ fn wide_cast(words: &[u8], long: u32) -> Option<CastTo>
 }
 
 /// What a cast makes of a number, where the type is known: by its names, joined by one blank and without `const` and
-/// `volatile`, the number of `*` behind them, and the size of the kernel's long.
+/// `volatile`, the number of `*` after them, and the size of the kernel's long.
 #[tactic(auto, unfolding(crate::specs::Types::known_cast))]
 fn known_cast(words: &[u8], stars: usize, long: u32) -> Option<CastTo>
     requires { long ≤ 8 }
@@ -197,7 +197,7 @@ fn known_cast(words: &[u8], stars: usize, long: u32) -> Option<CastTo>
 /// What a cast to a type makes of a number.
 ///
 /// `words` are the type's names, joined by one blank and without `const` and `volatile`; `stars` is the number of `*`
-/// behind them; `long` is the size of the kernel's long in bytes.
+/// after them; `long` is the size of the kernel's long in bytes.
 pub fn cast_of(words: &[u8], stars: usize, long: u32) -> CastTo
     requires { (long ≡ 4) ⊎ (long ≡ 8) }
     ensures { result ≡ cast_of words.now stars long }

@@ -111,7 +111,7 @@ steps_each len (s ∷ steps) each =
 pub steps_within : (len : ℕ) (steps : List Step) (ds : List Directive) → flat_map directives_of steps ≡ ds → All (IsWithin len) ds → All (IsPlaced len) steps
 steps_within len steps ds is each = steps_each len steps (All-same (IsWithin len) (flat_map directives_of steps) ds is each)
 
--- a literal in a text with zeros behind it
+-- a literal in a text with zeros after it
 pub literal_room : (text padded : List ℕ) (start end : ℕ) → padded ≡ text ++ replicate 16 0 → start ≤ end → end ≤ length text → (end - start) + 16 ≤ length (take (length padded - start) (drop start padded))
 literal_room text padded start end is le within =
     omega (arith, le, within, ap length is, length-append text (replicate 16 0), length-drop start padded, length-take (length padded - start) (drop start padded))

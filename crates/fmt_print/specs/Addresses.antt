@@ -18,7 +18,7 @@ use Rattle.fmt_forms.specs.declared.form.Form.{Form}
 use Rattle.fmt_forms.specs.Texts.{padded}
 use Rattle.fmt_print.specs.Strings.{address_of}
 
--- the name of a symbol, and how far behind it the address is
+-- the name of a symbol, and how far past it the address is
 abbrev pub name_or : ℕ → Option (List ℕ × ℕ) → List ℕ
 name_or address None = hexadecimal address
 name_or address (Some found) = found.0

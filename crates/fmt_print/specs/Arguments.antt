@@ -9,18 +9,18 @@ use Rattle.fmt_eval.specs.Values.{RecData, number_of}
 use Rattle.fmt_forms.specs.declared.form.Form.{Form}
 use Rattle.fmt_forms.specs.Forms.{form_of}
 
--- the first argument, and those behind it
+-- the first argument, and those after it
 abbrev pub first_of : List Tree → Option (Tree × List Tree)
 first_of [] = None
 first_of (t ∷ ts) = Some (t, ts)
 
--- an amount, and the arguments behind it
+-- an amount, and the arguments after it
 abbrev pub amount_of : RecData → Amount → List Tree → Option (Option ℤ × List Tree)
 amount_of g Absent args = Some (None, args)
 amount_of g (Fixed n) args = Some (Some (pos n), args)
 amount_of g FromArgument args = option_map (λ a. (Some (number_of g a.0).exact, a.1)) (first_of args)
 
--- the form of a conversion, its argument, and the arguments behind it
+-- the form of a conversion, its argument, and the arguments after it
 abbrev pub Taken : Type 0
 Taken = Form × Tree × List Tree
 

@@ -45,7 +45,7 @@ pub record Source : Type 0 where
   pub long : ℕ
   pub text : List ℕ
 
--- the text of one directive, and the arguments behind it
+-- the text of one directive, and the arguments after it
 abbrev pub printed_one : Source → Directive → List Tree → List ℕ × List Tree
 printed_one s (directive.Literal start end) args = (slice_range s.text start end, args)
 printed_one s (directive.Number spec base) args = by (number_text s.given s.long spec.length base) (taken s.given spec args)

@@ -23,7 +23,7 @@ plain_spec length = record { left = false; zero = false; plus = false; space = f
 abbrev pub a_literal : Literal → Directive
 a_literal l = directive.Literal l.start l.end
 
--- the directives that a step shows: a literal or none, and one behind it or none
+-- the directives that a step shows: a literal or none, and one after it or none
 abbrev pub literal_directive : Option Literal → Option Directive
 literal_directive l = option_map a_literal l
 
@@ -48,11 +48,11 @@ abbrev pub literal_text : List ℕ → Option Literal → List ℕ
 literal_text text None = []
 literal_text text (Some l) = slice_range text l.start l.end
 
--- the text of one directive or none, and the arguments behind it
+-- the text of one directive or none, and the arguments after it
 abbrev pub printed_some : Source → Option Directive → List Tree → List ℕ × List Tree
 printed_some s None args = ([], args)
 printed_some s (Some d) args = printed_one s d args
 
--- the text of a step, and the arguments behind it
+-- the text of a step, and the arguments after it
 abbrev pub printed_step : Source → Step → List Tree → List ℕ × List Tree
 printed_step s step args = let behind = printed_some s (shown_directive step.shown) args in (literal_text s.text step.literal ++ behind.0, behind.1)

@@ -72,7 +72,7 @@ fn text_place(tree: &Expr) -> Option<TextPlace>
     }
 }
 
-/// The tree that gives the text of a tree: that behind a cast, and of a choice the arm that is taken.
+/// The tree that gives the text of a tree: that under a cast, and of a choice the arm that is taken.
 fn source_of<'a>(expr: &'a Expr, rec: &Rec<'_>) -> &'a Expr
     ensures { text_of (given rec.now) (tree_of result.now) ≡ text_of (given rec.now) (tree_of expr.now) }
 {
@@ -150,7 +150,7 @@ impl Argument {
         self.number(rec).pattern()
     }
 
-    /// Its text where it lies in a record at a known place, perhaps with a NUL and more behind it.
+    /// Its text where it lies in a record at a known place, perhaps with a NUL and more after it.
     #[inline(always)]
     #[tactic(auto, using(crate::proofs::KnownLemmas::stands_text))]
     pub fn placed_text<'a>(&self, rec: &Rec<'a>) -> Option<&'a [u8]>
@@ -166,7 +166,7 @@ impl Argument {
         Some(&rec.payload[start..end])
     }
 
-    /// The tree that gives its text: that behind a cast, and of a choice the arm that is taken.
+    /// The tree that gives its text: that under a cast, and of a choice the arm that is taken.
     #[inline(always)]
     pub fn source(&self, rec: &Rec<'_>) -> &Expr
         ensures { text_of (given rec.now) (tree_of result.now) ≡ text_of (given rec.now) (argument_tree self.now) }

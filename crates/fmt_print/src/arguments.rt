@@ -12,7 +12,7 @@ use fmt_directives::{Amount, Spec};
 use fmt_forms::{Form, form_of};
 use trace_base::Rec;
 
-/// The form of a conversion, its argument, and the arguments behind it.
+/// The form of a conversion, its argument, and the arguments after it.
 #[derive(Clone, Copy)]
 pub struct Conversion<'a> {
     pub form: Form,
@@ -20,7 +20,7 @@ pub struct Conversion<'a> {
     pub rest: &'a [Argument],
 }
 
-/// The first argument, and those behind it.
+/// The first argument, and those after it.
 #[inline(always)]
 #[tactic(auto, using(crate::proofs::ArgumentLemmas::first_none, crate::proofs::ArgumentLemmas::first_some))]
 pub fn first_of(args: &[Argument]) -> Option<(&Argument, &[Argument])>
@@ -32,7 +32,7 @@ pub fn first_of(args: &[Argument]) -> Option<(&Argument, &[Argument])>
     Some((&args[0], &args[1..]))
 }
 
-/// An amount, and the arguments behind it.
+/// An amount, and the arguments after it.
 #[inline(always)]
 fn amount_of<'a>(
     rec: &Rec<'_>,

@@ -52,7 +52,7 @@ fn bits_of(length: Length, long: u32) -> u32
     }
 }
 
-/// The text of a tree without operands, where it lies in memory, perhaps with a NUL and more behind it.
+/// The text of a tree without operands, where it lies in memory, perhaps with a NUL and more after it.
 #[inline(always)]
 #[tactic(auto, using(crate::proofs::TextLemmas::nul_once))]
 fn text_at_once<'a>(expr: &'a Expr, rec: &Rec<'a>) -> Option<&'a [u8]>

@@ -19,7 +19,7 @@ use trace_base::{ByteText, ListOf};
 #[derive(Drop)]
 pub struct PrintPlan {
     pub(crate) text: ByteText,
-    /// The format text with 16 zeros behind it, so that 16 bytes stand wherever a literal begins.
+    /// The format text with 16 zeros after it, so that 16 bytes stand wherever a literal begins.
     pub(crate) padded: Vec<u8>,
     pub(crate) directives: Vec<Directive>,
     /// The directives, by how they are shown.

@@ -25,7 +25,7 @@ impl<'a> Printer<'a> {
     ghost use Rattle.fmt_print.specs.Takes.{Takes};
     ghost use Rattle.fmt_print.specs.Sources.{source};
 
-    /// Shows a conversion of any form. Gives the arguments behind those that it takes.
+    /// Shows a conversion of any form. Gives the arguments after those that it takes.
     #[inline(never)]
     fn formed<'b>(
         &self,
@@ -45,7 +45,7 @@ impl<'a> Printer<'a> {
         }
     }
 
-    /// Shows a plain conversion. Gives the arguments behind its own. What it shows and its form are known when this is compiled.
+    /// Shows a plain conversion. Gives the arguments after its own. What it shows and its form are known when this is compiled.
     #[inline(always)]
     fn plain<'b>(
         &self,
@@ -81,7 +81,7 @@ impl<'a> Printer<'a> {
         }
     }
 
-    /// Shows what stands behind a literal. Gives the arguments behind those that it takes.
+    /// Shows what follows a literal. Gives the arguments after those that it takes.
     #[inline(always)]
     #[tactic(auto, using(fmt_forms::proofs::Gathering::nothing_joined))]
     fn shown<'b>(&self, shown: &Shown, args: &'b [Argument], into: &mut Tail<'_>) -> &'b [Argument]
@@ -108,7 +108,7 @@ impl<'a> Printer<'a> {
         }
     }
 
-    /// Shows a step. Gives the arguments behind those that it takes.
+    /// Shows a step. Gives the arguments after those that it takes.
     #[inline(always)]
     fn step<'b>(&self, step: &Step, args: &'b [Argument], into: &mut Tail<'_>) -> &'b [Argument]
         requires { IsPlaced (length (source self.now).text) step.now }

@@ -17,7 +17,7 @@ use fmt_expr::{Expr, PrintFmt};
 use fmt_fold::folded;
 use std::alloc::{AllocError, Global};
 
-/// A text with 16 zeros behind it.
+/// A text with 16 zeros after it.
 fn padded(alloc: Global, text: &[u8]) -> Result<Vec<u8>, AllocError>
     ensures { IfOk result (λ all. all.items ≡ text.now ++ replicate 16 0) }
 {

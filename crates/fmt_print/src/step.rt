@@ -25,7 +25,7 @@ pub enum Content {
     Pointer(PointerForm),
 }
 
-/// What is shown behind a literal. Most conversions are plain: they have no flag, no width and no precision.
+/// What is shown after a literal. Most conversions are plain: they have no flag, no width and no precision.
 #[derive(Clone, Copy)]
 pub enum Shown {
     /// Nothing.
@@ -44,7 +44,7 @@ pub enum Shown {
     Formed(Content, Spec),
 }
 
-/// One literal or none, and what is shown behind it.
+/// One literal or none, and what is shown after it.
 #[derive(Clone, Copy)]
 pub struct Step {
     pub literal: Option<Literal>,
@@ -87,7 +87,7 @@ fn shown_of(directive: Directive) -> Shown
     }
 }
 
-/// The literal that directives begin with, and the directives behind it.
+/// The literal that directives begin with, and the directives after it.
 fn first_literal(directives: &[Directive]) -> (Option<Literal>, &[Directive])
     ensures value { option_to_list (literal_directive result.0) ++ result.1.now ≡ directives.now }
     ensures within { length result.1.now ≤ length directives.now }
@@ -104,7 +104,7 @@ fn first_literal(directives: &[Directive]) -> (Option<Literal>, &[Directive])
     }
 }
 
-/// How the first directive is shown, and the directives behind it.
+/// How the first directive is shown, and the directives after it.
 fn first_shown(directives: &[Directive]) -> (Shown, &[Directive])
     ensures value { option_to_list (shown_directive result.0) ++ result.1.now ≡ directives.now }
     ensures less { length result.1.now ≡ length directives.now - 1 }

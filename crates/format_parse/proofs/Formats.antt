@@ -68,7 +68,7 @@ after_not : (line : List ℕ) → begins line ≡ false → after_word (codes "p
 unfolding after_word begins
 after_not line is = rw is refl
 
--- what stands behind the word in a text
+-- what follows the word in a text
 starts : (text rest : List ℕ) → Some rest ≡ after_word (codes "print fmt:") text → (begins text ≡ true) × (rest ≡ drop 10 text)
 unfolding after_word begins
 starts text rest is = elim (cases_Bool (bytes_eq (take 10 text) (codes "print fmt:"))) as (λ _. (begins text ≡ true) × (rest ≡ drop 10 text)) [

@@ -19,7 +19,7 @@ number name offset size signed = record { name = name; offset = offset; size = s
 unfoldable pub common_fields : List Field
 common_fields = number (codes "common_type") 0 2 false ∷ number (codes "common_flags") 2 1 false ∷ number (codes "common_preempt_count") 3 1 false ∷ number (codes "common_pid") 4 4 true ∷ []
 
--- fields are read from a text up to the lines behind
+-- fields are read from a text up to the lines that follow
 pub record ReadsOn (text : List ℕ) (before after : List Field) (behind : List (List ℕ)) : Type 0 where
   pub fields : after ++ map field_of (field_data behind) ≡ before ++ map field_of (field_data (lines_of text))
   pub print : print_text behind ≡ print_text (lines_of text)

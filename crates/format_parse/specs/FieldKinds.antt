@@ -31,7 +31,7 @@ fixed_kind kind_text array size =
     else (if has_star kind_text && (size == 4 || size == 8) then Pointer
     else (if size == 1 || size == 2 || size == 4 || size == 8 then Number else Bytes))
 
--- the kind by what stands behind a word for a place, where there is one
+-- the kind by what follows a word for a place, where there is one
 abbrev pub kind_by : Option (List ℕ) → FieldKind → FieldKind
 kind_by None otherwise = otherwise
 kind_by (Some rest) otherwise = dynamic_kind rest

@@ -21,7 +21,7 @@ abbrev pub print_by : Option (List ℕ) → List (List ℕ) → List ℕ → Lis
 print_by None lines later = later
 print_by (Some rest) lines later = join_with_byte 10 (rest ∷ lines)
 
--- all text behind the first `print fmt:` at a line's beginning; none is empty
+-- all text after the first `print fmt:` at a line's beginning; none is empty
 abbrev pub print_text : List (List ℕ) → List ℕ
 print_text [] = []
 print_text (line ∷ lines) = print_by (after_word (codes "print fmt:") line) lines (print_text lines)

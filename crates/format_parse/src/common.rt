@@ -20,7 +20,7 @@ pub(crate) fn after_common(text: &[u8]) -> Option<&[u8]>
     )
 }
 
-/// Puts these fields behind the others.
+/// Appends these fields to the others.
 pub(crate) fn put_common(alloc: Global, fields: &mut Vec<Field>) -> Result<(), AllocError>
     ensures { OnOk result (fields.new.items ≡ fields.old.items ++ common_fields) }
 {

@@ -11,7 +11,7 @@ pub struct EventFormat {
     pub id: u32,
     /// The fields of its records, in the text's order, those that all events have included.
     pub fields: ListOf<Field>,
-    /// The text behind `print fmt:`, unread; empty where there is none.
+    /// The text after `print fmt:`, unread; empty where there is none.
     pub print: ByteText,
     /// The whole text.
     pub text: ByteText,

@@ -24,7 +24,7 @@ const USUAL_FIELDS: usize = 12;
 ///
 /// The name is the rest of the first line that begins with `name: `, an identifier; the id that of the first line that begins
 /// with `ID: `, a decimal number below 2^32. The fields are those of the field lines before the first line that begins with
-/// `print fmt:`, and the print fmt is all text behind that word.
+/// `print fmt:`, and the print fmt is all text after that word.
 #[tactic(auto, unfolding(crate::specs::Format::format_of))]
 pub fn parse_format(
     alloc: Global,
@@ -100,7 +100,7 @@ fn may_begin(byte: u8) -> bool
 }
 
 /// Puts the fields that the text begins with: those of all events, where no field was put yet and the lines that declare them
-/// come first, or else that of the first line, if it is a field line. Gives the lines behind.
+/// come first, or else that of the first line, if it is a field line. Gives the lines that follow.
 #[tactic(auto, using(crate::proofs::CommonFields::common_short))]
 fn put_fields<'a>(
     alloc: Global,

@@ -43,7 +43,7 @@ impl FormatTable {
         }
     }
 
-    /// Puts a format behind the others, and says so; false, and nothing is changed, exactly where its id is there already.
+    /// Appends a format and answers true. Answers false, and changes nothing, exactly where its id is there already.
     /// After `AllocError` the table is as before.
     pub fn add(&mut self, format: EventFormat) -> Result<bool, AllocError>
         ensures added { IfOk result (λ added. added ≡ not (list_any (has_id format.id) self.old)) }
@@ -58,7 +58,7 @@ impl FormatTable {
         Ok(true)
     }
 
-    /// The table with the formats of these texts of a system behind the others. Unread texts are passed over, and so are
+    /// The table with the formats that a system's texts spell after the others. Unread texts are passed over, and so are
     /// those whose ids are there already.
     pub fn with_texts(
         self,

@@ -6,7 +6,7 @@ use format_parse::{EventFormat, FormatTable};
 use noted_places::Places;
 use std::alloc::{AllocError, Global};
 
-/// Where formats stand by their numbers. What it tells is right of any table, and quick of the one that it was made of.
+/// Where formats stand, by their numbers. Its answer is right for any table, and quick for the one that it was made of.
 #[derive(Drop)]
 pub struct FormatPlaces {
     places: Places,

@@ -9,17 +9,17 @@ use format_parse::{EventFormat, FormatTable};
 use std::alloc::{AllocError, Global};
 use std::marker::Model;
 
-/// What the events of a format are for someone.
+/// The role that the events of a format play for a command.
 pub trait FormatRole: Copy {
-    /// What its events are.
+    /// The role of its events.
     ghost role_of: { EventFormat → Self };
 
-    /// What the events of this format are.
+    /// The role of this format's events.
     fn of(format: &EventFormat) -> Self
         ensures { result ≡ role_of format.now };
 }
 
-/// What the events of each format of a table are, in the formats' order: found once, before any event.
+/// The role of each format's events, in the order of a table: found once, before any event.
 #[derive(Drop)]
 pub struct FormatRoles<R> {
     places: FormatPlaces,
@@ -59,7 +59,7 @@ impl<R: FormatRole> FormatRoles<R> {
         Ok(FormatRoles { places, roles })
     }
 
-    /// The role of the format with this number, and another where there is none. The roles are those of these formats.
+    /// The role of the format with this number, and `other` where there is none. The roles must be those of these formats.
     #[tactic(auto, using(crate::proofs::RolePlaces::role_none, crate::proofs::RolePlaces::role_past))]
     #[inline(always)]
     pub fn role(&self, formats: &FormatTable, id: u32, other: R) -> R

@@ -255,7 +255,7 @@ impl Front {
         }
     }
 
-    /// Puts so many nanoseconds in front, as microseconds with three digits behind the point.
+    /// Puts so many nanoseconds in front, as microseconds with three digits after the point.
     #[tactic(auto, unfolding(crate::specs::Columns::duration_text))]
     pub fn duration(&mut self, nanos: u64)
         requires { length self.old ≤ BEFORE_TIME }

@@ -3,10 +3,10 @@
 /// The longest decimal number of 64 bits.
 pub(crate) const DIGITS: usize = 20;
 
-/// The longest text that may stand behind the columns.
+/// The longest text that may follow the columns.
 pub const LONGEST_BEHIND: usize = 40;
 
-/// The mark between the time and what stands behind it.
+/// The colon and the space between the time and what follows it.
 const COLON: usize = 2;
 
 /// The longest count of seconds that nanoseconds of 64 bits make.
@@ -36,7 +36,7 @@ pub(crate) const PID: usize = 5;
 /// The longest pid, which has 32 bits and a sign.
 pub(crate) const LONGEST_PID: usize = 11;
 
-/// The mark between the task's name and its pid.
+/// The dash between the task's name and its pid.
 const DASH: usize = 1;
 
 /// The longest name of a task.

@@ -1,4 +1,4 @@
--- The columns of a line by numbers: up to the colon behind the time.
+-- The columns of a line by numbers: up to the colon after the time.
 use Rattle.std.specs.Prelude.{◌≡◌, ◌<◌, ℕ, false, List, ◌++◌, codes}
 use Rattle.std.specs.Fmt.{decimal, signed_decimal}
 use Rattle.line_columns.specs.Columns.{left, zeros, time_text}
@@ -30,11 +30,11 @@ usual_when cpu time = (codes " [" ++ (zeros 3 (decimal cpu) ++ codes "] ")) ++ (
 abbrev pub IsUsual : Show → ℕ → ℕ → Type 0
 IsUsual show cpu time = (show.latency ≡ false) × (show.full ≡ false) × (cpu < 100) × (time < USUAL_TIMES)
 
--- the task, where and when it was, and what is said behind that
+-- the task, where and when it was, and what is said after that
 abbrev pub columns : ContextData → ℕ → ℕ → Common → List ℕ → List ℕ
 columns given cpu time common behind = task_front given.show given.symbols.tasks common.pid ++ (when_of given.show cpu time common ++ behind)
 
--- behind the task's name: its pid, where and when it was
+-- after the task's name: its pid, where and when it was
 unfoldable pub columns_of : Show → ℕ → ℕ → Common → List ℕ
 columns_of show cpu time common = codes "-" ++ (left 5 (signed_decimal common.pid) ++ when_of show cpu time common)
 

@@ -93,7 +93,7 @@ impl Context {
     }
 }
 
-/// Puts the columns of a line up to the colon behind the time: the task with its pid, where and when it was.
+/// Puts the columns of a line up to the colon after the time: the task with its pid, where and when it was.
 pub fn prefix(context: &Context, cpu: u32, time: u64, common: &Common, into: &mut Tail<'_>)
     ensures same_slice { lent into.new ≡ lent into.old }
     ensures value { held into.new ≡ put_held (held into.old) (spec.prefix_text context.now cpu time common.now) }
@@ -101,7 +101,7 @@ pub fn prefix(context: &Context, cpu: u32, time: u64, common: &Common, into: &mu
     put_any(context, cpu, time, common, b"", into);
 }
 
-/// Puts the columns of a line, and a short text behind them. Gives where the time ends: behind it stand a colon and a space.
+/// Puts the columns of a line, and a short text after them. Gives where the time ends: a colon and a space follow it.
 pub(crate) fn put_front(
     context: &Context,
     cpu: u32,
@@ -367,7 +367,7 @@ pub(crate) fn task_width(show: &Show) -> usize
     if show.latency { 8 } else { 16 }
 }
 
-// Puts the columns behind the task in front.
+// Puts the columns after the task in front.
 fn put_when(show: &Show, cpu: u32, time: u64, common: &Common, front: &mut Front)
     requires room { length front.old ≤ LONGEST_BEHIND }
     ensures value { front.new ≡ spec.when_of show.now cpu time common.now ++ front.old }

@@ -36,7 +36,7 @@ pub(crate) enum TaskStart<'a> {
     Unknown,
 }
 
-/// How lines begin that tell of the tasks whose names were saved, in their order, and of the idle task, which stands behind
+/// How lines begin that tell of the tasks whose names were saved, in their order, and of the idle task, which stands after
 /// them. A task that is not there is told as any other.
 #[derive(Drop)]
 pub(crate) struct TaskFronts {

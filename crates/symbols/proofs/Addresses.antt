@@ -61,7 +61,7 @@ address_read text address count is value some few =
     let within : leb run 16 ≡ true = le-leb run 16 (omega (arith, is, few)) in
     ap (λ (n : ℕ). Some (n, drop count text)) whole ∙ ap (λ (n : ℕ). Some (digits_value 16 (take run text), drop n text)) is ∙ sym (rw (positive, within) refl)
 
--- the number that digits write behind others
+-- the number that digits write after others
 after_append : (n : ℕ) (front behind : List ℕ) → digits_value_after 16 n (front ++ behind) ≡ digits_value_after 16 (digits_value_after 16 n front) behind
 after_append n [] behind = refl
 after_append n (d ∷ front) behind = after_append (n * 16 + digit_value d) front behind
@@ -89,7 +89,7 @@ both_halves text high low long first second =
       omega (arith, value, first.value, second.value),
     )
 
--- a space behind 16 digits ends them
+-- a space after 16 digits ends them
 full_count : (text : List ℕ) → 16 < length text → get_or text 16 0 ≡ 32 → list_all is_hexadecimal (take 16 text) ≡ true → prefix_len is_hexadecimal text ≡ 16
 full_count text inside space all =
     let here : is_hexadecimal (get_or text 16 0) ≡ false = subst (λ (b : ℕ). is_hexadecimal b ≡ false) (sym space) refl in

@@ -59,7 +59,7 @@ from block (x ∷ xs) up low h = (h x (omega arith), from block xs (λ i j d le 
 pub rises_sorted : (block : List ℕ) (ys : List Spot) → IsNonDecreasingBy spot_key ys → IsSortedPairs (spots_view block ys)
 rises_sorted block ys up = from block ys up 0 (λ d less. omega arith)
 
--- a sort of what stands behind the first few
+-- a sort of what follows the first few
 at_front : (xs late : List Spot) (n i : ℕ) (d : Spot) → n ≤ length xs → i < n → get_or (take n xs ++ late) i d ≡ get_or xs i d
 at_front xs late n i d inside less = get_or_append_left (take n xs) late d i (omega (arith, length-take n xs, inside, less)) ∙ get_or-take n xs i d less
 

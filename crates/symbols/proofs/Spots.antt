@@ -26,7 +26,7 @@ rise_more xs i last d inside next below rises j k e le less = elim (cases_lt k i
       omega (arith, last_more xs i last d inside next below j e (omega (arith, le, less)), ap (λ (n : ℕ). (get_or xs n e).key) at, key_same xs i d e inside)
 ]
 
--- none behind a place is below the least of those behind it
+-- none after a place is below the least of those after it
 pub least_more : (xs : List Spot) (from i least : ℕ) (d : Spot) → i < length xs → ((k : ℕ) (e : Spot) → from ≤ k → k < i → least ≤ (get_or xs k e).key) → (now : ℕ) → now ≤ least → now ≤ (get_or xs i d).key
     → (k : ℕ) (e : Spot) → from ≤ k → k < i + 1 → now ≤ (get_or xs k e).key
 least_more xs from i least d inside before now le here k e past less = elim (cases_lt k i) as (λ _. now ≤ (get_or xs k e).key) [
@@ -34,7 +34,7 @@ least_more xs from i least d inside before now le here k e past less = elim (cas
   | inr later ↦ let at : k ≡ i = omega (arith, later, less) in omega (arith, here, ap (λ (n : ℕ). (get_or xs n e).key) at, key_same xs i d e inside)
 ]
 
--- those that rise and are not above any behind them
+-- those that rise and are not above any after them
 pub are_first : (xs : List Spot) (rising count least : ℕ) (d : Spot) → rising ≤ length xs → RiseUpTo xs rising → NoneBelow xs rising least → count ≤ rising → 0 < count → (get_or xs (count - 1) d).key ≤ least → AreFirst xs count
 are_first xs rising count least d inside rises none within some last = record {
   within = omega (arith, inside, within);

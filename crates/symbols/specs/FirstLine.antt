@@ -12,13 +12,13 @@ use Rattle.symbols.specs.Names.{EndsWith}
 abbrev pub stays : ℕ → Bool
 stays byte = in_name byte && not (byte == 10)
 
--- a text begins with a name that is so long, and has a byte behind it
+-- a text begins with a name that is so long, and has a byte after it
 pub record IsNameLen (text : List ℕ) (len : ℕ) : Type 0 where
   pub inside : len < length text
   pub name : list_all stays (take len text) ≡ true
   pub ends : stays (slice_index text len) ≡ false
 
--- the symbol of the first line, where its name begins in the text, and the lines behind it
+-- the symbol of the first line, where its name begins in the text, and the lines after it
 pub record IsFirstSymbol (text : List ℕ) (key : ℕ) (from : List ℕ) (len : ℕ) (others : List (List ℕ)) : Type 0 where
   pub line : List ℕ
   pub split : lines_of text ≡ line ∷ others
@@ -26,7 +26,7 @@ pub record IsFirstSymbol (text : List ℕ) (key : ℕ) (from : List ℕ) (len : 
   pub inside : len < length from
   pub ends : EndsWith text from
 
--- the name of the first line is put behind the others, if it has one
+-- the name of the first line is appended to the others, if it has one
 pub record PutsFirst (form : Form) (text : List ℕ) (before after : List Pair) (others : List (List ℕ)) : Type 0 where
   pub line : List ℕ
   pub split : lines_of text ≡ line ∷ others

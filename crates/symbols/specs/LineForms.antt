@@ -1,5 +1,5 @@
 -- The lines that name an address or a task.
--- Sources: proc_kallsyms(5), an address, a letter for the symbol's type and a name, with the module behind a tab; the kernel's
+-- Sources: proc_kallsyms(5), an address, a letter for the symbol's type and a name, with the module after a tab; the kernel's
 -- printk_formats and saved_cmdlines of tracefs, which trace-cmd.dat.v6(5) stores.
 use Rattle.std.specs.Prelude.{◌≡◌, ◌⊎◌, ℕ, ◌^◌, ◌<◌, ◌≤◌, Bool, true, false, not, ◌&&◌, ◌==◌, List, [], ◌∷◌, ◌++◌, length, codes, Some}
 use Rattle.std.specs.List.{list_all}

@@ -40,7 +40,7 @@ unfoldable pub map_of : List Pair → List Pair
 map_of [] = []
 map_of (p ∷ ps) = put p (map_of ps)
 
--- the name of the greatest number that is at most this one, and how far behind it is
+-- the name of the greatest number that is at most this one, and how far past it this one is
 pub record IsNearest (rows : List Pair) (address : ℕ) (name : List ℕ) (behind : ℕ) : Type 0 where
   pub at : ℕ
   pub is : at + behind ≡ address

@@ -11,7 +11,7 @@ RiseUpTo spots count = (i j : ℕ) (d : Spot) → i ≤ j → j < count → (sli
 abbrev pub NoneBelow : List Spot → ℕ → ℕ → Type 0
 NoneBelow spots from least = (k : ℕ) (d : Spot) → from ≤ k → k < length spots → least ≤ (slice_index_or spots k d).key
 
--- the first so many stand where they belong: none behind one of them is below it
+-- the first so many stand where they belong: none after one of them is below it
 pub record AreFirst (spots : List Spot) (count : ℕ) : Type 0 where
   pub within : count ≤ length spots
   pub below : (i j : ℕ) (d : Spot) → i < count → i ≤ j → j < length spots → (slice_index_or spots i d).key ≤ (slice_index_or spots j d).key

@@ -93,7 +93,7 @@ fn eight_highest(text: &[u8]) -> Option<u64>
     }
 }
 
-/// A text of at least 16 bytes with a space behind them: the first eight bytes, the eight behind these, and what follows.
+/// A text of at least 16 bytes with a space after them: the first eight bytes, the eight after these, and what follows.
 #[derive(Clone, Copy, Debug)]
 struct Halves<'a> {
     high: &'a [u8],
@@ -101,7 +101,7 @@ struct Halves<'a> {
     rest: &'a [u8],
 }
 
-/// The 16 bytes that a text begins with, where a space stands behind them, and what follows them.
+/// The 16 bytes that a text begins with, where a space follows them, and what stands after them.
 #[inline(always)]
 fn sixteen(text: &[u8]) -> Option<Halves<'_>>
     ensures inside { IfSome result (λ r. 16 < length text.now) }
@@ -121,7 +121,7 @@ fn sixteen(text: &[u8]) -> Option<Halves<'_>>
     })
 }
 
-/// The address that a text begins with, where it is one of the last 4 GiB, has 16 digits and a space behind them: the most
+/// The address that a text begins with, where it is one of the last 4 GiB, has 16 digits and a space after them: the most
 /// frequent form of a kernel of 64 bits.
 #[inline(always)]
 fn high_address(text: &[u8]) -> Option<(u64, &[u8])>
@@ -133,7 +133,7 @@ fn high_address(text: &[u8]) -> Option<(u64, &[u8])>
     Some(((high << 32) + low, rest))
 }
 
-/// The address that a text begins with, where it has 16 digits and a space behind them, as a kernel of 64 bits writes it.
+/// The address that a text begins with, where it has 16 digits and a space after them, as a kernel of 64 bits writes it.
 #[inline]
 fn full_address(text: &[u8]) -> Option<(u64, &[u8])>
     ensures { IfSome result (λ r. Some (r.0, r.1.now) ≡ address_at text.now) }

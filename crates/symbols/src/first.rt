@@ -18,7 +18,7 @@ pub(crate) struct FirstSymbol<'a> {
     pub from: &'a [u8],
     /// How long the name is, in bytes.
     pub len: usize,
-    /// The lines behind this one, if there are any.
+    /// The lines after this one, if there are any.
     pub behind: Option<&'a [u8]>,
 }
 
@@ -50,7 +50,7 @@ fn name_len(text: &[u8]) -> Option<usize>
     memchr3_iter(b'\t', b' ', b'\n', text).next()
 }
 
-// The rest of a line, and the lines behind it. Most names stand at the end of their line.
+// The rest of a line, and the lines after it. Most names stand at the end of their line.
 #[inline(always)]
 fn rest_of_line(text: &[u8]) -> (&[u8], Option<&[u8]>)
     ensures { lines_of text.now ≡ result.0.now ∷ lines_left result.1 }

@@ -21,9 +21,9 @@ impl Near {
     pub const NOWHERE: Near = Near { from: 0, to: 0 };
 }
 
-/// For each page the place of the last address before it, among addresses that rise, and behind all pages that of the last one.
-/// Pages that are equal modulo `PAGES` share one, and so do places that are equal modulo 2^32, so that who looks for an address
-/// tries its place.
+/// For each page the place of the last address before it, among addresses that rise, and after all pages that of the last one.
+/// Pages that are equal modulo `PAGES` share one, and so do places that are equal modulo 2^32: an address is only
+/// looked for there first.
 #[derive(Drop)]
 pub(crate) struct Guide {
     before: Vec<u32>,

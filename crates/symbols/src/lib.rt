@@ -5,8 +5,9 @@
 //! where most stand.
 //!
 //! For the name of an address call `name_at`, for the text of a printk format `printk_at`, and for the name of a task `comm_of`.
-//! `task_place` tells where what was made of each task beforehand may stand. `symbol`, `printk` and `task_at` give the names one after another, as a list of them needs, each up to its count. [`one_map`] does
-//! nothing: it is the law that names stand for one map.
+//! `task_place` tells where what was made of each task beforehand may stand. `symbol`, `printk` and `task_at` give the names
+//! one after another, as a list of them needs, each up to its count. [`one_map`] does nothing: it is the law that names stand
+//! for one map.
 #![tactic(auto)]
 
 mod digits;

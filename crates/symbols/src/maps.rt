@@ -97,8 +97,8 @@ impl Symbols {
         }
     }
 
-    /// Where the task may stand among those that have a name, by rising pid, with the idle task behind them: another that shares
-    /// its place may stand there. None only where the task has no name.
+    /// Where the task may stand among those that have a name, by rising pid, with the idle task after them: another that shares
+    /// its entry may stand there. None only where the task has no name.
     #[inline(always)]
     pub fn task_place(&self, pid: i32) -> Option<usize>
         ensures { IfNone result (task_name self.now.tasks pid ≡ unnamed) }

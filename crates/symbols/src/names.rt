@@ -42,7 +42,7 @@ impl Names {
         Ok(Names { spots, block })
     }
 
-    /// Puts a name behind the others; its bytes are copied.
+    /// Appends a name; its bytes are copied.
     pub fn copy(&mut self, key: u64, text: &[u8]) -> Result<(), AllocError>
         requires { AreInside self.old }
         ensures inside { OnOk result (AreInside self.new) }
@@ -57,7 +57,7 @@ impl Names {
         Ok(())
     }
 
-    /// Puts a name that stands in the block behind the others.
+    /// Appends a name that stands in the block.
     pub fn point(&mut self, key: u64, start: usize, end: usize) -> Result<(), AllocError>
         requires inside { AreInside self.old }
         requires ordered { start ≤ end }
@@ -71,7 +71,7 @@ impl Names {
         Ok(())
     }
 
-    /// Turns the order of the names round.
+    /// Reverses the order of the names.
     pub fn reverse(&mut self)
         requires { AreInside self.old }
         ensures inside { AreInside self.new }
@@ -91,7 +91,7 @@ impl Names {
         Ok(())
     }
 
-    /// Leaves of the names with one number that follow each other only the first.
+    /// Of consecutive names with one number keeps only the first.
     pub fn keep_firsts(&mut self)
         requires { AreInside self.old }
         ensures inside { AreInside self.new }

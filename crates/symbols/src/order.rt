@@ -71,7 +71,7 @@ fn is_key(last: Option<u64>, key: u64) -> bool
     }
 }
 
-/// Leaves of spots with one number that follow each other only the first.
+/// Of consecutive spots with one number keeps only the first.
 pub(crate) fn keep_firsts(spots: &mut Vec<Spot>)
     ensures { spots.new.items ≡ first_spots None spots.old.items }
 {

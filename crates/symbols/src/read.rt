@@ -43,7 +43,7 @@ fn first_block(alloc: Global, form: Form, text: &[u8]) -> Result<Vec<u8>, AllocE
     Ok(block)
 }
 
-// Puts the name of the first line, if it has one, and gives the lines behind it.
+// Puts the name of the first line, if it has one, and gives the lines after it.
 fn put_first<'a>(
     form: Form,
     text: &[u8],

@@ -15,7 +15,7 @@ fn key_at(spots: &[Spot], i: usize) -> u64
 }
 
 /// The place of the greatest number that is at most this one, among so many from a place on. The first of these is at most
-/// this one, and all behind them are above it.
+/// this one, and all after them are above it.
 #[inline(always)]
 fn last_among(spots: &[Spot], from: usize, count: usize, key: u64) -> usize
     requires rises { RisesKeys (keys_in spots.now) }

@@ -81,8 +81,8 @@ impl NameTable {
         Guide::to(alloc, &self.names.spots)
     }
 
-    /// The name of the greatest number that is at most this one, and how far it is behind. It is looked for first where it may
-    /// stand.
+    /// The name of the greatest number that is at most this one, and how far past it this one is. It is looked for
+    /// first where it may stand.
     #[inline(always)]
     #[tactic(auto, unfolding(crate::specs::NameMap::nearest))]
     pub fn nearest(&self, near: Near, address: u64) -> Option<(&[u8], u64)>

@@ -8,7 +8,7 @@ ghost use Rattle.text_lines.specs.Lines.{lines_of, lines_left, first_after, line
 use bstr::ByteSlice;
 use trace_base::after_word;
 
-/// The first line of a text, and what stands behind the newline that ends it: none exactly where no newline does.
+/// The first line of a text, and what follows the newline that ends it: none exactly where no newline does.
 pub fn first_line(text: &[u8]) -> (&[u8], Option<&[u8]>)
     ensures split { lines_of text.now ≡ result.0.now ∷ lines_left result.1 }
     ensures shorter { IfSome result.1 (λ rest. length rest.now < length text.now) }

@@ -34,7 +34,7 @@ text_or option other settings = option_map_or (λ text. text.bytes) (value_of op
 abbrev pub input_of : List Setting → List ℕ
 input_of settings = text_or valued.Input (codes "trace.dat") settings
 
--- the first input of a report, and the inputs behind it
+-- the first input of a report, and the inputs after it
 abbrev pub first_input : List Setting → List ℕ
 first_input settings = text_or valued.Source (input_of settings) settings
 
@@ -44,7 +44,7 @@ more_inputs settings = drop 1 (texts_of valued.Source settings)
 abbrev pub filter_data : Bool → Text → FilterData
 filter_data hide filter = record { word = filter.word; hide = hide; text = filter.bytes }
 
--- the filters of these settings; whether they hide, which all behind a `-v` do
+-- the filters of these settings; whether they hide, which all after a `-v` do
 abbrev pub filters_from : Bool → List Setting → List FilterData
 filters_from hide [] = []
 filters_from hide (setting ∷ later) =
@@ -138,7 +138,7 @@ unit_of settings =
 abbrev pub cpu_of : List Setting → Option ℕ
 cpu_of settings = option_and_then (λ text. cpu_number text.bytes) (value_of valued.Cpu settings)
 
--- the start, and behind it the end
+-- the start, and after it the end
 abbrev pub bound_of : ℕ → List Setting → Option Moment
 bound_of place settings =
     option_and_then (λ text. moment_of text.bytes) (value_at place valued.Bound settings)

@@ -46,7 +46,7 @@ pub struct ReportWords<'a> {
     pub filters: Vec<FilterWord<'a>>,
     /// `-t`: times are printed to the nanosecond.
     pub full: bool,
-    /// `--ts-diff`: the difference to the last shown event is printed behind each time.
+    /// `--ts-diff`: the difference to the last shown event is printed after each time.
     pub diff: bool,
     /// `-l`: the latency columns are printed.
     pub latency: bool,
@@ -62,7 +62,7 @@ pub struct ReportWords<'a> {
     pub calls: bool,
     /// The list that is printed in place of the events, where one is.
     pub list: Option<Listing>,
-    /// `-w`: how long woken tasks waited is printed behind the events.
+    /// `-w`: how long woken tasks waited is printed after the events.
     pub wakeups: bool,
     /// `--cpu`: the processors that are printed, where not all are.
     pub cpus: Option<CpuSet>,
@@ -318,7 +318,7 @@ fn cpu(given: &Given<'_>) -> Option<u32>
     cpu_number(value.text.as_bytes())
 }
 
-// The start, or behind it the end.
+// The start, or after it the end.
 fn bound(given: &Given<'_>, place: usize) -> Option<Moment>
     ensures { result ≡ bound_of place (given_view given.now) }
 {
@@ -360,7 +360,7 @@ fn first_input<'a>(given: &Given<'a>) -> &'a str
     text_or(given, ValuedOption::Source, input(given))
 }
 
-// The names of the files of a report behind the first.
+// The names of the files of a report after the first.
 fn more_inputs<'a>(alloc: Global, given: &Given<'a>) -> Result<Vec<&'a str>, AllocError>
     ensures { IfOk result (λ more. map (λ name. name.now) more.items ≡ more_inputs (given_view given.now)) }
 {

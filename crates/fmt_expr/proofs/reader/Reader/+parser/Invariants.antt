@@ -80,7 +80,7 @@ decreases-more_entries l = 48 * l.left + 3
 abbrev pub decreases-entries : goal.decreases-entries
 decreases-entries l = 48 * l.left + 4
 
--- What was read, with the row behind it, is the whole row.
+-- What was read, with the row after it, is the whole row.
 abbrev pub invariant-row-loop-op : goal.invariant-row-loop-op
 invariant-row-loop-op l =
     let s = source l.self in

@@ -3,7 +3,7 @@ use Rattle.fmt_expr.specs.Texts.{texts, texts_from}
 use Rattle.fmt_expr.specs.SourceView.{source}
 use Rattle.fmt_expr.proofs.reader.Reader.text.Given as goal
 
--- What was read, with the texts behind it, is all texts.
+-- What was read, with the texts after it, is all texts.
 abbrev pub invariant-loop-spelling : goal.invariant-loop-spelling
 invariant-loop-spelling l =
     let s = source l.self in
