@@ -45,7 +45,7 @@ pub record IsPut (since : ℕ) (t : Thread) (stack : Stack) (before now : Thread
   pub lasts : (q : Thread) → is_same t q ≡ false → last_in since (stack_of now q) ≡ last_in since (stack_of before q)
   pub opens : (q : Thread) → is_same t q ≡ false → opens_in since (stack_of now q) ≡ opens_in since (stack_of before q)
 
--- what an entry at a place does to the stacks, behind a loss
+-- what an entry at a place does to the stacks, after a loss
 pub record IsEntered (since place : ℕ) (entry : GraphEvent) (before now : Threads) : Type 0 where
   pub stack : Stack
   pub put : IsPut since (thread_of entry) stack before now

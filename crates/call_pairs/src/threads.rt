@@ -9,7 +9,7 @@ use crate::thread::Thread;
 use std::alloc::{AllocError, Global};
 use std::collections::BTreeMap;
 
-/// The stack of each thread that was seen. What a look costs does not depend on which threads a file chooses, and is least where
+/// The stack of each thread that was seen. What a look-up costs does not depend on which threads a file chooses, and is least where
 /// a thread goes on.
 #[derive(Drop)]
 pub struct Threads {
@@ -45,7 +45,7 @@ impl Threads {
         }
     }
 
-    /// An entry begins, the latest loss behind which is this place.
+    /// An entry begins; `since` is the place after the latest loss.
     #[inline(always)]
     pub fn enter(
         &mut self,

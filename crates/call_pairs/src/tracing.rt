@@ -19,7 +19,7 @@ use std::alloc::{AllocError, Global};
 #[derive(Drop)]
 pub struct Tracing {
     calls: Vec<Call>,
-    /// The place behind the latest loss: what stands before it is open no more.
+    /// The place after the latest loss: what stands before it is open no more.
     since: usize,
     threads: Threads,
 }

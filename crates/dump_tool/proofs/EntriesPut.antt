@@ -1,4 +1,4 @@
--- Texts that are put one behind another, as an iterator gives their entries.
+-- Texts that are put one after another, as an iterator gives their entries.
 use Rattle.std.proofs.Common.{◌≡◌, ℕ, List, [], ◌∷◌, ◌++◌, length, map, Option, Some, None, Result, Ok, Err, IsErr, refl, sym, ap, ◌∙◌, subst, arith}
 use Rattle.std.specs.Prelude.{⊤}
 use Rattle.std.specs.List.{concat, flat_map}
@@ -41,7 +41,7 @@ first_stopped first then before now error (Err other) one failed = record {
 }
 
 module _ {S A : Type 0} (steps : S → Option A → S → Type 0) (text : A → List ℕ) (texts : List (List ℕ)) where
-  -- the texts are what was put so far, and behind it those of the entries to come
+  -- the texts are what was put so far, and after it those of the entries to come
   pub record Remains (at : S) (start now : OnWay) : Type 0 where
     pub rest : List (List ℕ)
     pub yields : AlwaysYields steps text at rest

@@ -1,4 +1,4 @@
--- Entries that are put one behind another, and lists of them.
+-- Entries that are put one after another, and lists of them.
 use Rattle.std.specs.Prelude.{Result, ℕ, List, ◌++◌, length}
 use Rattle.std.specs.Borrow.{MutBor}
 use Rattle.std.specs.List.{flat_map}

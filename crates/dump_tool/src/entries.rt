@@ -1,4 +1,4 @@
-// Entries that are put one behind another, and lists of them. In the contracts `text` is what a call puts of an entry, and
+// Entries that are put one after another, and lists of them. In the contracts `text` is what a call puts of an entry, and
 // `texts` are those of all entries that the iterator gives.
 
 ghost use Rattle.std.specs.Prelude.{List, ℕ, ◌++◌};
@@ -32,7 +32,7 @@ where
     put_each(pending, out, entries, put)
 }
 
-/// Puts entries one behind another, each by this call.
+/// Puts entries one after another, each by this call.
 pub(crate) fn put_each<I, O, F>(
     pending: &mut Pending,
     out: &mut O,

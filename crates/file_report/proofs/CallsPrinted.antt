@@ -1,4 +1,4 @@
--- A report of calls: the first line, and behind it those of the calls.
+-- A report of calls: the first line, and after it those of the calls.
 use Rattle.std.proofs.Common.{◌≡◌, ℕ, List, [], ◌∷◌, ◌++◌, map, Option, None, Some, IfSome, refl, sym, ap, ◌∙◌, subst, ◌≢◌}
 use Rattle.std.proofs.lemmas.List.Concat.{flat_map-cons}
 use Rattle.std.specs.List.{flat_map}
@@ -26,7 +26,7 @@ calls_lines given (x ∷ xs) =
     flat_map-cons (call_line given) x xs ∙ ap (λ rest. call_line given x ++ rest) (calls_lines given xs)
     ∙ sym (flat_map-cons (λ piece. piece) (call_line given x) (map (call_line given) xs))
 
--- the first line, and behind it the lines of calls
+-- the first line, and after it the lines of calls
 pub calls_text : (cpus : ℕ) (given : ContextData) (calls : List Call) → cpus_line cpus ++ flat_map (call_line given) calls ≡ text_of (call_pieces cpus given calls)
 calls_text cpus given calls =
     ap (λ rest. cpus_line cpus ++ rest) (calls_lines given calls)

@@ -43,7 +43,7 @@ module _ (given : ContextData) (shown : List (ℕ × Part)) (header : Header) wh
       → IfSome told (λ bytes. ReadsDue (events bytes) 0 (progress_at old reads) (progress_at now reads))
   parts_unbegun_unread told old now reads first = unread_told told old now reads _ first.1
 
-  -- the first line was written, and the rounds read what is due by the text behind it
+  -- the first line was written, and the rounds read what is due by the text after it
   parts_read_of : (bytes : List ℕ) (old mid now : Option (List ℕ)) (before reads : ℕ) → Gained old mid (cpus_line header.cpus)
       → RoundsDue (item_line given) header.layout bytes shown mid now before reads → ReadsDue (events bytes) 0 (progress_at old before) (progress_at now reads)
   parts_read_of bytes old mid now before reads first due =

@@ -1,4 +1,4 @@
--- A latency file's report: the first line, and behind it the rest of the file in pieces of one byte.
+-- A latency file's report: the first line, and after it the rest of the file in pieces of one byte.
 use Rattle.std.proofs.Common.{◌≡◌, ℕ, zero, suc, ◌-◌, arith, List, [], ◌∷◌, ◌++◌, length, map, take, drop, Option, None, Some, IfSome, refl, sym, ap, ◌∙◌, subst}
 use Rattle.std.proofs.lemmas.List.{append-nil, take_all, length-drop}
 use Rattle.std.proofs.lemmas.List.Concat.{flat_map-cons}

@@ -1,4 +1,4 @@
--- A report of processors' parts: the first line, and behind it the lines of the reached items.
+-- A report of processors' parts: the first line, and after it the lines of the reached items.
 use Rattle.std.proofs.Common.{◌≡◌, ℕ, suc, List, [], ◌∷◌, ◌++◌, map, take, Option, None, Some, IfSome, refl, sym, ap, ◌∙◌, subst}
 use Rattle.std.proofs.lemmas.List.{append-nil, take-map}
 use Rattle.std.proofs.lemmas.List.Concat.{flat_map-cons}
@@ -49,7 +49,7 @@ module _ (cpus : ℕ) (given : ContextData) (layout : Layout) (bytes : List ℕ)
   whole old mid now first gained =
       gained_both old mid now (cpus_line cpus) (lines_text (item_line given) items) first gained ∙ ap (append_known old) (report_text cpus given items)
 
-  -- by how the rounds behind the first line ended
+  -- by how the rounds after the first line ended
   report_written : (old mid now : Option (List ℕ)) (end : End) → Gained old mid (cpus_line cpus) → IsReport (item_line given) layout bytes parts mid now end
       → Writes (prints (report_pieces cpus given items) (ended (cut_of layout bytes parts))) (status_of_end end) old now
   report_written old mid now code.Done first report = (sym (ap ended report.1), whole old mid now first report.0)

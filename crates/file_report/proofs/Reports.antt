@@ -103,7 +103,7 @@ module _ (given : ContextData) (shown : List (ℕ × Part)) (header : Header) (t
       subst (λ (asked : Bool). Reported (parts_task asked wakeups given shown header) told status before now) (sym is)
       (record { prints = prints; reads = calls_share wakeups reads; due = if_known _ told (λ bytes. tt); gathers = λ calls. gathers; kept = kept })
 
-  -- of lines, with or without the latencies behind them
+  -- of lines, with or without the latencies after them
   by_words : (calls wakeups asked : Bool) (status : Status) → calls ≡ false → wakeups ≡ asked → Reported (parts_task false asked given shown header) told status before now
       → Reported (parts_task calls wakeups given shown header) told status before now
   by_words calls wakeups asked status is behind did =

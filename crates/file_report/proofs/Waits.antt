@@ -1,4 +1,4 @@
--- A report of events with the latencies behind its lines.
+-- A report of events with the latencies after its lines.
 use Rattle.std.proofs.Common.{◌≡◌, ℕ, true, false, List, [], ◌∷◌, ◌++◌, length, take, Option, None, Some, IfNone, IfSome, inl, inr, refl, sym, ap, subst, ◌∙◌, arith, append-nil}
 use Rattle.std.specs.Option.{option_map}
 use Rattle.std.proofs.lemmas.Bool.{cases_lt}
@@ -33,7 +33,7 @@ use Rattle.multi_report.specs.Pieces.{text_of}
 use Rattle.run_endings.proofs.Endings.{unprinted}
 use Rattle.run_endings.proofs.Printed.{printed_of}
 
--- a piece behind others
+-- a piece after others
 text_more : (pieces : List (List ℕ)) (piece : List ℕ) → text_of (pieces ++ piece ∷ []) ≡ text_of pieces ++ piece
 text_more pieces piece = flat_map-append (λ p. p) pieces (piece ∷ []) ∙ ap (λ (rest : List ℕ). text_of pieces ++ rest) (append-nil piece)
 

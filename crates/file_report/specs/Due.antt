@@ -15,7 +15,7 @@ use Rattle.report_context.specs.Lines.{cpus_line, item_line}
 use Rattle.run_endings.specs.Selection.{chosen, set_or_all}
 use Rattle.run_endings.specs.Progress.{parts_size, Progress}
 
--- how many bytes behind the header a report of events needs: the parts of the chosen processors, and these twice where the
+-- how many bytes after the header a report of events needs: the parts of the chosen processors, and these twice where the
 -- latencies are gathered before
 abbrev pub parts_share : Bool → List (ℕ × Part) → ℕ
 parts_share false parts = parts_size parts
@@ -31,7 +31,7 @@ abbrev pub report_share : Option Listing → ReportData → Header → ℕ → �
 report_share None words header size = body_share words header header.body size
 report_share (Some list) words header size = 0
 
--- what a report wrote behind its first line: nothing where that line is not whole
+-- what a report wrote after its first line: nothing where that line is not whole
 abbrev pub behind_first : ℕ → List ℕ → List ℕ
 behind_first cpus written =
     if starts_with nat_eq written (cpus_line cpus) then drop (length (cpus_line cpus)) written else []

@@ -20,11 +20,11 @@ events_report events =
     prints (report_pieces events.header.cpus events.given (reached_of events.header.layout events.bytes events.parts))
     (ended (cut_of events.header.layout events.bytes events.parts))
 
--- the same and a piece behind it
+-- the same and a piece after it
 abbrev pub with_piece : Meaning → List ℕ → Meaning
 with_piece m piece = prints (m.pieces ++ piece ∷ []) m.status
 
--- with the latencies behind it, where they are asked for
+-- with the latencies after it, where they are asked for
 abbrev pub shown_report : Bool → Events → Meaning
 shown_report false events = events_report events
 shown_report true events = with_piece (events_report events) (waits_section events)

@@ -1,4 +1,4 @@
--- A report of events: its first line, a line for each item, and behind them how long woken tasks waited.
+-- A report of events: its first line, a line for each item, and after them how long woken tasks waited.
 -- Source: trace-cmd-report(1).
 use Rattle.std.specs.Prelude.{Option, None, Some, ℕ, Bool, true, false, List, ◌∷◌, map}
 use Rattle.trace_base.specs.declared.part.Part.{Part}
@@ -28,7 +28,7 @@ call_pieces cpus given calls = cpus_line cpus ∷ map (call_line given) calls
 abbrev pub entry_line : ContextData → Keyed → LineText
 entry_line given keyed = item_line given keyed.cpu keyed.item
 
--- the pieces of a report of these items: behind the first line one for each, its line filled from the last one before it
+-- the pieces of a report of these items: after the first line one for each, its line filled from the last one before it
 -- that has a hole
 abbrev pub report_pieces : ℕ → ContextData → List Keyed → List (List ℕ)
 report_pieces cpus given items = cpus_line cpus ∷ filled_lines None (map (entry_line given) items)

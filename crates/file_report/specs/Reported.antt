@@ -33,7 +33,7 @@ pub record IsAsked (words : ReportData) (uses : List FilterUse) : Type 0 where
   pub workers : IsWorkers words.workers
   pub filters : uses_in words.filters ≡ map use_of uses
 
--- What a report is to do: what it means of the file's bytes, how many of them it needs behind the header, the events of which it
+-- What a report is to do: what it means of the file's bytes, how many of them it needs after the header, the events of which it
 -- reads no more than their lines need, if any, and whether it shows calls.
 pub record Task : Type 0 where
   pub means : List ℕ → Meaning
@@ -59,7 +59,7 @@ body_task words header body size = record {
   calls = body_calls words.calls body;
 }
 
--- of these parts with their processors, by whether calls are shown in place of the events, and the latencies behind them
+-- of these parts with their processors, by whether calls are shown in place of the events, and the latencies after them
 abbrev pub parts_task : Bool → Bool → ContextData → List (ℕ × Part) → Header → Task
 parts_task calls wakeups given parts header = record {
   means = λ bytes. report_as calls wakeups (events_on given parts header bytes);

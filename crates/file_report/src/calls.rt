@@ -30,7 +30,7 @@ use time_merge::set_lanes;
 use trace_base::{Layout, Part};
 use trace_outside::{Failed, File, Pending, Sink};
 
-/// Prints the first line of a report, and behind it the calls of the reached items of the parts that are shown. All memory is
+/// Prints the first line of a report, and after it the calls of the reached items of the parts that are shown. All memory is
 /// taken and all calls are gathered before the first byte.
 pub(crate) fn print_calls<I: File, O: Sink>(
     alloc: Global,

@@ -1,4 +1,4 @@
-// A report of events: the lines of the items, and behind them how long woken tasks waited.
+// A report of events: the lines of the items, and after them how long woken tasks waited.
 
 ghost use Rattle.std.specs.Option.{option_map};
 ghost use Rattle.std.specs.Prelude.{◌≡◌, ◌≤◌, ◌*◌, [], length, true, IfNone, IfSome, OnOk};
@@ -28,7 +28,7 @@ use trace_outside::{Failed, File, Gate, Pending, Sink};
 use wakeup_lat::{gather, put_wakeups};
 use wakeup_pairs::Wakeups;
 
-/// Prints the first line, and behind it the lines of the processors' items in the order in which they happened. All memory
+/// Prints the first line, and after it the lines of the processors' items in the order in which they happened. All memory
 /// is taken before; `None`: there was none, and nothing was done.
 pub(crate) fn print_lines<R: Threads + Sync, I: File, O: Sink, G: Gate>(
     resources: &Resources<'_, R, G>,
@@ -83,11 +83,11 @@ pub(crate) fn print_lines<R: Threads + Sync, I: File, O: Sink, G: Gate>(
     Some(report_rounds(&workers, shown.form, layout, file, lanes, &mut work, out))
 }
 
-/// Prints the same, and behind it how long woken tasks waited. This is gathered before, in a pass of its own over the file,
+/// Prints the same, and after it how long woken tasks waited. This is gathered before, in a pass of its own over the file,
 /// and all memory is taken before the first line.
 ///
 /// The pass that gathers is not lent the output, so a read that fails in it leaves the output as it was. The lines are printed in
-/// a second pass: a read that fails there ends the output behind the lines that were printed by then.
+/// a second pass: a read that fails there ends the output after the lines that were printed by then.
 pub(crate) fn print_waits<R: Threads + Sync, I: File, O: Sink, G: Gate>(
     resources: &Resources<'_, R, G>,
     plan: &ReportPlan<'_, '_>,
@@ -123,7 +123,7 @@ pub(crate) fn print_waits<R: Threads + Sync, I: File, O: Sink, G: Gate>(
     }
 }
 
-// Prints the section of the latencies. Nothing waits behind it.
+// Prints the section of the latencies. Nothing waits after it.
 fn print_section<O: Sink>(
     context: &Context,
     wakeups: &Wakeups,
@@ -139,7 +139,7 @@ fn print_section<O: Sink>(
     pending.flush(out)
 }
 
-/// Prints the first line alone. Nothing waits behind it.
+/// Prints the first line alone. Nothing waits after it.
 pub(crate) fn print_cpus<O: Sink>(
     cpus: u32,
     pending: &mut Pending,

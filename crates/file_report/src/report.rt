@@ -36,7 +36,7 @@ pub(crate) struct Shown<'a> {
     pub(crate) parts: &'a [(u32, Part)],
 }
 
-/// Prints the report of a file: the events, or the calls or the list that the words ask for; of a latency file the rest of it.
+/// Prints the report of a file: the events, or the calls or the list that the words ask for; for a latency file the rest of it.
 pub fn print_report<R: Threads + Sync, I: File, O: Sink, G: Gate>(
     resources: &Resources<'_, R, G>,
     plan: &ReportPlan<'_, '_>,
@@ -93,7 +93,7 @@ fn print_parts<R: Threads + Sync, I: File, O: Sink, G: Gate>(
     status
 }
 
-// Prints what is shown: the calls, or the lines of the items, and behind these the latencies, as the words ask.
+// Prints what is shown: the calls, or the lines of the items, and after these the latencies, as the words ask.
 fn print_shown<R: Threads + Sync, I: File, O: Sink, G: Gate>(
     resources: &Resources<'_, R, G>,
     plan: &ReportPlan<'_, '_>,

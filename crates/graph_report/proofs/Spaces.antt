@@ -21,7 +21,7 @@ pub in_parts : (h0 h1 h2 h3 : Held) (a d b i w : List ℕ) → h1 ≡ put_held h
     → h3 ≡ put_held h0 (a ++ (d ++ (b ++ (i ++ w))))
 in_parts h0 h1 h2 h3 a d b i w one two three = three ∙ ap (λ (h : Held). put_held h w) (two ∙ ap (λ (h : Held). put_held h (d ++ (b ++ i))) one) ∙ joined_parts h0 a d b i w
 
--- spaces, and a duration behind them
+-- spaces, and a duration after them
 pub took_is : (h0 h1 h2 : Held) (nanos : ℕ) (text : List ℕ) (count : ℕ) → text ≡ duration_text nanos → count ≡ 12 - length text
     → h1 ≡ put_held h0 (replicate count 32) → h2 ≡ put_held h1 text → h2 ≡ put_held h0 (took_text (Some nanos))
 took_is h0 h1 h2 nanos text count same is one two =

@@ -10,7 +10,7 @@ use Rattle.graph_report.specs.Roles.{role_of}
 abbrev pub HasRoles : Sight → Type 0
 HasRoles sight = sight.roles.now ≡ map role_of sight.context.now.formats
 
--- this is noted behind all before it, or nothing
+-- this is noted after all before it, or nothing
 abbrev pub Notes : {E : Type 0} → Option Seen → Tracing → Tracing → Result Unit E → Type 0
 Notes seen before now result =
     (past : List Seen) → HasSeen past before → OnOk result (HasSeen (past ++ option_to_list seen) now)

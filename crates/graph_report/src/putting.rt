@@ -38,7 +38,7 @@ fn put_one<O: Sink>(
     pending.put(out, &buffer[..len])
 }
 
-/// Puts the lines of calls, one behind another, in their order. After `Failed` the sink has a prefix of all that was put. It
+/// Puts the lines of calls, one after another, in their order. After `Failed` the sink has a prefix of all that was put. It
 /// takes no memory: each line is formed in the buffer, which must have room for the longest.
 pub fn put_calls<O: Sink>(
     context: &Context,

@@ -172,8 +172,8 @@ fn is_silent(call: &Call) -> bool
     matches!(call, Call::Exit { leaf: true, .. })
 }
 
-/// Puts the line of a call into a tail in which nothing is, and gives its length in bytes with its newline: 0, and nothing is
-/// put, for the exit of a leaf.
+/// Puts the line of a call into an empty tail, and gives its length in bytes with its newline: 0, and nothing is put, for the
+/// exit of a leaf.
 ///
 /// A line longer than 65,536 bytes is its first 65,533 bytes and `...`. The tail keeps the first bytes of the line, as many as
 /// it has room for. It takes no memory.

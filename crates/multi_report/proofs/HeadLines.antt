@@ -1,4 +1,4 @@
--- The first lines of several files, one behind another.
+-- The first lines of several files, one after another.
 use Rattle.std.proofs.Common.{Option, ◌≡◌, ℕ, List, [], ◌∷◌, ◌++◌, map, refl, ap, ◌∙◌, subst, append_assoc, Result, Ok, Err, IsErr}
 use Rattle.std.specs.List.{flat_map}
 use Rattle.trace_outside.specs.Causes.{HasCause}
@@ -14,7 +14,7 @@ pub heads_text : {S : Type 0} (f : S → Seen) (xs : List S) → flat_map (λ x.
 heads_text f [] = refl
 heads_text f (x ∷ xs) = ap (λ (t : List ℕ). head_line (shown_of (f x)) ++ t) (heads_text f xs)
 
--- a piece that was put, and another behind it
+-- a piece that was put, and another after it
 pub puts_both : {T E : Type 0} (p q : List ℕ) (a m z : OnWay) (result : Result T E) → Put p a m → m.name ≡ a.name → m.faults ≡ a.faults → PutsText q m z result → PutsText (p ++ q) a z result
 puts_both {T = T} {E = E} p q a m z (Ok v) one name same two = record {
   puts = λ before text held. subst (Holds before z.written z.waiting) (append_assoc text p q) (two.puts before (text ++ p) (one before text held));
@@ -27,7 +27,7 @@ puts_both {T = T} {E = E} p q a m z (Err v) one name same two = record {
   cause = subst (λ (count : ℕ). HasCause {T = T} {E = E} count z.faults (Err v)) same two.cause;
 }
 
--- a piece that was stopped, and another that was to stand behind it
+-- a piece that was stopped, and another that was to stand after it
 pub front_stopped : {T E : Type 0} (p q : List ℕ) (a m : OnWay) (result : Result T E) → IsErr result → PutPart p a m → Puts (p ++ q) a.written a.waiting m.written m.waiting result
 front_stopped p q a m (Ok v) failed part = absurd (let bad : ⊥ = cc in bad)
 front_stopped p q a m (Err v) failed part = λ before text held.

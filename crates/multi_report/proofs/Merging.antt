@@ -77,7 +77,7 @@ before_false (Some x) f (Some y) g e = elim (cases_Bool (ltb x y)) [
   | inr a ↦ let le = ltb-false x y a in omega arith
 ]
 
--- A cut that is the least fits each file: where there is none the file has none, it is not behind the file's own, and it
+-- A cut that is the least fits each file: where there is none the file has none, it is not after the file's own, and it
 -- is the file's own where it is of that file.
 pub record Fits (o : Option FileCut) (n : ℕ) (own : Option Cut) : Type 0 where
   pub none : IfNone o (own ≡ None)

@@ -44,7 +44,7 @@ file_in x = x.file
 abbrev pub cpu_in : FileItem → ℕ
 cpu_in x = x.item.cpu
 
--- the items of all files, one file and one processor behind another
+-- the items of all files, one file and one processor after another
 abbrev pub items_of : ℕ × ShownFile → List FileItem
 items_of file = map (in_file file.0) (all_keyed (lists_of file.1.layout file.1.bytes file.1.parts))
 

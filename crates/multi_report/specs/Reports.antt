@@ -49,7 +49,7 @@ IsEnded whole cut old new (code.Malformed source cpu page) =
 IsEnded whole cut old new (code.Read source) = (count : ℕ) × Gained old new (text_of (take count whole))
 IsEnded whole cut old new code.Write = GainedPrefix old new (text_of whole)
 
--- what a report of files writes behind what was written before
+-- what a report of files writes after what was written before
 abbrev pub IsFilesReport : List ShownFile → Option (List ℕ) → Option (List ℕ) → FilesEnd → Type 0
 IsFilesReport files old new end = IsEnded (pieces files) (cut_of_files files) old new end
 

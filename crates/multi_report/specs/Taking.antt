@@ -19,7 +19,7 @@ left_in source = to_come source.layout (bytes_of source) source.lanes
 abbrev pub cut_left : Seen → Option Cut
 cut_left source = least_cut (rows_of source.layout (bytes_of source) source.lanes)
 
--- a piece was put behind what is on its way
+-- a piece was put after what is on its way
 abbrev pub Put : List ℕ → OnWay → OnWay → Type 0
 Put piece before now =
     (first : Option (List ℕ)) (text : List ℕ) → Holds first before.written before.waiting text

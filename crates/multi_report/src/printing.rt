@@ -62,7 +62,7 @@ fn line_into<L: LineFormat>(form: &L, cpu: u32, item: &Item<'_>, into: &mut [u8]
     len
 }
 
-/// Writes a file's name and what stands behind it.
+/// Writes a file's name and what follows it.
 fn label_into(name: &[u8], into: &mut [u8])
     requires { length into.old ≡ length name.now + 2 }
     ensures { into.new ≡ label name.now }

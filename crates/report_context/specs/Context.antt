@@ -12,7 +12,7 @@ use Rattle.report_print.specs.declared.show.Show.{Show}
 use Rattle.report_print.specs.ContextData.{ContextData}
 use Rattle.run_words.specs.Usage.{uses_in}
 
--- the formats of ftrace's own events, and behind them those of each system
+-- the formats of ftrace's own events, and after them those of each system
 abbrev pub all_formats : Header → List EventFormat
 all_formats header = formats_in (codes "ftrace") header.ftrace ++ flat_map (λ system. formats_in system.name system.formats) header.systems
 

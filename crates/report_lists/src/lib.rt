@@ -1,7 +1,7 @@
 //! The lists of a report: the events of a file, their format texts, its symbols and its printk formats.
 //!
-//! A call a list, [`put_event_names`], [`put_event_formats`], [`put_symbols`] and [`put_printk_formats`]: each puts one line
-//! after another, of what was read before, and takes no memory.
+//! There is a call for each list: [`put_event_names`], [`put_event_formats`], [`put_symbols`] and [`put_printk_formats`]. Each
+//! puts one line after another, of what was read before, and takes no memory.
 #![tactic(auto)]
 
 mod events;

@@ -44,7 +44,7 @@ pub fn put_printk_formats<O: Sink>(
     Ok(())
 }
 
-/// Puts a row, if there is one: its address behind a mark, and what stands at that.
+/// Puts a row, if there is one: its address after a mark, and what stands at that.
 fn put_row<'a, O: Sink>(
     pending: &mut Pending,
     out: &mut O,

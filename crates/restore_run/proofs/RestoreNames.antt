@@ -14,11 +14,11 @@ use Rattle.restore_run.specs.Restore.{status_of_restore}
 pub input_at : (words : RestoreData) → IsNameAt words 0 words.input
 input_at words = record { one = (0, omega arith, refl); there = λ inside d. refl }
 
--- a data file has its place behind the partial file
+-- a data file has its place after the partial file
 pub data_at : {N : Type 0} (name_of : N → List ℕ) (input : List ℕ) (names : List N) (i : ℕ) (name : N) → i < length names → name ≡ get_or names i name → (d : List ℕ) → get_or (input ∷ map name_of names) (suc i) d ≡ name_of name
 data_at name_of input names i name lt is d = get_or-map name_of names i name d lt ∙ ap name_of (sym is)
 
--- behind the last of them the partial file may be named
+-- after the last of them the partial file may be named
 pub past_data : (words : RestoreData) (place : ℕ) → length words.files ≤ place → IsNameAt words (suc place) words.input
 past_data words place past = record { one = (input_at words).one; there = λ inside d. absurd (omega (arith, inside, past)) }
 

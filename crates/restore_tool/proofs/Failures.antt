@@ -156,7 +156,7 @@ partial_unopened told names before now missed = record {
   missing = missed_partial told names before now missed;
 }
 
--- it was opened, and this is said of the files behind it
+-- it was opened, and this is said of the files after it
 module _ (names : NamesData) (bytes : Option (List ℕ)) (before opened worked now : ℕ) (last : now ≡ worked) where
   still_there : (told : Option NamedFiles) → IsFileOf told names.partial bytes → IfSome told (λ named. opened ≡ before) → worked ≡ opened → IfSome told (λ named. now ≡ misses_after named names.partial before)
   still_there None is first same = tt

@@ -1,4 +1,4 @@
--- Data files behind one another, each from a multiple of the page on.
+-- Data files one after another, each from a multiple of the page on.
 use Rattle.std.proofs.Common.{◌≡◌, ℕ, zero, suc, ◌+◌, ◌-◌, ◌%◌, ◌^◌, ◌<◌, ◌≤◌, List, [], ◌∷◌, ◌++◌, length, take, drop, get_or, map, Option, Some, None, Ok, Err, Result, refl, sym, ap, subst, ◌∙◌, arith, append_assoc}
 use Rattle.std.specs.Option.{IfSome, IsSome, unwrap_or}
 use Rattle.std.specs.Prelude.{OnOk}
@@ -97,7 +97,7 @@ next_told files i d lt told =
 
 -- COPIED SO FAR
 
--- the first data files were copied, and the next one begins at this place or behind
+-- the first data files were copied, and the next one begins at this place or after it
 pub record Whole (page whole : ℕ) (texts : List (List ℕ)) (place : ℕ) (old new : Option (List ℕ)) : Type 0 where
   pub gained : Gained old new (data_behind page whole texts)
   pub place_is : place ≡ end_behind page whole (map length texts) % 2 ^ 64

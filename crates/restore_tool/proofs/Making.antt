@@ -25,7 +25,7 @@ use Rattle.restore_tool.specs.declared.copying.RestoreEnd.TheVariants as code
 use Rattle.restore_tool.specs.Copying.{CopiesAll}
 use Rattle.restore_tool.specs.Restored.{IsRestored, data_behind, header_end, parts_behind, restored, table_of}
 
--- the data files behind the header
+-- the data files after the header
 pub wrote_all : (text behind : List ℕ) (old mid new : Option (List ℕ)) (result : RestoreEnd) → Gained old mid text → CopiesAll behind mid new result → CopiesAll (text ++ behind) old new result
 wrote_all text behind old mid new code.Done first then = gained_both old mid new text behind first then
 wrote_all text behind old mid new (code.Read file) first then = tt

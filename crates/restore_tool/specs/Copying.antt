@@ -1,4 +1,4 @@
--- Data files that are copied to a sink, one behind another.
+-- Data files that are copied to a sink, one after another.
 use Rattle.std.specs.Prelude.{Option, Result, ◌≡◌, ◌<◌, ◌≤◌, OnOk, ℕ, List, [], ◌++◌, length, map, unwrap_or, IfSome, IsSome, slice_index_or}
 use Rattle.std.specs.List.{All}
 use Rattle.trace_outside.specs.Causes.{Rose, raised}
@@ -29,7 +29,7 @@ pub record Keeps (before now : FileSeen) : Type 0 where
 abbrev pub AllKeep : List FileSeen → List FileSeen → Type 0
 AllKeep before now = (i : ℕ) (d : FileSeen) → i < length before → Keeps (slice_index_or before i d) (slice_index_or now i d)
 
--- a piece and the whole file behind it were written
+-- a piece and the whole file after it were written
 abbrev pub IsOneCopied : {T E : Type 0} → List ℕ → FileSeen → Option (List ℕ) → Option (List ℕ) → Result T E → Type 0
 IsOneCopied front file old new result = OnOk result (IfSome file.bytes (λ bytes. Gained old new (front ++ bytes)))
 

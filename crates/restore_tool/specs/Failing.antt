@@ -29,7 +29,7 @@ pub record IsUnread (told : Option NamedFiles) (names : List (List ℕ)) (misses
   pub before : IfSome told (λ named. AreThereBefore named names place)
   pub missing : IfSome told (λ named. (d : List ℕ) → now_misses ≡ misses_after named (slice_index_or names place d) misses)
 
--- behind a partial file that was opened it is one of the data files, or the partial file, and then no name was missed
+-- after a partial file that was opened it is one of the data files, or the partial file, and then no name was missed
 abbrev pub IsUnreadBehind : Option NamedFiles → List (List ℕ) → ℕ → ℕ → Source → Type 0
 IsUnreadBehind told files misses now_misses source_code.Partial = now_misses ≡ misses
 IsUnreadBehind told files misses now_misses (source_code.File file) = IsUnread told files misses now_misses file

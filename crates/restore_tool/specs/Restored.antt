@@ -1,5 +1,5 @@
 -- A trace file that is made of a header and one data file a processor.
--- Source: trace-cmd-restore(1); trace-cmd.dat.v6(5), flyrecord: the processors' data stand behind the header, each from a multiple
+-- Source: trace-cmd-restore(1); trace-cmd.dat.v6(5), flyrecord: the processors' data stand after the header, each from a multiple
 -- of the page size on.
 use Rattle.std.specs.Prelude.{◌≡◌, ℕ, ◌+◌, ◌-◌, List, [], ◌∷◌, ◌++◌, length, map, take, drop}
 use Rattle.trace_base.specs.declared.part.Part.{Part}
@@ -10,24 +10,24 @@ use Rattle.dat_header.specs.Tables.{blank}
 use Rattle.dat_header.specs.Written.{header_text, written}
 use Rattle.new_files.specs.Padding.{up_to_page, zeros}
 
--- the parts of data files of these lengths, behind a place: each from the next multiple of the page on
+-- the parts of data files of these lengths, after a place: each from the next multiple of the page on
 abbrev pub parts_behind : ℕ → ℕ → List ℕ → List Part
 parts_behind page place [] = []
 parts_behind page place (size ∷ sizes) =
     record { offset = up_to_page page place; size = size } ∷ parts_behind page (up_to_page page place + size) sizes
 
--- zero bytes up to the next multiple of the page and the data file's bytes, one file behind another
+-- zero bytes up to the next multiple of the page and the data file's bytes, one file after another
 abbrev pub data_behind : ℕ → ℕ → List (List ℕ) → List ℕ
 data_behind page place [] = []
 data_behind page place (file ∷ files) =
     zeros (up_to_page page place - place) ++ (file ++ data_behind page (up_to_page page place + length file) files)
 
--- the place behind data files of these lengths
+-- the place after data files of these lengths
 abbrev pub end_behind : ℕ → ℕ → List ℕ → ℕ
 end_behind page place [] = place
 end_behind page place (size ∷ sizes) = end_behind page (up_to_page page place + size) sizes
 
--- the place behind the header, which is as long whatever its table tells
+-- the place after the header, which is as long whatever its table tells
 unfoldable pub header_end : Header → ℕ
 header_end header = length (header_text header (blank header.cpus))
 
@@ -43,7 +43,7 @@ restored header files = header_text header (table_of header files) ++ data_behin
 abbrev pub for_processors : Header → ℕ → Header
 for_processors header cpus = record header { cpus = cpus; body = Fly (blank cpus) }
 
--- The bytes have the header, with a table of its own and its own length of it, and behind it nothing but the data files, each at
+-- The bytes have the header, with a table of its own and its own length of it, and after it nothing but the data files, each at
 -- the next multiple of the page; by the table the part of each processor is its data file.
 pub record IsRestored (header : Header) (files : List (List ℕ)) (bytes : List ℕ) : Type 0 where
   pub parts : List Part

@@ -1,4 +1,4 @@
-// Data files copied to a sink, one behind another, each from the next multiple of the page on.
+// Data files copied to a sink, one after another, each from the next multiple of the page on.
 
 ghost use Rattle.std.specs.Prelude.{◌≡◌, ◌≤◌, ◌<◌, ◌%◌, ◌^◌, ℕ, length, map, IsErrOf};
 ghost use Rattle.trace_outside.specs.Causes.{Rose};
@@ -22,7 +22,7 @@ pub enum RestoreEnd {
     Write,
 }
 
-/// Writes zero bytes and the whole of a data file behind them.
+/// Writes zero bytes and the whole of a data file after them.
 fn copy_file<F: File, O: Sink>(
     missing: u32,
     file: &mut F,
@@ -43,7 +43,7 @@ fn copy_file<F: File, O: Sink>(
 }
 
 /// Copies the data files to a sink that has so many bytes of the new file, told modulo 2^64: zero bytes up to the next multiple
-/// of the page and then the file's bytes, one file behind another.
+/// of the page and then the file's bytes, one file after another.
 pub(crate) fn copy_files<F: File, O: Sink>(
     page: u32,
     place: u64,

@@ -9,7 +9,7 @@ ghost use Rattle.restore_tool.specs.Open.{AreFilesOf, ClosesMany, IsUnused, Open
 
 use trace_outside::{Failed, Folder};
 
-/// Opens one more file and holds it behind those that are open. Its room was taken before.
+/// Opens one more file and holds it after those that are open. Its room was taken before.
 fn open_next<F: Folder>(name: &str, files: &mut Vec<F::In>, folder: &mut F) -> Result<(), Failed>
     requires room { vec_len files.old < vec_capacity files.old }
     ensures room { vec_capacity files.new ≡ vec_capacity files.old }

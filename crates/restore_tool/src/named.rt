@@ -70,7 +70,7 @@ fn answer_of(end: RestoreEnd) -> Answer
     }
 }
 
-// Opens the data files behind one another and makes the new file of them. The files stay open.
+// Opens the data files one after another and makes the new file of them. The files stay open.
 fn restore_data<D: Folder>(
     alloc: Global,
     names: &Names<'_>,

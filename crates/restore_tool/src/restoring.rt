@@ -16,7 +16,7 @@ use dat_header::{Header, header_len, write_header};
 use trace_base::Part;
 use trace_outside::{Failed, Folder, Sink};
 
-// Writes the header with this table and the data files behind it.
+// Writes the header with this table and the data files after it.
 fn write_whole<D: Folder>(
     header: &Header,
     parts: &[Part],

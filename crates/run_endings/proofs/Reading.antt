@@ -1,9 +1,9 @@
--- Claims for the answers behind a header.
+-- Claims for the answers after a header.
 use Rattle.run_endings.specs.declared.status.Status.{Status}
 use Rattle.run_endings.specs.declared.status.Status.TheVariants.{Done, Usage, Refused, Malformed, ReadFault, WriteFault, NoMemory}
 use Rattle.run_endings.specs.Progress.{BehindHeader}
 
--- what follows from a claim for the answers behind a header
+-- what follows from a claim for the answers after a header
 pub behind_header_map : {one two : Type 0} → (status : Status) → (one → two) → BehindHeader status one → BehindHeader status two
 behind_header_map Done follows claim = follows claim
 behind_header_map (Malformed cpu page) follows claim = follows claim

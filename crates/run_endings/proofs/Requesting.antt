@@ -19,7 +19,7 @@ pub asked_front : (names rest before now : List (List ℕ)) → AskedAll names b
 asked_front names rest before now asked =
     (length names, asked ∙ ap (λ (xs : List (List ℕ)). before ++ xs) (sym (take_at names rest (length names) refl)))
 
--- some behind those that were asked for before
+-- some after those that were asked for before
 asked_then : (before mid now first rest : List (List ℕ)) → AskedAll first before mid → AskedAll rest mid now → AskedAll (first ++ rest) before now
 asked_then before mid now first rest one two = two ∙ ap (λ (xs : List (List ℕ)). xs ++ rest) one ∙ append_assoc before first rest
 

@@ -20,7 +20,7 @@ progress seen = record { written = seen.out.written; reads = seen.folder.counts.
 abbrev pub progress_at : Option (List ℕ) → ℕ → Progress
 progress_at written reads = record { written = written; reads = reads }
 
--- a claim for the answers behind a header: the work is done, the file is malformed, or the output could not be written
+-- a claim for the answers after a header: the work is done, the file is malformed, or the output could not be written
 abbrev pub BehindHeader : Status → Type 0 → Type 0
 BehindHeader Done claim = claim
 BehindHeader (Malformed cpu page) claim = claim

@@ -19,7 +19,7 @@ pub fn status_of_end(end: End) -> Status
     }
 }
 
-/// The same, or the answer for no memory to begin.
+/// The same, or the answer where there was no memory to begin.
 pub fn status_or_memory(end: Option<End>) -> Status
     ensures { result ≡ spec.status_or_memory end }
 {

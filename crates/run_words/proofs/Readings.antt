@@ -1,9 +1,9 @@
--- Several readings, one behind another.
+-- Several readings, one after another.
 use Rattle.std.proofs.Common.{◌≡◌, List, [], ◌∷◌, ◌++◌, Result, Ok, Err, refl, ap, ◌∙◌}
 use Rattle.run_words.specs.Readings.{before_others, readings}
 
 module _ {A E : Type 0} where
-  -- what some give, and others behind them
+  -- what some give, and others after them
   abbrev behind : Result (List A) E → Result (List A) E → Result (List A) E
   behind (Ok some) (Ok others) = Ok (some ++ others)
   behind (Ok some) (Err fault) = Err fault

@@ -82,7 +82,7 @@ name_short name h = name_by name (nat_le (length name.bytes) 4096) refl h
 abbrev IsShort : List ℕ → Type 0
 IsShort bytes = length bytes ≤ 4096
 
--- a setting that was found, behind others
+-- a setting that was found, after others
 record Found (p : Setting → Bool) (settings : List Setting) (s : Setting) : Type 0 where
   earlier : List Setting
   later : List Setting

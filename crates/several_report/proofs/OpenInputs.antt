@@ -131,7 +131,7 @@ module _ (words : ReportData) (names : List (List ℕ)) (name : List ℕ) (sourc
       kept : now.files ≡ before.files
       kept = one.files ∙ all.files
 
-      -- the names so far and this one, and none behind it
+      -- the names so far and this one, and none after it
       asked : AskedFirst (names_in words) before.requested now.requested
       asked =
           let so_far = asked_more names before.requested mid.requested now.requested name all.requested one.requested in
@@ -289,7 +289,7 @@ pub inputs_closed : {S : Type 0} (f : S → Seen) (all left tail : List S) (befo
 inputs_closed {S} f all [] tail before now e none closes = subst (λ (xs : List S). ClosesMany (map file_in (map f xs)) before now) (sym e) closes
 inputs_closed {S} f all (x ∷ left) tail before now e none closes = absurd (omega (arith, none))
 
--- the names in front of one, that one, and those behind it
+-- the names in front of one, that one, and those after it
 pub names_split : (names : List (List ℕ)) (i : ℕ) (name : List ℕ) → i < length names → StandsAt names i name → names ≡ take i names ++ name ∷ drop (i + 1) names
 names_split names i name lt stands =
     let next : suc i ≡ i + 1 = omega arith in

@@ -67,7 +67,7 @@ unread_there told names place misses now lt read same = record { inside = lt; be
     missing_told None read same = tt
     missing_told (Some files) read same = λ d. same ∙ sym (there_is (get files (get_or names place d)) misses (inputs_there files names read.0 read.1 place d lt))
 
--- the one behind those that were read
+-- the one after those that were read
 module _ (all names : List (List ℕ)) (name : List ℕ) (rest : List (List ℕ)) (are : all ≡ names ++ name ∷ rest) where
   pub next_inside : length names < length all
   next_inside = omega (arith, ap length are, length-append names (name ∷ rest))

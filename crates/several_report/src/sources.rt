@@ -157,7 +157,7 @@ fn source_on<'a, I: File>(name: &'a str, file: I, basis: Basis) -> Source<'a, I,
     }
 }
 
-// Opens one more input and holds it behind those that are open. Its room was taken before.
+// Opens one more input and holds it after those that are open. Its room was taken before.
 fn open_next<'a, F: Folder>(
     alloc: Global,
     words: &ReportWords<'a>,

@@ -12,7 +12,7 @@ use new_files::{gap, write_zeros};
 use trace_base::{ByteText, Part};
 use trace_outside::{Failed, Sink};
 
-/// The place of the first sub-buffer: the first multiple of the page size behind the header. It is told modulo 2^64.
+/// The place of the first sub-buffer: the first multiple of the page size from the end of the header on. It is told modulo 2^64.
 pub fn data_place(header: &Header) -> u64
     requires { IsHeader header.now }
     ensures { result ≡ front_len header.now % 2 ^ 64 }

@@ -6,7 +6,7 @@ ghost use Rattle.split_file.specs.Names.{file_name};
 use arrayvec::ArrayString;
 use itoa::Buffer;
 
-// A base has up to 4,096 bytes; behind it stand a point and a number of 128 bits: whatever a file of 64 bits' length tells,
+// A base has up to 4,096 bytes; a point and a number of 128 bits follow it: whatever a file of 64 bits' length tells,
 // its items are fewer.
 const LONGEST: usize = 4096 + 40;
 

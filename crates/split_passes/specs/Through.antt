@@ -39,7 +39,7 @@ pub record StaysBefore (limit : ℕ) (before now : Lane) : Type 0 where
   pub forward : before.cursor.next ≤ now.cursor.next
   pub within : now.cursor.next ≤ limit
 
--- It came to what it was to find, and nothing behind the sub-buffer that it holds was read.
+-- It came to what it was to find, and nothing after the sub-buffer that it holds was read.
 pub record CameTo {F : Type 0} (f : file.Ghosts F) (layout : Layout) (limit : ℕ) (file_before file_now : F) (before now : Lane) : Type 0 where
   pub stays : StaysBefore limit before now
   pub reads : f.reads file_now

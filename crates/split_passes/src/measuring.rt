@@ -25,9 +25,9 @@ pub enum PieceEnd {
     Full,
     /// Before an item past the end.
     Past,
-    /// Behind the last item.
+    /// After the last item.
     Done,
-    /// Behind the last item before a malformed sub-buffer.
+    /// After the last item before a malformed sub-buffer.
     Malformed { cpu: u32, page: u64 },
 }
 

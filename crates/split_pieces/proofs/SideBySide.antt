@@ -10,7 +10,7 @@ use Rattle.split_pieces.specs.declared.rules.Rules.{Rules}
 use Rattle.split_pieces.specs.Pieces.{IsUnit, piece, rest, piece_at, first_pieces, joined_lists, next_file, behind_file, files_when, files_within, files_left, files, left_in}
 use Rattle.split_pieces.proofs.Cutting.{whole, first_some}
 
--- where nothing is left there are no further files, else there is one and those behind it
+-- where nothing is left there are no further files, else there is one and those after it
 no_more : (unit : PieceUnit) (n : ℕ) (lists : List (List Keyed)) → joined_lists lists ≡ [] → files_within unit (suc n) lists ≡ []
 no_more unit n lists none = ap (λ (all : List Keyed). files_when all (next_file unit lists ∷ files_within unit n (behind_file unit lists))) none
 
@@ -27,7 +27,7 @@ behind_at unit k (xs ∷ lists) = ap (λ (t : List Keyed). piece_at unit k (rest
 none_there : (k : ℕ) (file : List Keyed) → slice_get {X = List Keyed} [] k ≡ Some file → ⊥
 none_there k file e = absurd cc
 
--- the first file, or one of those behind it
+-- the first file, or one of those after it
 at_number : (unit : PieceUnit) (more : List (List Keyed)) (k : ℕ) (lists : List (List Keyed)) (file : List Keyed)
     → ((j : ℕ) → slice_get more j ≡ Some file → file ≡ flat_map (piece_at unit j) (behind_file unit lists))
     → slice_get (next_file unit lists ∷ more) k ≡ Some file → file ≡ flat_map (piece_at unit k) lists

@@ -24,7 +24,7 @@ closes_by (Nanos n) xs = is_some_left (rest_by (Nanos n) xs)
 closes_by (Below limit) xs = is_some_left (rest_by (Below limit) xs)
 closes_by (Events n) xs = has_events n xs
 
--- A piece takes an item, and goes on by another gauge behind it.
+-- A piece takes an item, and goes on by another gauge after it.
 pub record TakesItem (gauge now : Gauge) (x : Keyed) : Type 0 where
   pub took : (xs : List Keyed) → piece_by gauge (x ∷ xs) ≡ x ∷ piece_by now xs
   pub goes_on : (xs : List Keyed) → closes_by gauge (x ∷ xs) ≡ closes_by now xs

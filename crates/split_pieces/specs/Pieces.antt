@@ -33,7 +33,7 @@ abbrev pub behind_start : Option Moment → List Keyed → List Keyed
 behind_start None xs = xs
 behind_start (Some moment) xs = drop (prefix_len (λ x. is_before moment x.key) xs) xs
 
--- without the first item with a key past the end, and those behind it
+-- without the first item with a key past the end, and those after it
 abbrev pub up_to_end : Option Moment → List Keyed → List Keyed
 up_to_end None xs = xs
 up_to_end (Some moment) xs = take_while (λ x. not (is_past moment x.key)) xs
@@ -62,7 +62,7 @@ piece (Nanos n) [] = []
 piece (Nanos n) (x ∷ xs) = take_while (λ y. nat_lt y.key (x.key + n)) (x ∷ xs)
 piece (Events n) xs = up_to_event n xs
 
--- what is left behind it
+-- what is left after it
 abbrev pub rest : PieceUnit → List Keyed → List Keyed
 rest unit xs = drop (length (piece unit xs)) xs
 

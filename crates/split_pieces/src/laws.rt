@@ -10,7 +10,7 @@ ghost use Rattle.split_pieces.specs.declared.rules.Rules.{Rules};
 ghost use Rattle.split_pieces.specs.Examples.{at, lost, micros, nanos, by, five};
 ghost use Rattle.split_pieces.specs.Pieces.{IsUnit, Pieces, piece, rest, left_in, from_start, files, is_closed, all_pieces, joined_lists, behind_start, piece_at, first_pieces};
 
-/// A piece and what is left behind it are the list, a first item is always taken, and by a time unit the piece is the
+/// A piece and what is left after it are the list, a first item is always taken, and by a time unit the piece is the
 /// items below the limit.
 pub fn parted()
     ensures whole { (unit : PieceUnit) (xs : List Keyed) → piece unit xs ++ rest unit xs ≡ xs }

@@ -15,7 +15,7 @@ pub struct Rules {
     pub per_cpu: bool,
     /// Items before it are left out.
     pub start: Option<Moment>,
-    /// Items past it are left out, and what follows them.
+    /// Items past it are left out, with all that follows them.
     pub stop: Option<Moment>,
 }
 

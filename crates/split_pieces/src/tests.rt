@@ -90,7 +90,7 @@ const LATE: &[Entry] = &[
     Event(2499),
 ];
 
-// The items in front of the first that is to be left, and that one with those behind it.
+// The items in front of the first that is to be left, and that one with those after it.
 fn before_start(list: &[Entry], start: Option<Moment>) -> &[Entry] {
     for (i, entry) in list.iter().enumerate() {
         if !start.is_some_and(|start| is_before(start, entry.key())) {
@@ -112,7 +112,7 @@ fn up_to_end(list: &[Entry], stop: Option<Moment>) -> (&[Entry], bool) {
     (list, false)
 }
 
-// A piece, what is left behind it, and whether it closes the list.
+// A piece, what is left after it, and whether it closes the list.
 fn cut(list: &[Entry], unit: PieceUnit) -> (&[Entry], &[Entry], bool) {
     let mut gauge = Gauge::new(unit);
     for (i, entry) in list.iter().enumerate() {

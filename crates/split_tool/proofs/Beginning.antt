@@ -1,4 +1,4 @@
--- Lanes behind the start have left what a split cuts.
+-- Lanes after the start have left what a split cuts.
 use Rattle.std.proofs.Common.{◌≡◌, ℕ, Bool, true, false, ◌||◌, ◌&&◌, not, if◌then◌else◌, List, [], ◌∷◌, ◌++◌, map, Option, Some, None, refl, sym, ap, ◌∙◌}
 use Rattle.std.specs.Option.{option_map}
 use Rattle.std.specs.List.{All, filter_map, slice_get, cons_option}
@@ -58,7 +58,7 @@ fresh_lists l file rules lanes f = by_apart (is_apart rules)
     by_apart true = each_own l file lanes f
     by_apart false = ap (λ (xs : List Keyed). xs ∷ []) (fresh_come l file lanes f)
 
--- WHAT IS LEFT BEHIND THE START
+-- WHAT IS LEFT AFTER THE START
 
 up_map : (stop : Option Moment) (gs : List (List (Row Keyed))) → map (left_in_rows stop) gs ≡ map (up_to_end stop) (map come_of gs)
 up_map stop [] = refl

@@ -21,7 +21,7 @@ use Rattle.split_passes.proofs.RoundLaws.{by_key_long}
 abbrev pub Few : ℕ → ℕ → Type 0
 Few count bytes = count * 65537 ≤ bytes * 8192
 
--- the data begin behind the timestamp and the commit word
+-- the data begin after the timestamp and the commit word
 front_long : (l : Layout) → IsLayout l → 12 ≤ l.data_at
 front_long l allowed = elim (fields_apart l) [
   | inl time_first ↦ elim (commit_is_long l) [

@@ -44,7 +44,7 @@ enough unit (suc n) zero lists u le le2 = none_within unit (suc n) lists (nil_of
 enough unit (suc n) (suc m) lists u le le2 =
     by_all unit n m lists (joined_lists lists) refl (enough unit n m (behind_file unit lists) u (fewer unit n lists u le) (fewer unit m lists u le2))
 
--- ONE FILE, AND THOSE BEHIND IT
+-- ONE FILE, AND THOSE AFTER IT
 
 left_more : (unit : PieceUnit) (n : ℕ) (lists : List (List Keyed)) → IsUnit unit → length (joined_lists lists) ≡ n → 0 < n
     → files_within unit n lists ≡ next_file unit lists ∷ files_left unit (behind_file unit lists)
@@ -57,7 +57,7 @@ left_more unit (suc n) lists u is some =
     when_some [] some = absurd (omega (arith, some))
     when_some (x ∷ xs) some = refl
 
--- with repetition and an item left, the files behind the next one are those of what it leaves
+-- with repetition and an item left, the files after the next one are those of what it leaves
 pub goes_on : (rules : Rules) (lists : List (List Keyed)) → IsUnit rules.unit → rules.repeat ≡ true → is_some_left (joined_lists (behind_file rules.unit lists)) ≡ true
     → files_behind rules lists ≡ files_of rules (behind_file rules.unit lists)
 goes_on rules lists u again some =

@@ -17,7 +17,7 @@ use Rattle.split_passes.specs.Through.{GoThrough}
 use Rattle.split_tool.proofs.OneByOne.{all_put, map_put, one_in_mid}
 use Rattle.split_tool.proofs.OneLaneOn.{lane_on, on_stops, on_unread}
 
--- one of several lanes went through items, behind those before it
+-- one of several lanes went through items, after those before it
 pub through_one : {F : Type 0} {f : file.Ghosts F} (l : Layout) (a b c : F) (first lanes new : List Lane) (i : ℕ) → i < length lanes → All (IsInOrder l) lanes → parts_of lanes ≡ parts_of first
     → ((j : ℕ) (d : Lane) → j < length first → Advances (get_or first j d) (get_or lanes j d))
     → f.reads b ≤ raised (f.reads a) (all_unread l (f.size a) first - all_unread l (f.size a) lanes) → all_unread l (f.size a) lanes ≤ all_unread l (f.size a) first → KeepsFile f a b

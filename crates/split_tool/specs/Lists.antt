@@ -12,7 +12,7 @@ use Rattle.split_pieces.specs.Pieces.{up_to_end, has_end, unit_closes, next_file
 
 -- FILES OF LISTS THAT ARE LEFT
 
--- the files behind the next one
+-- the files after the next one
 abbrev pub files_behind : Rules → List (List Keyed) → List (List Keyed)
 files_behind rules lists = if rules.repeat then files_left rules.unit (behind_file rules.unit lists) else []
 

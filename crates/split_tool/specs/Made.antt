@@ -37,7 +37,7 @@ use Rattle.split_tool.specs.NewFiles.{LeavesUnfinished}
 abbrev pub next_text : Header → List ℕ → Rules → List Lane → List ℕ
 next_text header file rules lanes = file_text header (lists_of header.cpus (taken_of header.layout file rules lanes))
 
--- what is left behind a file
+-- what is left after a file
 pub record FileLeft (layout : Layout) (file : List ℕ) (rules : Rules) (first now : List Lane) (ends : Ends) : Type 0 where
   pub stands : All (Stands layout file) now
   pub left : lists_left layout file rules now ≡ behind_file rules.unit (lists_left layout file rules first)

@@ -39,7 +39,7 @@ pub record PieceTaken (layout : Layout) (file : List ℕ) (rules : Rules) (first
   pub left : left_in_rows rules.stop (rows_of layout file now) ≡ rest rules.unit (left_in_rows rules.stop (rows_of layout file first))
   pub bad : rules.repeat ≡ true → bad_in_rows rules (rows_of layout file now) ≡ bad_in_rows rules (rows_of layout file first)
 
--- the lanes of a list, and what is left behind the pieces of this list and of those before it
+-- the lanes of a list, and what is left after the pieces of this list and of those before it
 pub record ListsBehind : Type 0 where
   pub lanes : List Lane
   pub ends : Ends

@@ -1,4 +1,4 @@
--- Lanes behind the items before the start.
+-- Lanes after the items before the start.
 use Rattle.std.specs.Prelude.{◌≡◌, ℕ, List, map, Option}
 use Rattle.std.specs.List.{All}
 use Rattle.trace_base.specs.declared.layout.Layout.{Layout}

@@ -114,7 +114,7 @@ fn write_file<F: File, O: Sink>(
     )
 }
 
-/// Makes the file of this number, and tells what is left behind it. `name` is room for its name.
+/// Makes the file of this number, and tells what is left after it. `name` is room for its name.
 ///
 /// # Errors
 /// Why the split ends here: the file has no name then, unless finishing it failed.

@@ -20,7 +20,7 @@ use split_pieces::{Gauge, Rules};
 use trace_base::Layout;
 use trace_outside::{Failed, File};
 
-/// What is left behind a file's pieces.
+/// What is left after a file's pieces.
 #[derive(Clone, Copy, Debug, PartialEq, Eq)]
 pub(crate) struct Ends {
     /// A list has an item left that its unit leaves to the next file.
@@ -64,7 +64,7 @@ fn is_full(end: PieceEnd) -> bool
     }
 }
 
-// The malformed sub-buffer behind a list, unless something closed it.
+// The malformed sub-buffer after a list, unless something closed it.
 fn bad_of_end(end: PieceEnd, closed: bool) -> Option<(u32, u64)>
     ensures { result ≡ bad_of_end end closed }
 {

@@ -42,7 +42,7 @@ fn goes_on(rules: &Rules, ends: Ends) -> bool
     ends.more && rules.repeat
 }
 
-// How a split ends behind its last file.
+// How a split ends after its last file.
 fn end_by(ends: Ends) -> End
     ensures { result ≡ end_by ends.bad }
 {
@@ -55,11 +55,11 @@ fn end_by(ends: Ends) -> End
 /// Cuts a trace into new files (trace-cmd-split(1)).
 ///
 /// There is always a first file. `Malformed` exactly where a list that nothing closed ends before a malformed sub-buffer;
-/// the last file is finished then. After `Read` and `Write` the finished files are the first few, and the file in work has
-/// no name, unless finishing it failed. Nothing here takes memory.
+/// the last file is finished then. After `Read` and `Write` the finished files are the first few, and the file being made
+/// has no name, unless finishing it failed. Nothing here takes memory.
 ///
-/// A file that gives other bytes as a piece is packed than as it was measured is `Malformed` too, at the sub-buffer that the
-/// lane holds; the new file in work has no name then.
+/// A file that gives other bytes while a piece is packed than while it was measured is `Malformed` too, at the sub-buffer that
+/// the lane holds; the new file being made has no name then.
 pub fn split<F: File, D: Folder>(
     plan: &SplitPlan<'_>,
     file: &mut F,

@@ -10,7 +10,7 @@ use Rattle.page_write.specs.Record.{zeros}
 unfoldable pub next_state : ℕ → ℕ
 next_state x = (x * 6364136223846793005 + 1442695040888963407) % 2 ^ 64
 
--- the state behind so many draws
+-- the state after so many draws
 abbrev pub state : ℕ → ℕ → ℕ
 state seed zero = seed
 state seed (suc n) = next_state (state seed n)
@@ -42,7 +42,7 @@ payload_of pid value = bytes_of Little 2 900 ++ (zeros 2 ++ (bytes_of Little 4 p
 abbrev pub numbers_of : ℕ → ℕ → ℕ → List ℕ
 numbers_of seed cpu n = filter (λ i. cpu_at seed i == cpu) (range_with_len 0 n)
 
--- a processor's time behind the first n events: its steps, from one second on
+-- a processor's time after the first n events: its steps, from one second on
 unfoldable pub time_behind : ℕ → ℕ → ℕ → ℕ
 time_behind seed cpu n = 1000000000 + sum_by (step_at seed) (numbers_of seed cpu n)
 

@@ -20,7 +20,7 @@ pub record IsGenerated (seed events : ℕ) (bytes : List ℕ) : Type 0 where
   pub lists : map (list_of generated_layout bytes) parts ≡ lists_of seed events
   pub sound : All (λ part. bad_of generated_layout bytes part ≡ None) parts
 
--- the place of the first sub-buffer: the first page behind the header
+-- the place of the first sub-buffer: the first page after the header
 abbrev pub front_len : ℕ
 front_len = 4096
 

@@ -45,7 +45,7 @@ fn write_processor<O: Sink>(
     write_last(packer, out)
 }
 
-// The same, behind other data, with the part of the file that they are.
+// The same, after other data, with the part of the file that they are.
 fn append_processor(
     seed: u64,
     events: u32,

@@ -66,7 +66,7 @@ pub fn program_on<R: Threads + Sync, F: Folder, O: Sink, E: Sink>(
     run(rt, alloc, words, folder, out, err, &NoGate).number()
 }
 
-/// The words of the command line behind the program's own name.
+/// The words of the command line after the program's own name.
 pub fn words_of(rt: &(impl Env + AllocGlobal)) -> io::Result<Words> {
     let mut words = Words::new(rt.alloc());
     for word in env::args(rt)?.skip(1) {

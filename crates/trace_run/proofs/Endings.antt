@@ -29,7 +29,7 @@ use Rattle.trace_run.specs.Work.{Worked}
 use Rattle.run_endings.proofs.Endings.{if_known, stored_none, unmoved, untouched, unheld, because, refused_by, finished_nothing, Around, CleanAround, ended_complete, ended_around, keeps_out, no_memory_map}
 use Rattle.run_endings.proofs.Requesting.{asked_first, asked_none, asked_still, asks_for}
 
--- BEHIND A HEADER
+-- AFTER A HEADER
 
 -- no name was asked for
 unasked : (command : FileCommand) (means : Option Meaning) (seen : Outside) → AsksFor (new_names command) means seen.folder.requested seen.folder.requested
@@ -51,7 +51,7 @@ header_meaning : (command : FileCommand) (header : Header) (told : Option (List 
 header_meaning command header None found = refl
 header_meaning command header (Some bytes) found = ap (λ (read : Result Header OpenFault). Some (file_means command read bytes)) (sym found)
 
--- what a command did behind a header is what it means of the file
+-- what a command did after a header is what it means of the file
 pub behind_header : (command : FileCommand) (header : Header) (told same : Option (List ℕ)) (unread other : Type 0) (status : Status) (before now : Outside) → same ≡ told
     → ReadsHeader told (Ok header) → (unread → other) → Worked command unread (option_map (header_means command header) same) status before now
     → Worked command other (option_map (input_means command) told) status before now
@@ -239,7 +239,7 @@ clean_around status faults faults_now reads before opened worked now reading wri
       last = record { reading = closes.clean (same ∙ none); writing = closes.writing };
     }
 
--- the input's name was asked for, and behind it those of new files
+-- the input's name was asked for, and after it those of new files
 pub command_asks : (command : FileCommand) (told : Option NamedFiles) (bytes : Option (List ℕ)) (name : List ℕ) (before opened worked now : List (List ℕ)) → name ≡ input_of command
     → IsFileOf told (input_of command) bytes → opened ≡ before ++ name ∷ [] → AsksFor (new_names command) (option_map (input_means command) bytes) opened worked → now ≡ worked
     → AsksFor (names_of (OnFile command)) (option_map (command_meaning command) told) before now

@@ -28,7 +28,7 @@ due_later : (known : Option Events) (old now : Option (List ℕ)) (first before 
 due_later None old now first before mid reads most due = tt
 due_later (Some events) old now first before mid reads most due = (due.0, (due.1.0, omega (arith, most, due.1.1)))
 
--- a header, and behind it the command's share
+-- a header, and after it the command's share
 pub read_behind_header : (command : FileCommand) (header : Header) (told same old now : Option (List ℕ)) (status : Status) (size before mid reads : ℕ) → same ≡ told
     → IfSome told (λ bytes. length bytes ≡ size) → ReadsHeader told (Ok header) → mid ≤ raised before header.end → reads ≤ raised mid (share command header size)
     → IfSome same (λ bytes. IfSome (events_of command header bytes) (λ events. ReadsDue events 0 (progress_at old mid) (progress_at now reads)))

@@ -49,7 +49,7 @@ input_of_run (Ok (Restore words)) told = None
 input_of_run (Ok (About topic)) told = None
 input_of_run (Err fault) told = None
 
--- how many bytes behind the header a command needs, of a file of this size
+-- how many bytes after the header a command needs, of a file of this size
 abbrev pub share : FileCommand → Header → ℕ → ℕ
 share (Report words) header size = report_share words.list words header size
 share (Dump words) header size = 0

@@ -15,10 +15,10 @@ use trace_outside::{Folder, Gate, Sink};
 /// Does what the words of the command line ask for, on the files of the folder.
 ///
 /// The words are read first, then their filters in their order, and only then a file is opened. The output goes to
-/// `out`, and for every answer but `Done` one line of message to `err`. All memory is taken before the first byte of
+/// `out`, and for every answer but `Done` a message of one line to `err`. All memory is taken before the first byte of
 /// output.
 ///
-/// Of the folder only the names in the words are asked for, each once and in their order, and behind the input of a split the
+/// Of the folder only the names in the words are asked for, each once and in their order, and after the input of a split the
 /// names of its new files. A fault that the folder or the output counted is never told as want of memory.
 ///
 /// A report's lines are formed on as many threads as the words ask for, with the same bytes for any number of them. Each

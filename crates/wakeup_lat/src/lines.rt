@@ -9,7 +9,7 @@ use report_print::{Context, close, prefix};
 use trace_base::Tail;
 use wakeup_pairs::{Pair, latency};
 
-/// Puts the line of a pair into a tail in which nothing is, and gives its length in bytes with its newline.
+/// Puts the line of a pair into an empty tail, and gives its length in bytes with its newline.
 pub(crate) fn pair_line(context: &Context, pair: &Pair, into: &mut Tail<'_>) -> u32
     requires empty { held into.old ≡ empty_held (held into.old).room }
     ensures same_slice { lent into.new ≡ lent into.old }

@@ -41,7 +41,7 @@ told_once xs i h j a b p q =
     same_wake (slice_get xs h) p.paired.waits.wake q.paired.waits.wake (subst (λ n. slice_get xs n ≡ Some (Wakes p.paired.waits.wake)) at p.paired.waits.there) q.paired.waits.there in
     p.told ∙ (λ n. pair_of (wakes n).time (switches n)) ∙ sym q.told
 
--- what stands in a list is its first, or stands behind
+-- what stands in a list is its first, or stands after it
 in_parts : {X : Type 0} (x y : X) (ys : List X) → Contains (y ∷ ys) x → (y ≡ x) ⊎ Contains ys x
 in_parts x y ys (zero, lt, e) = inl e
 in_parts x y ys (suc k, lt, e) = inr (k, omega arith, e)

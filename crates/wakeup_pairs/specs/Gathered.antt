@@ -29,7 +29,7 @@ and_switched (Some woken) g switch = record {
   pairs = g.pairs ++ pair_of woken switch ∷ [];
 }
 
--- what is gathered behind one more of what was seen
+-- what is gathered after one more of what was seen
 abbrev pub and_seen : Gathered → Seen → Gathered
 and_seen g (Wakes wake) = and_woken (map.get g.waiting wake.task) g wake
 and_seen g (Switches switch) = and_switched (map.get g.waiting switch.task) g switch

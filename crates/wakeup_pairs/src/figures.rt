@@ -32,7 +32,7 @@ pub fn average(pairs: &[Pair]) -> u64
     (total(pairs) / pairs.len() as u128) as u64
 }
 
-/// The pair that waited longest, and of several the first, among a first one and others behind it.
+/// The pair that waited longest, and of several the first, among a first one and others that follow it.
 pub fn longest(first: Pair, rest: &[Pair]) -> Pair
     ensures { result ≡ spec.longest first rest.now }
 {
@@ -53,7 +53,7 @@ fn longer(one: Pair, two: Pair) -> Pair
     }
 }
 
-/// The pair that waited shortest, and of several the first, among a first one and others behind it.
+/// The pair that waited shortest, and of several the first, among a first one and others that follow it.
 pub fn shortest(first: Pair, rest: &[Pair]) -> Pair
     ensures { result ≡ spec.shortest first rest.now }
 {
