@@ -1,4 +1,4 @@
-// A sub-buffer that cannot be read, behind 2,720 lines of its processor.
+// A sub-buffer that cannot be read, after 2,720 lines of its processor.
 
 use super::world::{run_in, world_of};
 use sample_runs::is_first_lines;

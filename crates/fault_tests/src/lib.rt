@@ -2,7 +2,7 @@
 //! stands, and nothing else.
 //!
 //! A line whose output fails is a row of `LINES` in `writes`, and one whose message fails a row of `MESSAGES`. A byte that
-//! cannot be read is in `reads`, where a line that needs no sub-buffer is a row of `HEADERS_ALONE`, and one behind thousands of
+//! cannot be read is in `reads`, where a line that needs no sub-buffer is a row of `HEADERS_ALONE`, and one after thousands of
 //! lines in `late`. A creation, a write or a finish of a split that fails is a row of `FAULTS` in `splits`. Want of memory is a
 //! test of its own in `memory` for each line, since the number of the allocation that fails is given from outside.
 #![tactic(auto)]

@@ -36,12 +36,12 @@ fn prefix_mark(op: FilterPrefix) -> &'static [u8] {
     }
 }
 
-/// Puts bytes behind what is there. Where memory runs out they are left out, and the row that wants them fails.
+/// Appends bytes. Where memory runs out they are left out, and the row that wants them fails.
 fn add(out: &mut Vec<u8>, bytes: &[u8]) {
     let _ = out.extend_from_slice(bytes);
 }
 
-/// Writes a condition behind what is there.
+/// Appends a condition.
 fn put_condition(out: &mut Vec<u8>, expr: &FilterExpr) {
     match expr {
         FilterExpr::Number(n) => add(out, itoa::Buffer::new().format(*n).as_bytes()),

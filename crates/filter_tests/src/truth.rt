@@ -122,7 +122,7 @@ fn conditions_are_true_and_not(rt: HostRuntime) -> Result<(), Fail> {
     Ok(())
 }
 
-/// A filter, one that hides behind `-v `.
+/// A filter, which hides where `-v ` stands before it.
 fn filter_use(alloc: Global, text: &str) -> Result<FilterUse, FilterFault> {
     let shown = text.strip_prefix("-v ");
     let filter = parse_filter(alloc, shown.unwrap_or(text).as_bytes())?;
@@ -370,7 +370,7 @@ CPU == 1234
 "a" && 1
 a || b || c || d || e || f || g || h || i || j || k || l || m || n || o || p || pid == 1234 && byte == 200 && pid == 1235"#;
 
-// Filters, those that hide behind `-v `; a format; whether they show an event of it, and whether all events of it alike.
+// Filters, with `-v ` before those that hide; a format; whether they show an event of it, and whether all events of it alike.
 static SELECTIONS: &str = " at 0 => shown, all
  at none => shown, all
 sched at 0 => shown, all

@@ -89,7 +89,7 @@ fn put_shape_of(alloc: Global, text: &mut String, format: &[u8]) -> Result<(), A
     }
 }
 
-/// A format with the declaration in front of the mark, of the size behind it.
+/// A format with the declaration in front of the mark, of the size after it.
 fn put_format(text: &mut String, declared: &str) -> Result<(), AllocError> {
     let (declaration, size) = declared.split_once(';').unwrap_or((declared, ""));
     write!(
@@ -123,7 +123,7 @@ fn put_numbers(alloc: Global, told: &mut Vec<u8>, format: &EventFormat) -> Resul
     told.extend_from_slice(numbers.as_bytes())
 }
 
-/// The name, the number and the count of fields of a format, and its print fmt behind them.
+/// The name, the number and the count of fields of a format, and its print fmt after them.
 fn put_told(alloc: Global, told: &mut Vec<u8>, format: &EventFormat) -> Result<(), AllocError> {
     told.extend_from_slice(format.name.as_bytes())?;
     put_numbers(alloc, told, format)?;
@@ -160,7 +160,7 @@ fn push_texts(alloc: Global, texts: &mut Vec<ByteText>, all: &[&[u8]]) -> Result
     Ok(())
 }
 
-/// The table with the formats of these texts behind its own.
+/// The table with the formats of these texts after its own.
 fn with_texts(
     alloc: Global,
     table: FormatTable,

@@ -94,7 +94,7 @@ fn put_comms(symbols: &Symbols, pids: &[i32], text: &mut Vec<u8>) -> Result<(), 
     Ok(())
 }
 
-/// For each address how far it is behind a symbol, and that symbol.
+/// For each address how far it is past a symbol, and that symbol.
 fn put_nearest(
     alloc: Global,
     symbols: &Symbols,

@@ -36,8 +36,8 @@ fn field_lines(rt: HostRuntime) {
     }
 }
 
-// Each row is a line and what it declares. A type may be empty. The last bracket directly behind an identifier counts, and the
-// name stands directly before it, or at the end. A number is decimal digits, below 2^32. Nothing stands behind the last semicolon.
+// Each row is a line and what it declares. A type may be empty. The last bracket directly after an identifier counts, and the
+// name stands directly before it, or at the end. A number is decimal digits, below 2^32. Nothing follows the last semicolon.
 static LINES: &str = "\tfield: u64 timestamp;\toffset:0;\tsize:8;\tsigned:0; => u64|timestamp||0|8|
 \tfield: local_t commit;\toffset:8;\tsize:8;\tsigned:1; => local_t|commit||8|8|signed
 \tfield: int overwrite;\toffset:8;\tsize:1;\tsigned:1; => int|overwrite||8|1|signed

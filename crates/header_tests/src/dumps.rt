@@ -123,7 +123,7 @@ fn dumps_print_their_sections(rt: HostRuntime) -> Result<(), Fail> {
     Ok(())
 }
 
-/// What all sections print, one behind another.
+/// What all sections print, one after another.
 fn put_all_texts(all: &mut Vec<u8>) -> Result<(), AllocError> {
     for (_, expected) in FULL {
         all.extend_from_slice(expected.as_bytes())?;

@@ -278,7 +278,7 @@ fn put_own_texts(header: &Header, told: &mut Vec<u8>) -> Result<(), AllocError> 
     Ok(())
 }
 
-/// The texts and lists of a header, each behind a newline.
+/// The texts and lists of a header, each after a newline.
 fn put_contents(header: &Header, told: &mut Vec<u8>) -> Result<(), AllocError> {
     put_own_texts(header, told)?;
     put_texts(header.ftrace.as_slice(), told)?;
@@ -409,7 +409,7 @@ const BEFORE_LARGE: &[&[u8]] = &[
     b"\0\x04\0\0options  \0\x09\0\xa0\x86\x01\0",
 ];
 
-/// A line of numbers, four bytes for each part, a long option with its id, and behind newlines four long texts, an empty one and a
+/// A line of numbers, four bytes for each part, a long option with its id, and after newlines four long texts, an empty one and a
 /// thousand of one byte.
 fn is_large(rt: &impl Abort, alloc: Global, header: &Header, len: usize) -> Result<(), AllocError> {
     let mut told = Vec::new(alloc);

@@ -31,7 +31,7 @@ pub(crate) fn is(rt: &impl Abort, told: &str, expected: &str) {
     assert!(rt; told == expected, "{told}");
 }
 
-/// How many options stand there and the place behind them, or the fault.
+/// How many options stand there and the place after them, or the fault.
 fn put_options_at(
     text: &mut String,
     found: &Result<(ListOf<Opt>, u64), OpenFault>,
@@ -42,7 +42,7 @@ fn put_options_at(
     }
 }
 
-/// How many parts stand there and the place behind them, or the fault.
+/// How many parts stand there and the place after them, or the fault.
 fn put_parts_at(
     text: &mut String,
     found: &Result<(ListOf<Part>, u64), OpenFault>,

@@ -9,7 +9,7 @@ use trace_base::ByteText;
 use trace_outside::MemFile;
 
 /// A header of a little-endian file of no processors up to its page size, from there to the size of its header_page text, and
-/// what stands behind that text.
+/// what follows that text.
 const BEFORE_PAGE: &[u8] = b"\x17\x08\x44tracing6\0\0\x08";
 
 const BEFORE_TEXT: &[u8] = b"header_page\0";
@@ -41,7 +41,7 @@ fn put_header(bytes: &mut Vec<u8>, page: u32, text: &[u8]) -> Result<(), AllocEr
     Ok(())
 }
 
-/// A header of pages of this size, whose sub-buffers have data of this size behind 16 bytes.
+/// A header of pages of this size, whose sub-buffers have data of this size after 16 bytes.
 fn header_of(alloc: Global, page: u32, data: u32) -> Result<ByteText, AllocError> {
     let mut text = String::new(alloc);
     put_text(&mut text, data)?;

@@ -1,4 +1,4 @@
-// A trace of two processors cut behind each of its bytes.
+// A trace of two processors cut after each of its bytes.
 
 use super::runs::{answers, prints, run_line_over};
 use dat_header::OpenFault;

@@ -6,12 +6,12 @@ use std::process::Abort;
 use std::test::Fail;
 use std::thread::Threads;
 
-/// An event of id 7 and pid 1 at a microsecond, with a payload of 24 bytes: behind its first eight ABCD, a word of an offset
+/// An event of id 7 and pid 1 at a microsecond, with a payload of 24 bytes: after its first eight ABCD, a word of an offset
 /// and a length of 65,535, one of offset 22 and that length, and wxyz.
 const EVENT: &[u8] =
     b"\xe8\x03\0\0\0\0\0\0\x1c\0\0\0\0\0\0\0\x06\0\0\0\x07\0\0\0\x01\0\0\0ABCD\xff\xff\xff\xff\x16\0\xff\xffwxyz";
 
-/// The fields of a row, each a declaration, an offset and a size, and its print fmt, behind them the text.
+/// The fields of a row, each a declaration, an offset and a size, and its print fmt, after them the text.
 const ROWS: &str = r#"int a;4000;4 | "%d", REC->a | 0
 int a;22;4 | "%d", REC->a | 0
 int a;4294967292;4 | "%d", REC->a | 0

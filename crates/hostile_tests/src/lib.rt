@@ -1,11 +1,11 @@
-//! Whole runs of `trace_run::run` over files and words that nobody means well with: traces cut anywhere, sizes past their ends,
+//! Whole runs of `trace_run::run` over hostile files and words: traces cut anywhere, sizes past their ends,
 //! malformed sub-buffers, fields outside of their events, and texts of a million lines. Each run must answer just what the
 //! definitions say.
 //!
 //! A number in a header that asks for more than the file has is a row of `EARLY` in `sizes`, and one with another answer a row
 //! of `OTHERS`. A malformed sub-buffer is a row of `MALFORMED` in `sub_buffers`, and times at their end are rows of `REPORTS`
 //! and of `SPLITS`. A format whose fields lie elsewhere is a row of `ROWS` in `fields`. Long texts are told as a part again and
-//! again (`long`): those of a file in `texts`, those of the command line in `words`. `cuts` cuts one file behind each byte.
+//! again (`long`): those of a file in `texts`, those of the command line in `words`. `cuts` cuts one file after each byte.
 #![tactic(auto)]
 
 #[cfg(test)]

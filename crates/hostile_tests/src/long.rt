@@ -29,7 +29,7 @@ fn put_parts(alloc: Global, text: &mut String, part: &str, count: u32) -> Result
     put_times(text, part, count % BLOCK)
 }
 
-/// Puts the text behind what is there.
+/// Appends the text.
 pub(super) fn put_long(alloc: Global, text: &mut String, long: &Long) -> Result<(), AllocError> {
     text.push_str(long.begin)?;
     put_parts(alloc, text, long.part, long.count)?;

@@ -62,7 +62,7 @@ const LAST: &[u8] =
 const LAST_TOO: &[u8] =
     b"\xff\xff\xff\xff\xff\xff\xff\xff\x0c\0\0\0\0\0\0\0\x02\0\0\0:\0\0\0\x02\0\0\0";
 
-// Time 5; a stamp of 3, which is behind it; an event of pid 1; a stamp of 1; an event of pid 2.
+// Time 5; a stamp of 3, which is earlier; an event of pid 1; a stamp of 1; an event of pid 2.
 const BACK: &[u8] =
     b"\x05\0\0\0\0\0\0\0\x28\0\0\0\0\0\0\0\x7f\0\0\0\0\0\0\0\x02\0\0\0:\0\0\0\x01\0\0\0\x3f\0\0\0\0\0\0\0\x02\0\0\0:\0\0\0\x02\0\0\0";
 

@@ -16,9 +16,9 @@ const SHOWN: &str = "cpus=1\n           <...>-1     [000]     0.000001: sum:    
 
 const RAW: &str = "cpus=1\n           <...>-1     [000]     0.000001: sum:                  a=1\n";
 
-/// Filters behind `report -F`, what is printed, and the place at which the filter goes wrong, if it does.
+/// Filters after `report -F`, what is printed, and the place at which the filter goes wrong, if it does.
 const FILTERS: &[(Long, &str, &str)] = &[
-    // the 65th bracket, behind a blank on each side of the colon; and the 65th prefix
+    // the 65th bracket, after a blank on each side of the colon; and the 65th prefix
     (
         Long {
             begin: "sched : ",

@@ -64,7 +64,7 @@ fn shown(alloc: Global, letters: &[u8]) -> Result<Show, AllocError>
     })
 }
 
-/// Names of which the one of the task 42 is this. Other tasks have wide pids, and one of them shares its place with 42.
+/// Names of which the one of the task 42 is this. Other tasks have wide pids, and one of them shares its entry with 42.
 fn names_of(alloc: Global, task: &str) -> Result<Symbols, AllocError> {
     let others = "100042 wide\n1000042 wider\n2147483646 abcdefghijklmnop\n";
     let names = format!(in alloc; "42 {task}\n{others}")?;
@@ -92,7 +92,7 @@ fn push_texts(alloc: Global, texts: &mut Vec<ByteText>, formats: &str) -> Result
     Ok(())
 }
 
-/// The table with the formats of these texts behind its own.
+/// The table with the formats of these texts after its own.
 fn with_texts(
     alloc: Global,
     table: FormatTable,
@@ -301,7 +301,7 @@ const EVENTS: &str = "010000002a00000010000081ffffffff
 070000002a000000
 ";
 
-/// Filters, each behind `+` where it shows and behind `-` where it hides, and which of the events on processor 1 they show. Only
+/// Filters, each after `+` where it shows and after `-` where it hides, and which of the events on processor 1 they show. Only
 /// the format of the function has the field `common_pid`.
 const CHOICES: &str = "\tyyyyy
 +prints\tnyyyn
@@ -459,7 +459,7 @@ fn hole_behind(alloc: Global, letters: u32) -> Result<Option<(u32, u64)>, AllocE
     Ok(hole_of(&context))
 }
 
-/// How many letters the task's name has, and where the hole stands: 25 bytes behind the name, unless it would stand in what was
+/// How many letters the task's name has, and where the hole stands: 25 bytes after the name, unless it would stand in what was
 /// cut off. The text of a name of 65,492 letters has 65,536 bytes, so that it is not cut.
 const HOLES: &[(u32, Option<u32>)] = &[
     (1, Some(41)),

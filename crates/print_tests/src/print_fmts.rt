@@ -326,7 +326,7 @@ fn put_often(text: &mut Vec<u8>, piece: &[u8]) -> Result<(), AllocError> {
     Ok(())
 }
 
-/// Numbers of two digits, each behind 14 bytes of a literal, and as many arguments.
+/// Numbers of two digits, each after 14 bytes of a literal, and as many arguments.
 fn put_long_fmt(text: &mut Vec<u8>) -> Result<(), AllocError> {
     text.push(b'"')?;
     put_often(text, b"and a literal %d")?;

@@ -120,7 +120,7 @@ const ROWS: &[Row] = &[
         out: "cpus=2\n           <...>-1     [000]     0.000000: [UNKNOWN EVENT 58]\n           <...>-2     [001]     0.000000: [UNKNOWN EVENT 58]\n",
         err: "",
     },
-    // a time that falls keeps its place behind the later one
+    // a time that falls keeps its place after the later one
     Row {
         words: &["report", "-t"],
         file: FALLING,
@@ -340,7 +340,7 @@ fn ends_of<R: Alloc<A = Global> + Abort + Threads + Sync, F: Folder>(
     Ok(())
 }
 
-// Runs a row's words with these behind them.
+// Runs a row's words with these after them.
 fn runs_with<R: Alloc<A = Global> + Abort + Threads + Sync>(
     rt: &R,
     row: &Row,

@@ -7,7 +7,7 @@ use trace_samples::{LATENCY_FILE, TraceFile};
 pub(super) enum Sub {
     /// Its time, and its events by their delta, id and pid.
     Of(u64, &'static [(u32, u16, u32)]),
-    /// The same behind a loss of events.
+    /// The same after a loss of events.
     Lossy(u64, &'static [(u32, u16, u32)]),
     /// One that claims more data than it has room for.
     Malformed,

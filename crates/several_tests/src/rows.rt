@@ -22,7 +22,7 @@ pub(super) const TWO: File = File::Trace(&[&[Sub::Of(5, &[(0, 58, 2)])]]);
 /// A malformed sub-buffer alone.
 const CUT: File = File::Trace(&[&[Sub::Malformed]]);
 
-/// Events at the times 10 and 30, and a malformed sub-buffer behind them.
+/// Events at the times 10 and 30, and a malformed sub-buffer after them.
 const CUT_LATE: File = File::Trace(&[&[Sub::Of(10, &[(0, 58, 1), (20, 58, 1)]), Sub::Malformed]]);
 
 /// Of two processors events at the times 20 and 40, and a malformed sub-buffer of the second.
@@ -214,7 +214,7 @@ pub(super) const ROWS: &[Row] = &[
         out: "a: cpus=1\nc: cpus=1\nc:            <...>-3     [000]     0.000002: other:                of 3\n",
         err: "",
     },
-    // the first that is wrong decides, and none behind it is asked for
+    // the first that is wrong decides, and none after it is asked for
     Row {
         line: "report -i a -i b",
         files: &[("a", File::Bytes(b"x"))],

@@ -57,7 +57,7 @@ fn rows(rt: HostRuntime) -> Result<(), Fail> {
     Ok(())
 }
 
-/// Files with a long line, how many times `x` it has, and what stands behind. A line of 65,537 bytes is whole, and of a longer
+/// Files with a long line, how many times `x` it has, and what follows. A line of 65,537 bytes is whole, and of a longer
 /// one as many bytes stay as of one file alone: its limit does not count the name.
 const LONG: &[(&[(&str, File)], usize, &str)] = &[
     (
@@ -107,7 +107,7 @@ fn long_lines(rt: HostRuntime) -> Result<(), Fail> {
     Ok(())
 }
 
-/// Of the second file two sub-buffers; of the first one, so that the second alone has bytes behind 8,192.
+/// Of the second file two sub-buffers; of the first one, so that the second alone has bytes past 8,192.
 const LONGER: &[(&str, File)] = &[
     ("a.dat", File::Trace(&[&[Sub::Of(5, &[(0, 58, 1)])]])),
     (

@@ -28,14 +28,14 @@ Tells (code.Of times) bytes = TellsAll (told (code.Of times)) bytes
 Tells (code.Lossy time count times) bytes = TellsAll (told (code.Lossy time count times)) bytes
 Tells code.Malformed bytes = items sample_layout bytes ≡ None
 
--- a sub-buffer was put behind what was there
+-- a sub-buffer was put after what was there
 pub record HasPage (page : Page) (before now : List ℕ) : Type 0 where
   pub bytes : List ℕ
   pub appended : now ≡ before ++ bytes
   pub whole : length bytes ≡ 4096
   pub tells : Tells page bytes
 
--- these were put there one behind another
+-- these were put there one after another
 abbrev pub HasPages : List Page → List ℕ → List ℕ → Type 0
 HasPages [] before now = now ≡ before
 HasPages (page ∷ pages) before now = (next : List ℕ) × HasPage page before next × HasPages pages next now

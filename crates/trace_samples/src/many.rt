@@ -3,7 +3,7 @@
 use crate::traces::TraceFile;
 use std::alloc::{AllocError, Global};
 
-// A sub-buffer of so many events of pid 1, a nanosecond apart, the first of them a nanosecond behind its time.
+// A sub-buffer of so many events of pid 1, a nanosecond apart, the first of them a nanosecond after its time.
 fn put_events(bytes: &mut Vec<u8>, time: u64, count: u64) -> Result<(), AllocError> {
     let end = bytes.len().saturating_add(4096);
     bytes.extend_from_slice(&time.to_le_bytes())?;

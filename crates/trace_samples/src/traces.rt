@@ -4,7 +4,7 @@ use std::alloc::{AllocError, Global};
 
 const PAGE: u64 = 4096;
 
-/// Texts, each behind its length.
+/// Texts, each preceded by its length.
 #[derive(Drop)]
 struct Texts {
     count: u64,
@@ -226,13 +226,13 @@ fn put_long(file: &mut Vec<u8>, number: u64) -> Result<(), AllocError> {
     file.extend_from_slice(&number.to_le_bytes())
 }
 
-// A text behind its length of four bytes.
+// A text, preceded by its length of four bytes.
 fn put_short_text(file: &mut Vec<u8>, text: &[u8]) -> Result<(), AllocError> {
     put_short(file, text.len() as u64)?;
     file.extend_from_slice(text)
 }
 
-// Texts behind their number.
+// Texts, preceded by their number.
 fn put_texts(file: &mut Vec<u8>, texts: &Texts) -> Result<(), AllocError> {
     put_short(file, texts.count)?;
     file.extend_from_slice(&texts.bytes)

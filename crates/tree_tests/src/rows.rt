@@ -1,4 +1,4 @@
-//! Rows of texts, and what is read in them: a kind of text, the text, or several with ` ; ` between them, and behind ` => ` what
+//! Rows of texts, and what is read in them: a kind of text, the text, or several with ` ; ` between them, and after ` => ` what
 //! each comes to.
 
 use crate::{directives, literals, tokens, trees};
@@ -6,7 +6,7 @@ use std::alloc::{AllocError, Global};
 use std::process::Abort;
 use std::test::Fail;
 
-/// So many of a piece behind a text.
+/// Appends a piece to a text so many times.
 pub(crate) fn put_often(text: &mut Vec<u8>, piece: &str, count: u32) -> Result<(), AllocError> {
     for _ in 0..count {
         text.extend_from_slice(piece.as_bytes())?;

@@ -73,7 +73,7 @@ fn tokens_and_numbers_come_apart(rt: HostRuntime) -> Result<(), Fail> {
     Ok(())
 }
 
-// A text, and under each of its bytes the token that has it: a capital at its first byte, and small letters behind it.
+// A text, and under each of its bytes the token that has it: a capital at its first byte, and small letters after it.
 // N is a name, D a number, C a letter, T a text, M a mark, and a space no token. `!` stands for a text that has no row of
 // tokens. Blanks and names; numbers of each base, at the limits of 64 bits; suffixes; runs that begin with a digit; letters; texts;
 // marks, the longest first; print fmts of Linux 6.1: function, print, sys_enter, sys_exit, sched_wakeup and sched_switch. Then bytes

@@ -11,7 +11,7 @@ use std::alloc::{AllocError, Global};
 use std::test::Fail;
 use trace_base::{ByteText, Field, FieldKind, FieldPlace};
 
-/// Puts bytes behind what is there. Where memory runs out they are left out, and the row that wants them fails.
+/// Appends bytes. Where memory runs out they are left out, and the row that wants them fails.
 fn add(out: &mut Vec<u8>, bytes: &[u8]) {
     let _ = out.extend_from_slice(bytes);
 }
@@ -267,7 +267,7 @@ fn trees(alloc: Global, text: &[u8], long: u32) -> Result<Vec<u8>, AllocError>
     }
 }
 
-/// The same of the arguments behind a text.
+/// The same of the arguments after a text.
 fn behind_text(alloc: Global, arguments: &str) -> Result<Vec<u8>, AllocError> {
     let text = format!(in alloc; "\"x\", {arguments}")?;
     trees(alloc, text.as_bytes(), 8)
@@ -282,7 +282,7 @@ fn in_brackets(alloc: Global, many: u32, behind: &str) -> Result<Vec<u8>, AllocE
     Ok(text)
 }
 
-/// The same of a field in so many brackets, with something behind it.
+/// The same of a field in so many brackets, with something after it.
 fn nested(alloc: Global, row: &str) -> Result<Vec<u8>, AllocError> {
     let (many, behind) = row.split_once(' ').unwrap_or((row, ""));
     let many = many.parse::<u32>().unwrap_or(0);
@@ -325,7 +325,7 @@ pub(crate) fn told(alloc: Global, kind: &str, text: &str) -> Result<Vec<u8>, Fai
 // `@b`, a length `#d`; operators of one level stand in one pair of round brackets, and so does each operator before
 // its operand; casts are `<8i x>`, `<bool x>` and `<x>`.
 //
-// Then whole print fmts, some with a long of 4 bytes; a field in so many brackets, and what stands behind it; how many arguments,
+// Then whole print fmts, some with a long of 4 bytes; a field in so many brackets, and what follows it; how many arguments,
 // operands and bytes long ones have; and the print fmts of a kernel's `function` and `sched_switch`.
 pub(crate) static ROWS: &str = r#"trees REC->a => a
 trees REC->p => p

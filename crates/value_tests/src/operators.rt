@@ -9,10 +9,10 @@ use std::alloc::Global;
 use std::process::Abort;
 use std::test::Fail;
 
-/// The first line of a part has operands, and each line behind it an operator and its value for each of them. A number is its
-/// 64 bits, written with a sign, and behind them `u`, `l` or `ul` where it is no int but unsigned, long or both. The values
+/// The first line of a part has operands, and each line after it an operator and its value for each of them. A number is its
+/// 64 bits, written with a sign, and after them `u`, `l` or `ul` where it is no int but unsigned, long or both. The values
 /// were computed by gcc -fwrapv: volatile variables of int, unsigned, long long and unsigned long long, and the value's type
-/// told by _Generic; casts are of a long long, and their values promoted. The parts behind the casts are cases of their own,
+/// told by _Generic; casts are of a long long, and their values promoted. The parts after the casts are cases of their own,
 /// and the last four what C leaves undefined: a quotient or a remainder by 0 is 0, and so is a shift by a negative count or by
 /// the width and more.
 static OPERANDS_AND_VALUES: &str = "\

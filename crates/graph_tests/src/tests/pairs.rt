@@ -8,7 +8,7 @@ use trace_base::Common;
 /// A row a line: what is seen, and what is told of it.
 ///
 /// `+7.0.1.2@1000` is an entry of pid 7 on processor 0 at depth 1 into function 2 at time 1000, `-7.0.1.2@1600` its exit, with
-/// `:600` behind it where its own fields tell that its call took 600 nanoseconds, and `!1` a loss on processor 1. Of an entry is
+/// `:600` after it where its own fields tell that its call took 600 nanoseconds, and `!1` a loss on processor 1. Of an entry is
 /// told `(`, and `()600` where it begins a leaf of 600 nanoseconds; of an exit `)600` where it is paired, `_600` where it ends
 /// a leaf, and else `)`.
 const ROWS: &str = "\

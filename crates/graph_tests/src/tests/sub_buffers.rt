@@ -11,7 +11,7 @@ pub(super) struct Recorded {
     pub(super) middle: u64,
 }
 
-// A number of four bytes, or of eight behind an `l`.
+// A number of four bytes, or of eight after an `l`.
 fn put_number(record: &mut Vec<u8>, told: &str) -> Result<(), Fail> {
     if let Some(long) = told.strip_prefix("l") {
         let number: u64 = long.parse()?;
@@ -29,7 +29,7 @@ fn put_head(data: &mut Vec<u8>, delta: u32, words: u32) -> Result<(), Fail> {
     Ok(())
 }
 
-// An event: its delta, and behind a `+` its numbers.
+// An event: its delta, and after a `+` its numbers.
 fn put_event(alloc: Global, data: &mut Vec<u8>, word: &str) -> Result<(), Fail> {
     let (delta, numbers) = word.split_once("+").ok_or("an event has a delta")?;
     let mut record = Vec::new(alloc);
@@ -52,7 +52,7 @@ fn put_events(alloc: Global, data: &mut Vec<u8>, words: &str) -> Result<(), Fail
     Ok(())
 }
 
-// A sub-buffer: its time, behind a `!` where events were lost before it, and behind a `:` its events. One of time 0 claims more data
+// A sub-buffer: its time, after a `!` where events were lost before it, and after a `:` its events. One of time 0 claims more data
 // than it has room for.
 fn put_sub_buffer(alloc: Global, file: &mut Vec<u8>, told: &str) -> Result<(), Fail> {
     let end = file.len().saturating_add(PAGE);
@@ -78,7 +78,7 @@ fn put_sub_buffers(alloc: Global, file: &mut Vec<u8>, told: &str) -> Result<(), 
     Ok(())
 }
 
-/// What is recorded: the sub-buffers of processor 0, and behind a `&` those of processor 1, each parted by a `/`.
+/// What is recorded: the sub-buffers of processor 0, and after a `&` those of processor 1, each parted by a `/`.
 ///
 /// An event's numbers are those of its bytes: its id, its pid, and its fields. 11 is an entry, with its function (4096 is `outer`,
 /// and 8192 `inner`) and its depth; 10 is an exit, with its function, when its call began and ended, and its depth; 12 is of

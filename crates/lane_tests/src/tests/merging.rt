@@ -102,7 +102,7 @@ fn file_of(
 }
 
 // The keys of all items, and what the third sub-buffer and the last one are, how many items are reached, and the end. Worked out from
-// the definition of the cut: none; (30, processor 3), which the other 30 is behind; (30, processor 7).
+// the definition of the cut: none; (30, processor 3), which the other 30 comes after; (30, processor 7).
 const KEYS: [u64; 8] = [10, 20, 30, 30, 40, 44, 45, 54];
 
 const ENDS: &[(Page<'static>, Page<'static>, usize, Next)] = &[

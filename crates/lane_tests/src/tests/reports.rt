@@ -125,7 +125,7 @@ fn end_of(word: &str) -> End {
 // How many sub-buffers processor 3 has, the four of it and of processor 4, the text, and the end: ties, first by processor
 // and then by position; items at 17 have no line; the key of the item at 15 is 20; a processor without sub-buffers; a cut at
 // the very start, of the first processor and of the second; two cuts: (30, processor 3), which an item at 30 of processor 4
-// is behind; then (20, processor 4); a malformed sub-buffer behind one without items.
+// comes after; then (20, processor 4); a malformed sub-buffer after one without items.
 const REPORTS: &str = "\
 2 10,4,1 30,2,15 11,3,0 44,1,0 d0d1e1e1e1d2d3d0e4d5 done
 1 15,4,1 17,1,0 17,0,0 27,2,1 d5d6d8e8 done
@@ -235,7 +235,7 @@ fn put_many(pages: &mut Vec<Page>, first: u64) -> Result<(), AllocError> {
     Ok(())
 }
 
-// The sub-buffers of two processors: 306 lines in each but the last of the first processor's nine, and behind them 21 with
+// The sub-buffers of two processors: 306 lines in each but the last of the first processor's nine, and after them 21 with
 // at most a line each, whose events come first but for the last one.
 fn put_two_processors(pages: &mut Vec<Page>) -> Result<(), AllocError> {
     put_many(pages, 10_000)?;
@@ -323,7 +323,7 @@ fn more_lines_wait_than_a_region_keeps(rt: HostRuntime) -> Result<(), Fail> {
     Ok(())
 }
 
-// Two sub-buffers of each, the later ones behind the earlier ones of all.
+// Two sub-buffers of each, the later ones after the earlier ones of all.
 fn pages_of_each(alloc: Global) -> Result<Vec<Page>, AllocError> {
     let mut pages = Vec::new(alloc);
     for i in 0..1024_u32 {
@@ -465,7 +465,7 @@ fn lines_are_whole_before_a_failed_read_and_a_prefix_before_a_failed_write(
 }
 
 // The bytes that can be written, the sub-buffers that are read, and those that are due. All 21 of the second processor are due.
-// The fifth of the first one has 1,224 lines before it: it is due from the 200th on, behind the second one's 18 lines of two
+// The fifth of the first one has 1,224 lines before it: it is due from the 200th on, after the second one's 18 lines of two
 // bytes.
 const DUE: &[(u64, u64, u64, End)] = &[
     (0, 2, 4 + 21, Write),

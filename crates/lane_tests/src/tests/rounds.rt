@@ -39,7 +39,7 @@ const HOLED: Lines = [
     &[(20, "d2\n", Some((2, 17))), (40, "e4\n", Some((3, 40)))],
 ];
 
-// Lines that come one after another, and lines of both processors at one key. What the first processor keeps behind its run is
+// Lines that come one after another, and lines of both processors at one key. What the first processor keeps after its run is
 // moved to the front of its region.
 const RUNS: Lines = [
     &[
@@ -74,7 +74,7 @@ const FROM_NOTHING: Lines = [
     &[(0, "d", None), (0, "e", None)],
 ];
 
-// Holes before, in and behind runs.
+// Holes before, in and after runs.
 const HOLED_RUNS: Lines = [
     &[
         (1, "a", Some((1, 1))),
@@ -199,7 +199,7 @@ fn print_rounds<O: Sink>(
     Ok(())
 }
 
-/// What rounds leave: the last time, how many lines each lane keeps, and which lanes have a mark.
+/// What rounds leave: the last time, how many lines each lane keeps, and which lanes are dirty.
 #[derive(Clone, Copy, Debug, PartialEq, Eq)]
 struct Left {
     last: Option<u64>,
@@ -207,7 +207,7 @@ struct Left {
     moved: (bool, bool),
 }
 
-// Prints rounds over lanes with these lines, in regions of `room` bytes, and no mark. What they leave, where no write failed.
+// Prints rounds over lanes with these lines, in regions of `room` bytes, all clean. What they leave, where no write failed.
 fn prints(
     alloc: Global,
     room: u32,
@@ -242,7 +242,7 @@ fn prints(
     }
 }
 
-/// A round: the lines, its horizon, the last time before it, what it prints, the last time behind it, and how many lines the
+/// A round: the lines, its horizon, the last time before it, what it prints, the last time after it, and how many lines the
 /// lanes then keep.
 type Round = (
     Lines,
@@ -325,7 +325,7 @@ fn is_printed(alloc: Global, round: &Round) -> Result<bool, AllocError> {
     let (lines, horizon, last, text, now, left) = *round;
     let mut out = MemSink::new(alloc);
     let ended = prints(alloc, 16, &lines, &[horizon], last, &mut out)?;
-    // A lane has a mark where it keeps fewer lines.
+    // A lane is dirty where it keeps fewer lines.
     let wanted = Left {
         last: now,
         lines: left,

@@ -65,7 +65,7 @@ fn tells_just(page: &Page<'_>, items: &[Item<'_>]) -> bool {
         && page.last_time() == items.last().map(time_of)
 }
 
-/// The marks of the sub-buffer, from the first on, lead over these items.
+/// The positions in the sub-buffer, from the first on, lead over these items.
 fn leads_over(layout: &Layout, bytes: &[u8], items: &[Item<'_>]) -> bool
     requires whole { length bytes.now ≡ layout.now.page }
 {
@@ -211,7 +211,7 @@ fn arranges_by_key_then_processor()
         ≡ 4 ∷ 5 ∷ 3 ∷ 5 ∷ [] }
 {}
 
-// Items at 10 and 30 beside one at 20, behind which the second sub-buffer of processor 1 is malformed.
+// Items at 10 and 30 beside one at 20, after which the second sub-buffer of processor 1 is malformed.
 #[tactic(auto, unfolding(subpage::specs::Arrangement::arranged))]
 fn reaches_the_cut()
     ensures { let first = LossAt 10 None ∷ LossAt 30 None ∷ [] in

@@ -28,7 +28,7 @@ const FAULTS: &[(MemFault, u32, &str)] = &[
     (MemFault::Write(1), ALL, "write"),
     (MemFault::Write(2), ALL, "write"),
     (MemFault::Write(3), ALL, "write"),
-    // by a byte a write: inside the header, the table, the zero bytes behind it, and each data file
+    // by a byte a write: inside the header, the table, the zero bytes after it, and each data file
     (MemFault::Write(1), 1, "write"),
     (MemFault::Write(41), 1, "write"),
     (MemFault::Write(129), 1, "write"),

@@ -18,7 +18,7 @@ const READ: &[(Partial, u64)] = &[
     (Partial::Cut(83), 83 + 4096 + 100),
     // without command lines
     (Partial::Cut(75), 75 + 4096 + 100),
-    // the command lines of 20 bytes begin at byte 83, and nothing behind them is read
+    // the command lines of 20 bytes begin at byte 83, and nothing after them is read
     (Partial::Longer(20), 103 + 4096 + 100),
 ];
 
@@ -33,7 +33,7 @@ fn each_byte_is_read_once(rt: HostRuntime) -> Result<(), Fail> {
     Ok(())
 }
 
-/// A write that fails: of the header, of the zero bytes behind it, of each data file; and the making and finishing of the file.
+/// A write that fails: of the header, of the zero bytes after it, of each data file; and the making and finishing of the file.
 const FAULTS: &[MemFault] = &[
     MemFault::Write(1),
     MemFault::Write(1000),

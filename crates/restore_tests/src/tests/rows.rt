@@ -10,7 +10,7 @@ const ROWS: &[Row] = &[
         output: "out.dat",
         told: "done 8192 4096+4096",
     },
-    // the rest of a sub-buffer, behind which nothing stands
+    // the rest of a sub-buffer, after which nothing stands
     Row {
         partial: Partial::Cut(83),
         files: &[("c0", Data::Event), ("c1", Data::Zeros(100))],
@@ -67,7 +67,7 @@ const ROWS: &[Row] = &[
         output: "p.dat",
         told: "done 8192 4096+4096",
     },
-    // the other byte order, larger pages, and command lines with more behind them
+    // the other byte order, larger pages, and command lines with more after them
     Row {
         partial: Partial::Big,
         files: &[("c0", Data::Event), ("c1", Data::Rising(7))],
@@ -137,7 +137,7 @@ fn files_are_made(rt: HostRuntime) -> Result<(), Fail> {
     Ok(())
 }
 
-// A partial file is one where it ends in front of its command lines or behind them, and is cut everywhere else.
+// A partial file is one where it ends before its command lines or after them, and is cut everywhere else.
 #[test]
 fn every_cut_of_the_partial_file(rt: HostRuntime) -> Result<(), Fail> {
     let alloc = rt.alloc();

@@ -30,7 +30,7 @@ pub(super) enum Partial {
     Wide,
     /// The header of sub-buffers of two pages.
     Large,
-    /// The header with so many command lines' bytes and something behind them.
+    /// The header with so many command lines' bytes and something after them.
     Longer(u8),
 }
 
@@ -51,7 +51,7 @@ pub(super) struct Row {
     pub(super) partial: Partial,
     pub(super) files: &'static [(&'static str, Data)],
     pub(super) output: &'static str,
-    /// The answer, and behind it the new file: its length and its parts.
+    /// The answer, and after it the new file: its length and its parts.
     pub(super) told: &'static str,
 }
 
@@ -66,7 +66,7 @@ fn header(alloc: Global, page_text: &[u8], len: usize) -> Result<Vec<u8>, Fail>
     Ok(bytes)
 }
 
-// The number of processors stands behind 83 bytes and the header_page text. Byte 12 tells the byte order, and the bytes 14 to 17
+// The number of processors stands after 83 bytes and the header_page text. Byte 12 tells the byte order, and the bytes 14 to 17
 // the page size.
 fn partial_bytes(alloc: Global, partial: Partial) -> Result<Option<Vec<u8>>, Fail> {
     let mut bytes = header(alloc, b"", 83)?;
@@ -221,7 +221,7 @@ fn restored(
     Ok((Some(answer), folder))
 }
 
-/// What comes of a row, and behind it the files that are open still, if any.
+/// What comes of a row, and after it the files that are open still, if any.
 pub(super) fn text_of(
     alloc: Global,
     row: &Row,

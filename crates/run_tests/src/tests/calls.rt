@@ -30,7 +30,7 @@ pub(super) const LONE: Input = Input::Processors(
     &[&[Page::Of(1000, &[Record::Leave(0, INNER, 1, 2000, 2600)])]],
 );
 
-/// A call whose exit stands behind a loss of processor 1, which then has a malformed sub-buffer.
+/// A call whose exit stands after a loss of processor 1, which then has a malformed sub-buffer.
 const BROKEN: Input = Input::Processors(
     Carried::Graph,
     &[

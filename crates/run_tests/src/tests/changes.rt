@@ -11,7 +11,7 @@ use std::thread::Threads;
 use trace_outside::{Failed, File, Folder, MemFile, MemFolder, MemSink};
 use trace_run::Status;
 
-/// A file of which so many reads behind the header are good. Zeros are read then.
+/// A file of which so many reads after the header are good. Zeros are read then.
 #[derive(Drop)]
 struct ChangingFile {
     file: MemFile,
@@ -151,7 +151,7 @@ fn splits_as<R: Alloc<A = Global> + Abort + Threads + Sync>(
     let names = ["part.1", "part.2", "part.3"];
     for (name, stands) in names.iter().zip(&stand) {
         let is_there = folder.folder.get(name).is_some();
-        assert!(rt; is_there == *stands, "{name} behind {good} reads");
+        assert!(rt; is_there == *stands, "{name} after {good} reads");
     }
     Ok(())
 }

@@ -8,7 +8,7 @@ use super::{ONE_REPORT, Row, run_all};
 use std::test::Fail;
 use trace_run::Status;
 
-/// Two losses behind one another between two events.
+/// Two consecutive losses between two events.
 const LOSSES: Input = Input::Processors(
     Carried::Nothing,
     &[&[

@@ -36,7 +36,7 @@ const ROWS: &[Row] = &[
                 "cpus=1\n",
                 READ_FAILED,
             ),
-            // behind the end of the file
+            // past the end of the file
             (MemFault::ReadAt(8192), Status::Done, ONE_REPORT, ""),
         ],
     },

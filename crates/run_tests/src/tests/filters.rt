@@ -18,7 +18,7 @@ const TWO_SWITCHES: Input = Input::Processors(
     )]],
 );
 
-/// An event behind a loss of three.
+/// An event after a loss of three.
 const LOSS: Input = Input::Processors(
     Carried::Nothing,
     &[&[Page::Lossy(1000, Some(3), &[Record::Event(0, 58, 1, 0, 0)])]],

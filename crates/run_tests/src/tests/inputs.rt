@@ -55,11 +55,11 @@ pub(super) enum Page {
 pub(super) enum Record {
     /// An event: its delta, id, pid, flags and preempt count.
     Event(u32, u16, u32, u8, u8),
-    /// An event whose payload ends behind its id: its delta and id.
+    /// An event whose payload ends after its id: its delta and id.
     Short(u32, u16),
     /// An event of delta 0 that fills a sub-buffer: its id and pid.
     Large(u16, u32),
-    /// A switch: its delta, pid, the task before, its state, and the task behind.
+    /// A switch: its delta, pid, the task before, its state, and the task after.
     Switch(u32, u32, Task, u64, Task),
     /// A function: its delta, pid, address, and the address that it was called from.
     Function(u32, u32, u64, u64),

@@ -139,7 +139,7 @@ pub(super) fn carry(
     }
 }
 
-/// Words of eight bytes, and the depth of a call behind them.
+/// Words of eight bytes, and the depth of a call after them.
 pub(super) fn put_depth(file: &mut Vec<u8>, longs: &[u64], depth: u32) -> Result<(), AllocError> {
     put_longs(file, longs)?;
     put_words(file, &[depth])

@@ -12,7 +12,7 @@ use trace_outside::NoGate;
 use trace_run::Status;
 use trace_samples::{TraceFile, many_events, many_events_report};
 
-/// A sub-buffer of events, each a step behind the one before.
+/// A sub-buffer of events, each a step after the one before.
 #[derive(Clone, Copy)]
 struct Events {
     time: u64,
@@ -28,7 +28,7 @@ const WIDEST: u16 = 8;
 
 const UNKNOWN: u16 = 58;
 
-// Each event of a processor has the task of the number behind its own.
+// Each event of a processor has the task of the number after its own.
 fn put_records(file: &mut Vec<u8>, cpu: u32, events: &Events) -> Result<(), AllocError> {
     for i in 0..events.count {
         let delta = if i == 0 { 0 } else { events.step };

@@ -129,7 +129,7 @@ const ROWS: &[Row] = &[
         files: &[("part.1", 4096, "cpus=1\n")],
         absent: "part.2",
     },
-    // a malformed sub-buffer behind what was asked for, and before it
+    // a malformed sub-buffer after what was asked for, and before it
     Row {
         words: &["split", "-e", "1", "-o", "p"],
         file: MALFORMED_LATER,

@@ -11,8 +11,8 @@ use trace_outside::MemFolder;
 use trace_run::Status;
 
 /// A file of pages of 4,096 bytes and one processor: how many bytes of data a sub-buffer has, as the header_page text says it
-/// (they stand behind 16 bytes); how many sub-buffers stand in the file from its second page on; and how many bytes the table
-/// says that they have. Each has an event of 5,000 bytes of pid 7, the first at one second, and each other one a second behind
+/// (they stand after 16 bytes); how many sub-buffers stand in the file from its second page on; and how many bytes the table
+/// says that they have. Each has an event of 5,000 bytes of pid 7, the first at one second, and each other one a second after
 /// the last.
 #[derive(Drop)]
 struct Trace(u32, u64, u64);

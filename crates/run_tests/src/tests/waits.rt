@@ -1,4 +1,4 @@
-// Reports with the latencies behind the events.
+// Reports with the latencies after the events.
 
 use super::inputs::{Carried, Input, LATENCY, Page, Record};
 use super::known::{NEXT, WOKEN};

@@ -122,7 +122,7 @@ fn an_older_file_stands_after_a_fault(rt: HostRuntime) -> Result<(), Fail> {
 }
 
 // The bytes of the second file whose writes fail. It has 8,192, each of which is written by itself: the header's pieces, the zero
-// bytes behind it, and the sub-buffer.
+// bytes after it, and the sub-buffer.
 const BYTES: [u64; 10] = [1, 2, 11, 21, 101, 118, 119, 4096, 4097, 8192];
 
 #[test]

@@ -1,5 +1,5 @@
-// Items of sub-buffers, as they are written in rows: an event's time in microseconds, behind a point the nanoseconds that are
-// left; of a loss `!`, its time, and behind `#` its number.
+// Items of sub-buffers, as they are written in rows: an event's time in microseconds, after a point the nanoseconds that are
+// left; of a loss `!`, its time, and after `#` its number.
 
 use std::test::Fail;
 use subpage::{Item, check_page};
@@ -31,7 +31,7 @@ fn put_item(text: &mut String, item: &Item<'_>) -> Result<(), Fail> {
     Ok(())
 }
 
-/// The items of so many sub-buffers at the front, and `|`. The bytes behind these.
+/// The items of so many sub-buffers at the front, and `|`. Gives the bytes after these.
 pub(super) fn put_sub_buffers<'a>(
     text: &mut String,
     layout: &Layout,

@@ -28,7 +28,7 @@ use word_values::{Moment, PieceUnit};
 /// A row a line: the sub-buffers of two processors, what a piece takes, the items of all pieces, why the last one ends, and
 /// how many sub-buffers are read.
 ///
-/// `|` stands behind each processor's items of a piece, `/` behind the piece.
+/// `|` follows each processor's items of a piece, `/` the piece.
 const ROWS: &str = "\
 five;all;10 20 30 40 50 ||/;done 2
 five;events 2;10 20 ||/30 40 ||/50 ||/;done 2
@@ -251,7 +251,7 @@ fn put_packed(
     Ok(())
 }
 
-// All pieces, one behind the other.
+// All pieces, one after the other.
 fn put_pieces<F: File>(
     alloc: Global,
     layout: &Layout,

@@ -151,7 +151,7 @@ pub(super) fn put_end(text: &mut String, end: End) -> Result<(), Fail> {
     Ok(())
 }
 
-// The words of a split, behind the input and the first part of the new names.
+// The words of a split, after the input and the first part of the new names.
 pub(super) fn words_of(alloc: Global, line: &str) -> Result<Words, AllocError> {
     let mut words = Words::new(alloc);
     for word in ["split", "-i", "trace.dat", "-o", "part"] {

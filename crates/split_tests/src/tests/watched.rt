@@ -4,7 +4,7 @@ ghost use Rattle.std.specs.Prelude.{None, length};
 
 use trace_outside::{Failed, File};
 
-/// What becomes of a call behind the good ones.
+/// What becomes of a call after the good ones.
 #[derive(Clone, Copy, PartialEq, Eq)]
 pub(super) enum Then {
     Fails,

@@ -90,7 +90,7 @@ fn trace_of(name: &str) -> &'static [&'static [Page<'static>]] {
 
 /// A row a line: the processors' sub-buffers, the words of the split, the items of the new files, and how it ends.
 ///
-/// `|` stands behind each processor's items of a file, `/` behind the file.
+/// `|` follows each processor's items of a file, `/` the file.
 const ROWS: &str = "\
 five;;10 20 30 40 50 |/;done
 five;-r;10 20 30 40 50 |/;done

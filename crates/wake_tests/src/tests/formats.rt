@@ -6,7 +6,7 @@ use std::alloc::{AllocError, Global};
 use symbols::Symbols;
 use trace_base::{ByteText, ListOf, Order};
 
-/// A format of one field: each bar is a part of a row below, and what a row has more stands behind it.
+/// A format of one field: each bar is a part of a row below, and what else a row has follows it.
 const FORMAT: &str = "name: |\nID: |\n\tfield:| |;\toffset:8;\tsize:|;\tsigned:1;\n|";
 
 /// Wake-ups are 10, 12 (of new tasks), 20 to 23, and switches 11, 30 and 33; 22 has a number of 3 bytes, 23 and 33 have

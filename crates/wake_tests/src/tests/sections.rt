@@ -1,6 +1,6 @@
 // Rows of sections, worked out by hand.
 
-/// Each row ends at a `#`. Its first line tells what it shows, its second the sub-buffers of processor 0 and, behind a `&`, those of
+/// Each row ends at a `#`. Its first line tells what it shows, its second the sub-buffers of processor 0 and, after a `&`, those of
 /// processor 1, and the others are the section. Each event is told by its id, its task and its time in nanoseconds; see `formats`
 /// for the ids, and `sub_buffers` for what else a sub-buffer may be. A row of the title `a full sink` has what a sink takes that has
 /// room for 12 bytes, and in one of `no read from` the file's bytes from there cannot be read.
@@ -109,7 +109,7 @@ wakeups=4
 average 2.000 us
 maximum 3.000 us at 0.000006
 minimum 1.000 us at 0.000002
-#items behind the first malformed sub-buffer are not reached
+#items after the first malformed sub-buffer are not reached
 10:42@1000 11:42@2000 / malformed&10:7@1500 11:7@3000
 wakeups=1
            <...>-42    [000]     0.000002: latency 1.000 us

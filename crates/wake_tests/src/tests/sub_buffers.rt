@@ -7,7 +7,7 @@ fn number(word: &str) -> u64 {
     word.parse::<u64>().unwrap_or(0)
 }
 
-// Appends an event so many nanoseconds behind the one before it: its id, the number of its task, which it has in eight
+// Appends an event so many nanoseconds after the one before it: its id, the number of its task, which it has in eight
 // bytes, and pid 5.
 fn put_event(data: &mut Vec<u8>, delta: u64, id: u64, task: u64) -> Result<(), AllocError> {
     // The low five bits are the payload's length in words.

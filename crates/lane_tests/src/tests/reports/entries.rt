@@ -24,7 +24,7 @@ impl Gate for Counter {
     }
 }
 
-// The sub-buffers of 16 processors: 200 of an event each of the first one, and of each other one of two events behind all of
+// The sub-buffers of 16 processors: 200 of an event each of the first one, and of each other one of two events after all of
 // these.
 fn sub_buffers(alloc: Global) -> Result<Vec<Page>, AllocError> {
     let mut pages = Vec::new(alloc);

@@ -45,7 +45,7 @@ impl Gate for Meeting {
 /// No lane is formatted again.
 const NONE: [bool; 6] = [false; 6];
 
-/// Six lanes with these sub-buffers are formatted, and those with a mark are so once more. The entries, and whether so many
+/// Six lanes with these sub-buffers are formatted, and the dirty ones are so once more. The entries, and whether so many
 /// were inside at once.
 fn entries<R: Threads + Sync>(
     rt: &R,
@@ -125,7 +125,7 @@ fn two_lanes_with_items_enter_at_once(rt: HostRuntime) -> Result<(), Fail> {
     Ok(())
 }
 
-// The second time only lanes with a mark enter.
+// The second time only dirty lanes enter.
 #[test]
 fn lanes_without_a_mark_do_not_enter(rt: HostRuntime) -> Result<(), Fail> {
     let pages = [Of(&[4]); 6];
