@@ -160,7 +160,7 @@ def add_idle(source: Path, target: Path, processors: int) -> None:
 
 
 def add_formats(source: Path, target: Path, count: int) -> None:
-    """A trace without events, whose header has N formats: those of IN.dat, and behind them the same again, of other names and numbers.
+    """A trace without events, whose header has N formats: those of IN.dat, and after them the same again, of other names and numbers.
 
     IN.dat may also be the file of a latency tracer, whose header has the formats of a whole kernel.
     """
