@@ -80,13 +80,13 @@ test_is time_at commit_at commit_size data_at page allowed =
     let six = and_from _ _ five (le-leb 4096 page allowed.page_least) in
     and_from _ _ six (le-leb page 262144 allowed.page_most)
 
-where_yes : {X : Type 0} (test : Bool) (value : IsTrue test → X) (yes : IsTrue test) → Some (value yes) ≡ where_true test value
-where_yes true value yes = ap (λ (e : IsTrue true). Some (value e)) (Bool-set true true yes refl)
-where_yes false value yes = absurd cc
+where_yes : {X : Type 0} (test : Bool) (value : IsTrue test → X) (holds : IsTrue test) → Some (value holds) ≡ where_true test value
+where_yes true value holds = ap (λ (e : IsTrue true). Some (value e)) (Bool-set true true holds refl)
+where_yes false value holds = absurd cc
 
 where_no : {X : Type 0} (test : Bool) (value : IsTrue test → X) → test ≡ false → None ≡ where_true test value
-where_no true value no = absurd cc
-where_no false value no = refl
+where_no true value fails = absurd cc
+where_no false value fails = refl
 
 module _ (order : Order) (time_at commit_at commit_size data_at page : ℕ) where
   pub layout_is : (allowed : IsAllowed time_at commit_at commit_size data_at page) → IsTrue (is_allowed time_at commit_at commit_size data_at page)
@@ -94,16 +94,16 @@ module _ (order : Order) (time_at commit_at commit_size data_at page : ℕ) wher
   unfolding layout_with
   layout_is allowed test =
       let made : IsTrue (is_allowed time_at commit_at commit_size data_at page) → Layout =
-      λ yes. layout_from order time_at commit_at commit_size data_at page (allowed_is time_at commit_at commit_size data_at page yes) in
+      λ holds. layout_from order time_at commit_at commit_size data_at page (allowed_is time_at commit_at commit_size data_at page holds) in
       let same : layout_from order time_at commit_at commit_size data_at page allowed ≡ made test = same_layout (layout_from order time_at commit_at commit_size data_at page allowed) (made test) refl refl refl refl refl refl in
       ap (λ (l : Layout). Some l) same ∙ where_yes (is_allowed time_at commit_at commit_size data_at page) made test
 
   pub none_is : is_allowed time_at commit_at commit_size data_at page ≡ false → None ≡ layout_with order time_at commit_at commit_size data_at page
   unfolding layout_with
-  none_is no =
+  none_is fails =
       let made : IsTrue (is_allowed time_at commit_at commit_size data_at page) → Layout =
-      λ yes. layout_from order time_at commit_at commit_size data_at page (allowed_is time_at commit_at commit_size data_at page yes) in
-      where_no (is_allowed time_at commit_at commit_size data_at page) made no
+      λ holds. layout_from order time_at commit_at commit_size data_at page (allowed_is time_at commit_at commit_size data_at page holds) in
+      where_no (is_allowed time_at commit_at commit_size data_at page) made fails
 
 pub own_numbers : (l : Layout) → Some l ≡ layout_with l.order l.time_at l.commit_at l.commit_size l.data_at l.page
 own_numbers l =
