@@ -3,7 +3,6 @@ use Rattle.std.proofs.Common.{◌∙◌}
 use Rattle.std.proofs.lemmas.Result.{err_from_is_err_and}
 use Rattle.dat_options.proofs.Pieces.{kept_piece}
 use Rattle.dat_options.proofs.TableFound.{Faulty, faulty, Found, all_found}
-use Rattle.dat_options.proofs.table.read_table.Given as given
 use Rattle.dat_options.proofs.table.read_table.Goals as goal
 
 pub returns-in_err-text-clause-found : goal.returns-in_err-text-clause-found
@@ -23,15 +22,20 @@ returns-in_err-text-clause-kept g c =
     let p = err_from_is_err_and c.from_residual.result c.from_residual.ensures.1 in
     rw (p.1, p.2) (kept_piece _ _ c.in_err-text.field-0.0 c.in_err-text.ensures.kept)
 
-at_end : (g : given.Over) (c : goal.After-drop-text-inside-2 g) → Found c.args.order c.args.cpus (g.F.File.bytes c.args.file.now) c.args.at c.in_ok-parts.parts
-at_end g c = all_found c.args.order c.args.cpus _ _ c.args.at c.in_ok-parts.parts c.in_ok-text.text (g.met.F.File.size_is c.args.file.now)
-    c.in_ok-parts.ensures.allowed (c.in_ok-parts.ensures.spelled ∙ c.as_bytes.ensures) c.in_ok-text.ensures.given
-
 pub returns-clause-found : goal.returns-clause-found
-returns-clause-found g c = (at_end g c).found
+returns-clause-found g c =
+    let found : Found c.args.order c.args.cpus (g.F.File.bytes c.args.file.now) c.args.at c.in_ok-parts.parts = all_found c.args.order c.args.cpus _ _ c.args.at c.in_ok-parts.parts c.in_ok-text.text (g.met.F.File.size_is c.args.file.now)
+    c.in_ok-parts.ensures.allowed (c.in_ok-parts.ensures.spelled ∙ c.as_bytes.ensures) c.in_ok-text.ensures.given in
+    found.found
 
 pub returns-clause-exact : goal.returns-clause-exact
-returns-clause-exact g c = (at_end g c).exact
+returns-clause-exact g c =
+    let found : Found c.args.order c.args.cpus (g.F.File.bytes c.args.file.now) c.args.at c.in_ok-parts.parts = all_found c.args.order c.args.cpus _ _ c.args.at c.in_ok-parts.parts c.in_ok-text.text (g.met.F.File.size_is c.args.file.now)
+    c.in_ok-parts.ensures.allowed (c.in_ok-parts.ensures.spelled ∙ c.as_bytes.ensures) c.in_ok-text.ensures.given in
+    found.exact
 
 pub returns-clause-count : goal.returns-clause-count
-returns-clause-count g c = (at_end g c).count
+returns-clause-count g c =
+    let found : Found c.args.order c.args.cpus (g.F.File.bytes c.args.file.now) c.args.at c.in_ok-parts.parts = all_found c.args.order c.args.cpus _ _ c.args.at c.in_ok-parts.parts c.in_ok-text.text (g.met.F.File.size_is c.args.file.now)
+    c.in_ok-parts.ensures.allowed (c.in_ok-parts.ensures.spelled ∙ c.as_bytes.ensures) c.in_ok-text.ensures.given in
+    found.count
