@@ -3,7 +3,7 @@ ghost use Rattle.event_cursor.specs.Standing.{IsInOrder};
 ghost use Rattle.cpu_workers.specs.Shares.{are_worth, busy_lanes, may_form, share_of, threads_for};
 
 use event_cursor::head_key;
-use page_pool::{Lane, next_marked};
+use page_pool::{Lane, next_dirty};
 use trace_base::Layout;
 
 /// A lane's sub-buffer counts so many bytes at most: with events of 32 bytes they are the 1,024 lines that a region takes.
@@ -25,7 +25,7 @@ fn busy_lanes(layout: &Layout, lanes: &[Lane], moved: &[bool]) -> usize
 {
     let mut busy = 0;
     let mut from = 0;
-    while let Some(i) = next_marked(moved, from) {
+    while let Some(i) = next_dirty(moved, from) {
         if may_form(layout, &lanes[i]) {
             busy += 1;
         }
@@ -81,7 +81,7 @@ fn place_behind(layout: &Layout, lanes: &[Lane], moved: &[bool], count: usize) -
     let mut left = count;
     let mut from = 0;
     while left > 0 {
-        let Some(i) = next_marked(moved, from) else {
+        let Some(i) = next_dirty(moved, from) else {
             break;
         };
         if may_form(layout, &lanes[i]) {

@@ -16,7 +16,6 @@ ghost use Rattle.file_report.specs.Reported.{IsShown, events_shown};
 
 use crate::report::{ReportPlan, Shown};
 use cpu_workers::{SHARED_FROM, Workers};
-use least_tree::LeastTree;
 use page_pool::Pool;
 use report_context::{LINES_ROOM, line_buffer, put_cpus};
 use report_print::Context;
@@ -24,6 +23,7 @@ use report_rounds::{RoundWork, report_rounds};
 use run_endings::{Resources, Status, is_whole, status_of_end, status_of_pass};
 use std::thread::Threads;
 use time_merge::{End, set_lanes};
+use tournament_tree::TournamentTree;
 use trace_outside::{Failed, File, Gate, Pending, Sink};
 use wakeup_lat::{gather, put_wakeups};
 use wakeup_pairs::Wakeups;
@@ -54,8 +54,8 @@ pub(crate) fn print_lines<R: Threads + Sync, I: File, O: Sink, G: Gate>(
     let count = shown.parts.len() as u32;
     let (Ok(mut pool), Ok(heads), Ok(highs), Ok(moved), Ok(mut pending)) = (
         Pool::new(alloc, count, header.layout.page, LINES_ROOM),
-        LeastTree::new(alloc, count),
-        LeastTree::new(alloc, count),
+        TournamentTree::new(alloc, count),
+        TournamentTree::new(alloc, count),
         vec![in alloc; true; shown.parts.len()],
         Pending::new(alloc),
     ) else {

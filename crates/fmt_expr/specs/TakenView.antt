@@ -7,7 +7,7 @@ use Rattle.fmt_expr.specs.Types.{TypeName, type_name, words_at}
 use Rattle.fmt_expr.specs.TreeView.{tree_of, entries_of}
 use Rattle.fmt_expr.specs.declared.taken.Taken.{Taken}
 use Rattle.fmt_expr.specs.declared.taken.TakenText.{TakenText}
-use Rattle.fmt_expr.specs.declared.taken.TypePlace.{TypePlace}
+use Rattle.fmt_expr.specs.declared.taken.ParsedType.{ParsedType}
 use Rattle.fmt_expr.specs.declared.taken.TakenEntry.{TakenEntry}
 use Rattle.fmt_expr.specs.declared.taken.TakenEntries.{TakenEntries}
 
@@ -24,5 +24,5 @@ abbrev pub taken_text : TakenText → Joined
 taken_text t = joined_text t.text t.next
 
 -- the type whose names begin at a place
-abbrev pub type_seen : Source → ℕ → TypePlace → TypeName
+abbrev pub type_seen : Source → ℕ → ParsedType → TypeName
 type_seen s i t = type_name (words_at s i t.names) t.stars t.next

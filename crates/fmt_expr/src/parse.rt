@@ -13,7 +13,7 @@ use crate::judge::{is_alike, is_number};
 use crate::make::{casted, chained, chosen, indexed, prefixed};
 use crate::reader::Reader;
 use crate::stop::Stop;
-use crate::taken::{Taken, TypePlace};
+use crate::taken::{ParsedType, Taken};
 use trace_base::Field;
 
 /// The loosest level of binary operators.
@@ -226,7 +226,7 @@ impl<'a> Reader<'a> {
     /// A cast, whose type begins at a place.
     #[cycle(parser)]
     #[tactic(auto, unfolding(crate::specs::Parsing::cast_at))]
-    fn cast(&self, left: u32, from: usize, place: TypePlace) -> Result<Taken, Stop>
+    fn cast(&self, left: u32, from: usize, place: ParsedType) -> Result<Taken, Stop>
         requires names { from + place.names ≤ length self.now.tokens.now }
         requires inside { place.next < length self.now.tokens.now }
         ensures value { Gives taken result (cast_at (source self.now) (inner_unary (source self.now) left) (type_seen (source self.now) from place)) }

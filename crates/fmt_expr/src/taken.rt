@@ -20,7 +20,7 @@ pub struct TakenText {
 
 /// How many names and `*` a type has, and the place after them.
 #[derive(Clone, Copy)]
-pub struct TypePlace {
+pub struct ParsedType {
     pub names: usize,
     pub stars: usize,
     pub next: usize,

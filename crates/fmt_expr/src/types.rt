@@ -8,7 +8,7 @@ ghost use Rattle.fmt_expr.specs.SourceView.{source};
 ghost use Rattle.fmt_expr.specs.TakenView.{type_seen};
 
 use crate::reader::Reader;
-use crate::taken::TypePlace;
+use crate::taken::ParsedType;
 use fmt_literal::{CastTo, cast_of, is_qualifier, size_of};
 use std::alloc::AllocError;
 
@@ -94,7 +94,7 @@ impl<'a> Reader<'a> {
 
     /// The type at a place.
     #[tactic(auto, unfolding(crate::specs::Types::type_at))]
-    fn type_at(&self, at: usize) -> Option<TypePlace>
+    fn type_at(&self, at: usize) -> Option<ParsedType>
         requires { at ≤ length self.now.tokens.now }
         ensures value { option_map (type_seen (source self.now) at) result ≡ type_at (source self.now) at }
         ensures within { IfSome result (λ t. (at + t.names ≤ length self.now.tokens.now) × (at < t.next) × (t.next ≤ length self.now.tokens.now)) }
@@ -104,7 +104,7 @@ impl<'a> Reader<'a> {
         if names == 0 {
             return None;
         }
-        Some(TypePlace {
+        Some(ParsedType {
             names,
             stars,
             next: at + names + stars,
@@ -113,7 +113,7 @@ impl<'a> Reader<'a> {
 
     /// The type at a place that a bracket closes.
     #[tactic(auto, unfolding(crate::specs::Types::closed_type))]
-    pub fn closed_type(&self, at: usize) -> Option<TypePlace>
+    pub fn closed_type(&self, at: usize) -> Option<ParsedType>
         requires { at ≤ length self.now.tokens.now }
         ensures value { option_map (type_seen (source self.now) at) result ≡ closed_type (source self.now) at }
         ensures within { IfSome result (λ t. (at + t.names ≤ length self.now.tokens.now) × (at < t.next) × (t.next < length self.now.tokens.now)) }

@@ -11,7 +11,7 @@ use Rattle.trace_base.specs.Kept.{until_nul}
 use Rattle.fmt_eval.specs.Texts.{text_of}
 use Rattle.fmt_eval.specs.Values.{RecData}
 use Rattle.fmt_print.specs.Known.{StandsAt}
-use Rattle.fmt_print.specs.declared.argument.TextPlace.{TextPlace}
+use Rattle.fmt_print.specs.declared.argument.TextSlot.{TextSlot}
 use Rattle.fmt_print.proofs.TextLemmas.{nul_once}
 
 -- the bytes of a field by its place
@@ -30,7 +30,7 @@ fixed_bytes : (g : RecData) (f : Field) → f.place ≡ Fixed → 0 < f.size →
 fixed_bytes g f is some =
     bytes_by_place g f ∙ ap (by_place g f) is ∙ ap (λ (n : ℕ). take n (drop f.offset g.payload)) (sized f.size (length g.payload) some)
 
-pub field_stands : (f : Field) (place : TextPlace) → f.place ≡ Fixed → 0 < f.size → place.at ≡ f.offset → place.len ≡ f.size → StandsAt (tree.field_text f) place
+pub field_stands : (f : Field) (place : TextSlot) → f.place ≡ Fixed → 0 < f.size → place.at ≡ f.offset → place.len ≡ f.size → StandsAt (tree.field_text f) place
 field_stands f place is some at len = record {
   kind = refl;
   each = λ g.
@@ -39,5 +39,5 @@ field_stands f place is some at len = record {
       ∙ ap (λ (n : ℕ). take place.len (drop n g.payload)) (sym at));
 }
 
-pub stands_text : (g : RecData) (t : Tree) (place : TextPlace) (text : List ℕ) → StandsAt t place → text ≡ take place.len (drop place.at g.payload) → until_nul text ≡ until_nul (text_of g t)
+pub stands_text : (g : RecData) (t : Tree) (place : TextSlot) (text : List ℕ) → StandsAt t place → text ≡ take place.len (drop place.at g.payload) → until_nul text ≡ until_nul (text_of g t)
 stands_text g t place text h is = ap until_nul is ∙ nul_once (take place.len (drop place.at g.payload)) ∙ ap until_nul (sym (h.each g))

@@ -7,7 +7,7 @@ use Rattle.fmt_expr.specs.declared.kinds.Kind.TheVariants.{Text}
 use Rattle.trace_base.specs.Kept.{until_nul}
 use Rattle.fmt_eval.specs.Texts.{text_of}
 use Rattle.fmt_eval.specs.Values.{RecData}
-use Rattle.fmt_print.specs.declared.argument.TextPlace.{TextPlace}
+use Rattle.fmt_print.specs.declared.argument.TextSlot.{TextSlot}
 
 -- the test of a choice; of any other tree the tree itself
 abbrev pub test_in : Tree → Tree
@@ -15,6 +15,6 @@ test_in (tree.choice test a b) = test
 test_in t = t
 
 -- over every record, the text of the tree is what stands at a place, up to its first NUL
-pub record StandsAt (t : Tree) (place : TextPlace) : Type 0 where
+pub record StandsAt (t : Tree) (place : TextSlot) : Type 0 where
   pub kind : kind_of t ≡ Text
   pub each : (g : RecData) → text_of g t ≡ until_nul (take place.len (drop place.at g.payload))

@@ -17,7 +17,7 @@ use trace_base::{Field, FieldPlace, Rec};
 
 /// Where a text of fixed length stands in the payload of each record.
 #[derive(Clone, Copy)]
-pub struct TextPlace {
+pub struct TextSlot {
     pub at: u32,
     pub len: u32,
 }
@@ -32,7 +32,7 @@ pub struct Argument {
     /// How the test of a choice is made.
     test: Test,
     /// Where its text stands.
-    place: Option<TextPlace>,
+    place: Option<TextSlot>,
     ghost kinds: { kind ≡ kind_of (tree_of tree) } by { Prim.hlevel props },
     ghost reads: { ReadsAs read (tree_of tree) } by { Prim.hlevel props },
     ghost tests: { TestsAs test (test_in (tree_of tree)) } by { Prim.hlevel props },
@@ -50,11 +50,11 @@ fn choice_test(tree: &Expr) -> Test
 }
 
 /// Where the text of a field stands, if it is of fixed length.
-fn field_place(field: &Field) -> Option<TextPlace>
+fn field_place(field: &Field) -> Option<TextSlot>
     ensures { IfSome result (StandsAt (tree.field_text field.now)) }
 {
     match field.place {
-        FieldPlace::Fixed if field.size > 0 => Some(TextPlace {
+        FieldPlace::Fixed if field.size > 0 => Some(TextSlot {
             at: field.offset,
             len: field.size,
         }),
@@ -63,7 +63,7 @@ fn field_place(field: &Field) -> Option<TextPlace>
 }
 
 /// Where a text stands, if it is that of a field of fixed length.
-fn text_place(tree: &Expr) -> Option<TextPlace>
+fn text_place(tree: &Expr) -> Option<TextSlot>
     ensures { IfSome result (StandsAt (tree_of tree.now)) }
 {
     match tree {

@@ -11,7 +11,7 @@ ghost use Rattle.graph_report.specs.Gathered.{reached_calls, cut_place};
 
 use crate::sight::Sight;
 use call_pairs::{Call, Tracing};
-use format_places::FormatRoles;
+use format_index::FormatRoles;
 use item_pass::{PassFault, pass};
 use page_pool::Lane;
 use report_print::Context;

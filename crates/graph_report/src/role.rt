@@ -3,8 +3,8 @@
 ghost use Rattle.std.specs.Prelude.{◌≡◌};
 ghost use Rattle.graph_report.specs.Roles.{called_in, times_in, entering, leaving, role_named, role_of};
 
+use format_index::FormatRole;
 use format_parse::EventFormat;
-use format_places::FormatRole;
 use report_print::NumberField;
 use trace_base::Field;
 

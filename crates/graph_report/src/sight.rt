@@ -10,7 +10,7 @@ ghost use Rattle.graph_report.specs.Sights.{HasRoles, Notes};
 use crate::role::Role;
 use crate::seeing::{graph_event, ran_by};
 use call_pairs::{Seen, Tracing};
-use format_places::FormatRoles;
+use format_index::FormatRoles;
 use item_pass::Gatherer;
 use report_print::Context;
 use std::alloc::AllocError;

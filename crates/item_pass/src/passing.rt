@@ -13,10 +13,10 @@ ghost use Rattle.item_pass.specs.declared.passing.PassFault.TheVariants.{Read};
 use crate::gatherer::Gatherer;
 use crate::skipping::use_up;
 use crate::taking::take_head;
-use least_tree::LeastTree;
 use page_pool::Lane;
 use std::alloc::Global;
 use time_merge::{Next, next_lane_by};
+use tournament_tree::TournamentTree;
 use trace_base::Layout;
 use trace_outside::{Failed, File};
 
@@ -85,13 +85,13 @@ pub fn pass<G: Gatherer, F: File>(
 }
 
 // A tree with a slot for each lane. For more lanes than 32 bits count there is no memory.
-fn tree_for(alloc: Global, lanes: &[Lane]) -> Option<LeastTree>
+fn tree_for(alloc: Global, lanes: &[Lane]) -> Option<TournamentTree>
     ensures { IfSome result (λ nexts. length nexts ≡ length lanes.now) }
 {
     let Ok(slots) = u32::try_from(lanes.len()) else {
         return None;
     };
-    match LeastTree::new(alloc, slots) {
+    match TournamentTree::new(alloc, slots) {
         Ok(nexts) => Some(nexts),
         Err(_) => None,
     }

@@ -10,7 +10,7 @@ use crate::marks::latency_marks;
 use crate::pairs::two_digits;
 use crate::widths::{
     BEFORE_PID, BEFORE_PLACE, BEFORE_TASK, BEFORE_TIME, CPU, DIGITS, LONGEST_DURATION, LONGEST_PID,
-    LONGEST_PLACE, LONGEST_TASK, LONGEST_TIME, PID, ROOM, USUAL_LABEL, USUAL_TIMES,
+    LONGEST_PROCESSOR, LONGEST_TASK, LONGEST_TIME, PID, ROOM, USUAL_LABEL, USUAL_TIMES,
 };
 use itoa::{Buffer, write_digits};
 use std::marker::Model;
@@ -272,7 +272,7 @@ impl Front {
     #[tactic(auto, using(crate::proofs::ZeroFills::between))]
     pub fn processor(&mut self, cpu: u32)
         requires { length self.old ≤ BEFORE_PLACE }
-        ensures longer { length self.new ≤ length self.old + LONGEST_PLACE }
+        ensures longer { length self.new ≤ length self.old + LONGEST_PROCESSOR }
         ensures value { self.new ≡ (codes " [" ++ (zeros 3 (decimal cpu) ++ codes "] ")) ++ self.old }
     {
         self.text(b"] ");
@@ -316,7 +316,7 @@ impl Front {
     /// Puts the processor in front, and what an event says of its context.
     pub fn latency(&mut self, cpu: u32, flags: u32, preempt_count: u32)
         requires { length self.old ≤ BEFORE_PLACE }
-        ensures longer { length self.new ≤ length self.old + LONGEST_PLACE }
+        ensures longer { length self.new ≤ length self.old + LONGEST_PROCESSOR }
         ensures value { self.new ≡ (codes " " ++ (right 3 (decimal cpu) ++ (spec.latency_marks flags preempt_count ++ codes " "))) ++ self.old }
     {
         self.byte(b' ');

@@ -28,7 +28,7 @@ pub(crate) const CPU: usize = 10;
 const MARKS: usize = 4;
 
 /// The longest processor, with spaces round it.
-pub const LONGEST_PLACE: usize = 1 + CPU + MARKS + 1;
+pub const LONGEST_PROCESSOR: usize = 1 + CPU + MARKS + 1;
 
 /// How wide the pid is at the least.
 pub(crate) const PID: usize = 5;
@@ -49,7 +49,7 @@ pub const BEFORE_TIME: usize = LONGEST_BEHIND + COLON;
 pub const BEFORE_PLACE: usize = BEFORE_TIME + LONGEST_TIME;
 
 /// The same before the pid is.
-pub const BEFORE_PID: usize = BEFORE_PLACE + LONGEST_PLACE;
+pub const BEFORE_PID: usize = BEFORE_PLACE + LONGEST_PROCESSOR;
 
 /// The same before the task's name is.
 pub(crate) const BEFORE_TASK: usize = BEFORE_PID + LONGEST_PID + DASH;

@@ -9,8 +9,8 @@ use crate::printing::put_heads;
 use crate::source::Source;
 use crate::sources::make_sources_ready;
 use crate::taking::{Taken, take_from};
-use least_tree::LeastTree;
 use line_holes::LineFormat;
+use tournament_tree::TournamentTree;
 use trace_outside::{Failed, File, Pending, Sink};
 
 /// How a report of several files ends.
@@ -42,7 +42,7 @@ fn end_with<O: Sink>(end: FilesEnd, pending: &mut Pending, out: &mut O) -> Files
 /// Puts the files' first lines and makes all lanes ready.
 fn begin<F: File, L: LineFormat, O: Sink>(
     sources: &mut [Source<'_, F, L>],
-    nexts: &mut LeastTree,
+    nexts: &mut TournamentTree,
     pending: &mut Pending,
     out: &mut O,
 ) -> Option<FilesEnd>
@@ -76,7 +76,7 @@ fn begin<F: File, L: LineFormat, O: Sink>(
 /// come.
 fn turn<F: File, L: LineFormat, O: Sink>(
     sources: &mut [Source<'_, F, L>],
-    nexts: &mut LeastTree,
+    nexts: &mut TournamentTree,
     buffer: &mut [u8],
     pending: &mut Pending,
     out: &mut O,
@@ -130,7 +130,7 @@ fn turn<F: File, L: LineFormat, O: Sink>(
 /// once. It takes no memory.
 pub fn report_files<F: File, L: LineFormat, O: Sink>(
     sources: &mut [Source<'_, F, L>],
-    nexts: &mut LeastTree,
+    nexts: &mut TournamentTree,
     buffer: &mut [u8],
     pending: &mut Pending,
     out: &mut O,

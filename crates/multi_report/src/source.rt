@@ -8,10 +8,10 @@ ghost use Rattle.multi_report.specs.Nexts.{HoldsLaneNext, IsLaneNext, IsLaneStep
 ghost use Rattle.multi_report.specs.Sources.{IsKnown, IsPrepared, IsReadied, IsUsable, Keeps, next_key, seen};
 
 use event_cursor::{head_key, step};
-use least_tree::LeastTree;
 use line_holes::LineFormat;
 use page_pool::{LaneState, Pool};
 use time_merge::next_lane_by;
+use tournament_tree::TournamentTree;
 use trace_base::Layout;
 use trace_outside::{Failed, File};
 
@@ -28,7 +28,7 @@ pub struct Source<'a, F, L> {
     /// The lanes of its selected processors: none for a file that has no items.
     pub pool: Pool,
     /// What comes next of each lane: a tree with a slot for each, whatever is in it.
-    pub nexts: LeastTree,
+    pub nexts: TournamentTree,
 }
 
 /// What comes next of a file whose lanes are ready.

@@ -4,15 +4,15 @@ ghost use Rattle.multi_report.specs.Sources.{AllKeep, IsKnown, IsUsable, Seen, n
 ghost use Rattle.multi_report.specs.Turns.{AreReadied};
 
 use crate::source::{Source, make_source_ready};
-use least_tree::LeastTree;
 use line_holes::LineFormat;
+use tournament_tree::TournamentTree;
 use trace_outside::{Failed, File};
 
 /// Makes all lanes of all files ready, and gives a tree the key of what comes next of each file. Some: a read of that file
 /// failed.
 pub(crate) fn make_sources_ready<F: File, L: LineFormat>(
     sources: &mut [Source<'_, F, L>],
-    nexts: &mut LeastTree,
+    nexts: &mut TournamentTree,
 ) -> Option<usize>
     requires usable { All IsUsable (map (seen F.File L.text) sources.old) }
     requires slots { length nexts.old ≡ length sources.old }

@@ -5,7 +5,7 @@ ghost use Rattle.page_pool.specs.Moved.{IsNextMark};
 const GROUP: usize = 16;
 
 /// The first place from `from` on whose dirty bit is set. Where few are set, it costs an instruction or two a place.
-pub fn next_marked(moved: &[bool], from: usize) -> Option<usize>
+pub fn next_dirty(moved: &[bool], from: usize) -> Option<usize>
     requires { from ≤ length moved.now }
     ensures { IsNextMark moved.now from result }
 {

@@ -12,15 +12,15 @@ use Rattle.report_print.below.fmt_expr.specs.contracts.expr.Expr.{the_row as exp
 use Rattle.report_print.below.fmt_expr.proofs.kinds.Kind.TheSendSync as kind
 use Rattle.report_print.below.fmt_eval.proofs.read.Read.TheSendSync as read
 use Rattle.report_print.below.fmt_eval.proofs.read.Test.TheSendSync as test
-use Rattle.report_print.below.fmt_print.proofs.argument.TextPlace.TheSendSync as place
+use Rattle.report_print.below.fmt_print.proofs.argument.TextSlot.TheSendSync as place
 use Rattle.report_print.below.fmt_print.specs.contracts.argument.Argument.{the_row as argument_row, the_type as argument_type}
-use Rattle.report_print.below.fmt_print.specs.contracts.argument.TextPlace.{the_row as place_row}
+use Rattle.report_print.below.fmt_print.specs.contracts.argument.TextSlot.{the_row as place_row}
 use Rattle.report_print.below.fmt_print.proofs.step.Step.TheSendSync as step
 use Rattle.report_print.below.fmt_print.specs.contracts.plan.PrintPlan.{the_row as plan_row}
 use Rattle.format_parse.proofs.table.FormatTable.TheSendSync as table
 use Rattle.symbols.proofs.maps.Symbols.TheSendSync as symbols
 use Rattle.report_print.below.noted_places.proofs.places.Places.TheSendSync as places
-use Rattle.report_print.below.format_places.specs.contracts.places.FormatPlaces.{the_row as format_places_row}
+use Rattle.report_print.below.format_index.specs.contracts.places.FormatIndex.{the_row as format_index_row}
 use Rattle.trace_base.proofs.byte_text.ByteText.TheSendSync as text
 use Rattle.report_print.proofs.common.CommonFields.TheSendSync as common
 use Rattle.report_print.proofs.show.Show.TheSendSync as show
@@ -53,11 +53,11 @@ use_sync = search (crosses, filter_expr.crosses, sendable) depth 60 fits 20000
 bound_sync : IsSync filters_row
 bound_sync = search (crosses, bound_expr.crosses, sendable) depth 60 fits 20000
 
-format_places_sync : IsSync format_places_row
-format_places_sync = search (places.the_sync, sendable) depth 60 fits 20000
+format_index_sync : IsSync format_index_row
+format_index_sync = search (places.the_sync, sendable) depth 60 fits 20000
 
 context_sync : IsSync context_row
-context_sync = search (crosses, use_sync, head_sync, bound_sync, front_sync, Vec-sync, table.the_sync, symbols.the_sync, format_places_sync, common.the_field_sync, show.the_field_sync, sendable) depth 100 fits 50000
+context_sync = search (crosses, use_sync, head_sync, bound_sync, front_sync, Vec-sync, table.the_sync, symbols.the_sync, format_index_sync, common.the_field_sync, show.the_field_sync, sendable) depth 100 fits 50000
 
 pub lines_sync : IsSync the_row
 lines_sync = search (context_sync, sendable) depth 60 fits 20000

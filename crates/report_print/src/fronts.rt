@@ -17,8 +17,8 @@ use crate::fields::put_pair;
 use crate::show::Show;
 use crate::tasks::{TaskStart, USUAL_TASK, WIDE_TASK};
 use line_columns::{
-    BEFORE_PID, BEFORE_PLACE, Front, LONGEST_BEHIND, LONGEST_PLACE, LONGEST_TASK, USUAL_COLUMNS,
-    USUAL_LABEL, USUAL_TIMES,
+    BEFORE_PID, BEFORE_PLACE, Front, LONGEST_BEHIND, LONGEST_PROCESSOR, LONGEST_TASK,
+    USUAL_COLUMNS, USUAL_LABEL, USUAL_TIMES,
 };
 use trace_base::{Common, Order, Tail};
 
@@ -382,7 +382,7 @@ fn put_when(show: &Show, cpu: u32, time: u64, common: &Common, front: &mut Front
 #[tactic(auto, unfolding(crate::specs::Line::place_text))]
 fn put_place(show: &Show, cpu: u32, flags: u32, preempt: u32, front: &mut Front)
     requires { length front.old ≤ BEFORE_PLACE }
-    ensures longer { length front.new ≤ length front.old + LONGEST_PLACE }
+    ensures longer { length front.new ≤ length front.old + LONGEST_PROCESSOR }
     ensures value { front.new ≡ line.place_text show.now cpu flags preempt ++ front.old }
 {
     if show.latency {

@@ -9,7 +9,7 @@ ghost use Rattle.round_print.specs.Prints.{head_kept};
 ghost use Rattle.report_rounds.specs.Between.{AreMarkedUnready, HasSlots, SlotsTell};
 
 use crate::work::RoundWork;
-use page_pool::{Lane, next_marked};
+use page_pool::{Lane, next_dirty};
 use round_print::head_kept;
 use time_merge::{high_of, wants_load};
 use trace_base::Layout;
@@ -36,7 +36,7 @@ pub(crate) fn settle(layout: &Layout, lanes: &[Lane], work: &mut RoundWork)
     ensures pending { work.new.pending ≡ work.old.pending }
 {
     let mut from = 0;
-    while let Some(i) = next_marked(work.moved.as_slice(), from) {
+    while let Some(i) = next_dirty(work.moved.as_slice(), from) {
         let lane = &lanes[i];
         work.heads.set(i, head_kept(lane));
         work.highs.set(i, high_of(lane));

@@ -6,9 +6,9 @@ ghost use Rattle.time_merge.specs.LaneRows.{parts_of};
 ghost use Rattle.round_print.specs.Prints.{IsDropped, head_due, head_kept};
 ghost use Rattle.round_print.specs.Rounds.{IsNextAt, IsRun};
 
-use least_tree::LeastTree;
 use page_pool::{Lane, Region};
 use time_merge::Horizon;
+use tournament_tree::TournamentTree;
 
 /// Whether a line with this key, of this processor, stands at or before a horizon.
 fn is_due(horizon: &Horizon, key: u64, cpu: u32) -> bool
@@ -49,7 +49,7 @@ pub fn head_kept(lane: &Lane) -> Option<Option<u64>>
 
 /// The lane whose first line is due and has the least key, and the first of several such. `None` exactly where no line is
 /// due.
-pub(crate) fn least_due(horizon: &Horizon, lanes: &[Lane], heads: &LeastTree) -> Option<usize>
+pub(crate) fn least_due(horizon: &Horizon, lanes: &[Lane], heads: &TournamentTree) -> Option<usize>
     requires rise { CpusRise (parts_of lanes.now) }
     requires heads { heads.now ≡ map head_kept lanes.now }
     ensures least { IsLeastAt (map (head_due horizon.now) lanes.now) result }
@@ -82,7 +82,7 @@ fn due_up_to(horizon: &Horizon, cpu: u32) -> Option<u64>
 }
 
 /// The greatest key up to which a lane's lines are due and come before those of all other lanes, if there is one.
-fn run_up_to(horizon: &Horizon, cpu: u32, heads: &LeastTree, i: usize) -> Option<u64>
+fn run_up_to(horizon: &Horizon, cpu: u32, heads: &TournamentTree, i: usize) -> Option<u64>
     requires { i < length heads.now }
     ensures { IfSome result (λ most. (key : ℕ) → key ≤ most → IsNextAt horizon.now heads.now i cpu key) }
 {
@@ -98,7 +98,7 @@ fn run_up_to(horizon: &Horizon, cpu: u32, heads: &LeastTree, i: usize) -> Option
 pub(crate) fn run_of(
     horizon: &Horizon,
     lane: &Lane,
-    heads: &LeastTree,
+    heads: &TournamentTree,
     i: usize,
     alone: Option<usize>,
     last: Option<u64>,

@@ -8,9 +8,9 @@ ghost use Rattle.round_print.specs.Rounds.{ArePrinted, AreRising, Gains, IsFront
 
 use crate::filling::put_front;
 use crate::heads::{drop_front, head_kept, least_due, run_of};
-use least_tree::LeastTree;
 use page_pool::Lane;
 use time_merge::Horizon;
+use tournament_tree::TournamentTree;
 use trace_outside::{Failed, Pending, Sink};
 
 /// Puts a lane's first lines, filled from the last time, and keeps them no longer. Where there are several none has a hole.
@@ -41,7 +41,7 @@ fn print_front<O: Sink>(
 fn put_round<O: Sink>(
     horizon: &Horizon,
     lanes: &mut [Lane],
-    heads: &mut LeastTree,
+    heads: &mut TournamentTree,
     moved: &mut [bool],
     last: &mut Option<u64>,
     pending: &mut Pending,
@@ -92,7 +92,7 @@ fn put_round<O: Sink>(
 pub fn print_round<O: Sink>(
     horizon: &Horizon,
     lanes: &mut [Lane],
-    heads: &mut LeastTree,
+    heads: &mut TournamentTree,
     moved: &mut [bool],
     last: &mut Option<u64>,
     pending: &mut Pending,

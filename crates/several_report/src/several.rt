@@ -11,11 +11,11 @@ ghost use Rattle.several_report.specs.Sources as spec;
 ghost use Rattle.several_report.specs.Sources.{AreOpened, IsNameOfEnd, FilesReported, file_in, source_seen};
 
 use crate::sources::{close_sources, input_at, open_sources};
-use least_tree::LeastTree;
 use multi_report::{FilesEnd, Source, report_files};
 use report_context::{ItemLines, line_buffer};
 use run_endings::{Outcome, Status};
 use std::alloc::Global;
+use tournament_tree::TournamentTree;
 use trace_args::ReportWords;
 use trace_outside::{File, Folder, Pending, Sink};
 
@@ -79,7 +79,7 @@ fn print_sources<'a, I: File, O: Sink>(
         (beside before (sink_seen O.Sink out.old)) (beside now (sink_seen O.Sink out.new)) }
 {
     let (Ok(mut nexts), Ok(mut buffer), Ok(mut pending)) = (
-        LeastTree::new(alloc, sources.len() as u32),
+        TournamentTree::new(alloc, sources.len() as u32),
         line_buffer(alloc),
         Pending::new(alloc),
     ) else {

@@ -15,7 +15,6 @@ ghost use Rattle.run_endings.specs.Outside.{FolderSeen, folder_seen};
 ghost use Rattle.several_report.specs.Sources.{AreOpened, IsBasis, IsOpened, IsRead, IsUnopened, WhyUnread, OpensAll, OpensNext, StandsAt, file_in, seen_with, source_seen};
 
 use dat_header::{Body, Header, OpenFault, read_header};
-use least_tree::LeastTree;
 use multi_report::Source;
 use page_pool::Pool;
 use report_context::{ItemLines, context_of};
@@ -23,6 +22,7 @@ use run_endings::{Outcome, Selection, Status};
 use run_words::read_filters;
 use std::alloc::{AllocError, Global};
 use time_merge::set_lanes;
+use tournament_tree::TournamentTree;
 use trace_args::ReportWords;
 use trace_base::{Layout, Part};
 use trace_outside::{Failed, File, Folder};
@@ -35,7 +35,7 @@ struct Basis {
     cpus: u32,
     form: ItemLines,
     pool: Pool,
-    nexts: LeastTree,
+    nexts: TournamentTree,
 }
 
 // The parts that are shown of a file and have bytes.
@@ -79,7 +79,7 @@ fn basis_of(alloc: Global, words: &ReportWords<'_>, header: &Header) -> Result<B
     let context = context_of(alloc, words, filters, header)?;
     let shown = shown_parts(alloc, &words.cpus, header)?;
     let pool = lanes_over(alloc, header.layout.page, shown.as_slice())?;
-    let nexts = LeastTree::new(alloc, shown.len() as u32)?;
+    let nexts = TournamentTree::new(alloc, shown.len() as u32)?;
     Ok(Basis {
         layout: header.layout,
         cpus: header.cpus,

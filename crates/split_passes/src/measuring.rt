@@ -10,10 +10,10 @@ use crate::choice::{Choice, choose};
 use crate::pace::{Pace, take_more};
 use crate::tally::Tally;
 use event_cursor::step;
-use least_tree::LeastTree;
 use page_pool::Lane;
 use split_pieces::Gauge;
 use time_merge::{Next, next_lane_by};
+use tournament_tree::TournamentTree;
 use trace_base::Layout;
 use trace_outside::{Failed, File};
 use word_values::Moment;
@@ -42,7 +42,7 @@ pub fn measure<F: File>(
     stop: Option<Moment>,
     gauge: &mut Gauge,
     tallies: &mut [Tally],
-    nexts: &mut LeastTree,
+    nexts: &mut TournamentTree,
 ) -> Result<PieceEnd, Failed>
     requires in_order { All (IsInOrder layout.now) lanes.old }
     requires rise { CpusRise (parts_of lanes.old) }

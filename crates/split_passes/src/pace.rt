@@ -12,9 +12,9 @@ ghost use Rattle.split_passes.specs.Takings.{IsTurnTaken};
 use crate::rounds::take_round;
 use crate::taking::take_turn;
 use crate::tally::Tally;
-use least_tree::LeastTree;
 use page_pool::{Lane, LaneState};
 use split_pieces::Gauge;
+use tournament_tree::TournamentTree;
 use trace_base::Layout;
 use word_values::Moment;
 
@@ -110,7 +110,7 @@ fn try_round(
 fn try_turn(
     layout: &Layout,
     lanes: &mut [Lane],
-    nexts: &LeastTree,
+    nexts: &TournamentTree,
     i: usize,
     stop: Option<Moment>,
     gauge: &mut Gauge,
@@ -140,7 +140,7 @@ fn try_turn(
 pub(crate) fn take_more(
     layout: &Layout,
     lanes: &mut [Lane],
-    nexts: &LeastTree,
+    nexts: &TournamentTree,
     i: usize,
     stop: Option<Moment>,
     gauge: &mut Gauge,

@@ -12,11 +12,11 @@ ghost use Rattle.split_passes.specs.Takings.{IsRunTaken, IsTurnTaken, LimitsAllo
 
 use crate::tally::Tally;
 use event_cursor::step_run;
-use least_tree::LeastTree;
 use page_pool::{Lane, LaneState};
 use split_pieces::{Gauge, last_until};
 use subpage::{Mark, RunLimits, plain_run, run_between};
 use time_merge::turn_of;
+use tournament_tree::TournamentTree;
 use trace_base::Layout;
 use word_values::Moment;
 
@@ -117,7 +117,7 @@ pub(crate) fn take_run(
 pub(crate) fn take_turn(
     layout: &Layout,
     lanes: &mut [Lane],
-    nexts: &LeastTree,
+    nexts: &TournamentTree,
     i: usize,
     stop: Option<Moment>,
     gauge: &mut Gauge,

@@ -13,10 +13,10 @@ ghost use Rattle.split_passes.specs.Tallies.{IsTally};
 ghost use Rattle.split_passes.specs.Through.{GoThrough};
 ghost use Rattle.split_tool.specs.Measured.{FileMeasured, ListMeasured, bad_of_end, is_full};
 
-use least_tree::LeastTree;
 use page_pool::Lane;
 use split_passes::{PieceEnd, Tally, measure};
 use split_pieces::{Gauge, Rules};
+use tournament_tree::TournamentTree;
 use trace_base::Layout;
 use trace_outside::{Failed, File};
 
@@ -95,7 +95,7 @@ fn measure_list<F: File>(
     lanes: &mut [Lane],
     rules: &Rules,
     tallies: &mut [Tally],
-    nexts: &mut LeastTree,
+    nexts: &mut TournamentTree,
     before: Ends,
 ) -> Result<Ends, Failed>
     requires in_order { All (IsInOrder layout.now) lanes.old }
@@ -131,8 +131,8 @@ pub(crate) fn measure_lists<F: File>(
     lanes: &mut [Lane],
     rules: &Rules,
     tallies: &mut [Tally],
-    nexts: &mut LeastTree,
-    next: &mut LeastTree,
+    nexts: &mut TournamentTree,
+    next: &mut TournamentTree,
 ) -> Result<Ends, Failed>
     requires in_order { All (IsInOrder layout.now) lanes.old }
     requires rise { CpusRise (parts_of lanes.old) }

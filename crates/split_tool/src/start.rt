@@ -13,10 +13,10 @@ ghost use Rattle.split_passes.specs.Through.{GoThrough};
 ghost use Rattle.split_tool.specs.Started.{ListStarted, Started};
 
 use event_cursor::{head_key, step};
-use least_tree::LeastTree;
 use page_pool::Lane;
 use split_pieces::{Rules, is_before};
 use time_merge::{Next, next_lane_by};
+use tournament_tree::TournamentTree;
 use trace_base::Layout;
 use trace_outside::{Failed, File};
 use word_values::Moment;
@@ -38,7 +38,7 @@ fn pass_list<F: File>(
     file: &mut F,
     lanes: &mut [Lane],
     start: Moment,
-    nexts: &mut LeastTree,
+    nexts: &mut TournamentTree,
 ) -> Result<(), Failed>
     requires in_order { All (IsInOrder layout.now) lanes.old }
     requires rise { CpusRise (parts_of lanes.old) }
@@ -76,8 +76,8 @@ pub(crate) fn pass_start<F: File>(
     file: &mut F,
     lanes: &mut [Lane],
     rules: &Rules,
-    nexts: &mut LeastTree,
-    next: &mut LeastTree,
+    nexts: &mut TournamentTree,
+    next: &mut TournamentTree,
 ) -> Result<(), Failed>
     requires in_order { All (IsInOrder layout.now) lanes.old }
     requires rise { CpusRise (parts_of lanes.old) }

@@ -4,9 +4,9 @@ ghost use Rattle.split_tool.specs.Work.{IsWorkFor};
 
 use dat_header::{Header, text_before_table};
 use event_cursor::Place;
-use least_tree::LeastTree;
 use split_passes::Tally;
 use std::alloc::{AllocError, Global};
+use tournament_tree::TournamentTree;
 use trace_base::{ByteText, Part};
 
 /// What a split is lent: the places and numbers of its lanes, trees of what comes next of all and of one, a table, one
@@ -15,8 +15,8 @@ use trace_base::{ByteText, Part};
 pub struct SplitWork {
     pub(crate) fronts: Vec<Place>,
     pub(crate) tallies: Vec<Tally>,
-    pub(crate) nexts: LeastTree,
-    pub(crate) next: LeastTree,
+    pub(crate) nexts: TournamentTree,
+    pub(crate) next: TournamentTree,
     pub(crate) table: Vec<Part>,
     pub(crate) page: Vec<u8>,
     pub(crate) before: ByteText,
@@ -41,8 +41,8 @@ impl SplitWork {
         Ok(SplitWork {
             fronts,
             tallies,
-            nexts: LeastTree::new(alloc, lanes)?,
-            next: LeastTree::new(alloc, 1)?,
+            nexts: TournamentTree::new(alloc, lanes)?,
+            next: TournamentTree::new(alloc, 1)?,
             table: vec![in alloc; Part { offset: 0, size: 0 }; header.cpus as usize]?,
             page: vec![in alloc; 0; header.layout.page as usize]?,
             before: text_before_table(alloc, header)?,

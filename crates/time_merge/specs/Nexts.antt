@@ -1,6 +1,6 @@
 -- Which lane is next.
 use Rattle.std.specs.Prelude.{◌≡◌, ◌≢◌, ℕ, ◌<◌, All, List, [], ◌∷◌, length, slice_set, slice_index_or, Option, Some, None}
-pub use Rattle.least_tree.specs.Least.{IsLeastOf, IsLeastAt}
+pub use Rattle.tournament_tree.specs.Least.{IsLeastOf, IsLeastAt}
 use Rattle.trace_base.specs.declared.layout.Layout.{Layout}
 use Rattle.subpage.specs.Arrangement.{Keyed}
 use Rattle.page_pool.specs.declared.lane.Lane.{Lane}

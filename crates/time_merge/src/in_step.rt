@@ -11,13 +11,13 @@ ghost use Rattle.time_merge.specs.Turns.{HasTurn};
 
 use crate::next_lanes::{Next, next_at, next_of};
 use crate::ready::{make_all_ready, make_one_ready};
-use least_tree::LeastTree;
 use page_pool::Lane;
+use tournament_tree::TournamentTree;
 use trace_base::Layout;
 use trace_outside::{Failed, File};
 
 /// Brings a tree into step with ready lanes: each slot has what comes next of its lane.
-fn take_nexts(layout: &Layout, lanes: &[Lane], nexts: &mut LeastTree)
+fn take_nexts(layout: &Layout, lanes: &[Lane], nexts: &mut TournamentTree)
     requires in_order { All (IsInOrder layout.now) lanes.now }
     requires slots { length nexts.old ≡ length lanes.now }
     ensures { nexts.new ≡ map (next_of layout.now) lanes.now }
@@ -28,7 +28,7 @@ fn take_nexts(layout: &Layout, lanes: &[Lane], nexts: &mut LeastTree)
 }
 
 /// What comes next of ready lanes.
-fn next_in(layout: &Layout, lanes: &[Lane], nexts: &LeastTree) -> Next
+fn next_in(layout: &Layout, lanes: &[Lane], nexts: &TournamentTree) -> Next
     requires in_order { All (IsInOrder layout.now) lanes.now }
     requires rise { CpusRise (parts_of lanes.now) }
     requires ready { All (IsReady layout.now) lanes.now }
@@ -52,7 +52,7 @@ pub fn next_lane_by<F: File>(
     layout: &Layout,
     file: &mut F,
     lanes: &mut [Lane],
-    nexts: &mut LeastTree,
+    nexts: &mut TournamentTree,
     used: Option<usize>,
 ) -> Result<Next, Failed>
     requires in_order { All (IsInOrder layout.now) lanes.old }
@@ -86,7 +86,7 @@ pub fn next_lane_by<F: File>(
 
 /// The greatest key of items of a lane that come before those of all other lanes: its items up to this key come next, one after
 /// another. `None` where there may be none. The others are ready, and the tree is in step with them.
-pub fn turn_of(layout: &Layout, lanes: &[Lane], nexts: &LeastTree, i: usize) -> Option<u64>
+pub fn turn_of(layout: &Layout, lanes: &[Lane], nexts: &TournamentTree, i: usize) -> Option<u64>
     requires in_step { IsInStepBut layout.now lanes.now nexts.now i }
     requires slots { length nexts.now ≡ length lanes.now }
     requires rise { CpusRise (parts_of lanes.now) }

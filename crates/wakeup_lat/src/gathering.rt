@@ -8,7 +8,7 @@ ghost use Rattle.wakeup_pairs.specs.Pairs.{ArePairs};
 ghost use Rattle.wakeup_lat.specs.Roles.{all_seen};
 
 use crate::sight::Sight;
-use format_places::FormatRoles;
+use format_index::FormatRoles;
 use item_pass::{PassFault, pass};
 use page_pool::Pool;
 use report_print::Context;

@@ -6,7 +6,7 @@ ghost use Rattle.wakeup_lat.specs.Roles.{all_seen};
 ghost use Rattle.wakeup_lat.specs.Matter.{HasRoles, is_seen, matters};
 
 use crate::role::Role;
-use format_places::FormatRoles;
+use format_index::FormatRoles;
 use item_pass::Gatherer;
 use report_print::Context;
 use std::alloc::AllocError;

@@ -7,7 +7,6 @@ mod visits;
 
 use End::{Done, Malformed, Read, Write};
 use cpu_workers::{SHARED_FROM, Workers};
-use least_tree::LeastTree;
 use marks::{Marks, len_of, mark};
 use page_pool::Pool;
 use pages::{Page, bytes_of, open_lanes};
@@ -16,6 +15,7 @@ use std::alloc::{AllocError, Global};
 use std::test::Fail;
 use std::thread::Threads;
 use time_merge::End;
+use tournament_tree::TournamentTree;
 use trace_base::ByteText;
 use trace_outside::{File, Gate, MemFile, MemSink, NoGate, Pending, Sink};
 use trace_samples::layout;
@@ -53,8 +53,8 @@ fn report_behind<R: Threads + Sync, G: Gate, F: File, O: Sink>(
     let lanes = pool.lanes();
     open_lanes(&layout, lanes, counts, room);
     let mut work = RoundWork {
-        heads: LeastTree::new(alloc, counts.len() as u32)?,
-        highs: LeastTree::new(alloc, counts.len() as u32)?,
+        heads: TournamentTree::new(alloc, counts.len() as u32)?,
+        highs: TournamentTree::new(alloc, counts.len() as u32)?,
         moved: vec![in alloc; false; counts.len()]?,
         pending: Pending::new(alloc)?,
     };

@@ -6,12 +6,12 @@ ghost use Rattle.round_print.specs.Prints.{KeysRise, KeysUpTo, head_kept};
 ghost use Rattle.round_print.specs.Rounds.{AreRising};
 
 use Horizon::{All, Start, To};
-use least_tree::LeastTree;
 use page_pool::{Lane, Pool};
 use round_print::{head_kept, print_round};
 use std::alloc::{AllocError, Global};
 use std::test::Fail;
 use time_merge::Horizon;
+use tournament_tree::TournamentTree;
 use trace_outside::{Failed, MemSink, Pending, Sink};
 
 /// A line that is kept: its key, its text and its hole.
@@ -161,7 +161,7 @@ fn fill(lanes: &mut [Lane], lines: &Lines)
 }
 
 // Brings a tree in step with the lanes.
-fn take_heads(lanes: &[Lane], heads: &mut LeastTree)
+fn take_heads(lanes: &[Lane], heads: &mut TournamentTree)
     requires { length heads.old ≡ length lanes.now }
     ensures { heads.new ≡ map head_kept lanes.now }
 {
@@ -179,7 +179,7 @@ fn kept(lanes: &[Lane]) -> (u32, u32)
 fn print_rounds<O: Sink>(
     horizons: &[Horizon],
     lanes: &mut [Lane],
-    heads: &mut LeastTree,
+    heads: &mut TournamentTree,
     moved: &mut [bool],
     last: &mut Option<u64>,
     pending: &mut Pending,
@@ -219,7 +219,7 @@ fn prints(
     let mut pool = Pool::new(alloc, 2, 4096, room)?;
     let lanes = pool.lanes();
     fill(lanes, lines);
-    let mut heads = LeastTree::new(alloc, 2)?;
+    let mut heads = TournamentTree::new(alloc, 2)?;
     take_heads(lanes, &mut heads);
     let mut moved = [false; 2];
     let mut pending = Pending::new(alloc)?;

@@ -12,13 +12,13 @@ use super::watched::{Then, WatchedFile};
 use PieceEnd::{Done, Full};
 use PieceUnit::{All, Events, Nanos};
 use event_cursor::Place;
-use least_tree::LeastTree;
 use page_pool::{Lane, Pool};
 use split_passes::{PieceEnd, Tally, clear, measure, note_fronts, pack_all};
 use split_pieces::Gauge;
 use std::alloc::Global;
 use std::test::Fail;
 use time_merge::{End, make_all_ready};
+use tournament_tree::TournamentTree;
 use trace_base::{Layout, Part};
 use trace_outside::{Failed, File, MemSink, Sink};
 use trace_samples::Page::{Lossy, Malformed, Of};
@@ -200,7 +200,7 @@ pub(super) fn pass_piece<F: File, O: Sink>(
     lanes: &mut [Lane],
     unit: PieceUnit,
     stop: Option<Moment>,
-    nexts: &mut LeastTree,
+    nexts: &mut TournamentTree,
     page: &mut [u8],
     out: &mut O,
 ) -> Result<Passed, Failed>
@@ -268,7 +268,7 @@ fn put_pieces<F: File>(
     let unit = unit_of(words);
     let stop = stop_of(words);
     for _ in 0..8 {
-        let mut nexts = LeastTree::new(alloc, 2)?;
+        let mut nexts = TournamentTree::new(alloc, 2)?;
         let mut out = MemSink::new(alloc);
         let mut page = [0; PAGE];
         let Ok(passed) = pass_piece(
@@ -352,7 +352,7 @@ fn passes(
     let mut pool = Pool::new(alloc, 2, layout.page, 0)?;
     let lanes = pool.lanes();
     set_parts(&layout, lanes, [THREE[0].len(), THREE[1].len()]);
-    let mut nexts = LeastTree::new(alloc, 2)?;
+    let mut nexts = TournamentTree::new(alloc, 2)?;
     let mut page = [0; PAGE];
     match pass_piece(
         &layout, &mut file, lanes, All, None, &mut nexts, &mut page, &mut out,

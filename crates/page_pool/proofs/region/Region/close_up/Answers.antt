@@ -1,9 +1,9 @@
 use Rattle.std.proofs.Common.{◌≡◌, ℕ, ◌+◌, ◌-◌, List, ◌++◌, length, take, drop, map, replicate, sym, ap, subst, ◌∙◌, length-drop, arith}
 use Rattle.std.proofs.lemmas.List.{take_at}
 use Rattle.std.proofs.Math.Seq.{take-length}
-use Rattle.page_pool.specs.declared.region.LineMark.{LineMark}
+use Rattle.page_pool.specs.declared.region.LineEntry.{LineEntry}
 use Rattle.page_pool.specs.Lines.{Lines, earlier, joined}
-use Rattle.page_pool.proofs.LineMarks.{ends_le}
+use Rattle.page_pool.proofs.LineEntries.{ends_le}
 use Rattle.page_pool.specs.RegionView.{marks_of}
 use Rattle.page_pool.proofs.RegionLaws.{count_of}
 use Rattle.page_pool.proofs.ClosingUp.{kept_closed, ends_closed, holes_closed, free_closed}
@@ -20,11 +20,11 @@ pub invariant_of-self : goal.invariant_of-self
 invariant_of-self c =
     let is = c.self.invariant in
     let r = c.self.inside in
-    let new_marks : List LineMark = c.move_marks.new.marks in
+    let new_marks : List LineEntry = c.move_marks.new.marks in
     let new_text : List ℕ = c.move_bytes.new.bytes in
     let marks_long : length new_marks ≡ length r.marks.items = c.move_marks.ensures.long ∙ ap length c.as_mut_slice.ensures.value in
     let text_long : length new_text ≡ length r.text.items = c.move_bytes.ensures.long ∙ ap length c.as_mut_slice-2.ensures.value in
-    let marks : List LineMark = take r.marks.len (new_marks ++ drop (length new_marks) r.marks.items) in
+    let marks : List LineEntry = take r.marks.len (new_marks ++ drop (length new_marks) r.marks.items) in
     let text : List ℕ = take r.text.len (new_text ++ drop (length new_text) r.text.items) in
     let marks_are : marks ≡ new_marks = take_at new_marks (drop (length new_marks) r.marks.items) r.marks.len (marks_long ∙ sym r.marks.ok.0) in
     let text_is : text ≡ new_text = take_at new_text (drop (length new_text) r.text.items) r.text.len (text_long ∙ sym r.text.ok.0) in
@@ -34,7 +34,7 @@ invariant_of-self c =
     let count : c.len.result - r.first ≡ length (marks_of r) = omega (arith, c.len.ensures, r.marks.ok.0, length-drop r.first r.marks.items) in
     let marked : c.truncate.new.self.items ≡ map (earlier r.from) (marks_of r) =
     c.truncate.ensures.items ∙ ap (take (c.len.result - r.first)) marks_are ∙ c.move_marks.ensures.moved
-    ∙ ap (λ (ms : List LineMark). map (earlier r.from) (take (c.len.result - r.first) (drop r.first ms))) c.as_mut_slice.ensures.value
+    ∙ ap (λ (ms : List LineEntry). map (earlier r.from) (take (c.len.result - r.first) (drop r.first ms))) c.as_mut_slice.ensures.value
     ∙ ap (λ (n : ℕ). map (earlier r.from) (take n (marks_of r))) count ∙ ap (map (earlier r.from)) (take-length (marks_of r)) in
     let left : c.truncate.new.self.len ≡ r.marks.len - r.first = omega (arith, c.truncate.ensures.len, c.len.ensures) in
     record {
@@ -52,11 +52,11 @@ pub returns : goal.returns
 returns c =
     let is = c.self.invariant in
     let r = c.self.inside in
-    let new_marks : List LineMark = c.move_marks.new.marks in
+    let new_marks : List LineEntry = c.move_marks.new.marks in
     let new_text : List ℕ = c.move_bytes.new.bytes in
     let marks_long : length new_marks ≡ length r.marks.items = c.move_marks.ensures.long ∙ ap length c.as_mut_slice.ensures.value in
     let text_long : length new_text ≡ length r.text.items = c.move_bytes.ensures.long ∙ ap length c.as_mut_slice-2.ensures.value in
-    let marks : List LineMark = take r.marks.len (new_marks ++ drop (length new_marks) r.marks.items) in
+    let marks : List LineEntry = take r.marks.len (new_marks ++ drop (length new_marks) r.marks.items) in
     let text : List ℕ = take r.text.len (new_text ++ drop (length new_text) r.text.items) in
     let marks_are : marks ≡ new_marks = take_at new_marks (drop (length new_marks) r.marks.items) r.marks.len (marks_long ∙ sym r.marks.ok.0) in
     let text_is : text ≡ new_text = take_at new_text (drop (length new_text) r.text.items) r.text.len (text_long ∙ sym r.text.ok.0) in
@@ -66,7 +66,7 @@ returns c =
     let count : c.len.result - r.first ≡ length (marks_of r) = omega (arith, c.len.ensures, r.marks.ok.0, length-drop r.first r.marks.items) in
     let marked : c.truncate.new.self.items ≡ map (earlier r.from) (marks_of r) =
     c.truncate.ensures.items ∙ ap (take (c.len.result - r.first)) marks_are ∙ c.move_marks.ensures.moved
-    ∙ ap (λ (ms : List LineMark). map (earlier r.from) (take (c.len.result - r.first) (drop r.first ms))) c.as_mut_slice.ensures.value
+    ∙ ap (λ (ms : List LineEntry). map (earlier r.from) (take (c.len.result - r.first) (drop r.first ms))) c.as_mut_slice.ensures.value
     ∙ ap (λ (n : ℕ). map (earlier r.from) (take n (marks_of r))) count ∙ ap (map (earlier r.from)) (take-length (marks_of r)) in
     let left : c.truncate.new.self.len ≡ r.marks.len - r.first = omega (arith, c.truncate.ensures.len, c.len.ensures) in
     let Free : Lines → Type 0 = λ v. length (drop (r.to - r.from) text ++ replicate (r.room - r.text.len) 0) + length (joined v.kept) ≡ v.room in

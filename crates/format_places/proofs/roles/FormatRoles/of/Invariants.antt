@@ -1,5 +1,0 @@
-use Rattle.std.proofs.Common.{◌≡◌, map, take}
-use Rattle.format_places.proofs.roles.FormatRoles.of.Given as goal
-
-abbrev pub invariant-loop-i : goal.invariant-loop-i
-invariant-loop-i g l = l.roles.items ≡ map g.R.FormatRole.role_of (take l.i l.formats)
