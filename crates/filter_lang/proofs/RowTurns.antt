@@ -10,8 +10,8 @@ use Rattle.filter_lang.specs.ConditionReading.{Outcome, found, refused, ◌>>=�
 use Rattle.filter_lang.specs.TakenView.{Stops}
 use Rattle.filter_lang.specs.declared.reader.Reader.{Reader}
 use Rattle.filter_lang.specs.declared.token.Token.{Token}
-use Rattle.filter_lang.specs.declared.stop.Stop.{Stop}
-use Rattle.filter_lang.specs.declared.stop.Stop.TheVariants.{Memory, Before}
+use Rattle.filter_lang.specs.declared.parse_fault.ParseFault.{ParseFault}
+use Rattle.filter_lang.specs.declared.parse_fault.ParseFault.TheVariants.{Memory, Before}
 use Rattle.c_operators.specs.declared.binary.BinaryOp.{BinaryOp}
 use Rattle.filter_lang.specs.declared.expr.FilterOperand.{FilterOperand}
 
@@ -86,6 +86,6 @@ pub left_long : (r : Reader) (at : ℕ) → length r.tokens.now ≤ at + length 
 left_long r at = long r.tokens.now at
 
 -- a stop below is a stop above
-pub passed : {A B : Type 0} (r : Reader) (e : Stop) (below : Outcome A) (above : Outcome B) → ((rs : List PlainToken) → below ≡ refused rs → above ≡ refused rs) → Stops r e below → Stops r e above
+pub passed : {A B : Type 0} (r : Reader) (e : ParseFault) (below : Outcome A) (above : Outcome B) → ((rs : List PlainToken) → below ≡ refused rs → above ≡ refused rs) → Stops r e below → Stops r e above
 passed r Memory below above f h = tt
 passed r (Before at) below above f h = f (from r at) h

@@ -12,8 +12,8 @@ use Rattle.filter_lang.specs.declared.filter.Filter.{Filter}
 use Rattle.filter_lang.specs.declared.taken.TakenEvent.{TakenEvent}
 use Rattle.filter_lang.specs.declared.taken.TakenEvents.{TakenEvents}
 use Rattle.filter_lang.specs.declared.reader.Reader.{Reader}
-use Rattle.filter_lang.specs.declared.stop.Stop.{Stop}
-use Rattle.filter_lang.specs.declared.stop.Stop.TheVariants.{Memory, Before}
+use Rattle.filter_lang.specs.declared.parse_fault.ParseFault.{ParseFault}
+use Rattle.filter_lang.specs.declared.parse_fault.ParseFault.TheVariants.{Memory, Before}
 use Rattle.filter_lang.specs.declared.token.Token.{Token}
 
 abbrev pub name_of : EventName → EventNameData
@@ -37,10 +37,10 @@ abbrev pub filter_view : Reader → Filter → Outcome FilterData
 filter_view r f = found (filter_of f) []
 
 -- What was answered: a filter that the tokens are, or the place where they are refused.
-abbrev pub Stands : List Token → Stop → Type 0
+abbrev pub Stands : List Token → ParseFault → Type 0
 Stands ts Memory = Unit {0}
 Stands ts (Before at) = RefusedBefore (plain_tokens ts) (drop at (plain_tokens ts))
 
-abbrev pub Answers : List Token → Result Filter Stop → Type 0
+abbrev pub Answers : List Token → Result Filter ParseFault → Type 0
 Answers ts (Ok f) = IsFilter (plain_tokens ts) (filter_of f)
 Answers ts (Err e) = Stands ts e

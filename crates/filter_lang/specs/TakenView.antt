@@ -4,18 +4,18 @@ use Rattle.filter_lang.specs.TreeView.{tree_of}
 use Rattle.filter_lang.specs.ReaderView.{from}
 use Rattle.filter_lang.specs.ConditionReading.{Outcome, found, refused}
 use Rattle.filter_lang.specs.declared.reader.Reader.{Reader}
-use Rattle.filter_lang.specs.declared.stop.Stop.{Stop}
-use Rattle.filter_lang.specs.declared.stop.Stop.TheVariants.{Memory, Before}
+use Rattle.filter_lang.specs.declared.parse_fault.ParseFault.{ParseFault}
+use Rattle.filter_lang.specs.declared.parse_fault.ParseFault.TheVariants.{Memory, Before}
 use Rattle.filter_lang.specs.declared.taken.Taken.{Taken}
 
 abbrev pub taken : Reader → Taken → Outcome Tree
 taken r t = found (tree_of t.expr.value) (from r t.next)
 
 -- What a call returned is what reading gives, unless memory ran out.
-abbrev pub Stops : {A : Type 0} → Reader → Stop → Outcome A → Type 0
+abbrev pub Stops : {A : Type 0} → Reader → ParseFault → Outcome A → Type 0
 Stops r Memory read = Unit {0}
 Stops r (Before at) read = read ≡ refused (from r at)
 
-abbrev pub Gives : {X A : Type 0} → Reader → (Reader → X → Outcome A) → Result X Stop → Outcome A → Type 0
+abbrev pub Gives : {X A : Type 0} → Reader → (Reader → X → Outcome A) → Result X ParseFault → Outcome A → Type 0
 Gives r view (Ok x) read = read ≡ view r x
 Gives r view (Err e) read = Stops r e read

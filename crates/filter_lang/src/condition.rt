@@ -8,8 +8,8 @@ ghost use Rattle.filter_lang.specs.TakenView.{taken, Gives};
 
 use crate::expr::{FilterOperand, FilterPrefix};
 use crate::make::{chained, counted, named, prefixed, quoted};
+use crate::parse_fault::ParseFault;
 use crate::reader::Reader;
-use crate::stop::Stop;
 use crate::taken::Taken;
 use crate::token::Word;
 
@@ -20,7 +20,7 @@ impl<'a> Reader<'a> {
     /// The operators of a level and of those that bind tighter.
     #[cycle(parser)]
     #[tactic(auto, using(crate::proofs::Steps::level_refused, crate::proofs::Steps::level_row, crate::proofs::Steps::level_zero))]
-    pub fn level(&self, level: u32, room: u32, at: usize) -> Result<Taken, Stop>
+    pub fn level(&self, level: u32, room: u32, at: usize) -> Result<Taken, ParseFault>
         requires inside { at ≤ length self.now.tokens.now }
         requires top { level ≤ 10 }
         ensures value { Gives self.now taken result (level_at room level (from self.now at)) }
@@ -35,7 +35,7 @@ impl<'a> Reader<'a> {
 
     /// The operators of a level after their first operand.
     #[cycle(parser)]
-    fn row(&self, level: u32, room: u32, first: Taken) -> Result<Taken, Stop>
+    fn row(&self, level: u32, room: u32, first: Taken) -> Result<Taken, ParseFault>
         requires inside { first.next ≤ length self.now.tokens.now }
         requires some { 0 < level }
         requires top { level ≤ 10 }
@@ -65,15 +65,15 @@ impl<'a> Reader<'a> {
     /// A value, a bracket, or a prefix operator and what it applies to.
     #[cycle(parser)]
     #[tactic(auto, using(crate::proofs::Steps::unary_end, crate::proofs::Steps::unary_digits, crate::proofs::Steps::unary_quoted, crate::proofs::Steps::unary_identifier, crate::proofs::Steps::unary_bracket, crate::proofs::Steps::unary_under, crate::proofs::Steps::unary_no_bracket, crate::proofs::Steps::unary_no_room))]
-    fn unary(&self, room: u32, at: usize) -> Result<Taken, Stop>
+    fn unary(&self, room: u32, at: usize) -> Result<Taken, ParseFault>
         requires inside { at ≤ length self.now.tokens.now }
         ensures value { Gives self.now taken result (unary_at room (from self.now at)) }
         ensures bound { IfOk result (λ t. (at < t.next) × (t.next ≤ length self.now.tokens.now)) }
     {
-        let word = self.word(at).ok_or(Stop::Before(at))?;
+        let word = self.word(at).ok_or(ParseFault::Before(at))?;
         if let Some(op) = word.prefix() {
             if room == 0 {
-                return Err(Stop::Before(at));
+                return Err(ParseFault::Before(at));
             }
             return self.under(room - 1, op, at + 1);
         }
@@ -83,18 +83,18 @@ impl<'a> Reader<'a> {
             Word::Field(bytes) => named(self.alloc, bytes)?,
             Word::Open => {
                 if room == 0 {
-                    return Err(Stop::Before(at));
+                    return Err(ParseFault::Before(at));
                 }
                 return self.bracket(room - 1, at + 1);
             }
-            _ => return Err(Stop::Before(at)),
+            _ => return Err(ParseFault::Before(at)),
         };
         Ok(Taken { expr, next: at + 1 })
     }
 
     /// A condition in brackets, from just after the opening one.
     #[cycle(parser)]
-    fn bracket(&self, room: u32, at: usize) -> Result<Taken, Stop>
+    fn bracket(&self, room: u32, at: usize) -> Result<Taken, ParseFault>
         requires inside { at ≤ length self.now.tokens.now }
         requires room { room < 2 ^ 32 - 1 }
         ensures value { Gives self.now taken result (bracket_in (unary_at room) (from self.now at)) }
@@ -106,13 +106,13 @@ impl<'a> Reader<'a> {
                 expr: inner.expr,
                 next: inner.next + 1,
             }),
-            _ => Err(Stop::Before(inner.next)),
+            _ => Err(ParseFault::Before(inner.next)),
         }
     }
 
     /// What a prefix operator applies to.
     #[cycle(parser)]
-    fn under(&self, room: u32, op: FilterPrefix, at: usize) -> Result<Taken, Stop>
+    fn under(&self, room: u32, op: FilterPrefix, at: usize) -> Result<Taken, ParseFault>
         requires inside { at ≤ length self.now.tokens.now }
         requires room { room < 2 ^ 32 - 1 }
         ensures value { Gives self.now taken result (under (unary_at room) op (from self.now at)) }

@@ -7,8 +7,8 @@ ghost use Rattle.filter_lang.specs.FilterView.{name_of, filter_of, closing_with,
 ghost use Rattle.filter_lang.specs.TakenView.{Gives};
 
 use crate::filter::{EventName, Filter};
+use crate::parse_fault::ParseFault;
 use crate::reader::Reader;
-use crate::stop::Stop;
 use crate::taken::{TakenEvent, TakenEvents};
 use trace_base::{ByteText, ListOf};
 
@@ -18,12 +18,12 @@ const DEEPEST: u32 = 64;
 impl<'a> Reader<'a> {
     /// The name of an event.
     #[tactic(auto, using(crate::proofs::EventSteps::no_name, crate::proofs::EventSteps::one_name_alone, crate::proofs::EventSteps::no_second, crate::proofs::EventSteps::two_names_there))]
-    fn event(&self, at: usize) -> Result<TakenEvent, Stop>
+    fn event(&self, at: usize) -> Result<TakenEvent, ParseFault>
         requires inside { at ≤ length self.now.tokens.now }
         ensures value { Gives self.now event_view result (names (from self.now at) naming) }
         ensures bound { IfOk result (λ t. (at < t.next) × (t.next ≤ length self.now.tokens.now)) }
     {
-        let first = self.name(at).ok_or(Stop::Before(at))?;
+        let first = self.name(at).ok_or(ParseFault::Before(at))?;
         let first = ByteText::copy(self.alloc, first)?;
         if !self.is_slash(at + 1) {
             let event = EventName {
@@ -35,7 +35,7 @@ impl<'a> Reader<'a> {
                 next: at + 1,
             });
         }
-        let second = self.name(at + 2).ok_or(Stop::Before(at + 2))?;
+        let second = self.name(at + 2).ok_or(ParseFault::Before(at + 2))?;
         let second = Some(ByteText::copy(self.alloc, second)?);
         let event = EventName { first, second };
         Ok(TakenEvent {
@@ -46,7 +46,7 @@ impl<'a> Reader<'a> {
 
     /// The names of the events.
     #[tactic(auto, using(crate::proofs::EventSteps::over_here, crate::proofs::EventSteps::comma_stops))]
-    fn events(&self) -> Result<TakenEvents, Stop>
+    fn events(&self) -> Result<TakenEvents, ParseFault>
         ensures value { Gives self.now events_view result (names (from self.now 0) naming) }
         ensures bound { IfOk result (λ t. t.next ≤ length self.now.tokens.now) }
     {
@@ -64,7 +64,7 @@ impl<'a> Reader<'a> {
 
     /// All of a filter.
     #[tactic(auto, using(crate::proofs::EventSteps::no_events, crate::proofs::EventSteps::events_only, crate::proofs::EventSteps::other_behind, crate::proofs::EventSteps::cond_stops, crate::proofs::EventSteps::cond_goes_on, crate::proofs::EventSteps::cond_is_all, crate::proofs::EventSteps::end_there, crate::proofs::EventSteps::some_there))]
-    pub fn filter(&self) -> Result<Filter, Stop>
+    pub fn filter(&self) -> Result<Filter, ParseFault>
         ensures { Gives self.now filter_view result (filter_in (from self.now 0)) }
     {
         let events = self.events()?;
@@ -75,11 +75,11 @@ impl<'a> Reader<'a> {
             });
         }
         if !self.is_colon(events.next) {
-            return Err(Stop::Before(events.next));
+            return Err(ParseFault::Before(events.next));
         }
         let cond = self.level(10, DEEPEST, events.next + 1)?;
         if cond.next != self.tokens.len() {
-            return Err(Stop::Before(cond.next));
+            return Err(ParseFault::Before(cond.next));
         }
         Ok(Filter {
             events: ListOf::from_vec(events.events),

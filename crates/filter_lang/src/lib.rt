@@ -17,9 +17,9 @@ pub mod laws;
 mod lexer;
 mod make;
 mod number;
+mod parse_fault;
 mod parser;
 mod reader;
-mod stop;
 mod taken;
 mod token;
 

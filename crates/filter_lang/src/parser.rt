@@ -8,13 +8,13 @@ ghost use Rattle.filter_lang.specs.Texts.{IsFilterText};
 use crate::fault::FilterFault;
 use crate::filter::Filter;
 use crate::lexer::lex;
+use crate::parse_fault::ParseFault;
 use crate::reader::Reader;
-use crate::stop::Stop;
 use crate::token::Token;
 use std::alloc::Global;
 
 /// The filter that tokens are, or the place of the first token with which no filter goes on.
-fn parse_tokens<'a>(alloc: Global, tokens: &'a [Token<'a>]) -> Result<Filter, Stop>
+fn parse_tokens<'a>(alloc: Global, tokens: &'a [Token<'a>]) -> Result<Filter, ParseFault>
     ensures { Answers tokens.now result }
 {
     Reader { alloc, tokens }.filter()
@@ -40,7 +40,7 @@ pub fn parse_filter(alloc: Global, text: &[u8]) -> Result<Filter, FilterFault>
             }
             Ok(filter)
         }
-        Err(Stop::Before(at)) => Err(FilterFault::At(lexed.place(at) as u64)),
-        Err(Stop::Memory) => Err(FilterFault::Memory),
+        Err(ParseFault::Before(at)) => Err(FilterFault::At(lexed.place(at) as u64)),
+        Err(ParseFault::Memory) => Err(FilterFault::Memory),
     }
 }

@@ -15,7 +15,7 @@ use Rattle.fmt_expr.specs.Derivation.{IsCond, plain, conditional, IsLevel, unary
 use Rattle.c_operators.specs.declared.binary.BinaryOp.{BinaryOp}
 use Rattle.fmt_expr.specs.declared.expr.PrefixOp.{PrefixOp}
 use Rattle.fmt_expr.specs.declared.head.Got.{Got}
-use Rattle.fmt_expr.specs.declared.head.Call.TheVariants.{Get, SizeOf, Flags, Symbolic, Hex, Array}
+use Rattle.fmt_expr.specs.declared.head.Builtin.TheVariants.{Get, SizeOf, Flags, Symbolic, Hex, Array}
 use Rattle.fmt_expr.specs.declared.kinds.Kind.TheVariants.{Number}
 use Rattle.fmt_expr.proofs.Layers.{at_operator, at_open, at_record, at_call, at_other, more_unary, more_cond, cond_plain, cond_choice}
 use Rattle.fmt_expr.proofs.RowTurns.{turn}

@@ -10,8 +10,8 @@ use Rattle.fmt_expr.specs.Parsing.{Found, found, FmtData, deepest, cond_at, args
 use Rattle.fmt_expr.specs.Derivation.{AreArgs, ended, argument, IsFmtOf}
 use Rattle.std.proofs.lemmas.List.{append_assoc, append-nil}
 use Rattle.fmt_expr.specs.Steps.{Stops}
-use Rattle.fmt_expr.specs.declared.stop.Stop.{Stop}
-use Rattle.fmt_expr.specs.declared.stop.Stop.TheVariants.{Memory, NoTree}
+use Rattle.fmt_expr.specs.declared.fault.ParseFault.{ParseFault}
+use Rattle.fmt_expr.specs.declared.fault.ParseFault.TheVariants.{Memory, NoTree}
 use Rattle.fmt_expr.specs.TreeView.{tree_of}
 use Rattle.fmt_expr.specs.declared.expr.Expr.{Expr}
 use Rattle.fmt_expr.specs.FmtView.{fmt_of}
@@ -115,7 +115,7 @@ pushed_arg [] e = refl
 pushed_arg (f ∷ es) e = ap (λ (ts : List Tree). tree_of f ∷ ts) (pushed_arg es e)
 
 -- a stop below is a stop above
-pub passed_args : (e : Stop) (below : Option Found) (above : Option (List Tree)) → (below ≡ None → above ≡ None) → Stops e below → Stops e above
+pub passed_args : (e : ParseFault) (below : Option Found) (above : Option (List Tree)) → (below ≡ None → above ≡ None) → Stops e below → Stops e above
 passed_args Memory below above f h = tt
 passed_args NoTree below above f h = f h
 

@@ -4,9 +4,9 @@ use Rattle.fmt_expr.specs.Source.{Source, is_mark}
 use Rattle.fmt_expr.specs.Heads.{head_at}
 use Rattle.fmt_expr.specs.Parsing.{Found, Read, Inner, level_at, choice_at, cond_with, field_at, open_at, prefixed_at, call_by, leaf_at, unary_by, unary_with, top, layer, within, inner_of, unary_at, cond_at, inner_unary, inner_cond}
 use Rattle.fmt_expr.specs.declared.expr.PrefixOp.{PrefixOp}
-use Rattle.fmt_expr.specs.declared.head.Call.{Call}
+use Rattle.fmt_expr.specs.declared.head.Builtin.{Builtin}
 use Rattle.fmt_expr.specs.declared.head.Head.{Head}
-use Rattle.fmt_expr.specs.declared.head.Head.TheVariants.{Operator, Open, Record, Call as Called, Other}
+use Rattle.fmt_expr.specs.declared.head.Head.TheVariants.{Operator, Open, Record, Builtin as Called, Other}
 
 pub within_is : (s : Source) (left : ℕ) → within s left ≡ layer s left (inner_of s left)
 unfolding within inner_of
@@ -60,7 +60,7 @@ at_open s left i e = by_head s left i Open e
 pub at_record : (s : Source) (left i : ℕ) → head_at s i ≡ Record → unary_at s left i ≡ field_at s (inner_cond s left) i
 at_record s left i e = by_head s left i Record e
 
-pub at_call : (s : Source) (left i : ℕ) (call : Call) → head_at s i ≡ Called call → unary_at s left i ≡ call_by s left (inner_of s left) i call
+pub at_call : (s : Source) (left i : ℕ) (call : Builtin) → head_at s i ≡ Called call → unary_at s left i ≡ call_by s left (inner_of s left) i call
 at_call s left i call e = by_head s left i (Called call) e
 
 pub at_other : (s : Source) (left i : ℕ) → head_at s i ≡ Other → unary_at s left i ≡ leaf_at s i

@@ -16,8 +16,8 @@ use Rattle.fmt_expr.specs.Ops.{if_level, op_at}
 use Rattle.fmt_expr.specs.Kinds.{same_kind}
 use Rattle.c_operators.specs.declared.binary.BinaryOp.{BinaryOp}
 use Rattle.fmt_expr.specs.declared.expr.PrefixOp.{PrefixOp}
-use Rattle.fmt_expr.specs.declared.head.Call.{Call}
-use Rattle.fmt_expr.specs.declared.head.Head.TheVariants.{Operator, Open, Record, Call as Called, Other}
+use Rattle.fmt_expr.specs.declared.head.Builtin.{Builtin}
+use Rattle.fmt_expr.specs.declared.head.Head.TheVariants.{Operator, Open, Record, Builtin as Called, Other}
 use Rattle.fmt_expr.specs.declared.kinds.Kind.{Kind}
 use Rattle.fmt_expr.specs.declared.kinds.Kind.TheVariants as kinds
 use Rattle.fmt_expr.proofs.Chances.{option_cases}
@@ -107,7 +107,7 @@ unfolding constant_at head_at name_at literal_at
 text_head s i x e = token_text s.text s.long (slice_get s.tokens i) x e
 
 -- what a name begins
-name_cases : (n : List ℕ) → ((name_head n ≡ Record) × (n ≡ codes "REC")) ⊎ (((c : Call) × (name_head n ≡ Called c)) ⊎ (name_head n ≡ Other))
+name_cases : (n : List ℕ) → ((name_head n ≡ Record) × (n ≡ codes "REC")) ⊎ (((c : Builtin) × (name_head n ≡ Called c)) ⊎ (name_head n ≡ Other))
 unfolding name_head
 name_cases n = elim (cases_Bool (bytes_eq n (codes "REC"))) [
   | inl is ↦ inl (rw is refl, (bytes_eq-Decides n (codes "REC")).0 is)

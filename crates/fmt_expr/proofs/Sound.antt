@@ -16,10 +16,10 @@ use Rattle.fmt_expr.specs.Parsing.{Found, found, Row, row, Read, Inner, nothing,
 use Rattle.fmt_expr.specs.Derivation.{IsCond, plain, conditional, IsLevel, unary, single, several, IsRow, no_more, goes_on, IsUnary, prefixed, bracketed, casted, field, indexed, constant, texts, sized, got, flagged, symbolized, in_hex, in_array, IsEntry, braced, AreEntries, last, further}
 use Rattle.fmt_expr.specs.declared.expr.PrefixOp.{PrefixOp}
 use Rattle.fmt_expr.specs.declared.head.Got.{Got}
-use Rattle.fmt_expr.specs.declared.head.Call.{Call}
-use Rattle.fmt_expr.specs.declared.head.Call.TheVariants.{Get, SizeOf, Flags, Symbolic, Hex, Array}
+use Rattle.fmt_expr.specs.declared.head.Builtin.{Builtin}
+use Rattle.fmt_expr.specs.declared.head.Builtin.TheVariants.{Get, SizeOf, Flags, Symbolic, Hex, Array}
 use Rattle.fmt_expr.specs.declared.head.Head.{Head}
-use Rattle.fmt_expr.specs.declared.head.Head.TheVariants.{Operator, Open, Record, Call as Called, Other}
+use Rattle.fmt_expr.specs.declared.head.Head.TheVariants.{Operator, Open, Record, Builtin as Called, Other}
 use Rattle.fmt_expr.specs.declared.kinds.Kind.TheVariants.{Number}
 use Rattle.fmt_expr.proofs.Chances.{bind_some, map_some, guarded, chosen, some_is, option_cases, none_is}
 use Rattle.fmt_expr.proofs.NoTypes.{closed_parts}
@@ -284,7 +284,7 @@ module _ (s : Source) (n : ℕ) (inner : Inner) (deeper : Deeper s n inner) wher
       let count = subst (λ k. IsCond s k c.0.tree c.0.nest c.0.next) (sym a.4) d.0 in
       subst (Unary s n i) (some_is _ y z.2) (in_array is a.1 a.2 bytes.0 a.3 count d.1 d.2 f.0 f.1 f.2, omega (arith, a.5, d.3, f.3))
 
-  call_sound : (i : ℕ) (y : Found) (call : Call) → head_at s i ≡ Called call → call_by s n inner i call ≡ Some y → Unary s n i y
+  call_sound : (i : ℕ) (y : Found) (call : Builtin) → head_at s i ≡ Called call → call_by s n inner i call ≡ Some y → Unary s n i y
   call_sound i y (Get get) is e = got_sound i get y is e
   call_sound i y SizeOf is e = sized_sound i y is e
   call_sound i y Flags is e = flags_sound i y is e

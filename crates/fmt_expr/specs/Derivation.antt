@@ -16,8 +16,8 @@ use Rattle.fmt_expr.specs.Parsing.{FmtData}
 use Rattle.c_operators.specs.declared.binary.BinaryOp.{BinaryOp}
 use Rattle.fmt_expr.specs.declared.expr.PrefixOp.{PrefixOp}
 use Rattle.fmt_expr.specs.declared.head.Got.{Got}
-use Rattle.fmt_expr.specs.declared.head.Call.TheVariants.{Get, SizeOf, Flags, Symbolic, Hex, Array}
-use Rattle.fmt_expr.specs.declared.head.Head.TheVariants.{Operator, Open, Record, Call}
+use Rattle.fmt_expr.specs.declared.head.Builtin.TheVariants.{Get, SizeOf, Flags, Symbolic, Hex, Array}
+use Rattle.fmt_expr.specs.declared.head.Head.TheVariants.{Operator, Open, Record, Builtin}
 use Rattle.fmt_expr.specs.declared.kinds.Kind.TheVariants.{Number}
 
 mutual
@@ -58,23 +58,23 @@ mutual
     -- one or more texts
     texts : {i j : ℕ} {text : List ℕ} → AreTexts s i text j → IsUnary s i (literal text) 0 j
     -- "sizeof" "(" type ")"
-    sized : {i n : ℕ} {type : TypeName} → head_at s i ≡ Call SizeOf → mark_at s (i + 1) ≡ Some (codes "(") → type_at s (i + 2) ≡ Some type → mark_at s type.next ≡ Some (codes ")")
+    sized : {i n : ℕ} {type : TypeName} → head_at s i ≡ Builtin SizeOf → mark_at s (i + 1) ≡ Some (codes "(") → type_at s (i + 2) ≡ Some type → mark_at s type.next ≡ Some (codes ")")
         → size_of type.words type.stars s.long ≡ Some n → IsUnary s i (number n (unsigned_long s.long)) 0 (type.next + 1)
     -- a `__get_` call "(" name ")"
-    got : {i : ℕ} {f : Field} {get : Got} → head_at s i ≡ Call (Get get) → dynamic_at s i ≡ Some f → IsUnary s i (got_tree f get) 1 (i + 4)
+    got : {i : ℕ} {f : Field} {get : Got} → head_at s i ≡ Builtin (Get get) → dynamic_at s i ≡ Some f → IsUnary s i (got_tree f get) 1 (i + 4)
     -- "__print_flags" "(" cond "," texts "," entries ")"
-    flagged : {i j m k l h g e : ℕ} {t u : Tree} {between text : List ℕ} {rest : Entries} → head_at s i ≡ Call Flags → mark_at s (i + 1) ≡ Some (codes "(")
+    flagged : {i j m k l h g e : ℕ} {t u : Tree} {between text : List ℕ} {rest : Entries} → head_at s i ≡ Builtin Flags → mark_at s (i + 1) ≡ Some (codes "(")
         → IsCond s (i + 2) t h j → kind_of t ≡ Number → mark_at s j ≡ Some (codes ",") → AreTexts s (j + 1) between m → mark_at s m ≡ Some (codes ",")
         → IsEntry s (m + 1) u text g k → AreEntries s k rest e l → mark_at s l ≡ Some (codes ")") → IsUnary s i (flags t between (entry u text rest)) (1 + max h (max g e)) (l + 1)
     -- "__print_symbolic" "(" cond "," entries ")"
-    symbolized : {i j k l h g e : ℕ} {t u : Tree} {text : List ℕ} {rest : Entries} → head_at s i ≡ Call Symbolic → mark_at s (i + 1) ≡ Some (codes "(")
+    symbolized : {i j k l h g e : ℕ} {t u : Tree} {text : List ℕ} {rest : Entries} → head_at s i ≡ Builtin Symbolic → mark_at s (i + 1) ≡ Some (codes "(")
         → IsCond s (i + 2) t h j → kind_of t ≡ Number → mark_at s j ≡ Some (codes ",") → IsEntry s (j + 1) u text g k → AreEntries s k rest e l → mark_at s l ≡ Some (codes ")")
         → IsUnary s i (symbolic t (entry u text rest)) (1 + max h (max g e)) (l + 1)
     -- "__print_hex" "(" cond "," cond ")"
-    in_hex : {i j k h g : ℕ} {t u : Tree} → head_at s i ≡ Call Hex → mark_at s (i + 1) ≡ Some (codes "(") → IsCond s (i + 2) t h j → IsTrue (has_bytes t) → mark_at s j ≡ Some (codes ",")
+    in_hex : {i j k h g : ℕ} {t u : Tree} → head_at s i ≡ Builtin Hex → mark_at s (i + 1) ≡ Some (codes "(") → IsCond s (i + 2) t h j → IsTrue (has_bytes t) → mark_at s j ≡ Some (codes ",")
         → IsCond s (j + 1) u g k → kind_of u ≡ Number → mark_at s k ≡ Some (codes ")") → IsUnary s i (hex t u) (1 + max h g) (k + 1)
     -- "__print_array" "(" cond "," cond "," cond ")"
-    in_array : {i j k l h g e : ℕ} {t u v : Tree} → head_at s i ≡ Call Array → mark_at s (i + 1) ≡ Some (codes "(") → IsCond s (i + 2) t h j → IsTrue (has_bytes t) → mark_at s j ≡ Some (codes ",")
+    in_array : {i j k l h g e : ℕ} {t u v : Tree} → head_at s i ≡ Builtin Array → mark_at s (i + 1) ≡ Some (codes "(") → IsCond s (i + 2) t h j → IsTrue (has_bytes t) → mark_at s j ≡ Some (codes ",")
         → IsCond s (j + 1) u g k → kind_of u ≡ Number → mark_at s k ≡ Some (codes ",") → IsCond s (k + 1) v e l → kind_of v ≡ Number → mark_at s l ≡ Some (codes ")")
         → IsUnary s i (array t u v) (1 + max h (max g e)) (l + 1)
 

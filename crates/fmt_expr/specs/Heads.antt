@@ -8,10 +8,10 @@ use Rattle.fmt_expr.specs.Source.{Source}
 use Rattle.fmt_expr.specs.declared.expr.PrefixOp.{PrefixOp}
 use Rattle.fmt_expr.specs.declared.expr.PrefixOp.TheVariants.{LogicNot, Invert, Plus as Positive, Minus as Negative}
 use Rattle.fmt_expr.specs.declared.head.Got.TheVariants.{Text as GotText, Bytes as GotBytes, Length as GotLength}
-use Rattle.fmt_expr.specs.declared.head.Call.{Call}
-use Rattle.fmt_expr.specs.declared.head.Call.TheVariants.{Get, SizeOf, Flags, Symbolic, Hex, Array}
+use Rattle.fmt_expr.specs.declared.head.Builtin.{Builtin}
+use Rattle.fmt_expr.specs.declared.head.Builtin.TheVariants.{Get, SizeOf, Flags, Symbolic, Hex, Array}
 use Rattle.fmt_expr.specs.declared.head.Head.{Head}
-use Rattle.fmt_expr.specs.declared.head.Head.TheVariants.{Operator, Open, Record, Call as Called, Other}
+use Rattle.fmt_expr.specs.declared.head.Head.TheVariants.{Operator, Open, Record, Builtin as Called, Other}
 
 -- C11 6.5.3.3
 unfoldable pub prefix_of : List ℕ → Option PrefixOp
@@ -23,7 +23,7 @@ prefix_of m =
     else None
 
 -- the calls that give something of a field
-unfoldable pub get_of : List ℕ → Option Call
+unfoldable pub get_of : List ℕ → Option Builtin
 get_of n =
     if bytes_eq n (codes "__get_str") then Some (Get GotText)
     else if bytes_eq n (codes "__get_rel_str") then Some (Get GotText)
@@ -34,7 +34,7 @@ get_of n =
     else None
 
 -- the other calls
-unfoldable pub print_of : List ℕ → Option Call
+unfoldable pub print_of : List ℕ → Option Builtin
 print_of n =
     if bytes_eq n (codes "sizeof") then Some SizeOf
     else if bytes_eq n (codes "__print_flags") then Some Flags
@@ -43,15 +43,15 @@ print_of n =
     else if bytes_eq n (codes "__print_array") then Some Array
     else None
 
-abbrev pub or_print : List ℕ → Option Call → Option Call
+abbrev pub or_print : List ℕ → Option Builtin → Option Builtin
 or_print n (Some call) = Some call
 or_print n None = print_of n
 
 -- the call of a name
-unfoldable pub call_of : List ℕ → Option Call
+unfoldable pub call_of : List ℕ → Option Builtin
 call_of n = or_print n (get_of n)
 
-abbrev pub called : Option Call → Head
+abbrev pub called : Option Builtin → Head
 called (Some call) = Called call
 called None = Other
 

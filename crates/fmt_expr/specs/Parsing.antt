@@ -16,10 +16,10 @@ use Rattle.fmt_expr.specs.Steps.{◌>>◌}
 use Rattle.c_operators.specs.declared.binary.BinaryOp.{BinaryOp}
 use Rattle.fmt_expr.specs.declared.expr.PrefixOp.{PrefixOp}
 use Rattle.fmt_expr.specs.declared.head.Got.{Got}
-use Rattle.fmt_expr.specs.declared.head.Call.{Call}
-use Rattle.fmt_expr.specs.declared.head.Call.TheVariants.{Get, SizeOf, Flags, Symbolic, Hex, Array}
+use Rattle.fmt_expr.specs.declared.head.Builtin.{Builtin}
+use Rattle.fmt_expr.specs.declared.head.Builtin.TheVariants.{Get, SizeOf, Flags, Symbolic, Hex, Array}
 use Rattle.fmt_expr.specs.declared.head.Head.{Head}
-use Rattle.fmt_expr.specs.declared.head.Head.TheVariants.{Operator, Open, Record, Call as Called, Other}
+use Rattle.fmt_expr.specs.declared.head.Head.TheVariants.{Operator, Open, Record, Builtin as Called, Other}
 
 -- a tree, how deep it nests, and the place after it
 pub record Found : Type 0 where
@@ -259,7 +259,7 @@ open_by s inner i None = bracket_at s inner.cond i
 unfoldable pub open_at : Source → Inner → Read
 open_at s inner i = open_by s inner i (closed_type s (i + 1))
 
-abbrev pub call_by : Source → ℕ → Inner → ℕ → Call → Option Found
+abbrev pub call_by : Source → ℕ → Inner → ℕ → Builtin → Option Found
 call_by s left inner i (Get get) = got_at s left get i
 call_by s left inner i SizeOf = sized_at s i
 call_by s left inner i Flags = flags_at s inner.cond i

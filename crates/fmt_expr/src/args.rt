@@ -10,9 +10,9 @@ ghost use Rattle.fmt_expr.specs.TreeView.{tree_of};
 ghost use Rattle.fmt_expr.specs.FmtView.{fmt_of};
 
 use crate::expr::Expr;
+use crate::fault::ParseFault;
 use crate::print_fmt::PrintFmt;
 use crate::reader::Reader;
-use crate::stop::Stop;
 use field_names::FieldNames;
 use fmt_lexer::Token;
 use std::alloc::{AllocError, Global};
@@ -23,7 +23,7 @@ const DEEPEST: u32 = 64;
 
 impl<'a> Reader<'a> {
     /// The arguments from a place to the end.
-    fn args(&self, at: usize) -> Result<Vec<Expr>, Stop>
+    fn args(&self, at: usize) -> Result<Vec<Expr>, ParseFault>
         requires { (at ≤ length self.now.tokens.now) × (1 ≤ at) }
         ensures { Gives (λ v. map tree_of v.items) result (args_at (source self.now) (length self.now.tokens.now) at) }
     {
@@ -31,7 +31,7 @@ impl<'a> Reader<'a> {
         let mut next = at;
         while next != self.tokens.len() {
             if !self.is_mark(next, b",") {
-                return Err(Stop::NoTree);
+                return Err(ParseFault::NoTree);
             }
             let arg = self.cond(DEEPEST, next + 1)?;
             next = arg.next;
@@ -42,7 +42,7 @@ impl<'a> Reader<'a> {
 
     /// The whole print fmt.
     #[tactic(auto, unfolding(crate::specs::Parsing::fmt_in))]
-    fn fmt(&self) -> Result<PrintFmt, Stop>
+    fn fmt(&self) -> Result<PrintFmt, ParseFault>
         ensures { Gives fmt_of result (fmt_in (source self.now)) }
     {
         let text = self.text(0)?;
@@ -77,8 +77,8 @@ fn given(
     };
     match reader.fmt() {
         Ok(fmt) => Ok(Some(fmt)),
-        Err(Stop::NoTree) => Ok(None),
-        Err(Stop::Memory) => Err(AllocError),
+        Err(ParseFault::NoTree) => Ok(None),
+        Err(ParseFault::Memory) => Err(AllocError),
     }
 }
 

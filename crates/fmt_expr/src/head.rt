@@ -13,9 +13,9 @@ pub enum Got {
     Length,
 }
 
-/// A call.
+/// What a print fmt can call.
 #[derive(Clone, Copy, Debug, PartialEq, Eq)]
-pub enum Call {
+pub enum Builtin {
     /// A call that gives something of a dynamic field.
     Get(Got),
     /// `sizeof`
@@ -39,8 +39,8 @@ pub enum Head {
     Open,
     /// A field of the record.
     Record,
-    /// A call.
-    Call(Call),
+    /// A call of a built-in.
+    Builtin(Builtin),
     /// A number, a letter or a text, or nothing.
     Other,
 }

@@ -5,7 +5,7 @@ ghost use Rattle.fmt_expr.specs.Heads.{prefix_of, get_of, print_of, call_of, nam
 ghost use Rattle.fmt_expr.specs.SourceView.{source};
 
 use crate::expr::PrefixOp;
-use crate::head::{Call, Got, Head};
+use crate::head::{Builtin, Got, Head};
 use crate::reader::Reader;
 use fmt_lexer::TokenKind;
 
@@ -25,19 +25,19 @@ fn prefix_of(mark: &[u8]) -> Option<PrefixOp>
 
 /// The call of a name that gives something of a field.
 #[tactic(auto, unfolding(crate::specs::Heads::get_of))]
-fn get_of(name: &[u8]) -> Option<Call>
+fn get_of(name: &[u8]) -> Option<Builtin>
     ensures { result ≡ get_of name.now }
 {
     if name == b"__get_str".as_slice() || name == b"__get_rel_str".as_slice() {
-        Some(Call::Get(Got::Text))
+        Some(Builtin::Get(Got::Text))
     } else if name == b"__get_dynamic_array".as_slice()
         || name == b"__get_rel_dynamic_array".as_slice()
     {
-        Some(Call::Get(Got::Bytes))
+        Some(Builtin::Get(Got::Bytes))
     } else if name == b"__get_dynamic_array_len".as_slice()
         || name == b"__get_rel_dynamic_array_len".as_slice()
     {
-        Some(Call::Get(Got::Length))
+        Some(Builtin::Get(Got::Length))
     } else {
         None
     }
@@ -45,19 +45,19 @@ fn get_of(name: &[u8]) -> Option<Call>
 
 /// Any other call of a name.
 #[tactic(auto, unfolding(crate::specs::Heads::print_of))]
-fn print_of(name: &[u8]) -> Option<Call>
+fn print_of(name: &[u8]) -> Option<Builtin>
     ensures { result ≡ print_of name.now }
 {
     if name == b"sizeof".as_slice() {
-        Some(Call::SizeOf)
+        Some(Builtin::SizeOf)
     } else if name == b"__print_flags".as_slice() {
-        Some(Call::Flags)
+        Some(Builtin::Flags)
     } else if name == b"__print_symbolic".as_slice() {
-        Some(Call::Symbolic)
+        Some(Builtin::Symbolic)
     } else if name == b"__print_hex".as_slice() {
-        Some(Call::Hex)
+        Some(Builtin::Hex)
     } else if name == b"__print_array".as_slice() {
-        Some(Call::Array)
+        Some(Builtin::Array)
     } else {
         None
     }
@@ -65,7 +65,7 @@ fn print_of(name: &[u8]) -> Option<Call>
 
 /// The call of a name.
 #[tactic(auto, unfolding(crate::specs::Heads::call_of))]
-fn call_of(name: &[u8]) -> Option<Call>
+fn call_of(name: &[u8]) -> Option<Builtin>
     ensures { result ≡ call_of name.now }
 {
     match get_of(name) {
@@ -83,7 +83,7 @@ fn name_head(name: &[u8]) -> Head
         return Head::Record;
     }
     match call_of(name) {
-        Some(call) => Head::Call(call),
+        Some(call) => Head::Builtin(call),
         None => Head::Other,
     }
 }

@@ -11,6 +11,7 @@
 mod args;
 mod calls;
 mod expr;
+mod fault;
 mod fields;
 mod head;
 mod heads;
@@ -23,7 +24,6 @@ mod ops;
 mod parse;
 mod print_fmt;
 mod reader;
-mod stop;
 mod taken;
 mod texts;
 mod types;

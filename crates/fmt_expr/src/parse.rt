@@ -7,12 +7,12 @@ ghost use Rattle.fmt_expr.specs.SourceView.{source};
 ghost use Rattle.fmt_expr.specs.TakenView.{taken, type_seen};
 
 use crate::expr::{Operand, PrefixOp};
+use crate::fault::ParseFault;
 use crate::fields::{field_expr, is_indexed};
-use crate::head::{Call, Head};
+use crate::head::{Builtin, Head};
 use crate::judge::{is_alike, is_number};
 use crate::make::{casted, chained, chosen, indexed, prefixed};
 use crate::reader::Reader;
-use crate::stop::Stop;
 use crate::taken::{ParsedType, Taken};
 use trace_base::Field;
 
@@ -23,7 +23,7 @@ impl<'a> Reader<'a> {
     /// A conditional, or what stands for one.
     #[cycle(parser)]
     #[tactic(auto, using(crate::proofs::Layers::cond_none, crate::proofs::Layers::cond_plain, crate::proofs::Layers::cond_choice))]
-    pub fn cond(&self, left: u32, at: usize) -> Result<Taken, Stop>
+    pub fn cond(&self, left: u32, at: usize) -> Result<Taken, ParseFault>
         requires { at ≤ length self.now.tokens.now }
         ensures value { Gives taken result (cond_at (source self.now) left at) }
         ensures bound { IfOk result (λ t. (at < t.next) × (t.next ≤ length self.now.tokens.now) × (t.nest ≤ left)) }
@@ -39,13 +39,13 @@ impl<'a> Reader<'a> {
     /// A conditional one level deeper.
     #[cycle(parser)]
     #[tactic(auto, using(crate::proofs::Layers::no_cond, crate::proofs::Layers::more_cond))]
-    pub fn inner_cond(&self, left: u32, at: usize) -> Result<Taken, Stop>
+    pub fn inner_cond(&self, left: u32, at: usize) -> Result<Taken, ParseFault>
         requires { at ≤ length self.now.tokens.now }
         ensures value { Gives taken result (inner_cond (source self.now) left at) }
         ensures bound { IfOk result (λ t. (at < t.next) × (t.next ≤ length self.now.tokens.now) × (t.nest < left)) }
     {
         if left == 0 {
-            return Err(Stop::NoTree);
+            return Err(ParseFault::NoTree);
         }
         self.cond(left - 1, at)
     }
@@ -53,14 +53,14 @@ impl<'a> Reader<'a> {
     /// A number one level deeper, with this mark after it: the place that is told is that of the mark.
     #[cycle(parser)]
     #[tactic(auto, unfolding(crate::specs::Parsing::number_before))]
-    pub fn number_before(&self, left: u32, at: usize, mark: &[u8]) -> Result<Taken, Stop>
+    pub fn number_before(&self, left: u32, at: usize, mark: &[u8]) -> Result<Taken, ParseFault>
         requires { at ≤ length self.now.tokens.now }
         ensures value { Gives taken result (number_before (source self.now) (inner_cond (source self.now) left) mark.now at) }
         ensures bound { IfOk result (λ t. (at < t.next) × (t.next < length self.now.tokens.now) × (t.nest < left)) }
     {
         let number = self.inner_cond(left, at)?;
         if !is_number(&number.expr) || !self.is_mark(number.next, mark) {
-            return Err(Stop::NoTree);
+            return Err(ParseFault::NoTree);
         }
         Ok(number)
     }
@@ -68,13 +68,13 @@ impl<'a> Reader<'a> {
     /// What stands without a binary operator, one level deeper.
     #[cycle(parser)]
     #[tactic(auto, using(crate::proofs::Layers::no_unary, crate::proofs::Layers::more_unary))]
-    fn inner_unary(&self, left: u32, at: usize) -> Result<Taken, Stop>
+    fn inner_unary(&self, left: u32, at: usize) -> Result<Taken, ParseFault>
         requires { at ≤ length self.now.tokens.now }
         ensures value { Gives taken result (inner_unary (source self.now) left at) }
         ensures bound { IfOk result (λ t. (at < t.next) × (t.next ≤ length self.now.tokens.now) × (t.nest < left)) }
     {
         if left == 0 {
-            return Err(Stop::NoTree);
+            return Err(ParseFault::NoTree);
         }
         self.unary(left - 1, at)
     }
@@ -82,21 +82,21 @@ impl<'a> Reader<'a> {
     /// A conditional, from its question mark on.
     #[cycle(parser)]
     #[tactic(auto, unfolding(crate::specs::Parsing::choice_at))]
-    fn choice(&self, left: u32, test: Taken) -> Result<Taken, Stop>
+    fn choice(&self, left: u32, test: Taken) -> Result<Taken, ParseFault>
         requires { test.next < length self.now.tokens.now }
         ensures value { Gives taken result (choice_at (source self.now) left (inner_cond (source self.now) left) (taken test)) }
         ensures bound { IfOk result (λ t. (test.next < t.next) × (t.next ≤ length self.now.tokens.now) × (t.nest ≤ left)) }
     {
         if test.nest >= left || !is_number(&test.expr) {
-            return Err(Stop::NoTree);
+            return Err(ParseFault::NoTree);
         }
         let one = self.inner_cond(left, test.next + 1)?;
         if !self.is_mark(one.next, b":") {
-            return Err(Stop::NoTree);
+            return Err(ParseFault::NoTree);
         }
         let other = self.inner_cond(left, one.next + 1)?;
         if !is_alike(&one.expr, &other.expr) {
-            return Err(Stop::NoTree);
+            return Err(ParseFault::NoTree);
         }
         Ok(Taken {
             expr: chosen(self.alloc, test.expr, one.expr, other.expr)?,
@@ -108,7 +108,7 @@ impl<'a> Reader<'a> {
     /// The operators of a level and of those that bind tighter. Most operands have no operator after them.
     #[cycle(parser)]
     #[tactic(auto, using(crate::proofs::RowTurns::level_stops, crate::proofs::RowTurns::level_alone, crate::proofs::RowTurns::level_rows))]
-    fn level(&self, level: u32, left: u32, at: usize) -> Result<Taken, Stop>
+    fn level(&self, level: u32, left: u32, at: usize) -> Result<Taken, ParseFault>
         requires inside { at ≤ length self.now.tokens.now }
         requires top { level ≤ 10 }
         ensures value { Gives taken result (level_at (source self.now) (unary_at (source self.now) left) level at) }
@@ -124,7 +124,7 @@ impl<'a> Reader<'a> {
     /// The operators of a level and of those that bind tighter, after the first operand of all.
     #[cycle(parser)]
     #[tactic(auto, using(crate::proofs::RowTurns::rows_none, crate::proofs::RowTurns::rows_row, crate::proofs::RowTurns::rows_zero))]
-    fn rows(&self, level: u32, left: u32, first: Taken) -> Result<Taken, Stop>
+    fn rows(&self, level: u32, left: u32, first: Taken) -> Result<Taken, ParseFault>
         requires inside { first.next ≤ length self.now.tokens.now }
         requires top { level ≤ 10 }
         requires nest { first.nest ≤ left }
@@ -140,7 +140,7 @@ impl<'a> Reader<'a> {
 
     /// The operators of a level after their first operand.
     #[cycle(parser)]
-    fn row(&self, level: u32, left: u32, first: Taken) -> Result<Taken, Stop>
+    fn row(&self, level: u32, left: u32, first: Taken) -> Result<Taken, ParseFault>
         requires inside { first.next ≤ length self.now.tokens.now }
         requires some { 0 < level }
         requires top { level ≤ 10 }
@@ -154,7 +154,7 @@ impl<'a> Reader<'a> {
         while let Some(op) = self.op(level, next) {
             let operand = self.level(level - 1, left, next + 1)?;
             if !is_number(&operand.expr) {
-                return Err(Stop::NoTree);
+                return Err(ParseFault::NoTree);
             }
             nest = nest.max(operand.nest);
             next = operand.next;
@@ -167,7 +167,7 @@ impl<'a> Reader<'a> {
             return Ok(first);
         }
         if !is_number(&first.expr) {
-            return Err(Stop::NoTree);
+            return Err(ParseFault::NoTree);
         }
         let expr = chained(self.alloc, first.expr, rest)?;
         Ok(Taken { expr, nest, next })
@@ -176,7 +176,7 @@ impl<'a> Reader<'a> {
     /// What stands without a binary operator, by what its first token begins.
     #[cycle(parser)]
     #[tactic(auto, using(crate::proofs::Layers::at_operator, crate::proofs::Layers::at_open, crate::proofs::Layers::at_record, crate::proofs::Layers::at_call, crate::proofs::Layers::at_other))]
-    fn unary(&self, left: u32, at: usize) -> Result<Taken, Stop>
+    fn unary(&self, left: u32, at: usize) -> Result<Taken, ParseFault>
         requires { at ≤ length self.now.tokens.now }
         ensures value { Gives taken result (unary_at (source self.now) left at) }
         ensures bound { IfOk result (λ t. (at < t.next) × (t.next ≤ length self.now.tokens.now) × (t.nest ≤ left)) }
@@ -185,7 +185,7 @@ impl<'a> Reader<'a> {
             Head::Operator(op) => self.prefixed(left, op, at),
             Head::Open => self.opened(left, at),
             Head::Record => self.field(left, at),
-            Head::Call(call) => self.call(left, call, at),
+            Head::Builtin(call) => self.call(left, call, at),
             Head::Other => self.leaf(at),
         }
     }
@@ -193,14 +193,14 @@ impl<'a> Reader<'a> {
     /// An operator and its operand.
     #[cycle(parser)]
     #[tactic(auto, unfolding(crate::specs::Parsing::prefixed_at))]
-    fn prefixed(&self, left: u32, op: PrefixOp, at: usize) -> Result<Taken, Stop>
+    fn prefixed(&self, left: u32, op: PrefixOp, at: usize) -> Result<Taken, ParseFault>
         requires { at < length self.now.tokens.now }
         ensures value { Gives taken result (prefixed_at (inner_unary (source self.now) left) op at) }
         ensures bound { IfOk result (λ t. (at < t.next) × (t.next ≤ length self.now.tokens.now) × (t.nest ≤ left)) }
     {
         let of = self.inner_unary(left, at + 1)?;
         if !is_number(&of.expr) {
-            return Err(Stop::NoTree);
+            return Err(ParseFault::NoTree);
         }
         Ok(Taken {
             expr: prefixed(self.alloc, op, of.expr)?,
@@ -212,7 +212,7 @@ impl<'a> Reader<'a> {
     /// A cast, or what stands in brackets. A type has no operator and no `REC`, so that no tree is a type too.
     #[cycle(parser)]
     #[tactic(auto, unfolding(crate::specs::Parsing::open_at))]
-    fn opened(&self, left: u32, at: usize) -> Result<Taken, Stop>
+    fn opened(&self, left: u32, at: usize) -> Result<Taken, ParseFault>
         requires { at < length self.now.tokens.now }
         ensures value { Gives taken result (open_at (source self.now) (inner_of (source self.now) left) at) }
         ensures bound { IfOk result (λ t. (at < t.next) × (t.next ≤ length self.now.tokens.now) × (t.nest ≤ left)) }
@@ -226,7 +226,7 @@ impl<'a> Reader<'a> {
     /// A cast, whose type begins at a place.
     #[cycle(parser)]
     #[tactic(auto, unfolding(crate::specs::Parsing::cast_at))]
-    fn cast(&self, left: u32, from: usize, place: ParsedType) -> Result<Taken, Stop>
+    fn cast(&self, left: u32, from: usize, place: ParsedType) -> Result<Taken, ParseFault>
         requires names { from + place.names ≤ length self.now.tokens.now }
         requires inside { place.next < length self.now.tokens.now }
         ensures value { Gives taken result (cast_at (source self.now) (inner_unary (source self.now) left) (type_seen (source self.now) from place)) }
@@ -244,14 +244,14 @@ impl<'a> Reader<'a> {
     /// What stands in brackets.
     #[cycle(parser)]
     #[tactic(auto, unfolding(crate::specs::Parsing::bracket_at))]
-    fn bracket(&self, left: u32, at: usize) -> Result<Taken, Stop>
+    fn bracket(&self, left: u32, at: usize) -> Result<Taken, ParseFault>
         requires { at < length self.now.tokens.now }
         ensures value { Gives taken result (bracket_at (source self.now) (inner_cond (source self.now) left) at) }
         ensures bound { IfOk result (λ t. (at < t.next) × (t.next ≤ length self.now.tokens.now) × (t.nest ≤ left)) }
     {
         let inner = self.inner_cond(left, at + 1)?;
         if !self.is_mark(inner.next, b")") {
-            return Err(Stop::NoTree);
+            return Err(ParseFault::NoTree);
         }
         Ok(Taken {
             expr: inner.expr,
@@ -263,12 +263,12 @@ impl<'a> Reader<'a> {
     /// A field, or one of its elements.
     #[cycle(parser)]
     #[tactic(auto, unfolding(crate::specs::Parsing::field_at))]
-    fn field(&self, left: u32, at: usize) -> Result<Taken, Stop>
+    fn field(&self, left: u32, at: usize) -> Result<Taken, ParseFault>
         requires { at < length self.now.tokens.now }
         ensures value { Gives taken result (field_at (source self.now) (inner_cond (source self.now) left) at) }
         ensures bound { IfOk result (λ t. (at < t.next) × (t.next ≤ length self.now.tokens.now) × (t.nest ≤ left)) }
     {
-        let field = self.named(at).ok_or(Stop::NoTree)?;
+        let field = self.named(at).ok_or(ParseFault::NoTree)?;
         if self.is_mark(at + 3, b"[") {
             return self.element(left, at, field);
         }
@@ -282,13 +282,13 @@ impl<'a> Reader<'a> {
     /// An element of a field, from its square bracket on.
     #[cycle(parser)]
     #[tactic(auto, unfolding(crate::specs::Parsing::element_at))]
-    fn element(&self, left: u32, at: usize, field: &Field) -> Result<Taken, Stop>
+    fn element(&self, left: u32, at: usize, field: &Field) -> Result<Taken, ParseFault>
         requires { at + 3 < length self.now.tokens.now }
         ensures value { Gives taken result (element_at (source self.now) (inner_cond (source self.now) left) at field.now) }
         ensures bound { IfOk result (λ t. (at < t.next) × (t.next ≤ length self.now.tokens.now) × (t.nest ≤ left)) }
     {
         if !is_indexed(field.kind, field.element) {
-            return Err(Stop::NoTree);
+            return Err(ParseFault::NoTree);
         }
         let index = self.number_before(left, at + 4, b"]")?;
         let field = field.copy(self.alloc)?;
@@ -301,18 +301,18 @@ impl<'a> Reader<'a> {
 
     /// A call.
     #[cycle(parser)]
-    fn call(&self, left: u32, call: Call, at: usize) -> Result<Taken, Stop>
+    fn call(&self, left: u32, call: Builtin, at: usize) -> Result<Taken, ParseFault>
         requires { at < length self.now.tokens.now }
         ensures value { Gives taken result (call_by (source self.now) left (inner_of (source self.now) left) at call) }
         ensures bound { IfOk result (λ t. (at < t.next) × (t.next ≤ length self.now.tokens.now) × (t.nest ≤ left)) }
     {
         match call {
-            Call::Get(got) => self.got(left, got, at),
-            Call::SizeOf => self.sized(at),
-            Call::Flags => self.flags(left, at),
-            Call::Symbolic => self.symbolic(left, at),
-            Call::Hex => self.hex(left, at),
-            Call::Array => self.array(left, at),
+            Builtin::Get(got) => self.got(left, got, at),
+            Builtin::SizeOf => self.sized(at),
+            Builtin::Flags => self.flags(left, at),
+            Builtin::Symbolic => self.symbolic(left, at),
+            Builtin::Hex => self.hex(left, at),
+            Builtin::Array => self.array(left, at),
         }
     }
 }

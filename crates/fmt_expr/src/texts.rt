@@ -6,8 +6,8 @@ ghost use Rattle.fmt_expr.specs.Steps.{Gives};
 ghost use Rattle.fmt_expr.specs.SourceView.{source};
 ghost use Rattle.fmt_expr.specs.TakenView.{taken_text};
 
+use crate::fault::ParseFault;
 use crate::reader::Reader;
-use crate::stop::Stop;
 use crate::taken::TakenText;
 use fmt_literal::push_text;
 use trace_base::ByteText;
@@ -15,7 +15,7 @@ use trace_base::ByteText;
 impl<'a> Reader<'a> {
     /// The texts from a place on, joined: one or more.
     #[tactic(auto, using(crate::proofs::TextRows::texts_step, crate::proofs::TextRows::some_texts, crate::proofs::TextRows::no_texts))]
-    pub fn text(&self, at: usize) -> Result<TakenText, Stop>
+    pub fn text(&self, at: usize) -> Result<TakenText, ParseFault>
         requires { at ≤ length self.now.tokens.now }
         ensures value { Gives taken_text result (text_at (source self.now) at) }
         ensures bound { IfOk result (λ t. (at < t.next) × (t.next ≤ length self.now.tokens.now)) }
@@ -27,7 +27,7 @@ impl<'a> Reader<'a> {
             next += 1;
         }
         if next == at {
-            return Err(Stop::NoTree);
+            return Err(ParseFault::NoTree);
         }
         Ok(TakenText {
             text: ByteText::from_vec(bytes),

@@ -3,7 +3,7 @@ use Rattle.filter_lang.specs.TokenView.{plain_tokens}
 use Rattle.filter_lang.specs.Grammar.{IsFilter, RefusedBefore}
 use Rattle.filter_lang.specs.Texts.{RefusedText}
 use Rattle.filter_lang.specs.FilterView.{filter_of, Stands}
-use Rattle.filter_lang.specs.declared.stop.Stop.{Stop}
+use Rattle.filter_lang.specs.declared.parse_fault.ParseFault.{ParseFault}
 use Rattle.filter_lang.specs.declared.token.Token.{Token}
 use Rattle.filter_lang.proofs.LexedPlaces.{all_filter, fault_behind, refused_at, place_within}
 use Rattle.filter_lang.proofs.parser.parse_filter.Goals as goal
@@ -24,7 +24,7 @@ pub returns-in-Err-Before-clause-refused : goal.returns-in-Err-Before-clause-ref
 returns-in-Err-Before-clause-refused c =
     let l = c.in_ok-lexed.lexed in
     let at = c.in-Err-Before.at in
-    let stands = subst (λ (e : Stop). Stands c.deref.result.now e) c.in-Err-Before.field-0-is c.in-Err-Before.ensures in
+    let stands = subst (λ (e : ParseFault). Stands c.deref.result.now e) c.in-Err-Before.field-0-is c.in-Err-Before.ensures in
     let r = subst (λ (ts : List Token). RefusedBefore (plain_tokens ts) (drop at (plain_tokens ts))) c.deref.ensures.value stands in
     subst (λ (k : ℕ). RefusedText c.args.text.now (drop k c.args.text.now)) (sym c.place.ensures) (refused_at c.args.text.now l.end l.tokens.items at c.in_ok-lexed.ensures.lexes r)
 
