@@ -7,7 +7,7 @@ use Rattle.std.specs.BTreeMap.{get}
 use Rattle.std.proofs.lemmas.Bool.{cond-true, cond-false, false≢true}
 use Rattle.std.proofs.lemmas.List.{map-append}
 use Rattle.std.proofs.lemmas.Option.{slice_get_read, slice_get_within, slice_get-map}
-use Rattle.call_pairs.specs.declared.seen.GraphEvent.{GraphEvent}
+use Rattle.call_pairs.specs.declared.graph_item.GraphEvent.{GraphEvent}
 use Rattle.call_pairs.specs.declared.thread.Thread.{Thread}
 use Rattle.call_pairs.specs.declared.threads.Threads.{Threads}
 use Rattle.call_pairs.specs.declared.threads.Left.{Left}

@@ -2,7 +2,7 @@
 use Rattle.std.specs.Prelude.{◌≡◌, ℕ, ◌+◌, false, List, ◌∷◌, map, reverse, slice_get, Option, None, Some}
 use Rattle.std.specs.declared.cmp.Ordering.{Ordering}
 use Rattle.std.specs.BTreeMap.{get}
-use Rattle.call_pairs.specs.declared.seen.GraphEvent.{GraphEvent}
+use Rattle.call_pairs.specs.declared.graph_item.GraphEvent.{GraphEvent}
 use Rattle.call_pairs.specs.declared.thread.Thread.{Thread}
 use Rattle.call_pairs.specs.declared.stacks.Stack.{Stack}
 use Rattle.call_pairs.specs.declared.threads.Threads.{Threads}

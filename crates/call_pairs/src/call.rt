@@ -1,7 +1,7 @@
 ghost use Rattle.std.specs.Prelude.{◌≡◌};
 ghost use Rattle.call_pairs.specs.Calls.{entry_call, exit_call};
 
-use crate::seen::GraphEvent;
+use crate::graph_item::GraphEvent;
 use trace_base::Common;
 
 /// What is told of an entry, an exit or a loss. It has 64 bytes: `leaf` stands beside `depth`, since fields keep their order.

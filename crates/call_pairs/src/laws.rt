@@ -1,23 +1,23 @@
 //! Laws of this crate's definitions. Each is the contract of a function that does nothing.
 
 ghost use Rattle.std.specs.Prelude.{◌≡◌, ℕ, List, Option};
-ghost use Rattle.call_pairs.specs.declared.seen.GraphEvent.{GraphEvent};
-ghost use Rattle.call_pairs.specs.declared.seen.Seen.{Seen};
+ghost use Rattle.call_pairs.specs.declared.graph_item.GraphEvent.{GraphEvent};
+ghost use Rattle.call_pairs.specs.declared.graph_item.GraphItem.{GraphItem};
 ghost use Rattle.call_pairs.specs.Pairs.{IsPair};
 ghost use Rattle.call_pairs.specs.Calls.{calls_of};
 ghost use Rattle.call_pairs.specs.Lists.{IsTold};
 
 /// The list that is computed is the one that the pairs of places tell.
 pub fn told_calls()
-    ensures { (seen : List Seen) → IsTold seen (calls_of seen) }
+    ensures { (seen : List GraphItem) → IsTold seen (calls_of seen) }
 {}
 
 /// Each entry and each exit is in at most one pair.
 pub fn one_pair()
-    ensures one_entry { (seen : List Seen) (i k j : ℕ) (e f x y : GraphEvent) (ran run : Option ℕ)
+    ensures one_entry { (seen : List GraphItem) (i k j : ℕ) (e f x y : GraphEvent) (ran run : Option ℕ)
         → IsPair seen i j e x ran → IsPair seen k j f y run → i ≡ k }
-    ensures one_exit { (seen : List Seen) (i j k : ℕ) (e f x y : GraphEvent) (ran run : Option ℕ)
+    ensures one_exit { (seen : List GraphItem) (i j k : ℕ) (e f x y : GraphEvent) (ran run : Option ℕ)
         → IsPair seen i j e x ran → IsPair seen i k f y run → j ≡ k }
-    ensures not_both { (seen : List Seen) (i j k : ℕ) (e f x y : GraphEvent) (ran run : Option ℕ)
+    ensures not_both { (seen : List GraphItem) (i j k : ℕ) (e f x y : GraphEvent) (ran run : Option ℕ)
         → IsPair seen i j e x ran → IsPair seen j k f y run → ⊥ }
 {}

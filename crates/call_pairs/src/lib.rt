@@ -7,14 +7,14 @@
 #![tactic(auto)]
 
 mod call;
+mod graph_item;
 pub mod laws;
-mod seen;
 mod stacks;
 mod thread;
 mod threads;
 mod tracing;
 
 pub use call::Call;
-pub use seen::{GraphEvent, Seen, clipped};
+pub use graph_item::{GraphEvent, GraphItem, clipped};
 pub use thread::Thread;
 pub use tracing::Tracing;

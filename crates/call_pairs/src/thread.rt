@@ -1,7 +1,7 @@
 ghost use Rattle.std.specs.Prelude.{◌≡◌};
 ghost use Rattle.call_pairs.specs.Threads.{is_same, thread_of};
 
-use crate::seen::GraphEvent;
+use crate::graph_item::GraphEvent;
 
 /// Whose calls they are.
 #[derive(Clone, Copy, Debug, PartialEq, Eq, PartialOrd, Ord, Drop)]

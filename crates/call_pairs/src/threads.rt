@@ -3,7 +3,7 @@ ghost use Rattle.std.specs.BTreeMap.{get};
 ghost use Rattle.call_pairs.specs.StackMap.{ArePlaces, IsEntered, IsLeft, KeepsTold, order, stack_of, thread_at};
 ghost use Rattle.call_pairs.specs.declared.thread.Thread.{Thread};
 
-use crate::seen::GraphEvent;
+use crate::graph_item::GraphEvent;
 use crate::stacks::{Open, Stack};
 use crate::thread::Thread;
 use std::alloc::{AllocError, Global};

@@ -1,13 +1,13 @@
 ghost use Rattle.std.specs.Prelude.{◌≡◌, ◌<◌, List, [], ◌∷◌, ◌++◌, length, reverse, OnOk, IfSome};
-ghost use Rattle.call_pairs.specs.declared.seen.Seen.{Seen};
-ghost use Rattle.call_pairs.specs.declared.seen.Seen.TheVariants as code;
+ghost use Rattle.call_pairs.specs.declared.graph_item.GraphItem.{GraphItem};
+ghost use Rattle.call_pairs.specs.declared.graph_item.GraphItem.TheVariants as code;
 ghost use Rattle.call_pairs.specs.Calls.{calls_of, ended, is_last};
 ghost use Rattle.call_pairs.specs.Durations.{duration};
 ghost use Rattle.call_pairs.specs.Marked.{with_leaf, leaf_open};
 ghost use Rattle.call_pairs.specs.Tracings.{IsTracing, Sees, WasSeen};
 
 use crate::call::{Call, entry_call, exit_call};
-use crate::seen::{GraphEvent, Seen};
+use crate::graph_item::{GraphEvent, GraphItem};
 use crate::stacks::Open;
 use crate::threads::{Left, Threads};
 use std::alloc::{AllocError, Global};
@@ -82,15 +82,15 @@ impl Tracing {
 
     /// One more is seen. After `AllocError` the tracing is not to be used again.
     #[inline(always)]
-    pub fn see(&mut self, seen: &Seen) -> Result<(), AllocError>
+    pub fn see(&mut self, seen: &GraphItem) -> Result<(), AllocError>
         requires known { WasSeen self.old }
         ensures known { OnOk result (WasSeen self.new) }
         ensures seen { Sees seen.now self.old self.new result }
     {
         match seen {
-            Seen::Entry(entry) => self.enter(entry),
-            Seen::Exit(exit, ran) => self.leave(exit, *ran),
-            Seen::Loss { cpu, count } => self.lose(*cpu, *count),
+            GraphItem::Entry(entry) => self.enter(entry),
+            GraphItem::Exit(exit, ran) => self.leave(exit, *ran),
+            GraphItem::Loss { cpu, count } => self.lose(*cpu, *count),
         }
     }
 
@@ -127,7 +127,7 @@ impl Tracing {
 
     /// The calls of all that was seen, in its order.
     pub fn into_calls(self) -> Vec<Call>
-        ensures { (past : List Seen) → IsTracing past self → result.items ≡ calls_of (reverse past) }
+        ensures { (past : List GraphItem) → IsTracing past self → result.items ≡ calls_of (reverse past) }
     {
         let Tracing {
             calls,

@@ -13,7 +13,7 @@ use Rattle.subpage.specs.Cut.{reached_of}
 use Rattle.time_merge.specs.declared.ending.End.{End}
 use Rattle.time_merge.specs.declared.ending.End.TheVariants as code
 use Rattle.report_print.specs.ContextData.{ContextData}
-use Rattle.wakeup_pairs.specs.declared.seen.Pair.{Pair}
+use Rattle.wakeup_pairs.specs.declared.wakeup_item.Pair.{Pair}
 use Rattle.wakeup_pairs.specs.Gathered.{gathered}
 use Rattle.wakeup_pairs.specs.Pairs.{ArePairs}
 use Rattle.wakeup_pairs.proofs.Passing.{pass_pairs}

@@ -4,7 +4,7 @@ use Rattle.c_operators.specs.Operators.{level_of}
 use Rattle.filter_lang.specs.PlainToken.{PlainToken, mark, opening, closing, digits, quoted, identifier}
 use Rattle.filter_lang.specs.Tree.{Tree, prefix, Operands, no_operands, operand}
 use Rattle.filter_lang.specs.Ops.{prefix_in, op_first}
-use Rattle.filter_lang.specs.ConditionReading.{Outcome, found, Read, row, row_behind, in_chain, level_by, unary_by, unary_from, unary_at, level_at}
+use Rattle.filter_lang.specs.ConditionReading.{Parsed, found, Read, row, row_behind, in_chain, level_by, unary_by, unary_from, unary_at, level_at}
 use Rattle.filter_lang.specs.Condition.{IsLevel, alone, single, several, IsRow, no_more, goes_on, IsUnary, prefixed, bracketed, a_number, a_text, a_field}
 use Rattle.c_operators.specs.declared.binary.BinaryOp.{BinaryOp}
 use Rattle.filter_lang.specs.declared.expr.FilterPrefix.{FilterPrefix}
@@ -31,7 +31,7 @@ pub level_next : (n l : ℕ) (ts rs vs : List PlainToken) (x : Tree) (os : Opera
 unfolding level_by row_behind
 level_next n l ts rs vs x os there behind = rw (there, behind) refl
 
-pub unary_leaf : (n : ℕ) (t : PlainToken) (ts : List PlainToken) (out : Outcome Tree) → ((inner : Option Read) → unary_from inner t ts ≡ out) → unary_at n (t ∷ ts) ≡ out
+pub unary_leaf : (n : ℕ) (t : PlainToken) (ts : List PlainToken) (out : Parsed Tree) → ((inner : Option Read) → unary_from inner t ts ≡ out) → unary_at n (t ∷ ts) ≡ out
 unfolding unary_at unary_by
 unary_leaf zero t ts out e = e None
 unary_leaf (suc n) t ts out e = e (Some (unary_at n))

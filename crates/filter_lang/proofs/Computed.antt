@@ -4,7 +4,7 @@ use Rattle.std.proofs.lemmas.Bool.{cases_Bool}
 use Rattle.std.proofs.lemmas.List.{length-drop, take-append-drop}
 use Rattle.filter_lang.specs.PlainToken.{PlainToken}
 use Rattle.filter_lang.specs.Filter.{FilterData}
-use Rattle.filter_lang.specs.ConditionReading.{Outcome, found, refused}
+use Rattle.filter_lang.specs.ConditionReading.{Parsed, found, refused}
 use Rattle.filter_lang.specs.FilterReading.{filter_in}
 use Rattle.filter_lang.specs.Grammar.{RefusedBefore}
 use Rattle.byte_classes.specs.Bytes.{is_blank}
@@ -64,7 +64,7 @@ refused_place text row rest ts d r =
     let same : tokens_in (drop k row) ≡ ts = tokens_drop k row ∙ ap (λ (n : ℕ). drop n (tokens_in row)) before ∙ ap (drop (length r.before)) r.is ∙ drop_front r.before ts in
     by_place text rest row (take k row) (drop k row) d (sym (take-append-drop k row)) (subst (λ (zs : List PlainToken). RefusedBefore (tokens_in row) zs) (sym same) r)
 
-by_out : (text : List ℕ) (row : List Lexeme) (rest : List ℕ) (o : Outcome FilterData) → AreLexemes false text row rest → filter_in (tokens_in row) ≡ o → Says text (read_tokens text row rest o)
+by_out : (text : List ℕ) (row : List Lexeme) (rest : List ℕ) (o : Parsed FilterData) → AreLexemes false text row rest → filter_in (tokens_in row) ≡ o → Says text (read_tokens text row rest o)
 by_out text row [] (found f ts) d e = record { row = row; lexes = d; is_filter = (filter_derived (tokens_in row) f ts e).0 }
 by_out text row (c ∷ rest) (found f ts) d e = (c ∷ rest, no_token d (λ none. absurd cc) (filter_derived (tokens_in row) f ts e).0, refl)
 by_out text row [] (refused ts) d e = (_, refused_place text row [] ts d (filter_refused (tokens_in row) ts e), refl)

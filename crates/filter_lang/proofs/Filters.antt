@@ -5,7 +5,7 @@ use Rattle.std.proofs.lemmas.List.{append_assoc}
 use Rattle.filter_lang.specs.PlainToken.{PlainToken, mark, exclamation, tilde, opening, closing, name, comma, slash, colon, digits, quoted, identifier}
 use Rattle.filter_lang.specs.Tree.{Tree}
 use Rattle.filter_lang.specs.Filter.{EventNameData, FilterData, named, filter}
-use Rattle.filter_lang.specs.ConditionReading.{Outcome, found, refused, ◌>>=◌, cond_at}
+use Rattle.filter_lang.specs.ConditionReading.{Parsed, found, refused, ◌>>=◌, cond_at}
 use Rattle.filter_lang.specs.Condition.{IsLevel}
 use Rattle.filter_lang.specs.Grammar.{IsEvent, one_name, two_names, AreEvents, last, further, IsFilter, events_alone, with_condition, deepest, RefusedBefore}
 use Rattle.filter_lang.specs.FilterReading.{Mode, naming, first, slashed, both, step, over, with_events, names, whole, behind_events, filter_in}
@@ -32,11 +32,11 @@ pub at_end : (m : Mode) → names [] m ≡ over m []
 unfolding names
 at_end m = refl
 
-pub with_none : (o : Outcome Events) → o ≡ o >>= with_events []
+pub with_none : (o : Parsed Events) → o ≡ o >>= with_events []
 with_none (found es rs) = refl
 with_none (refused rs) = refl
 
-pub with_both : (as' bs : Events) (o : Outcome Events) → ((o >>= with_events bs) >>= with_events as') ≡ o >>= with_events (as' ++ bs)
+pub with_both : (as' bs : Events) (o : Parsed Events) → ((o >>= with_events bs) >>= with_events as') ≡ o >>= with_events (as' ++ bs)
 with_both as' bs (found es rs) = ap (λ (zs : Events). found zs rs) (sym (append_assoc as' bs es))
 with_both as' bs (refused rs) = refl
 
@@ -97,7 +97,7 @@ went t ts m n es e r = record {
   es = es ++ r.es;
   is = ap (λ zs. t ∷ zs) r.is;
   halts = r.halts;
-  law = λ vs. goes m t (r.us ++ vs) es n e ∙ ap (λ (o : Outcome Events). o >>= with_events es) (r.law vs) ∙ with_both es r.es (names vs r.at);
+  law = λ vs. goes m t (r.us ++ vs) es n e ∙ ap (λ (o : Parsed Events). o >>= with_events es) (r.law vs) ∙ with_both es r.es (names vs r.at);
 }
 
 ran : (ts : List PlainToken) (m : Mode) → Ran ts m
@@ -234,7 +234,7 @@ event_before vs (two_names {a = a} {b = b} {rs = rs}) same = two a b rs ∙ ap (
 
 events_there : {ts rs : List PlainToken} {es : Events} → AreEvents ts es rs → Behind rs → names ts naming ≡ found es rs
 events_there (last d) q = event_there d q
-events_there {ts} {rs} (further {us = us} {e = e} {es = es} d r) q = event_before us d refl ∙ ap (λ (o : Outcome Events). o >>= with_events (e ∷ [])) (events_there r q)
+events_there {ts} {rs} (further {us = us} {e = e} {es = es} d r) q = event_before us d refl ∙ ap (λ (o : Parsed Events). o >>= with_events (e ∷ [])) (events_there r q)
 
 read_whole : (ts rs : List PlainToken) (es : Events) → names ts naming ≡ found es rs → filter_in ts ≡ behind_events es rs
 unfolding filter_in
@@ -309,7 +309,7 @@ refusal_of ts rs us more f written is e on stops = record {
 module _ (ts : List PlainToken) (r : Ran ts naming) where
   -- what follows the tokens that are taken
   ends_in : (vs : List PlainToken) → names vs r.at ≡ over r.at vs → names (r.us ++ vs) naming ≡ over r.at vs >>= with_events r.es
-  ends_in vs e = r.law vs ∙ ap (λ (o : Outcome Events). o >>= with_events r.es) e
+  ends_in vs e = r.law vs ∙ ap (λ (o : Parsed Events). o >>= with_events r.es) e
 
   halts_at : (t : PlainToken) (vs ws : List PlainToken) → r.rs ≡ t ∷ vs → names (t ∷ ws) r.at ≡ over r.at (t ∷ ws)
   halts_at t vs ws same = stuck r.at t ws (r.halts t vs same)
@@ -327,13 +327,13 @@ module _ (ts : List PlainToken) (r : Ran ts naming) where
   -- in the midst of an event
   module _ (open' : (zs : List PlainToken) → over r.at zs ≡ refused zs) where
     no_event : (vs : List PlainToken) → names vs r.at ≡ over r.at vs → filter_in (r.us ++ vs) ≡ refused vs
-    no_event vs e = stop_first (r.us ++ vs) vs (ends_in vs e ∙ ap (λ (o : Outcome Events). o >>= with_events r.es) (open' vs))
+    no_event vs e = stop_first (r.us ++ vs) vs (ends_in vs e ∙ ap (λ (o : Parsed Events). o >>= with_events r.es) (open' vs))
 
     refused_there : filter_in ts ≡ refused r.rs
     refused_there = ap filter_in r.is ∙ no_event r.rs halts_all
 
     completes : (c : Completed r.at) → filter_in (r.us ++ c.more) ≡ found (filter (r.es ++ c.event ∷ []) None) []
-    completes c = read_whole (r.us ++ c.more) [] (r.es ++ c.event ∷ []) (r.law c.more ∙ ap (λ (o : Outcome Events). o >>= with_events r.es) c.there)
+    completes c = read_whole (r.us ++ c.more) [] (r.es ++ c.event ∷ []) (r.law c.more ∙ ap (λ (o : Parsed Events). o >>= with_events r.es) c.there)
 
     midst : RefusedBefore ts r.rs
     midst =
@@ -346,7 +346,7 @@ module _ (ts : List PlainToken) (r : Ran ts naming) where
     all = r.es ++ event ∷ []
 
     behind : (vs : List PlainToken) → names vs r.at ≡ over r.at vs → filter_in (r.us ++ vs) ≡ behind_events (r.es ++ event ∷ []) vs
-    behind vs e = read_whole (r.us ++ vs) vs (r.es ++ event ∷ []) (ends_in vs e ∙ ap (λ (o : Outcome Events). o >>= with_events r.es) (shut vs))
+    behind vs e = read_whole (r.us ++ vs) vs (r.es ++ event ∷ []) (ends_in vs e ∙ ap (λ (o : Parsed Events). o >>= with_events r.es) (shut vs))
 
     alone : filter_in (r.us ++ []) ≡ found (filter (r.es ++ event ∷ []) None) []
     alone = behind [] (at_end r.at)

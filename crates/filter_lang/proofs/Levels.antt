@@ -6,7 +6,7 @@ use Rattle.c_operators.proofs.Levels.{some_level}
 use Rattle.filter_lang.specs.PlainToken.{PlainToken, mark, exclamation, tilde, opening, closing, name, comma, slash, colon, digits, quoted, identifier}
 use Rattle.filter_lang.specs.Tree.{Tree, number, text, field, prefix, Operands, no_operands}
 use Rattle.filter_lang.specs.Ops.{as_prefix, prefix_in}
-use Rattle.filter_lang.specs.ConditionReading.{Outcome, found, refused, ◌>>=◌, Read, row, row_behind, in_chain, chained, level_by, unary_by, unary_from, close, below, bracket_in, under, unary_at, level_at}
+use Rattle.filter_lang.specs.ConditionReading.{Parsed, found, refused, ◌>>=◌, Read, row, row_behind, in_chain, chained, level_by, unary_by, unary_from, close, below, bracket_in, under, unary_at, level_at}
 use Rattle.c_operators.specs.declared.binary.BinaryOp.{BinaryOp}
 use Rattle.filter_lang.specs.declared.expr.FilterPrefix.{FilterPrefix}
 use Rattle.filter_lang.specs.declared.expr.FilterPrefix.TheVariants.{Not, Invert}
@@ -302,7 +302,7 @@ no_room t op is ws = rw is refl
 pub prefix_there : (F : Read) (t : PlainToken) (op : FilterPrefix) → prefix_in t ≡ Some op → (ws : List PlainToken) → unary_from (Some F) t ws ≡ under F op ws
 prefix_there F t op is ws = rw is refl
 
-pub from_is : (inner : Option Read) (t : PlainToken) (ts : List PlainToken) (out : Outcome Tree) → unary_by inner (t ∷ ts) ≡ out → unary_from inner t ts ≡ out
+pub from_is : (inner : Option Read) (t : PlainToken) (ts : List PlainToken) (out : Parsed Tree) → unary_by inner (t ∷ ts) ≡ out → unary_from inner t ts ≡ out
 unfolding unary_by
 from_is inner t ts out e = e
 

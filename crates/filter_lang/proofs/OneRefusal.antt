@@ -3,7 +3,7 @@ use Rattle.std.proofs.Common.{◌≡◌, List, [], ◌∷◌, ◌++◌, refl, ap
 use Rattle.std.proofs.lemmas.List.{append_assoc}
 use Rattle.filter_lang.specs.PlainToken.{PlainToken}
 use Rattle.filter_lang.specs.Filter.{FilterData}
-use Rattle.filter_lang.specs.ConditionReading.{Outcome, found, refused}
+use Rattle.filter_lang.specs.ConditionReading.{Parsed, found, refused}
 use Rattle.filter_lang.specs.Grammar.{IsFilter, GoesOn, RefusedBefore}
 use Rattle.filter_lang.specs.FilterReading.{filter_in}
 use Rattle.filter_lang.proofs.Filters.{filter_derived, filter_refused}
@@ -14,7 +14,7 @@ AFilter ts = (f : FilterData) × IsFilter ts f
 abbrev pub ARefusal : List PlainToken → Type 0
 ARefusal ts = (rs : List PlainToken) × RefusedBefore ts rs
 
-by_out : (ts : List PlainToken) (o : Outcome FilterData) → filter_in ts ≡ o → AFilter ts ⊎ ARefusal ts
+by_out : (ts : List PlainToken) (o : Parsed FilterData) → filter_in ts ≡ o → AFilter ts ⊎ ARefusal ts
 by_out ts (found f rs) e = inl (f, (filter_derived ts f rs e).0)
 by_out ts (refused rs) e = inr (rs, filter_refused ts rs e)
 

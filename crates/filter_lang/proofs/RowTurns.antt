@@ -6,7 +6,7 @@ use Rattle.filter_lang.specs.TreeView.{tree_of, operands_of}
 use Rattle.filter_lang.specs.TokenView.{plain_tokens}
 use Rattle.filter_lang.specs.ReaderView.{from}
 use Rattle.filter_lang.specs.Ops.{op_first}
-use Rattle.filter_lang.specs.ConditionReading.{Outcome, found, refused, ◌>>=◌, Read, row, row_behind, in_chain, chained, with_operand}
+use Rattle.filter_lang.specs.ConditionReading.{Parsed, found, refused, ◌>>=◌, Read, row, row_behind, in_chain, chained, with_operand}
 use Rattle.filter_lang.specs.TakenView.{Stops}
 use Rattle.filter_lang.specs.declared.reader.Reader.{Reader}
 use Rattle.filter_lang.specs.declared.token.Token.{Token}
@@ -20,7 +20,7 @@ append no_operands os = os
 append (operand op t rest) os = operand op t (append rest os)
 
 -- the tree of a first operand, operands that were read and a row after them
-abbrev pub ends : Tree → Operands → Outcome Operands → Outcome Tree
+abbrev pub ends : Tree → Operands → Parsed Operands → Parsed Tree
 ends x os (found r rs) = found (chained x (append os r)) rs
 ends x os (refused rs) = refused rs
 
@@ -32,7 +32,7 @@ append_more : (os : Operands) (op : BinaryOp) (t : Tree) (rest : Operands) → a
 append_more no_operands op t rest = refl
 append_more (operand o u os) op t rest = ap (operand o u) (append_more os op t rest)
 
-on_row : (x : Tree) (r : Outcome Operands) → (r >>= in_chain x) ≡ ends x no_operands r
+on_row : (x : Tree) (r : Parsed Operands) → (r >>= in_chain x) ≡ ends x no_operands r
 on_row x (found r rs) = refl
 on_row x (refused rs) = refl
 
@@ -51,7 +51,7 @@ module _ (G : Read) (l : ℕ) (ts : List PlainToken) (x : Tree) (os : Operands) 
   row_stops zero op us rs some is there = absurd (omega arith)
   row_stops (suc m) op us rs some is there = rw (is, there) refl
 
-  more_behind : (op : BinaryOp) (y : Tree) (r : Outcome Operands) → ends x os (r >>= with_operand op y) ≡ ends x (append os (operand op y no_operands)) r
+  more_behind : (op : BinaryOp) (y : Tree) (r : Parsed Operands) → ends x os (r >>= with_operand op y) ≡ ends x (append os (operand op y no_operands)) r
   more_behind op y (found r rs) = ap (λ (o : Operands). found (chained x o) rs) (append_more os op y r)
   more_behind op y (refused rs) = refl
 
@@ -86,6 +86,6 @@ pub left_long : (r : Reader) (at : ℕ) → length r.tokens.now ≤ at + length 
 left_long r at = long r.tokens.now at
 
 -- a stop below is a stop above
-pub passed : {A B : Type 0} (r : Reader) (e : ParseFault) (below : Outcome A) (above : Outcome B) → ((rs : List PlainToken) → below ≡ refused rs → above ≡ refused rs) → Stops r e below → Stops r e above
+pub passed : {A B : Type 0} (r : Reader) (e : ParseFault) (below : Parsed A) (above : Parsed B) → ((rs : List PlainToken) → below ≡ refused rs → above ≡ refused rs) → Stops r e below → Stops r e above
 passed r Memory below above f h = tt
 passed r (Before at) below above f h = f (from r at) h

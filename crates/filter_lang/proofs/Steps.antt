@@ -4,7 +4,7 @@ use Rattle.filter_lang.specs.PlainToken.{PlainToken, name, comma, slash, colon, 
 use Rattle.filter_lang.specs.Tree.{Tree, number, text, field}
 use Rattle.filter_lang.specs.Ops.{prefix_in}
 use Rattle.filter_lang.specs.TokenView.{plain_token}
-use Rattle.filter_lang.specs.ConditionReading.{Outcome, found, refused, Read, level_by, row_behind, unary_by, unary_from, unary_at, level_at, bracket_in, under}
+use Rattle.filter_lang.specs.ConditionReading.{Parsed, found, refused, Read, level_by, row_behind, unary_by, unary_from, unary_at, level_at, bracket_in, under}
 use Rattle.filter_lang.specs.declared.expr.FilterPrefix.{FilterPrefix}
 use Rattle.filter_lang.specs.declared.token.Word.{Word}
 use Rattle.filter_lang.specs.declared.token.Word.TheVariants.{Name, Comma, Slash, Colon, Number, Text, Field, Op, Not, Invert, Open, Close}
@@ -43,7 +43,7 @@ unary_open zero ts us t e lt = absurd (omega arith)
 unary_open (suc n) ts us t e lt = let same : n ≡ suc n - 1 = omega arith in rw e (ap (λ k. unary_from (Some (unary_at k)) t us) same)
 
 -- a token that reads alike whatever the room
-alike : (n : ℕ) (ts us : List PlainToken) (t : PlainToken) (out : Outcome Tree) → ((inner : Option Read) → unary_from inner t us ≡ out) → ts ≡ t ∷ us → unary_at n ts ≡ out
+alike : (n : ℕ) (ts us : List PlainToken) (t : PlainToken) (out : Parsed Tree) → ((inner : Option Read) → unary_from inner t us ≡ out) → ts ≡ t ∷ us → unary_at n ts ≡ out
 unfolding unary_at unary_by
 alike zero ts us t out same e = rw e (same None)
 alike (suc n) ts us t out same e = rw e (same (Some (unary_at n)))

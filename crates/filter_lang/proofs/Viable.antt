@@ -8,7 +8,7 @@ use Rattle.filter_lang.specs.PlainToken.{PlainToken, mark, exclamation, tilde, o
 use Rattle.filter_lang.specs.Tree.{Tree, Operands, no_operands, operand}
 use Rattle.filter_lang.specs.Lexing.{AreWritten}
 use Rattle.filter_lang.specs.Ops.{op_first}
-use Rattle.filter_lang.specs.ConditionReading.{Outcome, found, refused, ◌>>=◌, Read, row, behind_operand, with_operand}
+use Rattle.filter_lang.specs.ConditionReading.{Parsed, found, refused, ◌>>=◌, Read, row, behind_operand, with_operand}
 use Rattle.c_operators.specs.declared.binary.BinaryOp.{BinaryOp}
 use Rattle.filter_lang.proofs.Complete.{row_over, op_same}
 
@@ -35,7 +35,7 @@ quiet_before l op ts is = λ k le.
 pub found_is : {A : Type 0} (x y : A) (rs vs : List PlainToken) → found x rs ≡ found y vs → (x ≡ y) × (rs ≡ vs)
 found_is x y rs vs e = (cc, cc)
 
-abbrev pub halt : (A : Type 0) → List PlainToken → Outcome A
+abbrev pub halt : (A : Type 0) → List PlainToken → Parsed A
 halt A rs = refused rs
 
 pub refused_is : (A : Type 0) (rs vs : List PlainToken) → halt A rs ≡ halt A vs → rs ≡ vs
@@ -45,11 +45,11 @@ halt_is : (A B : Type 0) (rs vs : List PlainToken) → halt A rs ≡ halt A vs �
 halt_is A B rs vs e = ap (halt B) (refused_is A rs vs e)
 
 -- the ways of a step after a step
-pub bind_found : {A B : Type 0} (o : Outcome A) (f : A → List PlainToken → Outcome B) (y : B) (rs : List PlainToken) → (o >>= f) ≡ found y rs → (x : A) × (vs : List PlainToken) × (o ≡ found x vs) × (f x vs ≡ found y rs)
+pub bind_found : {A B : Type 0} (o : Parsed A) (f : A → List PlainToken → Parsed B) (y : B) (rs : List PlainToken) → (o >>= f) ≡ found y rs → (x : A) × (vs : List PlainToken) × (o ≡ found x vs) × (f x vs ≡ found y rs)
 bind_found (found x vs) f y rs e = (x, vs, refl, e)
 bind_found (refused vs) f y rs e = absurd cc
 
-pub bind_refused : {A B : Type 0} (o : Outcome A) (f : A → List PlainToken → Outcome B) (rs : List PlainToken) → (o >>= f) ≡ refused rs → (o ≡ refused rs) ⊎ ((x : A) × (vs : List PlainToken) × (o ≡ found x vs) × (f x vs ≡ refused rs))
+pub bind_refused : {A B : Type 0} (o : Parsed A) (f : A → List PlainToken → Parsed B) (rs : List PlainToken) → (o >>= f) ≡ refused rs → (o ≡ refused rs) ⊎ ((x : A) × (vs : List PlainToken) × (o ≡ found x vs) × (f x vs ≡ refused rs))
 bind_refused (found x vs) f rs e = inr (x, vs, refl, e)
 bind_refused {A} {B} (refused vs) f rs e = inl (halt_is B A vs rs e)
 

@@ -3,7 +3,7 @@ use Rattle.std.specs.Prelude.{ℕ, List, [], ◌∷◌, ◌++◌, Option, Some, 
 use Rattle.filter_lang.specs.PlainToken.{PlainToken, name, comma, slash, colon}
 use Rattle.filter_lang.specs.Tree.{Tree}
 use Rattle.filter_lang.specs.Filter.{EventNameData, FilterData, named, filter}
-use Rattle.filter_lang.specs.ConditionReading.{Outcome, found, refused, ◌>>=◌, cond_at}
+use Rattle.filter_lang.specs.ConditionReading.{Parsed, found, refused, ◌>>=◌, cond_at}
 use Rattle.filter_lang.specs.Grammar.{deepest}
 
 -- what has been read of an event
@@ -23,31 +23,31 @@ step (both a b) comma = Some (named a (Some b) ∷ [], naming)
 step m t = None
 
 -- where no token goes on: the last event, if it is whole
-abbrev pub over : Mode → List PlainToken → Outcome (List EventNameData)
+abbrev pub over : Mode → List PlainToken → Parsed (List EventNameData)
 over naming ts = refused ts
 over (first a) ts = found (named a None ∷ []) ts
 over (slashed a) ts = refused ts
 over (both a b) ts = found (named a (Some b) ∷ []) ts
 
-abbrev pub with_events : List EventNameData → List EventNameData → List PlainToken → Outcome (List EventNameData)
+abbrev pub with_events : List EventNameData → List EventNameData → List PlainToken → Parsed (List EventNameData)
 with_events es fs rs = found (es ++ fs) rs
 
-abbrev pub turn : Outcome (List EventNameData) → (Mode → Outcome (List EventNameData)) → Option (List EventNameData × Mode) → Outcome (List EventNameData)
+abbrev pub turn : Parsed (List EventNameData) → (Mode → Parsed (List EventNameData)) → Option (List EventNameData × Mode) → Parsed (List EventNameData)
 turn here more None = here
 turn here more (Some x) = more x.1 >>= with_events x.0
 
-unfoldable pub names : List PlainToken → Mode → Outcome (List EventNameData)
+unfoldable pub names : List PlainToken → Mode → Parsed (List EventNameData)
 names [] m = over m []
 names (t ∷ ts) m = turn (over m (t ∷ ts)) (names ts) (step m t)
 
-abbrev pub whole : List EventNameData → Tree → List PlainToken → Outcome FilterData
+abbrev pub whole : List EventNameData → Tree → List PlainToken → Parsed FilterData
 whole es t [] = found (filter es (Some t)) []
 whole es t (u ∷ us) = refused (u ∷ us)
 
-abbrev pub behind_events : List EventNameData → List PlainToken → Outcome FilterData
+abbrev pub behind_events : List EventNameData → List PlainToken → Parsed FilterData
 behind_events es [] = found (filter es None) []
 behind_events es (colon ∷ us) = cond_at deepest us >>= whole es
 behind_events es (t ∷ us) = refused (t ∷ us)
 
-unfoldable pub filter_in : List PlainToken → Outcome FilterData
+unfoldable pub filter_in : List PlainToken → Parsed FilterData
 filter_in ts = names ts naming >>= behind_events

@@ -4,7 +4,7 @@ use Rattle.filter_lang.specs.TokenView.{plain_tokens}
 use Rattle.filter_lang.specs.TreeView.{tree_of}
 use Rattle.filter_lang.specs.Filter.{EventNameData, FilterData, named, filter}
 use Rattle.filter_lang.specs.ReaderView.{from}
-use Rattle.filter_lang.specs.ConditionReading.{Outcome, found, ◌>>=◌}
+use Rattle.filter_lang.specs.ConditionReading.{Parsed, found, ◌>>=◌}
 use Rattle.filter_lang.specs.FilterReading.{naming, names, with_events}
 use Rattle.filter_lang.specs.Grammar.{IsFilter, RefusedBefore}
 use Rattle.filter_lang.specs.declared.filter.EventName.{EventName}
@@ -23,17 +23,17 @@ abbrev pub filter_of : Filter → FilterData
 filter_of f = filter (map name_of f.events) (option_map tree_of f.cond)
 
 -- events that were read, and what follows them: further ones after a comma
-abbrev pub closing_with : List EventNameData → List PlainToken → Outcome (List EventNameData)
+abbrev pub closing_with : List EventNameData → List PlainToken → Parsed (List EventNameData)
 closing_with es (comma ∷ ts) = names ts naming >>= with_events es
 closing_with es ts = found es ts
 
-abbrev pub event_view : Reader → TakenEvent → Outcome (List EventNameData)
+abbrev pub event_view : Reader → TakenEvent → Parsed (List EventNameData)
 event_view r t = closing_with (name_of t.event ∷ []) (from r t.next)
 
-abbrev pub events_view : Reader → TakenEvents → Outcome (List EventNameData)
+abbrev pub events_view : Reader → TakenEvents → Parsed (List EventNameData)
 events_view r t = found (map name_of t.events.items) (from r t.next)
 
-abbrev pub filter_view : Reader → Filter → Outcome FilterData
+abbrev pub filter_view : Reader → Filter → Parsed FilterData
 filter_view r f = found (filter_of f) []
 
 -- What was answered: a filter that the tokens are, or the place where they are refused.

@@ -5,7 +5,7 @@ use Rattle.filter_lang.specs.Filter.{FilterData}
 use Rattle.byte_classes.specs.Bytes.{is_blank}
 use Rattle.filter_lang.specs.Lexing.{Cut, token_in, is_colon}
 use Rattle.filter_lang.specs.Texts.{Lexeme, lexeme, tokens_in}
-use Rattle.filter_lang.specs.ConditionReading.{Outcome, found, refused}
+use Rattle.filter_lang.specs.ConditionReading.{Parsed, found, refused}
 use Rattle.filter_lang.specs.FilterReading.{filter_in}
 
 -- tokens, and the text from the place on at which none begins
@@ -35,7 +35,7 @@ from_first [] rest = rest
 from_first (l ∷ ls) rest = l.at
 
 -- what the tokens of a text are, where no token begins at the rest
-abbrev pub read_tokens : List ℕ → List Lexeme → List ℕ → Outcome FilterData → Result FilterData ℕ
+abbrev pub read_tokens : List ℕ → List Lexeme → List ℕ → Parsed FilterData → Result FilterData ℕ
 read_tokens text row [] (found f ts) = Ok f
 read_tokens text row (c ∷ rest) (found f ts) = Err (length text - length (c ∷ rest))
 read_tokens text row rest (refused ts) =

@@ -1,4 +1,4 @@
 pub mod CallText
 pub mod Roles
 pub mod Gathered
-pub mod Sights
+pub mod CallGatherers

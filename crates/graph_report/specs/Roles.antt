@@ -15,9 +15,9 @@ use Rattle.report_print.specs.Line.{id_of}
 use Rattle.report_print.specs.NumberFields.{of_counted, of_number, number_at, low_32}
 use Rattle.report_print.specs.declared.number_field.NumberField.{NumberField}
 use Rattle.report_print.specs.Prefix.{common_in}
-use Rattle.call_pairs.specs.declared.seen.GraphEvent.{GraphEvent}
-use Rattle.call_pairs.specs.declared.seen.Seen.{Seen}
-use Rattle.call_pairs.specs.declared.seen.Seen.TheVariants as seen
+use Rattle.call_pairs.specs.declared.graph_item.GraphEvent.{GraphEvent}
+use Rattle.call_pairs.specs.declared.graph_item.GraphItem.{GraphItem}
+use Rattle.call_pairs.specs.declared.graph_item.GraphItem.TheVariants as seen
 use Rattle.call_pairs.specs.Durations.{clip}
 use Rattle.graph_report.specs.declared.role.Called.{Called}
 use Rattle.graph_report.specs.declared.role.Times.{Times}
@@ -78,17 +78,17 @@ abbrev pub ran_by : Order → List ℕ → Option Times → Option ℕ
 ran_by order payload None = None
 ran_by order payload (Some times) = Some (clip (number_at order payload times.to -ℤ number_at order payload times.from))
 
-abbrev pub seen_as : ContextData → ℕ → ℕ → List ℕ → Role → Option Seen
+abbrev pub seen_as : ContextData → ℕ → ℕ → List ℕ → Role → Option GraphItem
 seen_as given cpu time payload (Enters called) = Some (seen.Entry (graph_event given cpu time payload called))
 seen_as given cpu time payload (Leaves called times) =
     Some (seen.Exit (graph_event given cpu time payload called) (ran_by given.show.order payload times))
 seen_as given cpu time payload Other = None
 
 -- an event by its format
-abbrev pub event_seen : ContextData → ℕ → ℕ → List ℕ → Option Seen
+abbrev pub event_seen : ContextData → ℕ → ℕ → List ℕ → Option GraphItem
 event_seen given cpu time payload = seen_as given cpu time payload (role_by (format_at (id_of given payload) given.formats))
 
 -- such an event, and every loss
-unfoldable pub seen_of : ContextData → ℕ → ItemData → Option Seen
+unfoldable pub seen_of : ContextData → ℕ → ItemData → Option GraphItem
 seen_of given cpu (EventAt time payload) = event_seen given cpu time payload
 seen_of given cpu (LossAt time count) = Some (seen.Loss cpu count)

@@ -9,7 +9,7 @@ ghost use Rattle.time_merge.specs.LaneRows.{parts_of};
 ghost use Rattle.item_pass.specs.Faults.{KeptUnlessRead};
 ghost use Rattle.graph_report.specs.Gathered.{reached_calls, cut_place};
 
-use crate::sight::Sight;
+use crate::call_gatherer::CallGatherer;
 use call_pairs::{Call, Tracing};
 use format_index::FormatRoles;
 use item_pass::{PassFault, pass};
@@ -55,12 +55,12 @@ pub fn gather_calls<F: File>(
     let Ok(roles) = FormatRoles::of(alloc, context.formats()) else {
         return Err(PassFault::Memory);
     };
-    let sight = Sight {
+    let gatherer = CallGatherer {
         context,
         roles: &roles,
     };
     let mut tracing = Tracing::new(alloc);
-    let cut = pass(alloc, &sight, layout, file, lanes, &mut tracing)?;
+    let cut = pass(alloc, &gatherer, layout, file, lanes, &mut tracing)?;
     Ok(Calls {
         list: tracing.into_calls(),
         cut,

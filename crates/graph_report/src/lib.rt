@@ -5,11 +5,11 @@
 //! memory. What an event is for the calls is found once for each format; which exit belongs to which entry is `call_pairs`'s.
 #![tactic(auto)]
 
+mod call_gatherer;
 mod gathering;
 mod putting;
 mod role;
 mod seeing;
-mod sight;
 mod text;
 
 pub use gathering::{Calls, gather_calls};

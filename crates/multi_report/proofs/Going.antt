@@ -11,7 +11,7 @@ use Rattle.subpage.specs.Arrangement.{Keyed}
 use Rattle.multi_report.specs.declared.report.FilesEnd.{FilesEnd}
 use Rattle.multi_report.specs.declared.report.FilesEnd.TheVariants as code
 use Rattle.multi_report.specs.Order.{ShownFile, FileCut, in_file}
-use Rattle.multi_report.specs.Sources.{Seen, shown_of}
+use Rattle.multi_report.specs.Sources.{SourceView, shown_of}
 use Rattle.multi_report.specs.Pieces.{text_of}
 use Rattle.multi_report.specs.Reports.{IsEnded, line_in, line_of}
 use Rattle.multi_report.specs.Turns.{EndsWith, Going}
@@ -53,7 +53,7 @@ end_read before whole cut old new waiting rest source result ends going =
     ]
 
 -- the line of an item of one of the files
-pub line_at : (sources : List Seen) (j : ℕ) (d : Seen) (x : Keyed) → j < length sources → line_in (map shown_of sources) (in_file j x) ≡ line_of (shown_of (get_or sources j d)) x
+pub line_at : (sources : List SourceView) (j : ℕ) (d : SourceView) (x : Keyed) → j < length sources → line_in (map shown_of sources) (in_file j x) ≡ line_of (shown_of (get_or sources j d)) x
 line_at sources j d x lt =
     ap (λ (o : Option ShownFile). unwrap_or (option_map (λ file. line_of file x) o) [])
     (slice_get-get_or (map shown_of sources) j (shown_of d) (omega (arith, length-map sources shown_of, lt)) ∙ ap Some (get_or-map shown_of sources j d (shown_of d) lt))

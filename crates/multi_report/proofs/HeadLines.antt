@@ -6,11 +6,11 @@ use Rattle.trace_outside.specs.Pending.{Holds, OnWay, Puts, PutsText}
 use Rattle.trace_outside.specs.Writing.{GainedPrefix}
 use Rattle.trace_outside.proofs.PendingLemmas.{prefix_longer}
 use Rattle.multi_report.specs.Taking.{Put, PutPart}
-use Rattle.multi_report.specs.Sources.{Seen, shown_of}
+use Rattle.multi_report.specs.Sources.{SourceView, shown_of}
 use Rattle.multi_report.specs.Pieces.{text_of}
 use Rattle.multi_report.specs.Reports.{head_line}
 
-pub heads_text : {S : Type 0} (f : S → Seen) (xs : List S) → flat_map (λ x. head_line (shown_of (f x))) xs ≡ text_of (map head_line (map shown_of (map f xs)))
+pub heads_text : {S : Type 0} (f : S → SourceView) (xs : List S) → flat_map (λ x. head_line (shown_of (f x))) xs ≡ text_of (map head_line (map shown_of (map f xs)))
 heads_text f [] = refl
 heads_text f (x ∷ xs) = ap (λ (t : List ℕ). head_line (shown_of (f x)) ++ t) (heads_text f xs)
 
@@ -34,7 +34,7 @@ front_stopped p q a m (Err v) failed part = λ before text held.
     subst (GainedPrefix before m.written) (append_assoc text p q) (prefix_longer before m.written (text ++ p) q (part before text held))
 
 -- a file that was looked at in its place, whose first line was stopped
-pub stopped_at : {S : Type 0} (f : S → Seen) (s at : S) (written now : Option (List ℕ)) (waiting : List ℕ) → s ≡ at
+pub stopped_at : {S : Type 0} (f : S → SourceView) (s at : S) (written now : Option (List ℕ)) (waiting : List ℕ) → s ≡ at
     → ((before : Option (List ℕ)) (text : List ℕ) → Holds before written waiting text → GainedPrefix before now (text ++ head_line (shown_of (f s))))
     → (before : Option (List ℕ)) (text : List ℕ) → Holds before written waiting text → GainedPrefix before now (text ++ head_line (shown_of (f at)))
 stopped_at {S = S} f s at written now waiting is h before text held = subst (λ (x : S). GainedPrefix before now (text ++ head_line (shown_of (f x)))) is (h before text held)

@@ -5,55 +5,55 @@ use Rattle.std.proofs.lemmas.Bool.{cases_eq, cases_lt}
 use Rattle.std.proofs.lemmas.List.{ext_get_or, get_or-map, length-map, map-set}
 use Rattle.std.proofs.lemmas.List.Elements.{All-from_get_or, All-get_or}
 use Rattle.trace_outside.specs.Causes.{Rose}
-use Rattle.multi_report.specs.Sources.{Seen, IsKnown, IsPrepared, IsReadied, IsUsable, Keeps, next_key}
+use Rattle.multi_report.specs.Sources.{SourceView, IsKnown, IsPrepared, IsReadied, IsUsable, Keeps, next_key}
 use Rattle.multi_report.specs.Turns.{AreReadied}
 use Rattle.multi_report.proofs.Files.{Tied, same_one, usable_all}
 
-pub keeps_self : (s : Seen) → IsUsable s → Keeps s s
+pub keeps_self : (s : SourceView) → IsUsable s → Keeps s s
 keeps_self s usable = record { same = same_one s; usable = usable; most = omega arith; rows = λ known. refl; known = λ known. known }
 
-pub tied_self : (first : List Seen) → All IsUsable first → Tied Keeps first first
+pub tied_self : (first : List SourceView) → All IsUsable first → Tied Keeps first first
 tied_self first usable i d lt = keeps_self (get_or first i d) (All-get_or IsUsable first i d lt usable)
 
-pub as_long : {S : Type 0} (f : S → Seen) (xs ys : List S) → length xs ≡ length ys → length (map f xs) ≡ length (map f ys)
+pub as_long : {S : Type 0} (f : S → SourceView) (xs ys : List S) → length xs ≡ length ys → length (map f xs) ≡ length (map f ys)
 as_long f xs ys e = length-map xs f ∙ e ∙ sym (length-map ys f)
 
 -- a file that is ready, with the key of what comes next of it
-pub record IsBegun (first now : Seen) (key : Option (Option ℕ)) : Type 0 where
+pub record IsBegun (first now : SourceView) (key : Option (Option ℕ)) : Type 0 where
   pub readied : IsReadied first now
   pub key_is : IsKnown now → key ≡ next_key now
 
-abbrev pub AreBegun : List Seen → List Seen → List (Option (Option ℕ)) → ℕ → Type 0
-AreBegun first now keys j = (i : ℕ) (d : Seen) → i < j → IsBegun (get_or first i d) (get_or now i d) (get_or keys i None)
+abbrev pub AreBegun : List SourceView → List SourceView → List (Option (Option ℕ)) → ℕ → Type 0
+AreBegun first now keys j = (i : ℕ) (d : SourceView) → i < j → IsBegun (get_or first i d) (get_or now i d) (get_or keys i None)
 
 less_by : (i j : ℕ) → i < j + 1 → (i ≡ j → ⊥) → i < j
 less_by i j le differ = elim (cases_lt i j) [ inl lt ↦ lt | inr ge ↦ absurd (differ (omega (arith, le, ge))) ]
 
 -- those from a place on are as they were
-abbrev pub AreStill : List Seen → List Seen → ℕ → Type 0
-AreStill first now j = (i : ℕ) (d : Seen) → j ≤ i → get_or now i d ≡ get_or first i d
+abbrev pub AreStill : List SourceView → List SourceView → ℕ → Type 0
+AreStill first now j = (i : ℕ) (d : SourceView) → j ≤ i → get_or now i d ≡ get_or first i d
 
-module _ {S : Type 0} (f : S → Seen) (first xs : List S) (j : ℕ) (d new : S) (long : length xs ≡ length first) (lt : j < length xs) where
+module _ {S : Type 0} (f : S → SourceView) (first xs : List S) (j : ℕ) (d new : S) (long : length xs ≡ length first) (lt : j < length xs) where
   inside : j < length (map f xs)
   inside = omega (arith, length-map xs f, lt)
 
-  here : (e : Seen) → get_or (map f (set xs j new)) j e ≡ f new
-  here e = ap (λ (ss : List Seen). get_or ss j e) (map-set f xs j new) ∙ get_or-set_same (map f xs) j (f new) e inside
+  here : (e : SourceView) → get_or (map f (set xs j new)) j e ≡ f new
+  here e = ap (λ (ss : List SourceView). get_or ss j e) (map-set f xs j new) ∙ get_or-set_same (map f xs) j (f new) e inside
 
-  other : (i : ℕ) (e : Seen) → i ≢ j → get_or (map f (set xs j new)) i e ≡ get_or (map f xs) i e
-  other i e differ = ap (λ (ss : List Seen). get_or ss i e) (map-set f xs j new) ∙ get_or-set_other (map f xs) j i (f new) e differ
+  other : (i : ℕ) (e : SourceView) → i ≢ j → get_or (map f (set xs j new)) i e ≡ get_or (map f xs) i e
+  other i e differ = ap (λ (ss : List SourceView). get_or ss i e) (map-set f xs j new) ∙ get_or-set_other (map f xs) j i (f new) e differ
 
   -- the element that is changed is the first one
-  was : (e : Seen) → AreStill (map f first) (map f xs) j → f (get_or xs j d) ≡ get_or (map f first) j e
+  was : (e : SourceView) → AreStill (map f first) (map f xs) j → f (get_or xs j d) ≡ get_or (map f first) j e
   was e still = sym (get_or-map f xs j d e lt) ∙ still j e (omega arith)
 
   pub tied_set : AreStill (map f first) (map f xs) j → Keeps (f (get_or xs j d)) (f new) → Tied Keeps (map f first) (map f xs) → Tied Keeps (map f first) (map f (set xs j new))
   tied_set still keeps tied i e le = elim (cases_eq i j) as (λ _. Keeps (get_or (map f first) i e) (get_or (map f (set xs j new)) i e)) [
     | inl same ↦
         let at : Keeps (get_or (map f first) j e) (get_or (map f (set xs j new)) j e) =
-        subst (λ (s : Seen). Keeps (get_or (map f first) j e) s) (sym (here e)) (subst (λ (s : Seen). Keeps s (f new)) (was e still) keeps) in
+        subst (λ (s : SourceView). Keeps (get_or (map f first) j e) s) (sym (here e)) (subst (λ (s : SourceView). Keeps s (f new)) (was e still) keeps) in
         subst (λ (k : ℕ). Keeps (get_or (map f first) k e) (get_or (map f (set xs j new)) k e)) (sym same) at
-    | inr differ ↦ subst (λ (s : Seen). Keeps (get_or (map f first) i e) s) (sym (other i e differ)) (tied i e le)
+    | inr differ ↦ subst (λ (s : SourceView). Keeps (get_or (map f first) i e) s) (sym (other i e differ)) (tied i e le)
   ]
 
   pub still_set : AreStill (map f first) (map f xs) j → AreStill (map f first) (map f (set xs j new)) (j + 1)
@@ -64,23 +64,23 @@ module _ {S : Type 0} (f : S → Seen) (first xs : List S) (j : ℕ) (d new : S)
       → AreBegun (map f first) (map f xs) keys j → AreBegun (map f first) (map f (set xs j new)) (set keys j key) (j + 1)
   begun_set keys key room still readied key_is begun i e le = elim (cases_eq i j) as (λ _. IsBegun (get_or (map f first) i e) (get_or (map f (set xs j new)) i e) (get_or (set keys j key) i None)) [
     | inl same ↦
-        let one : IsBegun (get_or (map f first) j e) (f new) key = record { readied = subst (λ (s : Seen). IsReadied s (f new)) (was e still) readied; key_is = key_is } in
+        let one : IsBegun (get_or (map f first) j e) (f new) key = record { readied = subst (λ (s : SourceView). IsReadied s (f new)) (was e still) readied; key_is = key_is } in
         let at : IsBegun (get_or (map f first) j e) (get_or (map f (set xs j new)) j e) (get_or (set keys j key) j None) =
-        subst (λ (s : Seen). IsBegun (get_or (map f first) j e) s (get_or (set keys j key) j None)) (sym (here e))
+        subst (λ (s : SourceView). IsBegun (get_or (map f first) j e) s (get_or (set keys j key) j None)) (sym (here e))
         (subst (λ (k : Option (Option ℕ)). IsBegun (get_or (map f first) j e) (f new) k) (sym (get_or-set_same keys j key None room)) one) in
         subst (λ (k : ℕ). IsBegun (get_or (map f first) k e) (get_or (map f (set xs j new)) k e) (get_or (set keys j key) k None)) (sym same) at
     | inr differ ↦
-        subst (λ (s : Seen). IsBegun (get_or (map f first) i e) s (get_or (set keys j key) i None)) (sym (other i e differ))
+        subst (λ (s : SourceView). IsBegun (get_or (map f first) i e) s (get_or (set keys j key) i None)) (sym (other i e differ))
         (subst (λ (k : Option (Option ℕ)). IsBegun (get_or (map f first) i e) (get_or (map f xs) i e) k) (sym (get_or-set_other keys j i key None differ)) (begun i e (less_by i j le differ)))
   ]
 
   pub rose_set : AreStill (map f first) (map f xs) j → Rose (f (get_or xs j d)).faults (f new).faults
-      → (j < length first) × ((e : Seen) → Rose (get_or (map f first) j e).faults (get_or (map f (set xs j new)) j e).faults)
+      → (j < length first) × ((e : SourceView) → Rose (get_or (map f first) j e).faults (get_or (map f (set xs j new)) j e).faults)
   rose_set still rose = (
     omega (arith, long, lt),
     λ e.
-        subst (λ (s : Seen). Rose (get_or (map f first) j e).faults s.faults) (sym (here e))
-        (subst (λ (s : Seen). Rose s.faults (f new).faults) (was e still) rose),
+        subst (λ (s : SourceView). Rose (get_or (map f first) j e).faults s.faults) (sym (here e))
+        (subst (λ (s : SourceView). Rose s.faults (f new).faults) (was e still) rose),
   )
 
   pub usable_here : AreStill (map f first) (map f xs) j → All IsUsable (map f first) → IsUsable (f (get_or xs j d))
@@ -89,7 +89,7 @@ module _ {S : Type 0} (f : S → Seen) (first xs : List S) (j : ℕ) (d new : S)
       subst IsUsable (sym (was e still)) (All-get_or IsUsable (map f first) j e (omega (arith, length-map first f, long, lt)) usable)
 
 -- all were made ready
-module _ (first now : List Seen) (keys : List (Option (Option ℕ))) (j : ℕ) (long : length now ≡ length first) (end : length first ≤ j) (begun : AreBegun first now keys j) where
+module _ (first now : List SourceView) (keys : List (Option (Option ℕ))) (j : ℕ) (long : length now ≡ length first) (end : length first ≤ j) (begun : AreBegun first now keys j) where
   pub all_readied : Tied Keeps first now → All IsUsable first → AreReadied first now
   all_readied tied usable = record {
     usable = usable_all first now long tied usable;
@@ -97,7 +97,7 @@ module _ (first now : List Seen) (keys : List (Option (Option ℕ))) (j : ℕ) (
     due = λ i d lt. (begun i d (omega (arith, lt, end))).readied.due;
   }
     where
-      prepared : (xs : List Seen) → ((i : ℕ) (d : Seen) → i < length xs → IsPrepared (get_or xs i d)) → All IsPrepared xs
+      prepared : (xs : List SourceView) → ((i : ℕ) (d : SourceView) → i < length xs → IsPrepared (get_or xs i d)) → All IsPrepared xs
       prepared [] each = λ i d lt. absurd (omega (arith, lt))
       prepared (x ∷ xs) each = All-from_get_or IsPrepared (x ∷ xs) x (λ i lt. each i x lt)
 
@@ -108,6 +108,6 @@ module _ (first now : List Seen) (keys : List (Option (Option ℕ))) (j : ℕ) (
       let d = some now i within in
       (begun i d (omega (arith, within, long, end))).key_is (All-get_or IsKnown now i d within known) ∙ sym (get_or-map next_key now i d None within))
     where
-      some : (xs : List Seen) (i : ℕ) → i < length xs → Seen
+      some : (xs : List SourceView) (i : ℕ) → i < length xs → SourceView
       some [] i lt = absurd (omega (arith, lt))
       some (x ∷ xs) i lt = x

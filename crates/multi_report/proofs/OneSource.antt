@@ -22,7 +22,7 @@ use Rattle.time_merge.proofs.Going.{still_parts}
 use Rattle.time_merge.proofs.OneLane.{in_step_but}
 use Rattle.time_merge.proofs.PartReads.{all_reading_in, none_reading, stepping_unread}
 use Rattle.multi_report.specs.Order.{ShownFile}
-use Rattle.multi_report.specs.Sources.{Seen, IsUsable, IsKnown, IsPrepared, IsReadied, Keeps, bytes_of}
+use Rattle.multi_report.specs.Sources.{SourceView, IsUsable, IsKnown, IsPrepared, IsReadied, Keeps, bytes_of}
 use Rattle.multi_report.specs.Nexts.{IsLaneStepped}
 
 written_all : {X : Type 0} (xs w : List X) → length w ≡ length xs → take (length xs) (w ++ drop (length w) xs) ≡ w
@@ -30,7 +30,7 @@ written_all xs w e =
     ap (λ l. take (length xs) (w ++ l)) (drop_all (length w) xs (omega (arith, e))) ∙ ap (take (length xs)) (append-nil w) ∙ take_all (length xs) w (omega (arith, e))
 
 module _ (name : List ℕ) (cpus : ℕ) (layout : Layout) (text : ℕ → ItemData → LineText) where
-  abbrev pub made : Option (List ℕ) → ℕ → ℕ → ℕ → List Lane → List (Option (Option ℕ)) → Seen
+  abbrev pub made : Option (List ℕ) → ℕ → ℕ → ℕ → List Lane → List (Option (Option ℕ)) → SourceView
   made told size faults reads lanes nexts =
       record { name = name; cpus = cpus; layout = layout; text = text; told = told; size = size; faults = faults; reads = reads; lanes = lanes; nexts = nexts }
 
@@ -38,7 +38,7 @@ module _ (name : List ℕ) (cpus : ℕ) (layout : Layout) (text : ℕ → ItemDa
   shown_with bytes parts = record { name = name; cpus = cpus; layout = layout; bytes = bytes; parts = parts; text = text }
 
   -- what is so of a file with these lanes is so where they were lent and given back
-  given_back : (P : Seen → Type 0) (told told_now : Option (List ℕ)) (size size_now faults reads : ℕ) (lanes now : List Lane) (keys : List (Option (Option ℕ)))
+  given_back : (P : SourceView → Type 0) (told told_now : Option (List ℕ)) (size size_now faults reads : ℕ) (lanes now : List Lane) (keys : List (Option (Option ℕ)))
       → told_now ≡ told → size_now ≡ size → length now ≡ length lanes → P (made told size faults reads now keys)
       → P (made told_now size_now faults reads (take (length lanes) (now ++ drop (length now) lanes)) keys)
   given_back P told told_now size size_now faults reads lanes now keys same_told same_size long h =
@@ -47,10 +47,10 @@ module _ (name : List ℕ) (cpus : ℕ) (layout : Layout) (text : ℕ → ItemDa
       (subst (λ (t : Option (List ℕ)). P (made t size faults reads now keys)) (sym same_told) h))
 
   module _ (told : Option (List ℕ)) (size f g r q : ℕ) (lanes now : List Lane) (keys keys_now : List (Option (Option ℕ))) where
-    abbrev before : Seen
+    abbrev before : SourceView
     before = made told size f r lanes keys
 
-    abbrev after : Seen
+    abbrev after : SourceView
     after = made told size g q now keys_now
 
     same_rows : (t : Option (List ℕ)) → IfSome t (λ bytes. rows_of layout bytes now ≡ rows_of layout bytes lanes)

@@ -9,7 +9,7 @@ use Rattle.trace_outside.proofs.PendingLemmas.{holds_nothing}
 use Rattle.multi_report.specs.declared.report.FilesEnd.{FilesEnd}
 use Rattle.multi_report.specs.declared.report.FilesEnd.TheVariants as code
 use Rattle.multi_report.specs.Order.{ShownFile, cut_of_files, reached}
-use Rattle.multi_report.specs.Sources.{Seen, IsFreshSource, IsKnown, Keeps, shown_of, next_key, to_come_of}
+use Rattle.multi_report.specs.Sources.{SourceView, IsFreshSource, IsKnown, Keeps, shown_of, next_key, to_come_of}
 use Rattle.multi_report.specs.Pieces.{text_of}
 use Rattle.multi_report.specs.Reports.{AreSame, IsEnded, IsFilesReport, ReadRose, head_line, lines, pieces}
 use Rattle.multi_report.specs.Turns.{EndsWith, Going, IsUnderway, lines_left}
@@ -17,14 +17,14 @@ use Rattle.multi_report.proofs.Files.{Tied, all_fresh_known, fresh_left, keeps_s
 use Rattle.multi_report.proofs.Going.{end_read, prefix_of_whole}
 
 -- all pieces of files
-abbrev pub whole_of : List Seen → List (List ℕ)
+abbrev pub whole_of : List SourceView → List (List ℕ)
 whole_of sources = pieces (map shown_of sources)
 
-abbrev pub heads_of : List Seen → List (List ℕ)
+abbrev pub heads_of : List SourceView → List (List ℕ)
 heads_of sources = map head_line (map shown_of sources)
 
 -- the first lines are on their way, and all items are left
-pub going_heads : (first now : List Seen) (before written : Option (List ℕ)) (waiting waiting_now : List ℕ) → All IsFreshSource first → All (λ source. IsSome source.told) first → waiting ≡ []
+pub going_heads : (first now : List SourceView) (before written : Option (List ℕ)) (waiting waiting_now : List ℕ) → All IsFreshSource first → All (λ source. IsSome source.told) first → waiting ≡ []
     → length now ≡ length first → Tied Keeps first now
     → ((b : Option (List ℕ)) (text : List ℕ) → Holds b before waiting text → Holds b written waiting_now (text ++ text_of (heads_of first)))
     → Going before (whole_of first) written waiting_now (lines_left now)
@@ -39,14 +39,14 @@ going_heads first now before written waiting waiting_now fresh told empty long t
     }
 
 -- the first lines could not be written
-pub heads_stopped : (first : List Seen) (before written : Option (List ℕ)) (waiting : List ℕ) → waiting ≡ []
+pub heads_stopped : (first : List SourceView) (before written : Option (List ℕ)) (waiting : List ℕ) → waiting ≡ []
     → ((b : Option (List ℕ)) (text : List ℕ) → Holds b before waiting text → GainedPrefix b written (text ++ text_of (heads_of first)))
     → GainedPrefix before written (text_of (whole_of first))
 heads_stopped first before written waiting empty puts =
     prefix_of_whole before written (whole_of first) (heads_of first) (lines (map shown_of first) (reached (map shown_of first))) refl
     (puts before [] (subst (λ (w : List ℕ). Holds before before w []) (sym empty) (holds_nothing before)))
 
-pub underway_first : (first now : List Seen) (keys : List (Option (Option ℕ))) (before written : Option (List ℕ)) (waiting waiting_now : List ℕ) → All IsFreshSource first → All (λ source. IsSome source.told) first → waiting ≡ []
+pub underway_first : (first now : List SourceView) (keys : List (Option (Option ℕ))) (before written : Option (List ℕ)) (waiting waiting_now : List ℕ) → All IsFreshSource first → All (λ source. IsSome source.told) first → waiting ≡ []
     → length now ≡ length first → Tied Keeps first now → (All IsKnown now → keys ≡ map next_key now)
     → ((b : Option (List ℕ)) (text : List ℕ) → Holds b before waiting text → Holds b written waiting_now (text ++ text_of (heads_of first)))
     → IsUnderway before (whole_of first) now keys written waiting_now
@@ -55,7 +55,7 @@ underway_first first now keys before written waiting waiting_now fresh told empt
     record { known = known; keys_are = keys_are known; going = going_heads first now before written waiting waiting_now fresh told empty long tied puts }
 
 -- a read failed before the first item
-pub read_first : (first now : List Seen) (before written new : Option (List ℕ)) (waiting waiting_now : List ℕ) (source : ℕ) (result : FilesEnd) → All IsFreshSource first → All (λ source. IsSome source.told) first → waiting ≡ []
+pub read_first : (first now : List SourceView) (before written new : Option (List ℕ)) (waiting waiting_now : List ℕ) (source : ℕ) (result : FilesEnd) → All IsFreshSource first → All (λ source. IsSome source.told) first → waiting ≡ []
     → length now ≡ length first → Tied Keeps first now
     → ((b : Option (List ℕ)) (text : List ℕ) → Holds b before waiting text → Holds b written waiting_now (text ++ text_of (heads_of first)))
     → ((b : Option (List ℕ)) (text : List ℕ) → Holds b written waiting_now text → EndsWith b new text (code.Read source) result)
@@ -65,7 +65,7 @@ read_first first now before written new waiting waiting_now source result fresh 
     (going_heads first now before written waiting waiting_now fresh told empty long tied puts)
 
 -- a count that rose since a turn began rose since the report began
-pub read_from : (result : FilesEnd) (first before now : List Seen) → AreSame first before → ReadRose result before now → ReadRose result first now
+pub read_from : (result : FilesEnd) (first before now : List SourceView) → AreSame first before → ReadRose result before now → ReadRose result first now
 read_from code.Done first before now same rose = tt
 read_from (code.Malformed source cpu page) first before now same rose = tt
 read_from (code.Read source) first before now same rose =
@@ -73,14 +73,14 @@ read_from (code.Read source) first before now same rose =
     (inside, λ d. omega (arith, (same.each source d inside).faults, rose.1 d))
 read_from code.Write first before now same rose = tt
 
-abbrev pub IsOnWay : List Seen → List Seen → List (Option (Option ℕ)) → Option (List ℕ) → Option (List ℕ) → List ℕ → Type 0
+abbrev pub IsOnWay : List SourceView → List SourceView → List (Option (Option ℕ)) → Option (List ℕ) → Option (List ℕ) → List ℕ → Type 0
 IsOnWay first now keys before written waiting = All (λ source. IsSome source.told) first → IsUnderway before (whole_of first) now keys written waiting
 
 -- a report that began and ended, told by what the files were
-pub report_is : (first now : List Seen) (before new : Option (List ℕ)) (end : FilesEnd) → AreSame first now → IsEnded (whole_of first) (cut_of_files (map shown_of now)) before new end
+pub report_is : (first now : List SourceView) (before new : Option (List ℕ)) (end : FilesEnd) → AreSame first now → IsEnded (whole_of first) (cut_of_files (map shown_of now)) before new end
     → IsFilesReport (map shown_of first) before new end
 report_is first now before new end same ended = subst (λ (gs : List ShownFile). IsEnded (whole_of first) (cut_of_files gs) before new end) (same_shown first now same) ended
 
 -- a tree has a slot for each file still
-pub slots_on : {S : Type 0} (f : S → Seen) (xs ys : List S) (keys now : List (Option (Option ℕ))) → AreSame (map f xs) (map f ys) → length keys ≡ length xs → length now ≡ length keys → length now ≡ length ys
+pub slots_on : {S : Type 0} (f : S → SourceView) (xs ys : List S) (keys now : List (Option (Option ℕ))) → AreSame (map f xs) (map f ys) → length keys ≡ length xs → length now ≡ length keys → length now ≡ length ys
 slots_on f xs ys keys now same slots still = omega (arith, same.count, slots, still, length-map xs f, length-map ys f)

@@ -22,7 +22,7 @@ use Rattle.time_merge.proofs.Starting.{cut_of_rows as one_cut}
 use Rattle.multi_report.specs.declared.taking.Taken.{Taken}
 use Rattle.multi_report.specs.declared.taking.Taken.TheVariants as took
 use Rattle.multi_report.specs.Order.{ShownFile, own_cut}
-use Rattle.multi_report.specs.Sources.{Seen, IsKnown, IsReadied, IsSame, Keeps, bytes_of, due, shown_of, next_key}
+use Rattle.multi_report.specs.Sources.{SourceView, IsKnown, IsReadied, IsSame, Keeps, bytes_of, due, shown_of, next_key}
 use Rattle.multi_report.specs.Nexts.{IsLaneStepped, cut_at}
 use Rattle.multi_report.specs.Reports.{line_of}
 use Rattle.multi_report.specs.Taking.{IsGoing, IsStill, ItemTaken, LineStopped, TakenFrom, TakenOf, cut_left, left_in}
@@ -33,7 +33,7 @@ some_lane [] i lt = absurd (omega (arith, lt))
 some_lane (a ∷ lanes) i lt = a
 
 -- a file of which an item was used up
-known_stepped : (a b : Seen) (i : ℕ) (e : Lane) → i < length a.lanes → IsLaneStepped a i b → IsKnown a → IsKnown b
+known_stepped : (a b : SourceView) (i : ℕ) (e : Lane) → i < length a.lanes → IsLaneStepped a i b → IsKnown a → IsKnown b
 known_stepped a b i e lt s known =
     let bytes : bytes_of b ≡ bytes_of a = ap (λ (o : Option (List ℕ)). unwrap_or o []) s.told in
     record {
@@ -46,12 +46,12 @@ known_stepped a b i e lt s known =
           subst (λ (l : Layout). All (Stands l (bytes_of b)) b.lanes) (sym s.layout) there;
     }
 
-shown_stepped : (a b : Seen) (i : ℕ) (e : Lane) → i < length a.lanes → IsLaneStepped a i b → shown_of b ≡ shown_of a
+shown_stepped : (a b : SourceView) (i : ℕ) (e : Lane) → i < length a.lanes → IsLaneStepped a i b → shown_of b ≡ shown_of a
 shown_stepped a b i e lt s =
     let parts : parts_of b.lanes ≡ parts_of a.lanes = ap parts_of s.lanes ∙ still_parts a.layout a.lanes i e s.lane lt (s.stepped e) in
     cc (s.name, s.cpus, s.layout, s.text, s.told, parts)
 
-pub same_stepped : (a b : Seen) (i : ℕ) → i < length a.lanes → IsLaneStepped a i b → IsSame a b
+pub same_stepped : (a b : SourceView) (i : ℕ) → i < length a.lanes → IsLaneStepped a i b → IsSame a b
 same_stepped a b i lt s = record {
   shown = shown_stepped a b i (some_lane a.lanes i lt) lt s;
   told = s.told;
@@ -60,11 +60,11 @@ same_stepped a b i lt s = record {
   reads = omega (arith, s.reads);
 }
 
-due_stepped : (a b : Seen) (i : ℕ) → IsLaneStepped a i b → due b ≡ due a
+due_stepped : (a b : SourceView) (i : ℕ) → IsLaneStepped a i b → due b ≡ due a
 due_stepped a b i s = omega (arith, s.reads, s.unread)
 
 -- an item was used up and then lanes were made ready
-pub same_used : (a b c : Seen) (i : ℕ) → i < length a.lanes → IsLaneStepped a i b → Keeps b c → IsSame a c
+pub same_used : (a b c : SourceView) (i : ℕ) → i < length a.lanes → IsLaneStepped a i b → Keeps b c → IsSame a c
 same_used a b c i lt s keeps =
     let one = same_stepped a b i lt s in
     record {
@@ -75,23 +75,23 @@ same_used a b c i lt s keeps =
       reads = omega (arith, keeps.same.reads, due_stepped a b i s);
     }
 
-pub going_used : (a b c : Seen) (i : ℕ) → IsLaneStepped a i b → Keeps b c → IsReadied b c → IsGoing a c
+pub going_used : (a b c : SourceView) (i : ℕ) → IsLaneStepped a i b → Keeps b c → IsReadied b c → IsGoing a c
 going_used a b c i s keeps readied = record {
   usable = keeps.usable;
   readied = record { prepared = readied.prepared; due = omega (arith, readied.due, due_stepped a b i s) };
   less = omega (arith, s.less, keeps.most);
 }
 
-pub rose_used : (a b c : Seen) (i : ℕ) → IsLaneStepped a i b → Rose b.faults c.faults → Rose a.faults c.faults
+pub rose_used : (a b c : SourceView) (i : ℕ) → IsLaneStepped a i b → Rose b.faults c.faults → Rose a.faults c.faults
 rose_used a b c i s rose = omega (arith, s.faults, rose)
 
-abbrev put_of : Seen → ℕ → Lane → List ℕ
+abbrev put_of : SourceView → ℕ → Lane → List ℕ
 put_of a i d = unwrap_or (option_map (line_of (shown_of a)) (first_of (keyed_held a.layout (get_or a.lanes i d)))) []
 
-line_put : (a : Seen) (i : ℕ) (d : Lane) (next : IsNextLane a.layout (bytes_of a) a.lanes i) → put_of a i d ≡ line_of (shown_of a) next.item
+line_put : (a : SourceView) (i : ℕ) (d : Lane) (next : IsNextLane a.layout (bytes_of a) a.lanes i) → put_of a i d ≡ line_of (shown_of a) next.item
 line_put a i d next = ap (λ (o : Option Keyed). unwrap_or (option_map (line_of (shown_of a)) o) []) (next.first d)
 
-pub item_taken : {T E : Type 0} (v : T) (a b c : Seen) (i : ℕ) (way way_now : OnWay) → i < length a.lanes → IsNextLane a.layout (bytes_of a) a.lanes i → IsLaneStepped a i b → Keeps b c → IsKnown a
+pub item_taken : {T E : Type 0} (v : T) (a b c : SourceView) (i : ℕ) (way way_now : OnWay) → i < length a.lanes → IsNextLane a.layout (bytes_of a) a.lanes i → IsLaneStepped a i b → Keeps b c → IsKnown a
     → ((d : Lane) → PutsText {T = T} {E = E} (put_of a i d) way way_now (Ok v)) → ItemTaken a c way way_now
 item_taken v a b c i way way_now lt next s keeps known puts =
     let e = some_lane a.lanes i lt in
@@ -110,7 +110,7 @@ item_taken v a b c i way way_now lt next s keeps known puts =
       puts = λ first text held. subst (λ (p : List ℕ). Holds first way_now.written way_now.waiting (text ++ p)) (line_put a i e next) ((puts e).puts first text held);
     }
 
-pub line_stopped : {T E : Type 0} (v : E) (a : Seen) (i : ℕ) (way way_now : OnWay) → i < length a.lanes → IsNextLane a.layout (bytes_of a) a.lanes i
+pub line_stopped : {T E : Type 0} (v : E) (a : SourceView) (i : ℕ) (way way_now : OnWay) → i < length a.lanes → IsNextLane a.layout (bytes_of a) a.lanes i
     → ((d : Lane) → PutsText {T = T} {E = E} (put_of a i d) way way_now (Err v)) → LineStopped a way way_now
 line_stopped v a i way way_now lt next puts =
     let e = some_lane a.lanes i lt in
@@ -121,7 +121,7 @@ line_stopped v a i way way_now lt next puts =
       puts = λ first text held. subst (λ (p : List ℕ). GainedPrefix first way_now.written (text ++ p)) (line_put a i e next) ((puts e).puts first text held);
     }
 
-pub cut_told : (a : Seen) (way : OnWay) (i : ℕ) (lanes : List Lane) (d e : Lane) → lanes ≡ a.lanes → i < length a.lanes
+pub cut_told : (a : SourceView) (way : OnWay) (i : ℕ) (lanes : List Lane) (d e : Lane) → lanes ≡ a.lanes → i < length a.lanes
     → (left_in a ≡ []) × ((x : Lane) → cut_left a ≡ Some (cut_at a.lanes i x))
     → IsStill a way way × ((key : Option ℕ) × (cut_left a ≡ Some (record { key = key; cpu = (get_or lanes i d).cpu; page = (get_or lanes i e).cursor.next })))
 cut_told a way i lanes d e same lt h = (
@@ -137,7 +137,7 @@ cut_told a way i lanes d e same lt h = (
     made key cpu page = record { key = key; cpu = cpu; page = page }
 
 -- how a file is left by what was taken of it
-module _ {T E : Type 0} (a b c : Seen) (i : ℕ) (way way_now : OnWay) (lt : i < length a.lanes) (next : IsKnown a → IsNextLane a.layout (bytes_of a) a.lanes i) where
+module _ {T E : Type 0} (a b c : SourceView) (i : ℕ) (way way_now : OnWay) (lt : i < length a.lanes) (next : IsKnown a → IsNextLane a.layout (bytes_of a) a.lanes i) where
   pub taken_item : (v : T) (key : Option (Option ℕ)) → IsLaneStepped a i b → Keeps b c → IsReadied b c → (IsKnown c → key ≡ next_key c)
       → ((d : Lane) → PutsText {T = T} {E = E} (put_of a i d) way way_now (Ok v)) → TakenOf a way (took.Item key) c way_now
   taken_item v key s keeps readied key_is puts = record {
@@ -165,11 +165,11 @@ module _ {T E : Type 0} (a b c : Seen) (i : ℕ) (way way_now : OnWay) (lt : i <
   }
 
 -- one of several
-pub taken_from : {S : Type 0} (f : S → Seen) (sources : List S) (j : ℕ) (d new : S) (way way_now : OnWay) (result : Taken) → j < length sources
+pub taken_from : {S : Type 0} (f : S → SourceView) (sources : List S) (j : ℕ) (d new : S) (way way_now : OnWay) (result : Taken) → j < length sources
     → TakenOf (f (get_or sources j d)) way result (f new) way_now
     → TakenFrom (map f sources) j way result (map f (set sources j new)) way_now
 taken_from f sources j d new way way_now result lt taken = record {
   one = f new;
   set = map-set f sources j new;
-  is = λ e. subst (λ (s : Seen). TakenOf s way result (f new) way_now) (sym (get_or-map f sources j d e lt)) taken;
+  is = λ e. subst (λ (s : SourceView). TakenOf s way result (f new) way_now) (sym (get_or-map f sources j d e lt)) taken;
 }

@@ -18,7 +18,7 @@ use Rattle.multi_report.specs.declared.report.FilesEnd.TheVariants as code
 use Rattle.multi_report.specs.declared.taking.Taken.{Taken}
 use Rattle.multi_report.specs.declared.taking.Taken.TheVariants as took
 use Rattle.multi_report.specs.Order.{ShownFile, cut_in, in_file, cut_of_files}
-use Rattle.multi_report.specs.Sources.{Seen, IsKnown, IsPrepared, IsSame, IsUsable, due, shown_of, next_key, to_come_of, work}
+use Rattle.multi_report.specs.Sources.{SourceView, IsKnown, IsPrepared, IsSame, IsUsable, due, shown_of, next_key, to_come_of, work}
 use Rattle.multi_report.specs.Pieces.{text_of}
 use Rattle.multi_report.specs.Reports.{AreSame, IsEnded, ReadRose, WriteRose, line_in, line_of, lines}
 use Rattle.multi_report.specs.Taking.{ItemTaken, TakenFrom, cut_left}
@@ -27,12 +27,12 @@ use Rattle.multi_report.proofs.FileRows.{file_next, file_cut, file_first, file_n
 use Rattle.multi_report.proofs.Files.{no_cut, one_cut_is, same_one}
 use Rattle.multi_report.proofs.Going.{end_read, end_whole, line_at, put_one, put_stopped}
 
-some_seen : (xs : List Seen) (j : ℕ) → j < length xs → Seen
+some_seen : (xs : List SourceView) (j : ℕ) → j < length xs → SourceView
 some_seen [] j lt = absurd (omega (arith, lt))
 some_seen (x ∷ xs) j lt = x
 
 -- a slot of the tree is a file
-pub slot_of : {S : Type 0} (f : S → Seen) (xs : List S) (keys : List (Option (Option ℕ))) (j : ℕ) → j < length keys → length keys ≡ length xs → j < length (map f xs)
+pub slot_of : {S : Type 0} (f : S → SourceView) (xs : List S) (keys : List (Option (Option ℕ))) (j : ℕ) → j < length keys → length keys ≡ length xs → j < length (map f xs)
 slot_of f xs keys j lt slots = omega (arith, lt, slots, length-map xs f)
 
 -- what is told at an end
@@ -48,18 +48,18 @@ rose_from (code.Malformed source cpu page) first before now le rose = tt
 rose_from (code.Read source) first before now le rose = tt
 rose_from code.Write first before now le rose = omega (arith, le, rose)
 
-pub told_read : (end result : FilesEnd) (before now : ℕ) (first after : List Seen) → ReadRose end first after → IsTold end result before now → ReadRose result first after
+pub told_read : (end result : FilesEnd) (before now : ℕ) (first after : List SourceView) → ReadRose end first after → IsTold end result before now → ReadRose result first after
 told_read end result before now first after own told = elim told [
   | inl e ↦ subst (λ (r : FilesEnd). ReadRose r first after) (sym e) own
   | inr e ↦ subst (λ (r : FilesEnd). ReadRose r first after) (sym e.0) tt
 ]
 
-none_left : (sources : List Seen) → to_come_of sources ≡ [] → lines_left sources ≡ []
+none_left : (sources : List SourceView) → to_come_of sources ≡ [] → lines_left sources ≡ []
 unfolding lines
 none_left sources e = ap (map (line_in (map shown_of sources))) e
 
 -- nothing comes of any file
-pub turn_done : (before : Option (List ℕ)) (whole : List (List ℕ)) (sources : List Seen) (keys : List (Option (Option ℕ))) (old new : Option (List ℕ)) (waiting : List ℕ) (result : FilesEnd)
+pub turn_done : (before : Option (List ℕ)) (whole : List (List ℕ)) (sources : List SourceView) (keys : List (Option (Option ℕ))) (old new : Option (List ℕ)) (waiting : List ℕ) (result : FilesEnd)
     → IsLeastAt keys None
     → ((b : Option (List ℕ)) (text : List ℕ) → Holds b old waiting text → EndsWith b new text code.Done result)
     → IsUnderway before whole sources keys old waiting → IsEnded whole (cut_of_files (map shown_of sources)) before new result
@@ -68,8 +68,8 @@ turn_done before whole sources keys old new waiting result none ends under =
     end_whole before whole (cut_of_files (map shown_of sources)) old new waiting (lines_left sources) code.Done result ends under.going (none_left sources law.0) (λ gained. (gained, no_cut sources law.1))
 
 -- One of several files changed, and the others are as they were.
-module _ (sources : List Seen) (j : ℕ) (lt : j < length sources) (way way_now : OnWay) where
-  one_or_same : (R : Seen → Seen → Type 0) (one : Seen) → ((e : Seen) → R (get_or sources j e) one) → ((s : Seen) → R s s) → (i : ℕ) (e : Seen) → R (get_or sources i e) (get_or (set sources j one) i e)
+module _ (sources : List SourceView) (j : ℕ) (lt : j < length sources) (way way_now : OnWay) where
+  one_or_same : (R : SourceView → SourceView → Type 0) (one : SourceView) → ((e : SourceView) → R (get_or sources j e) one) → ((s : SourceView) → R s s) → (i : ℕ) (e : SourceView) → R (get_or sources i e) (get_or (set sources j one) i e)
   one_or_same R one here self i e = elim (cases_eq i j) as (λ _. R (get_or sources i e) (get_or (set sources j one) i e)) [
     | inl same ↦
         let at : R (get_or sources j e) (get_or (set sources j one) j e) = subst (R (get_or sources j e)) (sym (get_or-set_same sources j one e lt)) (here e) in
@@ -77,13 +77,13 @@ module _ (sources : List Seen) (j : ℕ) (lt : j < length sources) (way way_now 
     | inr other ↦ subst (R (get_or sources i e)) (sym (get_or-set_other sources j i one e other)) (self (get_or sources i e))
   ]
 
-  pub same_taken : (now : List Seen) (result : Taken) → TakenFrom sources j way result now way_now → AreSame sources now
+  pub same_taken : (now : List SourceView) (result : Taken) → TakenFrom sources j way result now way_now → AreSame sources now
   same_taken now result from = subst (AreSame sources) (sym from.set) (record {
     count = length-set sources j from.one;
     each = λ i e inside. one_or_same IsSame from.one (λ x. (from.is x).same) same_one i e;
   })
 
-  pub readied_taken : (now : List Seen) (key : Option (Option ℕ)) → All IsUsable sources → All IsPrepared sources → TakenFrom sources j way (took.Item key) now way_now → AreReadied sources now
+  pub readied_taken : (now : List SourceView) (key : Option (Option ℕ)) → All IsUsable sources → All IsPrepared sources → TakenFrom sources j way (took.Item key) now way_now → AreReadied sources now
   readied_taken now key usable prepared from =
       let goes = (from.is (some_seen sources j lt)).goes in
       subst (AreReadied sources) (sym from.set) (record {
@@ -92,25 +92,25 @@ module _ (sources : List Seen) (j : ℕ) (lt : j < length sources) (way way_now 
         due = λ i e inside. one_or_same (λ a b. due b ≤ due a) from.one (λ x. (from.is x).goes.readied.due) (λ s. omega arith) i e;
       })
 
-  pub less_taken : (now : List Seen) (key : Option (Option ℕ)) → TakenFrom sources j way (took.Item key) now way_now → sum_by work now < sum_by work sources
+  pub less_taken : (now : List SourceView) (key : Option (Option ℕ)) → TakenFrom sources j way (took.Item key) now way_now → sum_by work now < sum_by work sources
   less_taken now key from =
       let d = some_seen sources j lt in
       let same : sum_by work now ≡ sum_by work (set sources j from.one) = ap (sum_by work) from.set in
       omega (arith, same, sum_by-set work sources j from.one d lt, (from.is d).goes.less, get_or-le-sum_by work sources j d lt)
 
-  pub rose_taken : (now : List Seen) → TakenFrom sources j way took.Read now way_now → ReadRose (code.Read j) sources now
+  pub rose_taken : (now : List SourceView) → TakenFrom sources j way took.Read now way_now → ReadRose (code.Read j) sources now
   rose_taken now from = (
     lt,
     λ e.
-        subst (λ (ss : List Seen). Rose (get_or sources j e).faults (get_or ss j e).faults) (sym from.set)
-        (subst (λ (s : Seen). Rose (get_or sources j e).faults s.faults) (sym (get_or-set_same sources j from.one e lt)) (from.is e).read),
+        subst (λ (ss : List SourceView). Rose (get_or sources j e).faults (get_or ss j e).faults) (sym from.set)
+        (subst (λ (s : SourceView). Rose (get_or sources j e).faults s.faults) (sym (get_or-set_same sources j from.one e lt)) (from.is e).read),
   )
 
-module _ (before : Option (List ℕ)) (whole : List (List ℕ)) (sources : List Seen) (keys : List (Option (Option ℕ))) (j : ℕ) (lt : j < length sources) (way way_now : OnWay) where
-  abbrev d : Seen
+module _ (before : Option (List ℕ)) (whole : List (List ℕ)) (sources : List SourceView) (keys : List (Option (Option ℕ))) (j : ℕ) (lt : j < length sources) (way way_now : OnWay) where
+  abbrev d : SourceView
   d = some_seen sources j lt
 
-  same_givens : (one : Seen) → shown_of one ≡ shown_of (get_or sources j d) → map shown_of (set sources j one) ≡ map shown_of sources
+  same_givens : (one : SourceView) → shown_of one ≡ shown_of (get_or sources j d) → map shown_of (set sources j one) ≡ map shown_of sources
   same_givens one e = map-set_same shown_of sources j one d e
 
   -- the keys are those of what comes next of each file
@@ -121,7 +121,7 @@ module _ (before : Option (List ℕ)) (whole : List (List ℕ)) (sources : List 
   one_known under = All-get_or IsKnown sources j d lt under.known
 
   -- the line of an item is on its way, and the others are left
-  going_one : (one : Seen) (here : Option ℕ) → IsLeastOf keys j here → IsUnderway before whole sources keys way.written way.waiting
+  going_one : (one : SourceView) (here : Option ℕ) → IsLeastOf keys j here → IsUnderway before whole sources keys way.written way.waiting
       → shown_of one ≡ shown_of (get_or sources j d) → ItemTaken (get_or sources j d) one way way_now
       → Going before whole way_now.written way_now.waiting (lines_left (set sources j one))
   unfolding lines
@@ -137,21 +137,21 @@ module _ (before : Option (List ℕ)) (whole : List (List ℕ)) (sources : List 
       put_one before whole way.written way_now.written way.waiting way_now.waiting piece (lines_left after) t.puts (subst (Going before whole way.written way.waiting) rest under.going)
 
   -- an item was taken
-  pub turn_item : (now : List Seen) (here : Option ℕ) (key : Option (Option ℕ)) → IsLeastOf keys j here → TakenFrom sources j way (took.Item key) now way_now
+  pub turn_item : (now : List SourceView) (here : Option ℕ) (key : Option (Option ℕ)) → IsLeastOf keys j here → TakenFrom sources j way (took.Item key) now way_now
       → IsUnderway before whole sources keys way.written way.waiting → IsUnderway before whole now (set keys j key) way_now.written way_now.waiting
   turn_item now here key least from under =
       let is = from.is d in
       let t = is.taken (one_known under) in
       let same_keys : set keys j key ≡ map next_key (set sources j from.one) =
       ap (λ (ks : List (Option (Option ℕ))). set ks j key) under.keys_are ∙ ap (set (map next_key sources) j) t.1 ∙ sym (map-set next_key sources j from.one) in
-      subst (λ (ss : List Seen). IsUnderway before whole ss (set keys j key) way_now.written way_now.waiting) (sym from.set) (record {
+      subst (λ (ss : List SourceView). IsUnderway before whole ss (set keys j key) way_now.written way_now.waiting) (sym from.set) (record {
         known = All-set IsKnown sources j from.one t.0.known under.known;
         keys_are = same_keys;
         going = going_one from.one here least under is.same.shown t.0;
       })
 
   -- an item was taken, and then a read failed
-  pub turn_read : (now : List Seen) (here : Option ℕ) (new : Option (List ℕ)) (result : FilesEnd) → IsLeastOf keys j here → TakenFrom sources j way took.Read now way_now
+  pub turn_read : (now : List SourceView) (here : Option ℕ) (new : Option (List ℕ)) (result : FilesEnd) → IsLeastOf keys j here → TakenFrom sources j way took.Read now way_now
       → ((b : Option (List ℕ)) (text : List ℕ) → Holds b way_now.written way_now.waiting text → EndsWith b new text (code.Read j) result)
       → IsUnderway before whole sources keys way.written way.waiting → IsEnded whole (cut_of_files (map shown_of now)) before new result
   turn_read now here new result least from ends under =
@@ -160,7 +160,7 @@ module _ (before : Option (List ℕ)) (whole : List (List ℕ)) (sources : List 
       (going_one from.one here least under is.same.shown (is.taken (one_known under)))
 
   -- its line could not be written
-  pub turn_stopped : (now : List Seen) (here : Option ℕ) → IsLeastOf keys j here → TakenFrom sources j way took.Write now way_now
+  pub turn_stopped : (now : List SourceView) (here : Option ℕ) → IsLeastOf keys j here → TakenFrom sources j way took.Write now way_now
       → IsUnderway before whole sources keys way.written way.waiting → GainedPrefix before way_now.written (text_of whole)
   unfolding lines
   turn_stopped now here least from under =
@@ -173,7 +173,7 @@ module _ (before : Option (List ℕ)) (whole : List (List ℕ)) (sources : List 
       (subst (Going before whole way.written way.waiting) rest under.going)
 
   -- the cut of a file
-  pub turn_cut : (now : List Seen) (here : Option ℕ) (cpu page : ℕ) (new : Option (List ℕ)) (result : FilesEnd) → IsLeastOf keys j here
+  pub turn_cut : (now : List SourceView) (here : Option ℕ) (cpu page : ℕ) (new : Option (List ℕ)) (result : FilesEnd) → IsLeastOf keys j here
       → TakenFrom sources j way (took.Cut cpu page) now way_now
       → ((b : Option (List ℕ)) (text : List ℕ) → Holds b way_now.written way_now.waiting text → EndsWith b new text (code.Malformed j cpu page) result)
       → IsUnderway before whole sources keys way.written way.waiting → IsEnded whole (cut_of_files (map shown_of now)) before new result
@@ -189,7 +189,7 @@ module _ (before : Option (List ℕ)) (whole : List (List ℕ)) (sources : List 
       (subst (λ (w : OnWay). Going before whole w.written w.waiting (lines_left sources)) (sym t.0.nothing_put) under.going) (none_left sources law.0) (λ gained. (gained, (t.1.0, found))))
 
   -- nothing is left of the file of which the least comes next: that is not so
-  pub turn_nothing : (now : List Seen) (here : Option ℕ) → IsLeastOf keys j here → TakenFrom sources j way took.Done now way_now
+  pub turn_nothing : (now : List SourceView) (here : Option ℕ) → IsLeastOf keys j here → TakenFrom sources j way took.Done now way_now
       → IsUnderway before whole sources keys way.written way.waiting → ⊥
   turn_nothing now here least from under =
       let s = get_or sources j d in

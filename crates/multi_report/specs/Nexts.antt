@@ -11,7 +11,7 @@ use Rattle.time_merge.specs.LaneRows.{rows_of, to_come}
 use Rattle.time_merge.specs.Nexts.{IsInStepBut, IsNextLane}
 use Rattle.multi_report.specs.declared.source.LaneNext.{LaneNext}
 use Rattle.multi_report.specs.declared.source.LaneNext.TheVariants as next
-use Rattle.multi_report.specs.Sources.{Seen, IsUsable, unread_of, work}
+use Rattle.multi_report.specs.Sources.{SourceView, IsUsable, unread_of, work}
 
 -- the cut of a lane that stands before a malformed sub-buffer
 abbrev pub cut_at : List Lane → ℕ → Lane → Cut
@@ -36,7 +36,7 @@ HoldsLaneNext layout lanes (next.Cut i) = i < length lanes
 HoldsLaneNext layout lanes next.Done = Unit {0}
 
 -- One lane used up the item that it held. All else is as it was.
-pub record IsLaneStepped (before : Seen) (i : ℕ) (now : Seen) : Type 0 where
+pub record IsLaneStepped (before : SourceView) (i : ℕ) (now : SourceView) : Type 0 where
   pub lane : Lane
   pub lanes : now.lanes ≡ slice_set before.lanes i lane
   pub stepped : (d : Lane) → IsStepped before.layout (slice_index_or before.lanes i d) lane

@@ -9,7 +9,7 @@ use Rattle.multi_report.specs.declared.report.FilesEnd.{FilesEnd}
 use Rattle.multi_report.specs.declared.report.FilesEnd.TheVariants as code
 use Rattle.multi_report.specs.Order.{ShownFile, FileItem, FileCut, cut_of_files, reached}
 use Rattle.multi_report.specs.Pieces.{text_of}
-use Rattle.multi_report.specs.Sources.{Seen, IsSame, ReadsItsParts}
+use Rattle.multi_report.specs.Sources.{SourceView, IsSame, ReadsItsParts}
 
 -- a file's name, a colon and a space
 abbrev pub label : List ℕ → List ℕ
@@ -54,21 +54,21 @@ abbrev pub IsFilesReport : List ShownFile → Option (List ℕ) → Option (List
 IsFilesReport files old new end = IsEnded (pieces files) (cut_of_files files) old new end
 
 -- They are the same files in the same order, and their counts are as a report may leave them.
-pub record AreSame (before now : List Seen) : Type 0 where
+pub record AreSame (before now : List SourceView) : Type 0 where
   pub count : length now ≡ length before
-  pub each : (i : ℕ) (d : Seen) → i < length before → IsSame (slice_index_or before i d) (slice_index_or now i d)
+  pub each : (i : ℕ) (d : SourceView) → i < length before → IsSame (slice_index_or before i d) (slice_index_or now i d)
 
 -- no more of each file was read than the parts of its lanes have
-abbrev pub AllReadTheirParts : List Seen → List Seen → Type 0
+abbrev pub AllReadTheirParts : List SourceView → List SourceView → Type 0
 AllReadTheirParts before now =
-    (i : ℕ) (d : Seen) → i < length before → ReadsItsParts (slice_index_or before i d) (slice_index_or now i d)
+    (i : ℕ) (d : SourceView) → i < length before → ReadsItsParts (slice_index_or before i d) (slice_index_or now i d)
 
 -- a fault of reading is one of the file that is told
-abbrev pub ReadRose : FilesEnd → List Seen → List Seen → Type 0
+abbrev pub ReadRose : FilesEnd → List SourceView → List SourceView → Type 0
 ReadRose code.Done before now = Unit {0}
 ReadRose (code.Malformed source cpu page) before now = Unit {0}
 ReadRose (code.Read source) before now =
-    (source < length before) × ((d : Seen) → Rose (slice_index_or before source d).faults (slice_index_or now source d).faults)
+    (source < length before) × ((d : SourceView) → Rose (slice_index_or before source d).faults (slice_index_or now source d).faults)
 ReadRose code.Write before now = Unit {0}
 
 -- a fault of writing is told only where the count rose

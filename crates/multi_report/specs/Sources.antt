@@ -18,7 +18,7 @@ use Rattle.multi_report.specs.Order.{ShownFile, FileItem, key_in, file_in, numbe
 use Rattle.multi_report.specs.Merge.{row_with}
 
 -- a source at one moment
-pub record Seen : Type 0 where
+pub record SourceView : Type 0 where
   pub name : List ℕ
   pub cpus : ℕ
   pub layout : Layout
@@ -30,7 +30,7 @@ pub record Seen : Type 0 where
   pub lanes : List Lane
   pub nexts : List (Option (Option ℕ))
 
-abbrev pub seen : {F L : Type 0} → file.Ghosts F → (L → ℕ → ItemData → LineText) → Source F L → Seen
+abbrev pub seen : {F L : Type 0} → file.Ghosts F → (L → ℕ → ItemData → LineText) → Source F L → SourceView
 seen f text source = record {
   name = source.name.now;
   cpus = source.cpus;
@@ -45,30 +45,30 @@ seen f text source = record {
 }
 
 -- The lanes are those of processors whose numbers rise, what their cursors say is so, and the tree has a slot for each.
-pub record IsUsable (source : Seen) : Type 0 where
+pub record IsUsable (source : SourceView) : Type 0 where
   pub in_order : All (IsInOrder source.layout) source.lanes
   pub rise : CpusRise (parts_of source.lanes)
   pub slots : length source.nexts ≡ length source.lanes
 
 -- its lanes stand before their first items
-abbrev pub IsFreshSource : Seen → Type 0
+abbrev pub IsFreshSource : SourceView → Type 0
 IsFreshSource source = All (λ lane. IsFresh lane.cursor) source.lanes
 
 -- a buffer of this length has room for each line of a file
-abbrev pub HasRoom : ℕ → Seen → Type 0
+abbrev pub HasRoom : ℕ → SourceView → Type 0
 HasRoom room source = (cpu : ℕ) (item : ItemData) → length (source.text cpu item).bytes ≤ room
 
 -- the bytes of a file that tells them
-abbrev pub bytes_of : Seen → List ℕ
+abbrev pub bytes_of : SourceView → List ℕ
 bytes_of source = unwrap_or source.told []
 
 -- it tells its bytes, and its lanes stand where they should
-pub record IsKnown (source : Seen) : Type 0 where
+pub record IsKnown (source : SourceView) : Type 0 where
   pub told : IsSome source.told
   pub stands : All (Stands source.layout (bytes_of source)) source.lanes
 
 -- what is shown of its file
-abbrev pub shown_of : Seen → ShownFile
+abbrev pub shown_of : SourceView → ShownFile
 shown_of source = record {
   name = source.name;
   cpus = source.cpus;
@@ -79,15 +79,15 @@ shown_of source = record {
 }
 
 -- the bytes that were not read of the parts of a source's lanes
-abbrev pub unread_of : Seen → ℕ
+abbrev pub unread_of : SourceView → ℕ
 unread_of source = all_unread source.layout source.size source.lanes
 
 -- its count of bytes once all of these are read
-abbrev pub due : Seen → ℕ
+abbrev pub due : SourceView → ℕ
 due source = raised source.reads (unread_of source)
 
 -- It is the same file, its count of faults did not fall, and no more was read than had not been read before.
-pub record IsSame (before now : Seen) : Type 0 where
+pub record IsSame (before now : SourceView) : Type 0 where
   pub shown : shown_of now ≡ shown_of before
   pub told : now.told ≡ before.told
   pub size : now.size ≡ before.size
@@ -95,34 +95,34 @@ pub record IsSame (before now : Seen) : Type 0 where
   pub reads : now.reads ≤ due before
 
 -- no more of a file was read than the parts of its lanes have
-abbrev pub ReadsItsParts : Seen → Seen → Type 0
+abbrev pub ReadsItsParts : SourceView → SourceView → Type 0
 ReadsItsParts before now = now.reads ≤ raised before.reads (sum_by (λ part. part.1.size) (parts_of before.lanes))
 
 -- what a file has left, and its least cut, as a row
-abbrev pub left_row : ℕ × Seen → Row FileItem
+abbrev pub left_row : ℕ × SourceView → Row FileItem
 left_row source = row_with source.0 (to_come source.1.layout (bytes_of source.1) source.1.lanes)
     (least_cut (rows_of source.1.layout (bytes_of source.1) source.1.lanes))
 
 -- what comes next of a file: its first item's key, or that of its cut
-abbrev pub next_key : Seen → Option (Option ℕ)
+abbrev pub next_key : SourceView → Option (Option ℕ)
 next_key source = bound_of key_of cpu_of (to_come source.layout (bytes_of source) source.lanes)
     (least_cut (rows_of source.layout (bytes_of source) source.lanes))
 
 -- what all files have left, in its order
-unfoldable pub to_come_of : List Seen → List FileItem
+unfoldable pub to_come_of : List SourceView → List FileItem
 to_come_of sources = coming key_in file_in (map left_row (numbered sources))
 
 -- no more items than this are left, whatever the file
-abbrev pub work : Seen → ℕ
+abbrev pub work : SourceView → ℕ
 work source = sum_by (most_left source.layout) source.lanes
 
 -- All lanes are ready, and the tree has what comes next of each.
-pub record IsPrepared (source : Seen) : Type 0 where
+pub record IsPrepared (source : SourceView) : Type 0 where
   pub ready : All (IsReady source.layout) source.lanes
   pub nexts : source.nexts ≡ map (next_of source.layout) source.lanes
 
 -- Nothing of the file was used up, whether its lanes are ready now or a read failed.
-pub record Keeps (before now : Seen) : Type 0 where
+pub record Keeps (before now : SourceView) : Type 0 where
   pub same : IsSame before now
   pub usable : IsUsable now
   pub most : work now ≤ work before
@@ -131,10 +131,10 @@ pub record Keeps (before now : Seen) : Type 0 where
   pub known : IsKnown before → IsKnown now
 
 -- Its lanes are ready, and what was read of it is not to be read again.
-pub record IsReadied (before now : Seen) : Type 0 where
+pub record IsReadied (before now : SourceView) : Type 0 where
   pub prepared : IsPrepared now
   pub due : due now ≤ due before
 
 -- so are several files, one by one
-abbrev pub AllKeep : List Seen → List Seen → Type 0
-AllKeep before now = (i : ℕ) (d : Seen) → i < length before → Keeps (slice_index_or before i d) (slice_index_or now i d)
+abbrev pub AllKeep : List SourceView → List SourceView → Type 0
+AllKeep before now = (i : ℕ) (d : SourceView) → i < length before → Keeps (slice_index_or before i d) (slice_index_or now i d)

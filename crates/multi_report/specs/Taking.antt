@@ -9,14 +9,14 @@ use Rattle.time_merge.specs.Rows.{least_cut}
 use Rattle.time_merge.specs.LaneRows.{rows_of, to_come}
 use Rattle.multi_report.specs.declared.taking.Taken.{Taken}
 use Rattle.multi_report.specs.declared.taking.Taken.TheVariants as code
-use Rattle.multi_report.specs.Sources.{Seen, IsKnown, IsReadied, IsSame, IsUsable, bytes_of, shown_of, next_key, work}
+use Rattle.multi_report.specs.Sources.{SourceView, IsKnown, IsReadied, IsSame, IsUsable, bytes_of, shown_of, next_key, work}
 use Rattle.multi_report.specs.Reports.{line_of}
 
 -- what a file has left, and its least cut
-abbrev pub left_in : Seen → List Keyed
+abbrev pub left_in : SourceView → List Keyed
 left_in source = to_come source.layout (bytes_of source) source.lanes
 
-abbrev pub cut_left : Seen → Option Cut
+abbrev pub cut_left : SourceView → Option Cut
 cut_left source = least_cut (rows_of source.layout (bytes_of source) source.lanes)
 
 -- a piece was put after what is on its way
@@ -31,7 +31,7 @@ PutPart piece before now =
     → GainedPrefix first now.written (text ++ piece)
 
 -- The file's first item was used up and its line was put.
-pub record ItemTaken (before now : Seen) (way way_now : OnWay) : Type 0 where
+pub record ItemTaken (before now : SourceView) (way way_now : OnWay) : Type 0 where
   pub item : Keyed
   pub come : left_in before ≡ item ∷ left_in now
   pub cut : cut_left now ≡ cut_left before
@@ -39,18 +39,18 @@ pub record ItemTaken (before now : Seen) (way way_now : OnWay) : Type 0 where
   pub puts : Put (line_of (shown_of before) item) way way_now
 
 -- Its line could not be written.
-pub record LineStopped (before : Seen) (way way_now : OnWay) : Type 0 where
+pub record LineStopped (before : SourceView) (way way_now : OnWay) : Type 0 where
   pub item : Keyed
   pub rest : List Keyed
   pub come : left_in before ≡ item ∷ rest
   pub puts : PutPart (line_of (shown_of before) item) way way_now
 
 -- Nothing was put: nothing is left before a cut, or nothing at all.
-pub record IsStill (before : Seen) (way way_now : OnWay) : Type 0 where
+pub record IsStill (before : SourceView) (way way_now : OnWay) : Type 0 where
   pub nothing_put : way_now ≡ way
   pub none : left_in before ≡ []
 
-abbrev pub IsTaken : Seen → OnWay → Taken → Seen → OnWay → Type 0
+abbrev pub IsTaken : SourceView → OnWay → Taken → SourceView → OnWay → Type 0
 IsTaken before way (code.Item key) now way_now = ItemTaken before now way way_now × (key ≡ next_key now)
 IsTaken before way (code.Cut cpu page) now way_now =
     IsStill before way way_now × ((key : Option ℕ) × (cut_left before ≡ Some (record { key = key; cpu = cpu; page = page })))
@@ -59,12 +59,12 @@ IsTaken before way code.Read now way_now = ItemTaken before now way way_now
 IsTaken before way code.Write now way_now = LineStopped before way way_now
 
 -- The file goes on, with less left.
-pub record IsGoing (before now : Seen) : Type 0 where
+pub record IsGoing (before now : SourceView) : Type 0 where
   pub usable : IsUsable now
   pub readied : IsReadied before now
   pub less : work now < work before
 
-abbrev pub GoesOn : Taken → Seen → Seen → Type 0
+abbrev pub GoesOn : Taken → SourceView → SourceView → Type 0
 GoesOn (code.Item key) before now = IsGoing before now
 GoesOn taken before now = Unit {0}
 
@@ -78,14 +78,14 @@ WriteCaused code.Write before now = Rose before now
 WriteCaused taken before now = Unit {0}
 
 -- What was taken of a file, and how it is left.
-pub record TakenOf (before : Seen) (way : OnWay) (result : Taken) (now : Seen) (way_now : OnWay) : Type 0 where
+pub record TakenOf (before : SourceView) (way : OnWay) (result : Taken) (now : SourceView) (way_now : OnWay) : Type 0 where
   pub same : IsSame before now
   pub goes : GoesOn result before now
   pub read : ReadCaused result before.faults now.faults
   pub taken : IsKnown before → IsTaken before way result now way_now
 
 -- the same of one of several files; the others are as they were
-pub record TakenFrom (before : List Seen) (j : ℕ) (way : OnWay) (result : Taken) (now : List Seen) (way_now : OnWay) : Type 0 where
-  pub one : Seen
+pub record TakenFrom (before : List SourceView) (j : ℕ) (way : OnWay) (result : Taken) (now : List SourceView) (way_now : OnWay) : Type 0 where
+  pub one : SourceView
   pub set : now ≡ slice_set before j one
-  pub is : (d : Seen) → TakenOf (slice_index_or before j d) way result one way_now
+  pub is : (d : SourceView) → TakenOf (slice_index_or before j d) way result one way_now

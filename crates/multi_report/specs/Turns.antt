@@ -7,12 +7,12 @@ use Rattle.trace_outside.specs.Writing.{Gained, GainedPrefix}
 use Rattle.multi_report.specs.declared.report.FilesEnd.{FilesEnd}
 use Rattle.multi_report.specs.declared.report.FilesEnd.TheVariants as code
 use Rattle.multi_report.specs.Order.{cut_of_files}
-use Rattle.multi_report.specs.Sources.{Seen, IsKnown, IsPrepared, IsUsable, due, shown_of, next_key, to_come_of}
+use Rattle.multi_report.specs.Sources.{SourceView, IsKnown, IsPrepared, IsUsable, due, shown_of, next_key, to_come_of}
 use Rattle.multi_report.specs.Pieces.{text_of}
 use Rattle.multi_report.specs.Reports.{IsEnded, lines}
 
 -- what is left of the files, as lines
-abbrev pub lines_left : List Seen → List (List ℕ)
+abbrev pub lines_left : List SourceView → List (List ℕ)
 lines_left sources = lines (map shown_of sources) (to_come_of sources)
 
 -- since `before` the first pieces of a whole are on their way, and the rest is to come
@@ -22,21 +22,21 @@ pub record Going (before : Option (List ℕ)) (whole : List (List ℕ)) (written
   pub parted : whole ≡ done ++ rest
 
 -- All files are known, keys tell what comes next of each, and what they have left is what is to come.
-pub record IsUnderway (before : Option (List ℕ)) (whole : List (List ℕ)) (sources : List Seen) (keys : List (Option (Option ℕ))) (written : Option (List ℕ)) (waiting : List ℕ) : Type 0 where
+pub record IsUnderway (before : Option (List ℕ)) (whole : List (List ℕ)) (sources : List SourceView) (keys : List (Option (Option ℕ))) (written : Option (List ℕ)) (waiting : List ℕ) : Type 0 where
   pub known : All IsKnown sources
   pub keys_are : keys ≡ map next_key sources
   pub going : Going before whole written waiting (lines_left sources)
 
 -- the report ended, or goes on
-abbrev pub IsTurned : Option (List ℕ) → List (List ℕ) → List Seen → List (Option (Option ℕ)) → Option (List ℕ) → List ℕ → Option FilesEnd → Type 0
+abbrev pub IsTurned : Option (List ℕ) → List (List ℕ) → List SourceView → List (Option (Option ℕ)) → Option (List ℕ) → List ℕ → Option FilesEnd → Type 0
 IsTurned before whole now keys written waiting (Some end) = IsEnded whole (cut_of_files (map shown_of now)) before written end
 IsTurned before whole now keys written waiting None = IsUnderway before whole now keys written waiting
 
 -- The files are ready to be gone on with, and what was read of them is not to be read again.
-pub record AreReadied (before now : List Seen) : Type 0 where
+pub record AreReadied (before now : List SourceView) : Type 0 where
   pub usable : All IsUsable now
   pub prepared : All IsPrepared now
-  pub due : (i : ℕ) (d : Seen) → i < length before → due (slice_index_or now i d) ≤ due (slice_index_or before i d)
+  pub due : (i : ℕ) (d : SourceView) → i < length before → due (slice_index_or now i d) ≤ due (slice_index_or before i d)
 
 -- an end with what waits written, or a write failed
 abbrev pub EndsWith : Option (List ℕ) → Option (List ℕ) → List ℕ → FilesEnd → FilesEnd → Type 0

@@ -1,6 +1,6 @@
 ghost use Rattle.std.specs.Prelude.{◌≡◌, ◌<◌, All, length, map, IfSome, IfNone, slice_index_or};
 ghost use Rattle.trace_outside.specs.Causes.{Rose};
-ghost use Rattle.multi_report.specs.Sources.{AllKeep, IsKnown, IsUsable, Seen, next_key, seen};
+ghost use Rattle.multi_report.specs.Sources.{AllKeep, IsKnown, IsUsable, SourceView, next_key, seen};
 ghost use Rattle.multi_report.specs.Turns.{AreReadied};
 
 use crate::source::{Source, make_source_ready};
@@ -23,7 +23,7 @@ pub(crate) fn make_sources_ready<F: File, L: LineFormat>(
         (AreReadied (map (seen F.File L.text) sources.old) (map (seen F.File L.text) sources.new)) }
     ensures keys { IfNone result (All IsKnown (map (seen F.File L.text) sources.new)
         → nexts.new ≡ map next_key (map (seen F.File L.text) sources.new)) }
-    ensures read { IfSome result (λ j. (j < length sources.old) × ((d : Seen)
+    ensures read { IfSome result (λ j. (j < length sources.old) × ((d : SourceView)
         → Rose (slice_index_or (map (seen F.File L.text) sources.old) j d).faults
         (slice_index_or (map (seen F.File L.text) sources.new) j d).faults)) }
 {

@@ -9,7 +9,7 @@ ghost use Rattle.restore_run.specs.Ran.{RestoreRan};
 ghost use Rattle.restore_run.specs.Restore.{status_of_restore};
 
 use restore_tool::{Answer, Names, Source, restore_named};
-use run_endings::{Outcome, Status};
+use run_endings::{JobEnd, Status};
 use std::alloc::Global;
 use trace_args::RestoreWords;
 use trace_outside::Folder;
@@ -19,7 +19,7 @@ pub fn restore_files<'a, F: Folder>(
     alloc: Global,
     words: &RestoreWords<'a>,
     folder: &mut F,
-) -> Outcome<'a>
+) -> JobEnd<'a>
     requires few { length words.now.files.items ≤ 256 }
     ensures ran { (out : SinkSeen) → RestoreRan (restore_view words.now) result.status
         (beside (folder_seen F.Folder folder.old) out) (beside (folder_seen F.Folder folder.new) out) }
@@ -32,7 +32,7 @@ pub fn restore_files<'a, F: Folder>(
         output: words.output,
     };
     let answer = restore_named(alloc, &names, folder);
-    Outcome {
+    JobEnd {
         status: status_of_restore(answer),
         file: file_of(words, answer),
     }

@@ -15,7 +15,7 @@ use Rattle.multi_report.specs.Order as several
 use Rattle.multi_report.specs.Order.{FileCut, cut_in, cut_of_files, numbered_from, own_cut, own_cut_in, sooner}
 use Rattle.multi_report.specs.Reports.{AllReadTheirParts, AreSame, IsFilesReport, ReadRose, WriteRose}
 use Rattle.multi_report.specs.declared.source.Source.{Source}
-use Rattle.multi_report.specs.Sources.{HasRoom, Seen, shown_of}
+use Rattle.multi_report.specs.Sources.{HasRoom, SourceView, shown_of}
 use Rattle.trace_outside.specs.declared.outside.File as outside_file
 use Rattle.subpage.specs.Cut.{Cut, is_before}
 use Rattle.restore_tool.specs.Answers.{SomeFaulty}
@@ -70,7 +70,7 @@ cut_below files found is = subst (IsBelow (length files)) is (cuts_below (length
 
 -- LISTS
 
-sums_below : (f g : Seen → ℕ) (xs ys : List Seen) → length ys ≡ length xs → ((i : ℕ) (d : Seen) → i < length xs → f (get_or ys i d) ≤ g (get_or xs i d)) → sum_by f ys ≤ sum_by g xs
+sums_below : (f g : SourceView → ℕ) (xs ys : List SourceView) → length ys ≡ length xs → ((i : ℕ) (d : SourceView) → i < length xs → f (get_or ys i d) ≤ g (get_or xs i d)) → sum_by f ys ≤ sum_by g xs
 sums_below f g [] [] same each = omega arith
 sums_below f g [] (y ∷ ys) same each = absurd (omega (arith, same))
 sums_below f g (x ∷ xs) [] same each = absurd (omega (arith, same))
@@ -82,15 +82,15 @@ sum_mapped f g [] = refl
 sum_mapped f g (x ∷ xs) = omega (arith, sum_mapped f g xs, sum_by-cons f (g x) (map g xs), sum_by-cons (λ z. f (g z)) x xs)
 
 -- an element of a list, as its own default
-own_faulty : (xs : List Seen) (i : ℕ) → i < length xs → ((d : Seen) → 0 < (get_or xs i d).faults) → (i < length (map file_in xs)) × ((d : FileSeen) → 0 < (get_or (map file_in xs) i d).faults)
+own_faulty : (xs : List SourceView) (i : ℕ) → i < length xs → ((d : SourceView) → 0 < (get_or xs i d).faults) → (i < length (map file_in xs)) × ((d : FileSeen) → 0 < (get_or (map file_in xs) i d).faults)
 own_faulty xs i lt each = (omega (arith, lt, length-map xs file_in), at (slice_get_cases xs i).1)
   where
-    at : ((x : Seen) × (i < length xs) × (slice_get xs i ≡ Some x) × (get_or xs i x ≡ x)) ⊎ ((length xs ≤ i) × (slice_get xs i ≡ None))
+    at : ((x : SourceView) × (i < length xs) × (slice_get xs i ≡ Some x) × (get_or xs i x ≡ x)) ⊎ ((length xs ≤ i) × (slice_get xs i ≡ None))
         → (d : FileSeen) → 0 < (get_or (map file_in xs) i d).faults
     at (inl found) d = subst (λ (f : FileSeen). 0 < f.faults) (sym (get_or-map file_in xs i found.0 d lt)) (each found.0)
     at (inr past) d = absurd (omega (arith, past.0, lt))
 
-faulty_at : (xs : List Seen) (i : ℕ) → i < length xs → ((d : Seen) → 0 < (get_or xs i d).faults) → SomeFaulty (map file_in xs)
+faulty_at : (xs : List SourceView) (i : ℕ) → i < length xs → ((d : SourceView) → 0 < (get_or xs i d).faults) → SomeFaulty (map file_in xs)
 faulty_at xs i lt each =
     let own = own_faulty xs i lt each in
     (i, own.0, own.1)
@@ -104,7 +104,7 @@ begun claim (end.Malformed source cpu page) = tt
 begun claim (end.Read source) = tt
 begun claim end.Write = tt
 
-module _ (words : ReportData) (old new : List Seen) (before now : FolderSeen) (out out_now : SinkSeen) (answer : FilesEnd) (name : List ℕ) (opened : AreOpened words (names_in words) old before now) where
+module _ (words : ReportData) (old new : List SourceView) (before now : FolderSeen) (out out_now : SinkSeen) (answer : FilesEnd) (name : List ℕ) (opened : AreOpened words (names_in words) old before now) where
   abbrev all_shown : List several.ShownFile
   all_shown = map shown_of old
 
@@ -256,7 +256,7 @@ module _ (words : ReportData) (old new : List Seen) (before now : FolderSeen) (o
           opened = omega (arith, length-map new file_in, ap length kept, opened.counts.opened);
           closed = omega (arith, opened.counts.closed);
         };
-        faultless = subst (λ (ss : List Seen). All (λ (file : FileSeen). file.faults ≡ 0) (map file_in ss)) (sym kept)
+        faultless = subst (λ (ss : List SourceView). All (λ (file : FileSeen). file.faults ≡ 0) (map file_in ss)) (sym kept)
             (All-map (λ (file : FileSeen). file.faults ≡ 0) file_in old opened.faultless);
         requested = asked_few (names_in words) before.requested now.requested opened.requested;
         bytes = tt;

@@ -14,7 +14,7 @@ use Rattle.trace_outside.specs.Memory.{KeepsFaults}
 use Rattle.trace_outside.specs.Names.{NamedFiles}
 use Rattle.trace_outside.proofs.Gains.{gained_nothing}
 use Rattle.dat_options.specs.declared.fault.OpenFault.{OpenFault}
-use Rattle.multi_report.specs.Sources.{IsFreshSource, IsUsable, Seen, shown_of}
+use Rattle.multi_report.specs.Sources.{IsFreshSource, IsUsable, SourceView, shown_of}
 use Rattle.new_files.specs.Requested.{AskedFirst}
 use Rattle.dat_header.specs.Seen.{FileSeen}
 use Rattle.restore_tool.specs.Open.{ClosesMany}
@@ -43,12 +43,12 @@ sum_push f xs x = omega (arith, sum_by-append f xs (x ∷ []), sum_one f x)
     sum_one : {X : Type 0} (f : X → ℕ) (x : X) → sum_by f (x ∷ []) ≡ f x
     sum_one f x = omega (arith, sum_by-cons f x [])
 
-module _ (words : ReportData) (names : List (List ℕ)) (name : List ℕ) (sources : List Seen) where
-  inputs_are : (files : NamedFiles) (source : Seen) → AreInputs words files names sources → IsInput words files name source → AreInputs words files (names ++ name ∷ []) (sources ++ source ∷ [])
+module _ (words : ReportData) (names : List (List ℕ)) (name : List ℕ) (sources : List SourceView) where
+  inputs_are : (files : NamedFiles) (source : SourceView) → AreInputs words files names sources → IsInput words files name source → AreInputs words files (names ++ name ∷ []) (sources ++ source ∷ [])
   inputs_are files source all one = record {
     inputs = all.inputs ++ one.input ∷ [];
     read = readings_more (input_named files) names name all.inputs one.input all.read one.read;
-    told = All-push (λ (s : Seen). IsSome s.told) sources source all.told one.told;
+    told = All-push (λ (s : SourceView). IsSome s.told) sources source all.told one.told;
     shown =
         map-append shown_of sources (source ∷ [])
         ∙ ap (λ gs. gs ++ shown_of source ∷ []) all.shown
@@ -58,13 +58,13 @@ module _ (words : ReportData) (names : List (List ℕ)) (name : List ℕ) (sourc
     reads = omega (arith, sum_push reads_due sources source, sum_push (input_share words) all.inputs one.input, all.reads, one.reads);
   }
 
-  inputs_told : (told same : Option NamedFiles) (source : Seen) → same ≡ told → IfSome told (λ files. AreInputs words files names sources) → IfSome same (λ files. IsInput words files name source)
+  inputs_told : (told same : Option NamedFiles) (source : SourceView) → same ≡ told → IfSome told (λ files. AreInputs words files names sources) → IfSome same (λ files. IsInput words files name source)
       → IfSome told (λ files. AreInputs words files (names ++ name ∷ []) (sources ++ source ∷ []))
   inputs_told None same source is all one = tt
   inputs_told (Some files) same source is all one =
       inputs_are files source all (subst (λ (t : Option NamedFiles). IfSome t (λ fs. IsInput words fs name source)) is one)
 
-  misses_told : (told same : Option NamedFiles) (source : Seen) (before mid now : ℕ) → same ≡ told → IfSome told (λ files. mid ≡ before) → IfSome same (λ files. IsInput words files name source)
+  misses_told : (told same : Option NamedFiles) (source : SourceView) (before mid now : ℕ) → same ≡ told → IfSome told (λ files. mid ≡ before) → IfSome same (λ files. IsInput words files name source)
       → IfSome same (λ files. now ≡ misses_after files name mid) → IfSome told (λ files. now ≡ before)
   misses_told None same source before mid now is so_far one asked = tt
   misses_told (Some files) same source before mid now is so_far one asked =
@@ -73,7 +73,7 @@ module _ (words : ReportData) (names : List (List ℕ)) (name : List ℕ) (sourc
       last ∙ there_is (get files name) mid (found_there name (get files name) input.input input.read) ∙ so_far
 
   -- one more input is open
-  pub opened_more : (source : Seen) (before mid now : FolderSeen) → AreOpened words names sources before mid → IsOpened words name source mid now
+  pub opened_more : (source : SourceView) (before mid now : FolderSeen) → AreOpened words names sources before mid → IsOpened words name source mid now
       → AreOpened words (names ++ name ∷ []) (sources ++ source ∷ []) before now
   opened_more source before mid now all one = record {
     usable = All-push IsUsable sources source all.usable one.usable;
@@ -253,10 +253,10 @@ module _ (words : ReportData) (names : List (List ℕ)) (name : List ℕ) (sourc
     unopened_shown WriteFault one = absurd one.reason
 
 -- the same of sources that are seen
-pub opened_next : {S : Type 0} (f : S → Seen) (words : ReportData) (names : List (List ℕ)) (name : List ℕ) (old all : List S) (source : S) (before mid now : FolderSeen)
+pub opened_next : {S : Type 0} (f : S → SourceView) (words : ReportData) (names : List (List ℕ)) (name : List ℕ) (old all : List S) (source : S) (before mid now : FolderSeen)
     → AreOpened words names (map f old) before mid → all ≡ old ++ source ∷ [] → IsOpened words name (f source) mid now → AreOpened words (names ++ name ∷ []) (map f all) before now
 opened_next f words names name old all source before mid now opened pushed one =
-    subst (λ (ss : List Seen). AreOpened words (names ++ name ∷ []) ss before now) (sym (ap (map f) pushed ∙ map-append f old (source ∷ [])))
+    subst (λ (ss : List SourceView). AreOpened words (names ++ name ∷ []) ss before now) (sym (ap (map f) pushed ∙ map-append f old (source ∷ [])))
     (opened_more words names name (map f old) (f source) before mid now opened one)
 
 -- none is open
@@ -279,12 +279,12 @@ none_opened words folder = record {
   faultless = All-nil IsFaultless;
   kept = record { reading = refl; writing = refl };
   requested = sym (append-nil folder.requested);
-  inputs = if_known (λ files. AreInputs words files [] []) folder.files (λ files. record { inputs = []; read = refl; told = All-nil (λ (s : Seen). IsSome s.told); shown = refl; reads = omega arith });
+  inputs = if_known (λ files. AreInputs words files [] []) folder.files (λ files. record { inputs = []; read = refl; told = All-nil (λ (s : SourceView). IsSome s.told); shown = refl; reads = omega arith });
   misses = if_known (λ files. folder.counts.misses ≡ folder.counts.misses) folder.files (λ files. refl);
 }
 
 -- all are closed
-pub inputs_closed : {S : Type 0} (f : S → Seen) (all left tail : List S) (before now : Counts) → all ≡ left ++ tail → length left ≡ 0 → ClosesMany (map file_in (map f tail)) before now
+pub inputs_closed : {S : Type 0} (f : S → SourceView) (all left tail : List S) (before now : Counts) → all ≡ left ++ tail → length left ≡ 0 → ClosesMany (map file_in (map f tail)) before now
     → ClosesMany (map file_in (map f all)) before now
 inputs_closed {S} f all [] tail before now e none closes = subst (λ (xs : List S). ClosesMany (map file_in (map f xs)) before now) (sym e) closes
 inputs_closed {S} f all (x ∷ left) tail before now e none closes = absurd (omega (arith, none))

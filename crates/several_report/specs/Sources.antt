@@ -16,13 +16,13 @@ use Rattle.multi_report.specs.declared.report.FilesEnd.{FilesEnd}
 use Rattle.multi_report.specs.declared.report.FilesEnd.TheVariants as end
 use Rattle.multi_report.specs.declared.source.Source.{Source}
 use Rattle.multi_report.specs.Order.{ShownFile}
-use Rattle.multi_report.specs.Sources.{Seen, seen, shown_of, IsFreshSource, IsUsable}
+use Rattle.multi_report.specs.Sources.{SourceView, seen, shown_of, IsFreshSource, IsUsable}
 use Rattle.restore_tool.specs.Answers.{SomeFaulty}
 use Rattle.dat_header.specs.Seen.{FileSeen}
 use Rattle.restore_tool.specs.Open.{OpensMany}
 use Rattle.new_files.specs.Requested.{AskedAll, AskedFirst}
 use Rattle.trace_args.specs.Command.{ReportData}
-use Rattle.run_endings.specs.declared.outcome.Outcome.{Outcome}
+use Rattle.run_endings.specs.declared.job_end.JobEnd.{JobEnd}
 use Rattle.report_context.specs.declared.lines.ItemLines.{ItemLines}
 use Rattle.several_report.specs.declared.sources.Basis.{Basis}
 use Rattle.run_endings.specs.declared.status.Status.{Status}
@@ -40,11 +40,11 @@ use Rattle.run_endings.specs.Ran.{MissesNothingElse}
 use Rattle.report_context.specs.Lines.{item_line}
 
 -- a source whose lines are those of items
-abbrev pub source_seen : {I : Type 0} → outside_file.Ghosts I → Source I ItemLines → Seen
+abbrev pub source_seen : {I : Type 0} → outside_file.Ghosts I → Source I ItemLines → SourceView
 source_seen f source = seen f (λ lines cpu item. item_line lines.context cpu item) source
 
 -- a source of this name, of such a file, with what its lines stand on
-abbrev pub seen_with : List ℕ → FileSeen → Basis → Seen
+abbrev pub seen_with : List ℕ → FileSeen → Basis → SourceView
 seen_with name opened basis = record {
   name = name;
   cpus = basis.cpus;
@@ -59,7 +59,7 @@ seen_with name opened basis = record {
 }
 
 -- its file
-abbrev pub file_in : Seen → FileSeen
+abbrev pub file_in : SourceView → FileSeen
 file_in source = record { bytes = source.told; size = source.size; faults = source.faults; reads = source.reads }
 
 -- a file without the parts that have no bytes, for which there are no lanes
@@ -92,11 +92,11 @@ WhyUnread told faults now_faults NoMemory = now_faults ≡ faults
 WhyUnread told faults now_faults status = ⊥
 
 -- what was read of it, and what its parts have
-abbrev pub reads_due : Seen → ℕ
+abbrev pub reads_due : SourceView → ℕ
 reads_due source = source.reads + parts_size (parts_of source.lanes)
 
 -- it is the input of this name, of which no more than the header was read
-pub record IsInput (words : ReportData) (files : NamedFiles) (name : List ℕ) (source : Seen) : Type 0 where
+pub record IsInput (words : ReportData) (files : NamedFiles) (name : List ℕ) (source : SourceView) : Type 0 where
   pub input : NamedInput
   pub read : input_named files name ≡ Ok input
   pub told : IsSome source.told
@@ -104,7 +104,7 @@ pub record IsInput (words : ReportData) (files : NamedFiles) (name : List ℕ) (
   pub reads : reads_due source ≤ input_share words input
 
 -- they are the inputs of these names, in their order
-pub record AreInputs (words : ReportData) (files : NamedFiles) (names : List (List ℕ)) (sources : List Seen) : Type 0 where
+pub record AreInputs (words : ReportData) (files : NamedFiles) (names : List (List ℕ)) (sources : List SourceView) : Type 0 where
   pub inputs : List NamedInput
   pub read : inputs_in files names ≡ Ok inputs
   pub told : All (λ source. IsSome source.told) sources
@@ -112,11 +112,11 @@ pub record AreInputs (words : ReportData) (files : NamedFiles) (names : List (Li
   pub reads : sum_by reads_due sources ≤ sum_by (input_share words) inputs
 
 -- no read of it failed since it was opened
-abbrev pub IsFaultless : Seen → Type 0
+abbrev pub IsFaultless : SourceView → Type 0
 IsFaultless source = source.faults ≡ 0
 
 -- an input was opened and stands before its first item; of all names just its own was asked for
-pub record IsOpened (words : ReportData) (name : List ℕ) (source : Seen) (before now : FolderSeen) : Type 0 where
+pub record IsOpened (words : ReportData) (name : List ℕ) (source : SourceView) (before now : FolderSeen) : Type 0 where
   pub usable : IsUsable source
   pub fresh : IsFreshSource source
   pub files : now.files ≡ before.files
@@ -153,7 +153,7 @@ pub record IsUnopened (name : List ℕ) (status : Status) (before now : FolderSe
   pub misses : IfSome before.files (λ files. now.counts.misses ≡ misses_after files name before.counts.misses)
 
 -- inputs of these names were opened, and all of them are open
-pub record AreOpened (words : ReportData) (names : List (List ℕ)) (sources : List Seen) (before now : FolderSeen) : Type 0 where
+pub record AreOpened (words : ReportData) (names : List (List ℕ)) (sources : List SourceView) (before now : FolderSeen) : Type 0 where
   pub usable : All IsUsable sources
   pub fresh : All IsFreshSource sources
   pub count : length sources ≡ length names
@@ -189,13 +189,13 @@ pub record FilesReported (words : ReportData) (held : List FileSeen) (status : S
   pub unread : IsHeldNamed words held status before.folder now.folder name
 
 -- one more input: it is open too, or that is the end of the report
-abbrev pub OpensNext : ReportData → FolderSeen → List (List ℕ) → List ℕ → List Seen → FolderSeen → Result Unit Outcome → Type 0
+abbrev pub OpensNext : ReportData → FolderSeen → List (List ℕ) → List ℕ → List SourceView → FolderSeen → Result Unit JobEnd → Type 0
 OpensNext words before names name sources now (Ok done) = AreOpened words (names ++ name ∷ []) sources before now
 OpensNext words before names name sources now (Err outcome) = (rest : List (List ℕ)) (out : SinkSeen) → names_in words ≡ names ++ name ∷ rest
     → FilesReported words (map file_in sources) outcome.status outcome.file.now (beside before out) (beside now out)
 
 -- all inputs are open, or that is the end of the report
-abbrev pub OpensAll : ReportData → List Seen → FolderSeen → FolderSeen → Result Unit Outcome → Type 0
+abbrev pub OpensAll : ReportData → List SourceView → FolderSeen → FolderSeen → Result Unit JobEnd → Type 0
 OpensAll words sources before now (Ok done) = AreOpened words (names_in words) sources before now
 OpensAll words sources before now (Err outcome) = (out : SinkSeen)
     → FilesReported words (map file_in sources) outcome.status outcome.file.now (beside before out) (beside now out)

@@ -13,7 +13,7 @@ ghost use Rattle.several_report.specs.Sources.{AreOpened, IsNameOfEnd, FilesRepo
 use crate::sources::{close_sources, input_at, open_sources};
 use multi_report::{FilesEnd, Source, report_files};
 use report_context::{ItemLines, line_buffer};
-use run_endings::{Outcome, Status};
+use run_endings::{JobEnd, Status};
 use std::alloc::Global;
 use tournament_tree::TournamentTree;
 use trace_args::ReportWords;
@@ -26,7 +26,7 @@ pub fn print_files<'a, F: Folder, O: Sink>(
     words: &ReportWords<'a>,
     folder: &mut F,
     out: &mut O,
-) -> Outcome<'a>
+) -> JobEnd<'a>
     requires few { length words.now.more.items ≤ 7 }
     ensures ran { FilesRan (report_view words.now) result.status
         (outside_seen F.Folder O.Sink folder.old out.old) (outside_seen F.Folder O.Sink folder.new out.new) }
@@ -34,7 +34,7 @@ pub fn print_files<'a, F: Folder, O: Sink>(
     ensures unread { IsUnreadNamed (report_view words.now) result.status (folder_seen F.Folder folder.old) (folder_seen F.Folder folder.new) result.file.now }
 {
     let Ok(mut sources) = Vec::with_capacity(alloc, words.more.len() + 1) else {
-        return Outcome {
+        return JobEnd {
             status: Status::NoMemory,
             file: words.input,
         };
@@ -51,7 +51,7 @@ fn print_opened<'a, F: Folder, O: Sink>(
     sources: &mut Vec<Source<'a, F::In, ItemLines>>,
     folder: &mut F,
     out: &mut O,
-) -> Outcome<'a>
+) -> JobEnd<'a>
     requires few { length words.now.more.items ≤ 7 }
     requires none { sources.old.items ≡ [] }
     requires room { length words.now.more.items < vec_capacity sources.old }
@@ -70,7 +70,7 @@ fn print_sources<'a, I: File, O: Sink>(
     words: &ReportWords<'a>,
     sources: &mut [Source<'a, I, ItemLines>],
     out: &mut O,
-) -> Outcome<'a>
+) -> JobEnd<'a>
     requires few { length sources.old ≤ 8 }
     requires usable { All IsUsable (map (source_seen I.File) sources.old) }
     requires fresh { All IsFreshSource (map (source_seen I.File) sources.old) }
@@ -83,7 +83,7 @@ fn print_sources<'a, I: File, O: Sink>(
         line_buffer(alloc),
         Pending::new(alloc),
     ) else {
-        return Outcome {
+        return JobEnd {
             status: Status::NoMemory,
             file: words.input,
         };
@@ -93,25 +93,25 @@ fn print_sources<'a, I: File, O: Sink>(
 }
 
 // The answer for an end of the report, and the file that it is of.
-fn outcome_of<'a>(words: &ReportWords<'a>, end: FilesEnd) -> Outcome<'a>
+fn outcome_of<'a>(words: &ReportWords<'a>, end: FilesEnd) -> JobEnd<'a>
     ensures status { result.status ≡ spec.status_of_files end }
     ensures named { Contains (names_in (report_view words.now)) result.file.now }
     ensures source { IsNameOfEnd (report_view words.now) end result.file.now }
 {
     match end {
-        FilesEnd::Done => Outcome {
+        FilesEnd::Done => JobEnd {
             status: Status::Done,
             file: words.input,
         },
-        FilesEnd::Malformed { source, cpu, page } => Outcome {
+        FilesEnd::Malformed { source, cpu, page } => JobEnd {
             status: Status::Malformed { cpu, page },
             file: input_at(words, source as usize),
         },
-        FilesEnd::Read { source } => Outcome {
+        FilesEnd::Read { source } => JobEnd {
             status: Status::ReadFault,
             file: input_at(words, source as usize),
         },
-        FilesEnd::Write => Outcome {
+        FilesEnd::Write => JobEnd {
             status: Status::WriteFault,
             file: words.input,
         },

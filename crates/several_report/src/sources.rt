@@ -18,7 +18,7 @@ use dat_header::{Body, Header, OpenFault, read_header};
 use multi_report::Source;
 use page_pool::Pool;
 use report_context::{ItemLines, context_of};
-use run_endings::{Outcome, Selection, Status};
+use run_endings::{JobEnd, Selection, Status};
 use run_words::read_filters;
 use std::alloc::{AllocError, Global};
 use time_merge::set_lanes;
@@ -164,7 +164,7 @@ fn open_next<'a, F: Folder>(
     name: &'a str,
     sources: &mut Vec<Source<'a, F::In, ItemLines>>,
     folder: &mut F,
-) -> Result<(), Outcome<'a>>
+) -> Result<(), JobEnd<'a>>
     requires room { vec_len sources.old < vec_capacity sources.old }
     ensures room { vec_capacity sources.new ≡ vec_capacity sources.old }
     ensures count { OnOk result (length sources.new.items ≡ length sources.old.items + 1) }
@@ -177,7 +177,7 @@ fn open_next<'a, F: Folder>(
             sources.push_reserved(source);
             Ok(())
         }
-        Err(status) => Err(Outcome { status, file: name }),
+        Err(status) => Err(JobEnd { status, file: name }),
     }
 }
 
@@ -203,7 +203,7 @@ pub(crate) fn open_sources<'a, F: Folder>(
     words: &ReportWords<'a>,
     sources: &mut Vec<Source<'a, F::In, ItemLines>>,
     folder: &mut F,
-) -> Result<(), Outcome<'a>>
+) -> Result<(), JobEnd<'a>>
     requires few { length words.now.more.items ≤ 7 }
     requires none { sources.old.items ≡ [] }
     requires room { length words.now.more.items < vec_capacity sources.old }

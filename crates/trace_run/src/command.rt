@@ -29,7 +29,7 @@ use dat_header::{Header, OpenFault, read_header};
 use file_report::{ReportPlan, print_report};
 use filter_truth::FilterUse;
 use restore_run::restore_files;
-use run_endings::{Outcome, Resources, Status};
+use run_endings::{JobEnd, Resources, Status};
 use run_words::{FileCommand, Job};
 use several_report::print_files;
 use split_run::cut_file;
@@ -55,7 +55,7 @@ pub(crate) fn run_job<'a, R: Threads + Sync, F: Folder, O: Sink, G: Gate>(
     filters: Vec<FilterUse>,
     folder: &mut F,
     out: &mut O,
-) -> Outcome<'a>
+) -> JobEnd<'a>
     requires allowed { IsAllowedJob (job_view job.now) }
     requires filters { uses_in (job_filters (job_view job.now)) ≡ map use_of filters.items }
     ensures ran { Ran (Ok (job_view job.now)) result.status
@@ -66,17 +66,17 @@ pub(crate) fn run_job<'a, R: Threads + Sync, F: Folder, O: Sink, G: Gate>(
         Job::OnFile(command) => {
             let status = run_command(resources, command, filters, folder, out);
             let file = input_of(command);
-            Outcome { status, file }
+            JobEnd { status, file }
         }
         Job::OnFiles(words) => print_files(resources.alloc, words, folder, out),
         Job::SelfTest(words) => {
             let status = print_self_test(resources, words, out);
-            Outcome { status, file: "" }
+            JobEnd { status, file: "" }
         }
         Job::Restore(words) => restore_files(resources.alloc, words, folder),
         Job::About(topic) => {
             let status = print_topic(*topic, out);
-            Outcome { status, file: "" }
+            JobEnd { status, file: "" }
         }
     }
 }

@@ -6,15 +6,15 @@ use Rattle.subpage.specs.Arrangement.{Keyed}
 use Rattle.subpage.proofs.Filters.{filter-not, filter-yes}
 use Rattle.item_pass.specs.Skipping.{and_item, by_item}
 use Rattle.report_print.specs.ContextData.{ContextData}
-use Rattle.wakeup_pairs.specs.declared.seen.Seen.{Seen}
-use Rattle.wakeup_pairs.specs.declared.seen.Seen.TheVariants.{Wakes, Switches, Lost, Other}
+use Rattle.wakeup_pairs.specs.declared.wakeup_item.WakeupItem.{WakeupItem}
+use Rattle.wakeup_pairs.specs.declared.wakeup_item.WakeupItem.TheVariants.{Wakes, Switches, Lost, Other}
 use Rattle.wakeup_pairs.specs.Pairs.{ArePairs}
 use Rattle.wakeup_pairs.specs.Gathered.{Gathered, none_gathered, and_seen, gathered}
 use Rattle.wakeup_pairs.proofs.Passing.{pass_pairs}
 use Rattle.wakeup_lat.specs.Roles.{all_seen, seen_of}
 use Rattle.wakeup_lat.specs.Matter.{is_seen, matters}
 
-other_is : (s : Seen) → is_seen s ≡ false → s ≡ Other
+other_is : (s : WakeupItem) → is_seen s ≡ false → s ≡ Other
 other_is (Wakes wake) e = absurd cc
 other_is (Switches switch) e = absurd cc
 other_is Lost e = absurd cc
@@ -25,7 +25,7 @@ module _ (given : ContextData) where
   of_matters g [] = refl
   of_matters g (x ∷ xs) = elim (cases_Bool (by_item (matters given) x)) [
     | inl seen ↦ of_matters (and_seen g (seen_of given x)) xs ∙ ap (λ (ys : List Keyed). fold and_seen g (all_seen given ys)) (sym (filter-yes (by_item (matters given)) x xs seen))
-    | inr other ↦ ap (λ (s : Seen). fold and_seen (and_seen g s) (all_seen given xs)) (other_is (seen_of given x) other) ∙ of_matters g xs
+    | inr other ↦ ap (λ (s : WakeupItem). fold and_seen (and_seen g s) (all_seen given xs)) (other_is (seen_of given x) other) ∙ of_matters g xs
         ∙ ap (λ (ys : List Keyed). fold and_seen g (all_seen given ys)) (sym (filter-not (by_item (matters given)) x xs other))
   ]
 
@@ -41,7 +41,7 @@ module _ (given : ContextData) where
         ∙ ap (λ (ys : List Keyed). gathered (all_seen given ys)) (append-nil xs) ∙ sym (ap (and_seen (gathered (all_seen given xs))) (other_is (seen_of given x) other))
   ]
 
-pub and_gathered : (given : ContextData) (xs : List Keyed) (x : Keyed) (s : Seen) (g h : Gathered) → s ≡ seen_of given x → h ≡ and_seen g s → g ≡ gathered (all_seen given xs) → h ≡ gathered (all_seen given (and_item (matters given) xs x))
+pub and_gathered : (given : ContextData) (xs : List Keyed) (x : Keyed) (s : WakeupItem) (g h : Gathered) → s ≡ seen_of given x → h ≡ and_seen g s → g ≡ gathered (all_seen given xs) → h ≡ gathered (all_seen given (and_item (matters given) xs x))
 and_gathered given xs x s g h is more was = more ∙ ap (and_seen g) is ∙ ap (λ (z : Gathered). and_seen z (seen_of given x)) was ∙ sym (and_one given xs x)
 
 -- the pairs of all items

@@ -2,16 +2,16 @@
 use Rattle.std.specs.Prelude.{◌≡◌, ℕ, Bool, true, false, map}
 use Rattle.subpage.specs.ItemData.{ItemData}
 use Rattle.report_print.specs.ContextData.{ContextData}
-use Rattle.wakeup_pairs.specs.declared.seen.Seen.{Seen}
-use Rattle.wakeup_pairs.specs.declared.seen.Seen.TheVariants.{Wakes, Switches, Lost, Other}
-use Rattle.wakeup_lat.specs.declared.sight.Sight.{Sight}
+use Rattle.wakeup_pairs.specs.declared.wakeup_item.WakeupItem.{WakeupItem}
+use Rattle.wakeup_pairs.specs.declared.wakeup_item.WakeupItem.TheVariants.{Wakes, Switches, Lost, Other}
+use Rattle.wakeup_lat.specs.declared.wakeup_gatherer.WakeupGatherer.{WakeupGatherer}
 use Rattle.wakeup_lat.specs.Roles.{role_of, seen_in}
 
 -- the roles are those of the context's formats
-abbrev pub HasRoles : Sight → Type 0
-HasRoles sight = sight.roles.now ≡ map role_of sight.context.now.formats
+abbrev pub HasRoles : WakeupGatherer → Type 0
+HasRoles gatherer = gatherer.roles.now ≡ map role_of gatherer.context.now.formats
 
-abbrev pub is_seen : Seen → Bool
+abbrev pub is_seen : WakeupItem → Bool
 is_seen (Wakes wake) = true
 is_seen (Switches switch) = true
 is_seen Lost = true

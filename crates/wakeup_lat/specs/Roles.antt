@@ -14,8 +14,8 @@ use Rattle.trace_base.specs.Fields.{field_named}
 use Rattle.report_print.specs.ContextData.{ContextData}
 use Rattle.report_print.specs.Line.{id_of}
 use Rattle.report_print.specs.Prefix.{common_in}
-use Rattle.wakeup_pairs.specs.declared.seen.Seen.{Seen}
-use Rattle.wakeup_pairs.specs.declared.seen.Seen.TheVariants as seen
+use Rattle.wakeup_pairs.specs.declared.wakeup_item.WakeupItem.{WakeupItem}
+use Rattle.wakeup_pairs.specs.declared.wakeup_item.WakeupItem.TheVariants as seen
 use Rattle.wakeup_lat.specs.declared.role.Role.{Role}
 use Rattle.wakeup_lat.specs.declared.role.Role.TheVariants.{Wakes, Switches, Other}
 
@@ -46,7 +46,7 @@ abbrev pub role_in : ContextData → List ℕ → Role
 role_in given payload = role_by (format_at (id_of given payload) given.formats)
 
 -- with its task, its processor and its own time
-abbrev pub seen_as : ContextData → ℕ → ℕ → List ℕ → Role → Seen
+abbrev pub seen_as : ContextData → ℕ → ℕ → List ℕ → Role → WakeupItem
 seen_as given cpu time payload (Wakes field) =
     seen.Wakes (record { task = signed_32 given.show.order payload field; time = time })
 seen_as given cpu time payload (Switches field) = seen.Switches (record {
@@ -58,13 +58,13 @@ seen_as given cpu time payload (Switches field) = seen.Switches (record {
 seen_as given cpu time payload Other = seen.Other
 
 -- what an item of a processor is
-unfoldable pub seen_in : ContextData → ℕ → ItemData → Seen
+unfoldable pub seen_in : ContextData → ℕ → ItemData → WakeupItem
 seen_in given cpu (EventAt time payload) = seen_as given cpu time payload (role_in given payload)
 seen_in given cpu (LossAt time count) = seen.Lost
 
-abbrev pub seen_of : ContextData → Keyed → Seen
+abbrev pub seen_of : ContextData → Keyed → WakeupItem
 seen_of given x = seen_in given x.cpu x.item
 
 -- what is seen of items, shown or not
-abbrev pub all_seen : ContextData → List Keyed → List Seen
+abbrev pub all_seen : ContextData → List Keyed → List WakeupItem
 all_seen given xs = map (seen_of given) xs

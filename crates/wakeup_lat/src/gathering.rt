@@ -7,7 +7,7 @@ ghost use Rattle.item_pass.specs.Faults.{KeptUnlessRead};
 ghost use Rattle.wakeup_pairs.specs.Pairs.{ArePairs};
 ghost use Rattle.wakeup_lat.specs.Roles.{all_seen};
 
-use crate::sight::Sight;
+use crate::wakeup_gatherer::WakeupGatherer;
 use format_index::FormatRoles;
 use item_pass::{PassFault, pass};
 use page_pool::Pool;
@@ -46,11 +46,11 @@ pub fn gather<F: File>(
     };
     let lanes = pool.lanes();
     set_lanes(lanes, parts);
-    let sight = Sight {
+    let gatherer = WakeupGatherer {
         context,
         roles: &roles,
     };
     let mut wakeups = Wakeups::new(alloc);
-    pass(alloc, &sight, layout, file, lanes, &mut wakeups)?;
+    pass(alloc, &gatherer, layout, file, lanes, &mut wakeups)?;
     Ok(wakeups)
 }

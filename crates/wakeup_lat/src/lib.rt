@@ -11,7 +11,7 @@ mod lines;
 mod role;
 mod section;
 mod seeing;
-mod sight;
+mod wakeup_gatherer;
 
 pub use gathering::gather;
 pub use section::put_wakeups;

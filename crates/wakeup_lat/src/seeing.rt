@@ -6,12 +6,12 @@ ghost use Rattle.wakeup_lat.specs.Matter.{HasRoles};
 ghost use Rattle.wakeup_lat.specs.Roles.{role_in, seen_as, seen_in};
 
 use crate::role::Role;
-use crate::sight::Sight;
+use crate::wakeup_gatherer::WakeupGatherer;
 use subpage::Item;
-use wakeup_pairs::{Seen, Switch, Wake};
+use wakeup_pairs::{Switch, Wake, WakeupItem};
 
-impl Sight<'_> {
-    fn see_event(&self, cpu: u32, time: u64, payload: &[u8]) -> Seen
+impl WakeupGatherer<'_> {
+    fn see_event(&self, cpu: u32, time: u64, payload: &[u8]) -> WakeupItem
         requires { HasRoles self.now }
         ensures { result ≡ seen_as self.now.context.now cpu time payload.now (role_in self.now.context.now payload.now) }
     {
@@ -20,29 +20,29 @@ impl Sight<'_> {
             .roles
             .role(context.formats(), context.id(payload), Role::Other)
         {
-            Role::Wakes(field) => Seen::Wakes(Wake {
+            Role::Wakes(field) => WakeupItem::Wakes(Wake {
                 task: field.signed_32(context.order(), payload),
                 time,
             }),
-            Role::Switches(field) => Seen::Switches(Switch {
+            Role::Switches(field) => WakeupItem::Switches(Switch {
                 task: field.signed_32(context.order(), payload),
                 cpu,
                 time,
                 common: context.common(payload),
             }),
-            Role::Other => Seen::Other,
+            Role::Other => WakeupItem::Other,
         }
     }
 
     /// What an item of a processor is.
     #[tactic(auto, unfolding(crate::specs::Roles::seen_in))]
-    pub(crate) fn see(&self, cpu: u32, item: &Item<'_>) -> Seen
+    pub(crate) fn see(&self, cpu: u32, item: &Item<'_>) -> WakeupItem
         requires { HasRoles self.now }
         ensures { result ≡ seen_in self.now.context.now cpu (item_view item.now) }
     {
         match item {
             Item::Event { time, payload } => self.see_event(cpu, *time, payload),
-            Item::Loss { .. } => Seen::Lost,
+            Item::Loss { .. } => WakeupItem::Lost,
         }
     }
 }

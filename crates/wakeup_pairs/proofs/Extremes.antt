@@ -2,7 +2,7 @@
 use Rattle.std.proofs.Common.{◌≡◌, ℕ, zero, suc, ◌<◌, ◌≤◌, Bool, true, false, ltb, if◌then◌else◌, List, [], ◌∷◌, ◌++◌, length, slice_get, Some, fold, refl, sym, ap, subst, ◌∙◌, append_assoc, append-nil, inl, inr, arith}
 use Rattle.std.proofs.lemmas.Bool.{cases_Bool, cases_eq, ltb-true, ltb-false}
 use Rattle.std.proofs.lemmas.Option.{slice_get_within, same_Some}
-use Rattle.wakeup_pairs.specs.declared.seen.Pair.{Pair}
+use Rattle.wakeup_pairs.specs.declared.wakeup_item.Pair.{Pair}
 use Rattle.wakeup_pairs.proofs.Places.{get_front, get_last, length_more}
 use Rattle.wakeup_pairs.specs.Figures.{latency, longest, shortest, IsFirstBy, IsLongest, IsShortest}
 

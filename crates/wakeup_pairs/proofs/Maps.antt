@@ -6,9 +6,9 @@ use Rattle.std.specs.Map.{lookup}
 use Rattle.std.specs.BTreeMap as tree
 use Rattle.std.specs.BTreeMap.{BTreeMap, is_at}
 use Rattle.std.specs.FinMap.{find, from_entries, get, insert, remove, get-from_entries, get-insert, get-remove, same_map, int_cmp-IsAntisymmetric}
-use Rattle.wakeup_pairs.specs.declared.seen.Pair.{Pair}
-use Rattle.wakeup_pairs.specs.declared.seen.Switch.{Switch}
-use Rattle.wakeup_pairs.specs.declared.seen.Wake.{Wake}
+use Rattle.wakeup_pairs.specs.declared.wakeup_item.Pair.{Pair}
+use Rattle.wakeup_pairs.specs.declared.wakeup_item.Switch.{Switch}
+use Rattle.wakeup_pairs.specs.declared.wakeup_item.Wake.{Wake}
 use Rattle.wakeup_pairs.specs.Pairs.{pair_of}
 use Rattle.wakeup_pairs.specs.Gathered.{Gathered, and_woken, and_switched}
 

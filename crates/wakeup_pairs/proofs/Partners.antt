@@ -2,18 +2,18 @@
 use Rattle.std.proofs.Common.{◌≡◌, ℕ, zero, suc, ◌+◌, ◌<◌, ◌≤◌, ◌⊎◌, List, [], ◌∷◌, slice_get, Some, Contains, refl, sym, ap, ◌∙◌, subst, inl, inr, arith}
 use Rattle.std.specs.List.{AllZip}
 use Rattle.std.proofs.lemmas.Bool.{cases_order}
-use Rattle.wakeup_pairs.specs.declared.seen.Pair.{Pair}
-use Rattle.wakeup_pairs.specs.declared.seen.Switch.{Switch}
-use Rattle.wakeup_pairs.specs.declared.seen.Wake.{Wake}
-use Rattle.wakeup_pairs.specs.declared.seen.Seen.{Seen}
-use Rattle.wakeup_pairs.specs.declared.seen.Seen.TheVariants.{Wakes, Switches}
+use Rattle.wakeup_pairs.specs.declared.wakeup_item.Pair.{Pair}
+use Rattle.wakeup_pairs.specs.declared.wakeup_item.Switch.{Switch}
+use Rattle.wakeup_pairs.specs.declared.wakeup_item.Wake.{Wake}
+use Rattle.wakeup_pairs.specs.declared.wakeup_item.WakeupItem.{WakeupItem}
+use Rattle.wakeup_pairs.specs.declared.wakeup_item.WakeupItem.TheVariants.{Wakes, Switches}
 use Rattle.wakeup_pairs.specs.Pairs.{WaitsFrom, IsPaired, IsPairAt, pair_of, RiseFrom, ArePairs}
 use Rattle.wakeup_pairs.proofs.Places.{same_wake, same_switch}
 
-waits_same : (xs : List Seen) (a b : Switch) (i j : ℕ) → a ≡ b → WaitsFrom xs a.task i j → WaitsFrom xs b.task i j
+waits_same : (xs : List WakeupItem) (a b : Switch) (i j : ℕ) → a ≡ b → WaitsFrom xs a.task i j → WaitsFrom xs b.task i j
 waits_same xs a b i j e w = subst (λ (s : Switch). WaitsFrom xs s.task i j) e w
 
-pub one_wake : (xs : List Seen) (i h j : ℕ) → IsPaired xs i j → IsPaired xs h j → i ≡ h
+pub one_wake : (xs : List WakeupItem) (i h j : ℕ) → IsPaired xs i j → IsPaired xs h j → i ≡ h
 one_wake xs i h j p q =
     let same : p.switch ≡ q.switch = same_switch (slice_get xs j) p.switch q.switch p.there q.there in
     let le : i ≤ h = p.first h (waits_same xs q.switch p.switch h j (sym same) q.waits) in
@@ -21,19 +21,19 @@ one_wake xs i h j p q =
     omega arith
 
 -- an earlier switch to the task ends its waiting
-no_later : (xs : List Seen) (i j k : ℕ) → IsPaired xs i j → IsPaired xs i k → j < k → ⊥
+no_later : (xs : List WakeupItem) (i j k : ℕ) → IsPaired xs i j → IsPaired xs i k → j < k → ⊥
 no_later xs i j k p q lt =
     let same : p.waits.wake ≡ q.waits.wake = same_wake (slice_get xs i) p.waits.wake q.waits.wake p.waits.there q.waits.there in
     q.waits.quiet j (Switches p.switch) p.waits.before lt p.there (sym p.waits.same ∙ ap (λ (w : Wake). w.task) same ∙ q.waits.same)
 
-pub one_switch : (xs : List Seen) (i j k : ℕ) → IsPaired xs i j → IsPaired xs i k → j ≡ k
+pub one_switch : (xs : List WakeupItem) (i j k : ℕ) → IsPaired xs i j → IsPaired xs i k → j ≡ k
 one_switch xs i j k p q = elim (cases_order j k) [
   | inl e ↦ e
   | inr (inl lt) ↦ absurd (no_later xs i j k p q lt)
   | inr (inr gt) ↦ absurd (no_later xs i k j q p gt)
 ]
 
-told_once : (xs : List Seen) (i h j : ℕ) (a b : Pair) → IsPairAt xs (i, j) a → IsPairAt xs (h, j) b → a ≡ b
+told_once : (xs : List WakeupItem) (i h j : ℕ) (a b : Pair) → IsPairAt xs (i, j) a → IsPairAt xs (h, j) b → a ≡ b
 told_once xs i h j a b p q =
     let at : i ≡ h = one_wake xs i h j p.paired q.paired in
     let switches : p.paired.switch ≡ q.paired.switch = same_switch (slice_get xs j) p.paired.switch q.paired.switch p.paired.there q.paired.there in
@@ -54,16 +54,16 @@ not_below n place (p ∷ ps) r c = elim (in_parts place p ps c) [
 ]
 
 -- all that are paired from this place of a switch on stand in the list
-abbrev HasAll : List Seen → ℕ → List (ℕ × ℕ) → Type 0
+abbrev HasAll : List WakeupItem → ℕ → List (ℕ × ℕ) → Type 0
 HasAll xs n places = (i j : ℕ) → n ≤ j → IsPaired xs i j → Contains places (i, j)
 
-has_rest : (xs : List Seen) (n : ℕ) (p : ℕ × ℕ) (ps : List (ℕ × ℕ)) → n ≤ p.1 → HasAll xs n (p ∷ ps) → HasAll xs (p.1 + 1) ps
+has_rest : (xs : List WakeupItem) (n : ℕ) (p : ℕ × ℕ) (ps : List (ℕ × ℕ)) → n ≤ p.1 → HasAll xs n (p ∷ ps) → HasAll xs (p.1 + 1) ps
 has_rest xs n p ps low all i j le q = elim (in_parts (i, j) p ps (all i j (omega arith) q)) [
   | inl e ↦ let same : p.1 ≡ j = ap (λ (r : ℕ × ℕ). r.1) e in absurd (omega arith)
   | inr more ↦ more
 ]
 
-same_pairs : (xs : List Seen) (n : ℕ) (ps qs : List (ℕ × ℕ)) (ms ns : List Pair) → RiseFrom n ps → RiseFrom n qs
+same_pairs : (xs : List WakeupItem) (n : ℕ) (ps qs : List (ℕ × ℕ)) (ms ns : List Pair) → RiseFrom n ps → RiseFrom n qs
     → AllZip (IsPairAt xs) ps ms → AllZip (IsPairAt xs) qs ns → HasAll xs n ps → HasAll xs n qs → ms ≡ ns
 same_pairs xs n [] [] [] [] r s a b p q = refl
 same_pairs xs n [] [] [] (y ∷ ns) r s a b p q = absurd b
@@ -82,5 +82,5 @@ same_pairs xs n (k ∷ ps) (l ∷ qs) (x ∷ ms) (y ∷ ns) r s a b p q =
     (has_rest xs n k ps r.0 p) (subst (λ m. HasAll xs (m + 1) qs) at (has_rest xs n l qs s.0 q)) in
     λ m. here m ∷ rest m
 
-pub one_list : (xs : List Seen) (ms ns : List Pair) → ArePairs xs ms → ArePairs xs ns → ms ≡ ns
+pub one_list : (xs : List WakeupItem) (ms ns : List Pair) → ArePairs xs ms → ArePairs xs ns → ms ≡ ns
 one_list xs ms ns a b = same_pairs xs 0 a.places b.places ms ns a.rise b.rise a.each b.each (λ i j le p. a.all i j p) (λ i j le p. b.all i j p)

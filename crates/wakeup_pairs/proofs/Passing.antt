@@ -9,11 +9,11 @@ use Rattle.std.specs.FinMap.{empty, get, insert, remove, get-insert, get-remove,
 use Rattle.std.proofs.lemmas.Bool.{cases_eq}
 use Rattle.std.proofs.lemmas.Option.{slice_get_within, none-some}
 use Rattle.std.proofs.lemmas.List.Elements.{Contains-append_left, Contains-push}
-use Rattle.wakeup_pairs.specs.declared.seen.Pair.{Pair}
-use Rattle.wakeup_pairs.specs.declared.seen.Switch.{Switch}
-use Rattle.wakeup_pairs.specs.declared.seen.Wake.{Wake}
-use Rattle.wakeup_pairs.specs.declared.seen.Seen.{Seen}
-use Rattle.wakeup_pairs.specs.declared.seen.Seen.TheVariants.{Wakes, Switches, Lost, Other}
+use Rattle.wakeup_pairs.specs.declared.wakeup_item.Pair.{Pair}
+use Rattle.wakeup_pairs.specs.declared.wakeup_item.Switch.{Switch}
+use Rattle.wakeup_pairs.specs.declared.wakeup_item.Wake.{Wake}
+use Rattle.wakeup_pairs.specs.declared.wakeup_item.WakeupItem.{WakeupItem}
+use Rattle.wakeup_pairs.specs.declared.wakeup_item.WakeupItem.TheVariants.{Wakes, Switches, Lost, Other}
 use Rattle.wakeup_pairs.specs.Pairs.{IsQuiet, WaitsFrom, IsPaired, IsPairAt, pair_of, RiseFrom, ArePairs}
 use Rattle.wakeup_pairs.specs.Gathered.{Gathered, none_gathered, and_woken, and_switched, and_seen, gathered}
 use Rattle.wakeup_pairs.proofs.Partners.{one_wake}
@@ -31,21 +31,21 @@ tasks a b =
     ] refl
 
 -- The first place from which the task waits, and its time.
-record FirstWaits (xs : List Seen) (n : ℕ) (task : ℤ) (time : ℕ) : Type 0 where
+record FirstWaits (xs : List WakeupItem) (n : ℕ) (task : ℤ) (time : ℕ) : Type 0 where
   i : ℕ
   waits : WaitsFrom xs task i n
   time_is : waits.wake.time ≡ time
   first : (h : ℕ) → WaitsFrom xs task h n → i ≤ h
 
-abbrev IsFirst : List Seen → ℕ → ℤ → Option ℕ → Type 0
+abbrev IsFirst : List WakeupItem → ℕ → ℤ → Option ℕ → Type 0
 IsFirst xs n task None = (i : ℕ) → WaitsFrom xs task i n → ⊥
 IsFirst xs n task (Some time) = FirstWaits xs n task time
 
-record IsState (xs : List Seen) (g : Gathered) : Type 0 where
+record IsState (xs : List WakeupItem) (g : Gathered) : Type 0 where
   waits : (task : ℤ) → IsFirst xs (length xs) task (get g.waiting task)
   pairs : ArePairs xs g.pairs
 
-module _ (xs : List Seen) (x : Seen) where
+module _ (xs : List WakeupItem) (x : WakeupItem) where
   keeps_none : {task : ℤ} → ((wake : Wake) → x ≡ Wakes wake → wake.task ≢ task) → IsFirst xs (length xs) task None → IsFirst (xs ++ x ∷ []) (length xs + 1) task None
   keeps_none {task} other h i w = elim (waits_back xs x w) [
     | inl old ↦ h i old.0
@@ -135,36 +135,36 @@ module _ (xs : List Seen) (x : Seen) where
       }
 
 wake_same : (a b : Wake) → Wakes a ≡ Wakes b → a ≡ b
-wake_same a b e = same_wake (Some (Wakes b)) a b (ap (λ (z : Seen). Some z) (sym e)) refl
+wake_same a b e = same_wake (Some (Wakes b)) a b (ap (λ (z : WakeupItem). Some z) (sym e)) refl
 
 -- which of the four something is
-not_a_switch : Seen → Type 0
+not_a_switch : WakeupItem → Type 0
 not_a_switch (Wakes wake) = Unit {0}
 not_a_switch (Switches switch) = ⊥
 not_a_switch Lost = Unit {0}
 not_a_switch Other = Unit {0}
 
-not_a_wake : Seen → Type 0
+not_a_wake : WakeupItem → Type 0
 not_a_wake (Wakes wake) = ⊥
 not_a_wake (Switches switch) = Unit {0}
 not_a_wake Lost = Unit {0}
 not_a_wake Other = Unit {0}
 
-no_switch : (x : Seen) → not_a_switch x → (switch : Switch) → x ≡ Switches switch → ⊥
+no_switch : (x : WakeupItem) → not_a_switch x → (switch : Switch) → x ≡ Switches switch → ⊥
 unfolding not_a_switch
 no_switch x n switch e = subst not_a_switch e n
 
-no_wake : (x : Seen) → not_a_wake x → (wake : Wake) → x ≡ Wakes wake → ⊥
+no_wake : (x : WakeupItem) → not_a_wake x → (wake : Wake) → x ≡ Wakes wake → ⊥
 unfolding not_a_wake
 no_wake x n wake e = subst not_a_wake e n
 
-no_pair : (xs : List Seen) (x : Seen) → ((switch : Switch) → x ≡ Switches switch → ⊥) → (i : ℕ) → IsPaired (xs ++ x ∷ []) i (length xs) → ⊥
+no_pair : (xs : List WakeupItem) (x : WakeupItem) → ((switch : Switch) → x ≡ Switches switch → ⊥) → (i : ℕ) → IsPaired (xs ++ x ∷ []) i (length xs) → ⊥
 no_pair xs x other i p = let l = paired_last xs x p in other l.0 l.1
 
-longer : (xs : List Seen) (x : Seen) (task : ℤ) (o : Option ℕ) → IsFirst (xs ++ x ∷ []) (length xs + 1) task o → IsFirst (xs ++ x ∷ []) (length (xs ++ x ∷ [])) task o
+longer : (xs : List WakeupItem) (x : WakeupItem) (task : ℤ) (o : Option ℕ) → IsFirst (xs ++ x ∷ []) (length xs + 1) task o → IsFirst (xs ++ x ∷ []) (length (xs ++ x ∷ [])) task o
 longer xs x task o h = subst (λ n. IsFirst (xs ++ x ∷ []) n task o) (sym (length_more xs x)) h
 
-and_wake : (xs : List Seen) (g : Gathered) (wake : Wake) → IsState xs g → (o : Option ℕ) → get g.waiting wake.task ≡ o → IsState (xs ++ Wakes wake ∷ []) (and_woken o g wake)
+and_wake : (xs : List WakeupItem) (g : Gathered) (wake : Wake) → IsState xs g → (o : Option ℕ) → get g.waiting wake.task ≡ o → IsState (xs ++ Wakes wake ∷ []) (and_woken o g wake)
 unfolding not_a_switch
 and_wake xs g wake s None e = record {
   waits = λ task. longer xs (Wakes wake) task (get (insert g.waiting wake.task wake.time) task)
@@ -187,7 +187,7 @@ and_wake xs g wake s (Some first) e = record {
   pairs = pairs_same xs (Wakes wake) g.pairs (no_pair xs (Wakes wake) (no_switch (Wakes wake) tt)) s.pairs;
 }
 
-and_switch : (xs : List Seen) (g : Gathered) (switch : Switch) → IsState xs g → (o : Option ℕ) → get g.waiting switch.task ≡ o → IsState (xs ++ Switches switch ∷ []) (and_switched o g switch)
+and_switch : (xs : List WakeupItem) (g : Gathered) (switch : Switch) → IsState xs g → (o : Option ℕ) → get g.waiting switch.task ≡ o → IsState (xs ++ Switches switch ∷ []) (and_switched o g switch)
 unfolding not_a_wake
 and_switch xs g switch s None e = record {
   waits = λ task. longer xs (Switches switch) task (get g.waiting task) (elim (tasks task switch.task) [
@@ -198,7 +198,7 @@ and_switch xs g switch s None e = record {
   ]);
   pairs = pairs_same xs (Switches switch) g.pairs (λ i p.
       let l = paired_last xs (Switches switch) p in
-      let same : l.0 ≡ switch = same_switch (Some (Switches switch)) l.0 switch (ap (λ (z : Seen). Some z) l.1) refl in
+      let same : l.0 ≡ switch = same_switch (Some (Switches switch)) l.0 switch (ap (λ (z : WakeupItem). Some z) l.1) refl in
       subst (IsFirst xs (length xs) switch.task) e (s.waits switch.task) i (subst (λ (z : Switch). WaitsFrom xs z.task i (length xs)) same l.2)) s.pairs;
 }
 and_switch xs g switch s (Some woken) e = record {
@@ -213,7 +213,7 @@ and_switch xs g switch s (Some woken) e = record {
   pairs = pairs_more xs (Switches switch) g.pairs switch woken refl (subst (IsFirst xs (length xs) switch.task) e (s.waits switch.task)) s.pairs;
 }
 
-and_one : (xs : List Seen) (g : Gathered) (x : Seen) → IsState xs g → IsState (xs ++ x ∷ []) (and_seen g x)
+and_one : (xs : List WakeupItem) (g : Gathered) (x : WakeupItem) → IsState xs g → IsState (xs ++ x ∷ []) (and_seen g x)
 unfolding not_a_switch not_a_wake
 and_one xs g (Wakes wake) s = and_wake xs g wake s (get g.waiting wake.task) refl
 and_one xs g (Switches switch) s = and_switch xs g switch s (get g.waiting switch.task) refl
@@ -226,7 +226,7 @@ and_one xs g Other s = record {
   pairs = pairs_same xs Other g.pairs (no_pair xs Other (no_switch Other tt)) s.pairs;
 }
 
-and_all : (xs ys : List Seen) (g : Gathered) → IsState xs g → IsState (xs ++ ys) (fold and_seen g ys)
+and_all : (xs ys : List WakeupItem) (g : Gathered) → IsState xs g → IsState (xs ++ ys) (fold and_seen g ys)
 and_all xs [] g s = subst (λ zs. IsState zs g) (sym (append-nil xs)) s
 and_all xs (y ∷ ys) g s = subst (λ zs. IsState zs (fold and_seen (and_seen g y) ys)) (append_assoc xs (y ∷ []) ys) (and_all (xs ++ y ∷ []) ys (and_seen g y) (and_one xs g y s))
 
@@ -236,5 +236,5 @@ begun = record {
   pairs = record { places = []; rise = tt; each = tt; all = λ i j p. absurd (none-some (Switches p.switch) p.there) };
 }
 
-pub pass_pairs : (xs : List Seen) → ArePairs xs (gathered xs).pairs
+pub pass_pairs : (xs : List WakeupItem) → ArePairs xs (gathered xs).pairs
 pass_pairs xs = (and_all [] xs none_gathered begun).pairs

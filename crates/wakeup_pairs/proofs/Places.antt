@@ -3,11 +3,11 @@ use Rattle.std.proofs.Common.{◌≡◌, ℕ, ℤ, zero, suc, ◌+◌, ◌<◌, 
 use Rattle.std.proofs.lemmas.List.{length-append}
 use Rattle.std.proofs.lemmas.Bool.{cases_eq}
 use Rattle.std.proofs.lemmas.Option.{slice_get_within, same_Some}
-use Rattle.wakeup_pairs.specs.declared.seen.Pair.{Pair}
-use Rattle.wakeup_pairs.specs.declared.seen.Switch.{Switch}
-use Rattle.wakeup_pairs.specs.declared.seen.Wake.{Wake}
-use Rattle.wakeup_pairs.specs.declared.seen.Seen.{Seen}
-use Rattle.wakeup_pairs.specs.declared.seen.Seen.TheVariants.{Wakes, Switches, Lost, Other}
+use Rattle.wakeup_pairs.specs.declared.wakeup_item.Pair.{Pair}
+use Rattle.wakeup_pairs.specs.declared.wakeup_item.Switch.{Switch}
+use Rattle.wakeup_pairs.specs.declared.wakeup_item.Wake.{Wake}
+use Rattle.wakeup_pairs.specs.declared.wakeup_item.WakeupItem.{WakeupItem}
+use Rattle.wakeup_pairs.specs.declared.wakeup_item.WakeupItem.TheVariants.{Wakes, Switches, Lost, Other}
 use Rattle.wakeup_pairs.specs.Pairs.{IsQuiet, WaitsFrom, IsPaired, IsPairAt, pair_of}
 
 pub get_front : {X : Type 0} (xs : List X) (x : X) (i : ℕ) → i < length xs → slice_get (xs ++ x ∷ []) i ≡ slice_get xs i
@@ -22,33 +22,33 @@ get_last (y ∷ ys) x = get_last ys x
 pub length_more : {X : Type 0} (xs : List X) (x : X) → length (xs ++ x ∷ []) ≡ length xs + 1
 length_more xs x = length-append xs (x ∷ [])
 
-wake_in : Wake → Option Seen → Wake
+wake_in : Wake → Option WakeupItem → Wake
 wake_in d None = d
 wake_in d (Some (Wakes wake)) = wake
 wake_in d (Some (Switches switch)) = d
 wake_in d (Some Lost) = d
 wake_in d (Some Other) = d
 
-switch_in : Switch → Option Seen → Switch
+switch_in : Switch → Option WakeupItem → Switch
 switch_in d None = d
 switch_in d (Some (Wakes wake)) = d
 switch_in d (Some (Switches switch)) = switch
 switch_in d (Some Lost) = d
 switch_in d (Some Other) = d
 
-pub same_wake : (o : Option Seen) (a b : Wake) → o ≡ Some (Wakes a) → o ≡ Some (Wakes b) → a ≡ b
+pub same_wake : (o : Option WakeupItem) (a b : Wake) → o ≡ Some (Wakes a) → o ≡ Some (Wakes b) → a ≡ b
 unfolding wake_in
 same_wake o a b p q = ap (wake_in a) (sym p ∙ q)
 
-pub same_switch : (o : Option Seen) (a b : Switch) → o ≡ Some (Switches a) → o ≡ Some (Switches b) → a ≡ b
+pub same_switch : (o : Option WakeupItem) (a b : Switch) → o ≡ Some (Switches a) → o ≡ Some (Switches b) → a ≡ b
 unfolding switch_in
 same_switch o a b p q = ap (switch_in a) (sym p ∙ q)
 
-module _ (xs : List Seen) (x : Seen) where
-  pub at_last : (z : Seen) → slice_get (xs ++ x ∷ []) (length xs) ≡ Some z → x ≡ z
+module _ (xs : List WakeupItem) (x : WakeupItem) where
+  pub at_last : (z : WakeupItem) → slice_get (xs ++ x ∷ []) (length xs) ≡ Some z → x ≡ z
   at_last z e = same_Some x z (sym (get_last xs x) ∙ e)
 
-  pub at_front : (k : ℕ) (z : Seen) → k < length xs → slice_get (xs ++ x ∷ []) k ≡ Some z → slice_get xs k ≡ Some z
+  pub at_front : (k : ℕ) (z : WakeupItem) → k < length xs → slice_get (xs ++ x ∷ []) k ≡ Some z → slice_get xs k ≡ Some z
   at_front k z lt e = sym (get_front xs x k lt) ∙ e
 
   unfoldable pub waits_up : {task : ℤ} {i j : ℕ} → j ≤ length xs → WaitsFrom xs task i j → WaitsFrom (xs ++ x ∷ []) task i j
@@ -84,7 +84,7 @@ module _ (xs : List Seen) (x : Seen) where
   unfoldable pub waits_new : (wake : Wake) (task : ℤ) → x ≡ Wakes wake → wake.task ≡ task → WaitsFrom (xs ++ x ∷ []) task (length xs) (length xs + 1)
   waits_new wake task is same = record {
     wake = wake;
-    there = get_last xs x ∙ ap (λ (z : Seen). Some z) is;
+    there = get_last xs x ∙ ap (λ (z : WakeupItem). Some z) is;
     same = same;
     before = omega arith;
     quiet = λ k z a b e. absurd (omega arith);
@@ -144,7 +144,7 @@ module _ (xs : List Seen) (x : Seen) where
   pair_last switch is i w first = record {
     paired = record {
       switch = switch;
-      there = get_last xs x ∙ ap (λ (z : Seen). Some z) is;
+      there = get_last xs x ∙ ap (λ (z : WakeupItem). Some z) is;
       waits = waits_up (omega arith) w;
       first = λ h v. first h (waits_down (omega arith) v);
     };

@@ -1,6 +1,6 @@
 -- How long tasks waited. Source: trace-cmd-report(1), `-w`.
 use Rattle.std.specs.Prelude.{◌≡◌, ℕ, ◌-◌, ◌/◌, ◌<◌, ◌≤◌, nat_lt, if◌then◌else◌, List, Some, length, sum_by, fold, slice_get}
-use Rattle.wakeup_pairs.specs.declared.seen.Pair.{Pair}
+use Rattle.wakeup_pairs.specs.declared.wakeup_item.Pair.{Pair}
 
 -- a switch before its wake-up waited for no time
 abbrev pub latency : Pair → ℕ

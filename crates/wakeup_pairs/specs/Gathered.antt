@@ -2,11 +2,11 @@
 use Rattle.std.specs.Prelude.{ℕ, List, [], ◌∷◌, ◌++◌, Option, Some, None, fold}
 use Rattle.std.specs.Ordering.{int_cmp}
 use Rattle.std.specs.FinMap as map
-use Rattle.wakeup_pairs.specs.declared.seen.Pair.{Pair}
-use Rattle.wakeup_pairs.specs.declared.seen.Switch.{Switch}
-use Rattle.wakeup_pairs.specs.declared.seen.Wake.{Wake}
-use Rattle.wakeup_pairs.specs.declared.seen.Seen.{Seen}
-use Rattle.wakeup_pairs.specs.declared.seen.Seen.TheVariants.{Wakes, Switches, Lost, Other}
+use Rattle.wakeup_pairs.specs.declared.wakeup_item.Pair.{Pair}
+use Rattle.wakeup_pairs.specs.declared.wakeup_item.Switch.{Switch}
+use Rattle.wakeup_pairs.specs.declared.wakeup_item.Wake.{Wake}
+use Rattle.wakeup_pairs.specs.declared.wakeup_item.WakeupItem.{WakeupItem}
+use Rattle.wakeup_pairs.specs.declared.wakeup_item.WakeupItem.TheVariants.{Wakes, Switches, Lost, Other}
 use Rattle.wakeup_pairs.specs.Pairs.{pair_of}
 
 pub record Gathered : Type 0 where
@@ -30,11 +30,11 @@ and_switched (Some woken) g switch = record {
 }
 
 -- what is gathered after one more of what was seen
-abbrev pub and_seen : Gathered → Seen → Gathered
+abbrev pub and_seen : Gathered → WakeupItem → Gathered
 and_seen g (Wakes wake) = and_woken (map.get g.waiting wake.task) g wake
 and_seen g (Switches switch) = and_switched (map.get g.waiting switch.task) g switch
 and_seen g Lost = record g { waiting = map.empty }
 and_seen g Other = g
 
-abbrev pub gathered : List Seen → Gathered
+abbrev pub gathered : List WakeupItem → Gathered
 gathered xs = fold and_seen none_gathered xs

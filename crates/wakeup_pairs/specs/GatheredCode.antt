@@ -3,8 +3,8 @@ use Rattle.std.specs.Prelude.{ℕ, List, refl}
 use Rattle.std.specs.Coded.{Coded, code_by, coded_ℕ, coded_ℤ, coded_list, coded×}
 use Rattle.std.specs.Ordering.{int_cmp}
 use Rattle.std.specs.FinMap as map
-use Rattle.wakeup_pairs.specs.contracts.seen.Pair as pair
-use Rattle.wakeup_pairs.specs.declared.seen.Pair.{Pair}
+use Rattle.wakeup_pairs.specs.contracts.wakeup_item.Pair as pair
+use Rattle.wakeup_pairs.specs.declared.wakeup_item.Pair.{Pair}
 use Rattle.wakeup_pairs.specs.Gathered.{Gathered}
 
 abbrev pub coded_gathered : Coded Gathered

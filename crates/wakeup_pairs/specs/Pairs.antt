@@ -3,29 +3,29 @@
 -- Places are those of a list of what was seen, counted from 0.
 use Rattle.std.specs.Prelude.{◌≡◌, ◌≢◌, ℕ, ℤ, ◌+◌, ◌<◌, ◌≤◌, List, [], ◌∷◌, slice_get, Some, Contains}
 use Rattle.std.specs.List.{AllZip}
-use Rattle.wakeup_pairs.specs.declared.seen.Pair.{Pair}
-use Rattle.wakeup_pairs.specs.declared.seen.Switch.{Switch}
-use Rattle.wakeup_pairs.specs.declared.seen.Wake.{Wake}
-use Rattle.wakeup_pairs.specs.declared.seen.Seen.{Seen}
-use Rattle.wakeup_pairs.specs.declared.seen.Seen.TheVariants.{Wakes, Switches, Lost, Other}
+use Rattle.wakeup_pairs.specs.declared.wakeup_item.Pair.{Pair}
+use Rattle.wakeup_pairs.specs.declared.wakeup_item.Switch.{Switch}
+use Rattle.wakeup_pairs.specs.declared.wakeup_item.Wake.{Wake}
+use Rattle.wakeup_pairs.specs.declared.wakeup_item.WakeupItem.{WakeupItem}
+use Rattle.wakeup_pairs.specs.declared.wakeup_item.WakeupItem.TheVariants.{Wakes, Switches, Lost, Other}
 
 -- neither a loss nor a switch to the task
-abbrev pub IsQuiet : ℤ → Seen → Type 0
+abbrev pub IsQuiet : ℤ → WakeupItem → Type 0
 IsQuiet task (Wakes wake) = Unit {0}
 IsQuiet task (Switches switch) = switch.task ≢ task
 IsQuiet task Lost = ⊥
 IsQuiet task Other = Unit {0}
 
 -- At place i the task was woken, and up to place j, without it, there is no loss and no switch to it.
-pub record WaitsFrom (xs : List Seen) (task : ℤ) (i j : ℕ) : Type 0 where
+pub record WaitsFrom (xs : List WakeupItem) (task : ℤ) (i j : ℕ) : Type 0 where
   pub wake : Wake
   pub there : slice_get xs i ≡ Some (Wakes wake)
   pub same : wake.task ≡ task
   pub before : i < j
-  pub quiet : (k : ℕ) (x : Seen) → i < k → k < j → slice_get xs k ≡ Some x → IsQuiet task x
+  pub quiet : (k : ℕ) (x : WakeupItem) → i < k → k < j → slice_get xs k ≡ Some x → IsQuiet task x
 
 -- The switch at place j is paired with the wake-up at place i: of those from which its task waits it is the first.
-pub record IsPaired (xs : List Seen) (i j : ℕ) : Type 0 where
+pub record IsPaired (xs : List WakeupItem) (i j : ℕ) : Type 0 where
   pub switch : Switch
   pub there : slice_get xs j ≡ Some (Switches switch)
   pub waits : WaitsFrom xs switch.task i j
@@ -41,7 +41,7 @@ pair_of woken switch = record {
 }
 
 -- What is told of the two that are paired at these places.
-pub record IsPairAt (xs : List Seen) (places : ℕ × ℕ) (pair : Pair) : Type 0 where
+pub record IsPairAt (xs : List WakeupItem) (places : ℕ × ℕ) (pair : Pair) : Type 0 where
   pub paired : IsPaired xs places.0 places.1
   pub told : pair ≡ pair_of paired.waits.wake.time paired.switch
 
@@ -51,7 +51,7 @@ RiseFrom n [] = Unit {0}
 RiseFrom n (place ∷ places) = (n ≤ place.1) × RiseFrom (place.1 + 1) places
 
 -- These are the pairs: one for each two places that are paired, in the order of the switches.
-pub record ArePairs (xs : List Seen) (pairs : List Pair) : Type 0 where
+pub record ArePairs (xs : List WakeupItem) (pairs : List Pair) : Type 0 where
   pub places : List (ℕ × ℕ)
   pub rise : RiseFrom 0 places
   pub each : AllZip (IsPairAt xs) places pairs

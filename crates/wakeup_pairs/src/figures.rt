@@ -3,7 +3,7 @@
 ghost use Rattle.std.specs.Prelude.{◌≡◌, ◌<◌, ◌≤◌, ◌*◌, length, sum_by};
 ghost use Rattle.wakeup_pairs.specs.Figures as spec;
 
-use crate::seen::Pair;
+use crate::wakeup_item::Pair;
 
 /// How long a task waited, in nanoseconds; 0 where the switch has the lower time.
 pub fn latency(pair: &Pair) -> u64

@@ -8,8 +8,8 @@
 mod figures;
 pub mod laws;
 mod pairs;
-mod seen;
+mod wakeup_item;
 
 pub use figures::{average, latency, longest, shortest};
 pub use pairs::Wakeups;
-pub use seen::{Pair, Seen, Switch, Wake};
+pub use wakeup_item::{Pair, Switch, Wake, WakeupItem};

@@ -2,7 +2,7 @@ ghost use Rattle.std.specs.Prelude.{◌≡◌, OnOk, OnErr};
 ghost use Rattle.wakeup_pairs.specs.Gathered.{and_seen, none_gathered};
 ghost use Rattle.wakeup_pairs.specs.Pairs as spec;
 
-use crate::seen::{Pair, Seen, Switch};
+use crate::wakeup_item::{Pair, Switch, WakeupItem};
 use std::alloc::{AllocError, Global};
 use std::collections::BTreeMap;
 use std::marker::Model;
@@ -51,24 +51,24 @@ impl Wakeups {
     }
 
     /// Takes in what is seen next. After `AllocError` nothing is changed.
-    pub fn see(&mut self, seen: Seen) -> Result<(), AllocError>
+    pub fn see(&mut self, seen: WakeupItem) -> Result<(), AllocError>
         ensures seen { OnOk result (self.new ≡ and_seen self.old seen) }
         ensures kept { OnErr result (self.new ≡ self.old) }
     {
         match seen {
-            Seen::Wakes(wake) => self.wake(wake.task, wake.time),
-            Seen::Switches(switch) => self.switch(switch),
-            Seen::Lost => {
+            WakeupItem::Wakes(wake) => self.wake(wake.task, wake.time),
+            WakeupItem::Switches(switch) => self.switch(switch),
+            WakeupItem::Lost => {
                 self.waiting.clear();
                 Ok(())
             }
-            Seen::Other => Ok(()),
+            WakeupItem::Other => Ok(()),
         }
     }
 
     // A task is woken. Where it waits already, its first time stays.
     fn wake(&mut self, task: i32, time: u64) -> Result<(), AllocError>
-        ensures seen { OnOk result (self.new ≡ and_seen self.old (Seen.Wakes (record { task = task; time = time }))) }
+        ensures seen { OnOk result (self.new ≡ and_seen self.old (WakeupItem.Wakes (record { task = task; time = time }))) }
         ensures kept { OnErr result (self.new ≡ self.old) }
     {
         if self.waiting.contains_key(&task) {
@@ -80,7 +80,7 @@ impl Wakeups {
 
     // A processor goes on to a task: where that waits it makes a pair, and waits no longer.
     fn switch(&mut self, switch: Switch) -> Result<(), AllocError>
-        ensures seen { OnOk result (self.new ≡ and_seen self.old (Seen.Switches switch)) }
+        ensures seen { OnOk result (self.new ≡ and_seen self.old (WakeupItem.Switches switch)) }
         ensures kept { OnErr result (self.new ≡ self.old) }
     {
         let Some(woken) = self.waiting.get(&switch.task).copied() else {

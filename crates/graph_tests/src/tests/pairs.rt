@@ -1,6 +1,6 @@
 // Which calls are told of what is seen.
 
-use call_pairs::{Call, GraphEvent, Seen, Tracing, clipped};
+use call_pairs::{Call, GraphEvent, GraphItem, Tracing, clipped};
 use std::alloc::Global;
 use std::test::Fail;
 use trace_base::Common;
@@ -58,22 +58,22 @@ fn event(text: &str) -> Result<GraphEvent, Fail> {
     })
 }
 
-fn exit(text: &str) -> Result<Seen, Fail> {
+fn exit(text: &str) -> Result<GraphItem, Fail> {
     match text.split_once(":") {
-        Some((event_text, ran)) => Ok(Seen::Exit(event(event_text)?, Some(ran.parse()?))),
-        None => Ok(Seen::Exit(event(text)?, None)),
+        Some((event_text, ran)) => Ok(GraphItem::Exit(event(event_text)?, Some(ran.parse()?))),
+        None => Ok(GraphItem::Exit(event(text)?, None)),
     }
 }
 
-fn seen(word: &str) -> Result<Seen, Fail> {
+fn seen(word: &str) -> Result<GraphItem, Fail> {
     if let Some(text) = word.strip_prefix("+") {
-        return Ok(Seen::Entry(event(text)?));
+        return Ok(GraphItem::Entry(event(text)?));
     }
     if let Some(text) = word.strip_prefix("-") {
         return exit(text);
     }
     let cpu = word.strip_prefix("!").ok_or("a loss")?;
-    Ok(Seen::Loss {
+    Ok(GraphItem::Loss {
         cpu: cpu.parse()?,
         count: None,
     })

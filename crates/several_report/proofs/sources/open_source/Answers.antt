@@ -1,5 +1,5 @@
 use Rattle.std.proofs.Common.{subst, sym, ◌∙◌}
-use Rattle.multi_report.specs.Sources.{Seen}
+use Rattle.multi_report.specs.Sources.{SourceView}
 use Rattle.dat_header.specs.Seen.{file_seen}
 use Rattle.trace_args.specs.Command.{report_view}
 use Rattle.run_endings.specs.Outside.{folder_seen}
@@ -16,7 +16,7 @@ returns-in-Ok-read_basis-clause-opened g c =
     let before = folder_seen g.F.Folder c.args.folder.now in
     let now = folder_seen g.F.Folder c.open_file.new.self in
     let words = report_view c.args.words.now in
-    subst (λ (s : Seen). IsOpened words c.args.name.now s before now) (sym c.source_on.ensures)
+    subst (λ (s : SourceView). IsOpened words c.args.name.now s before now) (sym c.source_on.ensures)
     (source_opened words c.args.name.now (file_seen g.F.In.File c.read_basis.new.file) (g.F.In.File.bytes c.in-Ok.file) (g.F.In.File.reads c.in-Ok.file)
     c.in-Ok-read_basis.basis before now c.open_file.ensures.files c.in-Ok.ensures.given c.read_basis.ensures.keeps.bytes c.in-Ok.ensures.no_reads c.in-Ok-read_basis.ensures.read
     (opens_one _ c.args.name.now _ _ c.open_file.result c.open_file.ensures.counts c.in-Ok.ensures.counts.opened) (c.in-Ok-read_basis.ensures.kept ∙ c.in-Ok.ensures.no_faults)

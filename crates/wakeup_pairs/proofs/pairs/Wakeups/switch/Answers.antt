@@ -1,5 +1,5 @@
 use Rattle.std.proofs.Common.{sym, ◌∙◌, ap, ◌++◌, ◌∷◌, []}
-use Rattle.wakeup_pairs.specs.declared.seen.Pair.{Pair}
+use Rattle.wakeup_pairs.specs.declared.wakeup_item.Pair.{Pair}
 use Rattle.wakeup_pairs.proofs.Maps.{switched_none, switched_some}
 use Rattle.wakeup_pairs.proofs.pairs.Wakeups.switch.Goals as goal
 

@@ -2,7 +2,7 @@ use crate::status::Status;
 
 /// How a job ended, and the file that its message names.
 #[derive(Clone, Copy)]
-pub struct Outcome<'a> {
+pub struct JobEnd<'a> {
     pub status: Status,
     pub file: &'a str,
 }

@@ -20,7 +20,7 @@ pub struct GraphEvent {
 
 /// What an item of a trace is for the calls.
 #[derive(Clone, Copy, Debug, PartialEq, Eq)]
-pub enum Seen {
+pub enum GraphItem {
     /// An entry.
     Entry(GraphEvent),
     /// An exit, with the nanoseconds that its call took where its own fields tell them.

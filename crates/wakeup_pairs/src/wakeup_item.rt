@@ -26,7 +26,7 @@ pub struct Switch {
 
 /// What an item is for the latencies.
 #[derive(Clone, Copy, Debug, PartialEq, Eq)]
-pub enum Seen {
+pub enum WakeupItem {
     /// A task was woken.
     Wakes(Wake),
     /// A processor went on to a task.

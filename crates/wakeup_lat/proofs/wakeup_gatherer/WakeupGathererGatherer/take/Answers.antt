@@ -4,7 +4,7 @@ use Rattle.subpage.specs.ItemView.{item_view}
 use Rattle.item_pass.specs.Skipping.{and_item}
 use Rattle.wakeup_lat.specs.Matter.{matters}
 use Rattle.wakeup_lat.proofs.Mattering.{and_gathered}
-use Rattle.wakeup_lat.proofs.sight.SightGatherer.take.Goals as goal
+use Rattle.wakeup_lat.proofs.wakeup_gatherer.WakeupGathererGatherer.take.Goals as goal
 
 pub returns-clause-known : goal.returns-clause-known
 returns-clause-known c =

@@ -5,11 +5,11 @@ ghost use Rattle.subpage.specs.ItemView.{item_view};
 ghost use Rattle.call_pairs.specs.Tracings.{WasSeen};
 ghost use Rattle.graph_report.specs.Gathered.{seen_in, HasSeen};
 ghost use Rattle.graph_report.specs.Roles.{event_seen, seen_of};
-ghost use Rattle.graph_report.specs.Sights.{HasRoles, Notes};
+ghost use Rattle.graph_report.specs.CallGatherers.{HasRoles, Notes};
 
 use crate::role::Role;
 use crate::seeing::{graph_event, ran_by};
-use call_pairs::{Seen, Tracing};
+use call_pairs::{GraphItem, Tracing};
 use format_index::FormatRoles;
 use item_pass::Gatherer;
 use report_print::Context;
@@ -18,12 +18,12 @@ use subpage::Item;
 
 /// What items are for the calls. The roles are those of the context's formats.
 #[derive(Drop)]
-pub(crate) struct Sight<'a> {
+pub(crate) struct CallGatherer<'a> {
     pub context: &'a Context,
     pub roles: &'a FormatRoles<Role>,
 }
 
-impl Sight<'_> {
+impl CallGatherer<'_> {
     // An event is seen, if it is an entry or an exit. Each of them goes from here to the list of calls in one piece of code:
     // what is seen is never put together in memory.
     #[inline(always)]
@@ -44,12 +44,12 @@ impl Sight<'_> {
         match self.roles.role(context.formats(), id, Role::Other) {
             Role::Enters(called) => {
                 let entry = graph_event(context, cpu, time, id, payload, called);
-                tracing.see(&Seen::Entry(entry))
+                tracing.see(&GraphItem::Entry(entry))
             }
             Role::Leaves(called, times) => {
                 let exit = graph_event(context, cpu, time, id, payload, called);
                 let ran = ran_by(context.order(), payload, times);
-                tracing.see(&Seen::Exit(exit, ran))
+                tracing.see(&GraphItem::Exit(exit, ran))
             }
             Role::Other => Ok(()),
         }
@@ -66,12 +66,12 @@ impl Sight<'_> {
     {
         match item {
             Item::Event { time, payload } => self.note_event(cpu, *time, payload, tracing),
-            Item::Loss { time: _, count } => tracing.see(&Seen::Loss { cpu, count: *count }),
+            Item::Loss { time: _, count } => tracing.see(&GraphItem::Loss { cpu, count: *count }),
         }
     }
 }
 
-impl Gatherer for Sight<'_> {
+impl Gatherer for CallGatherer<'_> {
     type Gathered = Tracing;
 
     // In a trace of calls there is little else.
@@ -81,7 +81,7 @@ impl Gatherer for Sight<'_> {
 
     ghost matters = { λ _ _ _. true };
 
-    ghost holds = { λ sight xs tracing. HasSeen (seen_in sight.context.now xs) tracing };
+    ghost holds = { λ gatherer xs tracing. HasSeen (seen_in gatherer.context.now xs) tracing };
 
     #[inline(always)]
     fn is_other(&self, _cpu: u32, _item: &Item<'_>) -> bool {

@@ -11,25 +11,25 @@ use item_pass::Gatherer;
 use report_print::Context;
 use std::alloc::AllocError;
 use subpage::Item;
-use wakeup_pairs::{Seen, Wakeups};
+use wakeup_pairs::{WakeupItem, Wakeups};
 
 /// What items are for the latencies. The roles are those of the context's formats.
 #[derive(Drop)]
-pub(crate) struct Sight<'a> {
+pub(crate) struct WakeupGatherer<'a> {
     pub context: &'a Context,
     pub roles: &'a FormatRoles<Role>,
 }
 
-fn is_other(seen: Seen) -> bool
+fn is_other(seen: WakeupItem) -> bool
     ensures { result ≡ true → is_seen seen ≡ false }
 {
     match seen {
-        Seen::Other => true,
-        Seen::Wakes(_) | Seen::Switches(_) | Seen::Lost => false,
+        WakeupItem::Other => true,
+        WakeupItem::Wakes(_) | WakeupItem::Switches(_) | WakeupItem::Lost => false,
     }
 }
 
-impl Gatherer for Sight<'_> {
+impl Gatherer for WakeupGatherer<'_> {
     type Gathered = Wakeups;
 
     // In most traces few events are wake-ups and switches.
@@ -37,9 +37,9 @@ impl Gatherer for Sight<'_> {
 
     ghost is_sound = { HasRoles };
 
-    ghost matters = { λ sight. matters sight.context.now };
+    ghost matters = { λ gatherer. matters gatherer.context.now };
 
-    ghost holds = { λ sight xs wakeups. wakeups ≡ gathered (all_seen sight.context.now xs) };
+    ghost holds = { λ gatherer xs wakeups. wakeups ≡ gathered (all_seen gatherer.context.now xs) };
 
     fn is_other(&self, cpu: u32, item: &Item<'_>) -> bool {
         is_other(self.see(cpu, item))
