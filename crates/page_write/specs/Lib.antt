@@ -9,3 +9,4 @@ pub mod SoFar
 pub mod Packing
 pub mod PackerView
 pub mod Again
+pub mod Passes

@@ -1,6 +1,6 @@
 // What the definitions of packing promise.
 
-ghost use Rattle.std.specs.Prelude.{◌≡◌, ◌<◌, slice_index, ◌≤◌, ◌+◌, ◌*◌, ◌^◌, length, map, true, false, ℕ, List, [], ◌∷◌, ◌++◌, All, Some, None, flat_map};
+ghost use Rattle.std.specs.Prelude.{◌≡◌, ◌<◌, slice_index, ◌≤◌, ◌+◌, ◌*◌, ◌^◌, length, map, true, false, ℕ, List, Option, [], ◌∷◌, ◌++◌, All, Some, None, flat_map};
 ghost use Rattle.trace_base.specs.declared.part.Part.{Part};
 ghost use Rattle.subpage.specs.Processor.{list_of, bad_of};
 ghost use Rattle.page_write.specs.Adding.{Adds};
@@ -12,6 +12,7 @@ ghost use Rattle.page_write.specs.Pack.{Packed, packed, pack};
 ghost use Rattle.trace_base.specs.declared.layout.Layout.{Layout};
 ghost use Rattle.subpage.specs.ItemData.{ItemData, EventAt};
 ghost use Rattle.subpage.specs.Page.{items};
+ghost use Rattle.page_write.specs.Passes.{HasPages};
 ghost use Rattle.page_write.specs.PageBytes.{page_of, one_page, IsPackable};
 
 use crate::added::Added;
@@ -107,4 +108,9 @@ pub fn step_by_step()
         → IsSoFar layout (xs ++ x ∷ []) (closed ++ held ∷ []) (x ∷ []) }
     ensures ends { (layout : Layout) (xs : List ItemData) (closed : List (List ItemData)) (held : List ItemData)
         → IsSoFar layout xs closed held → packed layout xs ≡ closed ++ open_page held }
+{}
+
+/// Before a processor's first item a sink has gained none of its sub-buffers, and none is open.
+pub fn nothing_written()
+    ensures { (layout : Layout) (told : Option (List ℕ)) → HasPages layout told told [] [] }
 {}

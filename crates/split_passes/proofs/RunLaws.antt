@@ -12,7 +12,7 @@ use Rattle.page_pool.specs.Keeping.{KeepsLane, stepping}
 use Rattle.page_write.specs.PageBytes.{one_page}
 use Rattle.page_write.specs.Adding.{HasRoom, IsRunAfter}
 use Rattle.page_write.proofs.Joined.{all_added_so_far}
-use Rattle.page_passes.specs.Passes.{HasPages}
+use Rattle.page_write.specs.Passes.{HasPages}
 use Rattle.event_cursor.specs.Standing.{left_of}
 use Rattle.event_cursor.proofs.Standing.{left_over, bad_over, stands_over}
 use Rattle.split_passes.specs.Runs.{IsRunPacked, RunFits, RunPacked}

@@ -19,7 +19,7 @@ use Rattle.page_pool.specs.declared.cursor.LaneState.TheVariants.{Held}
 use Rattle.page_pool.specs.Keeping.{KeepsLane, stepping}
 use Rattle.page_pool.proofs.Keeping.{lane_still}
 use Rattle.page_write.specs.Adding.{HasRoom, IsRunAfter}
-use Rattle.page_passes.specs.Passes.{IsPageCount}
+use Rattle.page_write.specs.Passes.{IsPageCount}
 use Rattle.event_cursor.specs.Stepping.{IsSteppedOver}
 use Rattle.event_cursor.specs.Standing.{Stands, TellsAhead, most_left}
 use Rattle.time_merge.specs.Advancing.{Advances, IsOver}

@@ -9,7 +9,7 @@ use Rattle.subpage.specs.Run.{run_bytes, time_at, IsRunTo}
 use Rattle.page_pool.specs.declared.lane.Lane.{Lane}
 use Rattle.page_pool.specs.Keeping.{KeepsLane, stepping}
 use Rattle.page_write.specs.PageBytes.{area_len, data_text}
-use Rattle.page_passes.specs.Passes.{IsPageCount}
+use Rattle.page_write.specs.Passes.{IsPageCount}
 use Rattle.event_cursor.specs.Stepping.{IsSteppedOver}
 use Rattle.event_cursor.specs.Standing.{Stands}
 use Rattle.time_merge.specs.LaneRows.{to_come}

@@ -7,8 +7,8 @@ use Rattle.page_write.specs.PageBytes.{IsPackable}
 use Rattle.page_write.specs.Pack.{pack}
 use Rattle.trace_outside.specs.Writing.{Gained}
 use Rattle.page_write.proofs.Packable.{few_packable}
-use Rattle.page_passes.specs.Passes.{HasPages, GoesOn, Ends}
-use Rattle.page_passes.proofs.Steps.{no_pages}
+use Rattle.page_write.specs.Passes.{HasPages, GoesOn, Ends}
+use Rattle.page_write.proofs.Steps.{no_pages}
 use Rattle.trace_gen.specs.Generated.{cpu_at, pid_at, value_at, payload_of, time_behind, event_at, events_of}
 use Rattle.trace_gen.proofs.Drawn.{time_small}
 

@@ -10,8 +10,7 @@ ghost use Rattle.trace_gen.specs.GeneratedFile.{front_len, generated_parts};
 
 use crate::generator::Generator;
 use crate::header::{FRONT_LEN, layout};
-use page_passes::{write_item, write_last};
-use page_write::Packer;
+use page_write::{Packer, write_item, write_last};
 use subpage::Item;
 use trace_base::Part;
 use trace_outside::{Failed, MemSink, Sink};

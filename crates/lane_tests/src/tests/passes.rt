@@ -5,8 +5,7 @@ ghost use Rattle.trace_base.specs.declared.layout.Layout.{Layout};
 ghost use Rattle.subpage.specs.ItemView.{item_view};
 ghost use Rattle.page_write.specs.PageBytes.{IsPackable};
 
-use page_passes::{PageCount, write_item, write_last};
-use page_write::Packer;
+use page_write::{Packer, PageCount, write_item, write_last};
 use subpage::Item;
 use trace_base::{Layout, Order};
 use trace_outside::{Failed, MemSink};

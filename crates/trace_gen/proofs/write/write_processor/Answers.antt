@@ -1,6 +1,6 @@
 use Rattle.std.proofs.Common.{◌≡◌, ◌+◌, ◌++◌, ◌∷◌, [], subst, sym, ap, ◌∙◌, arith, List}
 use Rattle.subpage.specs.ItemData.{ItemData, EventAt}
-use Rattle.page_passes.specs.Passes.{HasPages}
+use Rattle.page_write.specs.Passes.{HasPages}
 use Rattle.trace_gen.specs.Generated.{cpu_at, events_of}
 use Rattle.trace_gen.specs.GeneratedHeader.{generated_layout}
 use Rattle.trace_gen.proofs.Drawn.{times_small, events_more, events_same}

@@ -1,5 +1,5 @@
 use Rattle.std.proofs.Common.{◌≡◌}
-use Rattle.page_passes.specs.Passes.{HasPages}
+use Rattle.page_write.specs.Passes.{HasPages}
 use Rattle.trace_gen.specs.Generated.{events_of}
 use Rattle.trace_gen.specs.GeneratedHeader.{generated_layout}
 use Rattle.trace_gen.specs.At.{IsAt}

@@ -4,9 +4,9 @@ use Rattle.subpage.specs.ItemView.{item_view}
 use Rattle.trace_outside.specs.Writing.{Gained, GainedPrefix}
 use Rattle.trace_outside.proofs.Gains.{on_err}
 use Rattle.page_write.specs.PageBytes.{page_of, one_page}
-use Rattle.page_passes.specs.Passes.{HasPages}
-use Rattle.page_passes.proofs.Steps.{has_added, has_full, failed_full, goes_in}
-use Rattle.page_passes.proofs.write.write_item.Goals as goal
+use Rattle.page_write.specs.Passes.{HasPages}
+use Rattle.page_write.proofs.Steps.{has_added, has_full, failed_full, goes_in}
+use Rattle.page_write.proofs.write.write_item.Goals as goal
 
 pub returns-in_err-write_all-in-Full-clause-stops : goal.returns-in_err-write_all-in-Full-clause-stops
 returns-in_err-write_all-in-Full-clause-stops g c = on_err c.from_residual.result (λ before xs ys h.

@@ -4,9 +4,10 @@ ghost use Rattle.std.specs.Prelude.{◌≡◌, ◌≢◌, [], OnOk, OnErr};
 ghost use Rattle.trace_outside.specs.Causes.{HasCause};
 ghost use Rattle.subpage.specs.ItemView.{item_view};
 ghost use Rattle.page_write.specs.PageBytes.{IsPackable};
-ghost use Rattle.page_passes.specs.Passes.{GoesOn, StopsAt, Ends, EndsShort};
+ghost use Rattle.page_write.specs.Passes.{GoesOn, StopsAt, Ends, EndsShort};
 
-use page_write::{Added, Packer};
+use crate::added::Added;
+use crate::packer::Packer;
 use subpage::Item;
 use trace_outside::{Failed, Sink, write_all};
 

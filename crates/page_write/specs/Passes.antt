@@ -8,7 +8,7 @@ use Rattle.page_write.specs.Fill.{IsFill}
 use Rattle.page_write.specs.Pack.{packed, pack}
 use Rattle.page_write.specs.SoFar.{IsSoFar}
 use Rattle.page_write.specs.PageBytes.{page_of}
-use Rattle.page_passes.specs.declared.count.PageCount.{PageCount}
+use Rattle.page_write.specs.declared.count.PageCount.{PageCount}
 
 -- the number of sub-buffers of the items so far
 pub record IsPageCount (layout : Layout) (count : PageCount) (xs : List ItemData) : Type 0 where

@@ -2,9 +2,9 @@ use Rattle.std.proofs.Common.{subst, ◌∙◌, sym, ◌≡◌, ◌≢◌, true,
 use Rattle.subpage.specs.ItemData.{ItemData}
 use Rattle.trace_outside.specs.Writing.{Gained, GainedPrefix}
 use Rattle.trace_outside.proofs.Gains.{on_err}
-use Rattle.page_passes.specs.Passes.{HasPages}
-use Rattle.page_passes.proofs.Steps.{none_left, last_page, failed_last}
-use Rattle.page_passes.proofs.write.write_last.Goals as goal
+use Rattle.page_write.specs.Passes.{HasPages}
+use Rattle.page_write.proofs.Steps.{none_left, last_page, failed_last}
+use Rattle.page_write.proofs.write.write_last.Goals as goal
 
 pub returns-then-is_empty-clause-ends : goal.returns-then-is_empty-clause-ends
 returns-then-is_empty-clause-ends g c = λ before xs h.

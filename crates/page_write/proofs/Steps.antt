@@ -17,8 +17,8 @@ use Rattle.page_write.specs.Fill.{IsFill}
 use Rattle.page_write.specs.Pack.{packed, pack}
 use Rattle.page_write.specs.SoFar.{open_page, IsSoFar, packed_on}
 use Rattle.page_write.proofs.Joined.{nothing_so_far, added_so_far, full_so_far, full_goes_on, ends_so_far, not_empty_after, all_added_so_far}
-use Rattle.page_passes.specs.declared.count.PageCount.{PageCount}
-use Rattle.page_passes.specs.Passes.{IsPageCount, HasPages}
+use Rattle.page_write.specs.declared.count.PageCount.{PageCount}
+use Rattle.page_write.specs.Passes.{IsPageCount, HasPages}
 
 pub has_added : (l : Layout) (before now : Option (List ℕ)) (xs held : List ItemData) (x : ItemData) → one_page l (held ++ x ∷ []) ≡ true → HasPages l before now xs held → HasPages l before now (xs ++ x ∷ []) (held ++ x ∷ [])
 has_added l before now xs held x one h = record { closed = h.closed; so_far = added_so_far l xs h.closed held x h.so_far one; gained = h.gained }

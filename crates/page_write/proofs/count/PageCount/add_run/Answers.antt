@@ -1,6 +1,6 @@
 use Rattle.std.proofs.Common.{refl}
-use Rattle.page_passes.proofs.Steps.{size_run}
-use Rattle.page_passes.proofs.count.PageCount.add_run.Goals as goal
+use Rattle.page_write.proofs.Steps.{size_run}
+use Rattle.page_write.proofs.count.PageCount.add_run.Goals as goal
 
 pub returns-clause-counts : goal.returns-clause-counts
 returns-clause-counts c = λ xs ys count after room.

@@ -7,9 +7,10 @@ ghost use Rattle.subpage.specs.ItemView.{item_view};
 ghost use Rattle.page_write.specs.Pack.{packed};
 ghost use Rattle.page_write.specs.Adding.{HasRoom, IsRunAfter};
 ghost use Rattle.page_write.specs.PageBytes.{area_len, data_text, IsPackable};
-ghost use Rattle.page_passes.specs.Passes.{IsPageCount};
+ghost use Rattle.page_write.specs.Passes.{IsPageCount};
 
-use page_write::{Added, Room};
+use crate::added::Added;
+use crate::room::Room;
 use subpage::Item;
 use trace_base::Layout;
 

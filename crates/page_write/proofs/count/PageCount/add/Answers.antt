@@ -1,8 +1,8 @@
 use Rattle.std.proofs.Common.{refl, subst, [], sym}
 use Rattle.subpage.specs.ItemView.{item_view}
 use Rattle.page_write.specs.Fill.{IsFill}
-use Rattle.page_passes.proofs.Steps.{size_added, size_full, fill_goes_in, none_fill}
-use Rattle.page_passes.proofs.count.PageCount.add.Goals as goal
+use Rattle.page_write.proofs.Steps.{size_added, size_full, fill_goes_in, none_fill}
+use Rattle.page_write.proofs.count.PageCount.add.Goals as goal
 
 pub returns-then-self-eq0-clause-counts : goal.returns-then-self-eq0-clause-counts
 returns-then-self-eq0-clause-counts c = λ xs.

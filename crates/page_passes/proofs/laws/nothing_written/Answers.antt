@@ -1,5 +1,0 @@
-use Rattle.page_passes.proofs.Steps.{nothing_yet}
-use Rattle.page_passes.proofs.laws.nothing_written.Goals as goal
-
-pub returns : goal.returns
-returns c = λ layout told. nothing_yet layout told
