@@ -34,10 +34,10 @@ use Rattle.split_pieces.specs.Moments.{is_before}
 use Rattle.split_pieces.specs.Cuts.{is_apart, items_of_cpu, own_list, lists_to_cut, file_items}
 use Rattle.split_pieces.specs.Pieces.{piece, joined_lists, next_file, behind_file, files_when, files_within, files_left, files, from_start, left_in}
 use Rattle.dat_header.specs.Tables.{blank}
-use Rattle.split_file.specs.NewFile.{front_len, front_text, table_of, file_text}
-use Rattle.split_file.proofs.Laid.{length-front, length-table, reads_back_all}
-use Rattle.split_file.proofs.Placing.{page_some}
-use Rattle.split_file.proofs.ShortHeader.{still_header, text_short}
+use Rattle.split_tool.specs.NewFile.{front_len, front_text, table_of, file_text}
+use Rattle.split_tool.proofs.Laid.{length-front, length-table, reads_back_all}
+use Rattle.split_tool.proofs.Placing.{page_some}
+use Rattle.split_tool.proofs.ShortHeader.{still_header, text_short}
 use Rattle.split_tool.specs.Counted.{lists_of}
 use Rattle.split_tool.specs.NewFiles.{ReadBack, files_from, new_files}
 use Rattle.split_tool.proofs.FewItems.{Few}

@@ -1,3 +1,9 @@
+pub mod Placing
+pub mod Laid
+pub mod Wholes
+pub mod Wrapped
+pub mod HeaderLength
+pub mod ShortHeader
 pub mod FileAfterFile
 pub mod Storing
 pub mod FewItems

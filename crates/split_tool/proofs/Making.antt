@@ -39,9 +39,9 @@ use Rattle.split_pieces.specs.Pieces.{IsUnit, is_some_left, joined_lists, behind
 use Rattle.split_pieces.proofs.Cutting.{front_whole}
 use Rattle.split_passes.specs.AllAgain.{owns}
 use Rattle.split_passes.specs.declared.tally.Tally.{Tally}
-use Rattle.split_file.specs.Names.{file_name}
-use Rattle.split_file.specs.NewFile.{file_text, front_text, table_of}
-use Rattle.split_file.proofs.Wrapped.{front_wrapped}
+use Rattle.split_tool.specs.Names.{file_name}
+use Rattle.split_tool.specs.NewFile.{file_text, front_text, table_of}
+use Rattle.split_tool.proofs.Wrapped.{front_wrapped}
 use Rattle.split_tool.specs.declared.lists.Ends.{Ends}
 use Rattle.split_tool.specs.Counted.{lists_of}
 use Rattle.split_tool.specs.Lists.{files_of, files_behind, lists_left, bad_left}

@@ -17,7 +17,7 @@ use Rattle.time_merge.specs.declared.ending.End.{End}
 use Rattle.time_merge.specs.declared.ending.End.TheVariants as code
 use Rattle.new_files.specs.Requested.{AskedAll, AskedFirst, names_of}
 use Rattle.new_files.specs.Stored.{FilesStored, IsUnmade, NewFile, Stored}
-use Rattle.split_file.specs.Names.{file_name}
+use Rattle.split_tool.specs.Names.{file_name}
 use Rattle.split_passes.specs.AllAgain.{TellsHeld}
 use Rattle.split_passes.specs.Outputs.{LanesOutput}
 use Rattle.split_passes.specs.Packs.{GainsSome}

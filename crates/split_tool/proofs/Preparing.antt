@@ -37,7 +37,7 @@ use Rattle.split_passes.specs.AllAgain.{AreFronts, owns, IsPackedAll}
 use Rattle.time_merge.proofs.Advancing.{same_length}
 use Rattle.split_passes.proofs.Running.{same_cpu}
 use Rattle.dat_header.specs.Tables.{in_table}
-use Rattle.split_file.specs.NewFile.{front_len, front_text, table_of}
+use Rattle.split_tool.specs.NewFile.{front_len, front_text, table_of}
 use Rattle.split_tool.specs.declared.lists.Ends.{Ends}
 use Rattle.split_tool.specs.Counted.{lists_of, AreCounted}
 use Rattle.split_tool.specs.Lists.{groups, left_in_rows, bad_in_rows, lists_left, bad_left}

@@ -1,3 +1,5 @@
+pub mod Names
+pub mod NewFile
 pub mod Counted
 pub mod Lists
 pub mod Made

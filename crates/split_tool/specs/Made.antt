@@ -26,7 +26,7 @@ use Rattle.split_passes.specs.declared.tally.Tally.{Tally}
 use Rattle.dat_header.specs.Tables.{in_table}
 use Rattle.new_files.specs.Requested.{AskedAll}
 use Rattle.new_files.specs.Stored.{IsUnmade, KeepsCounts}
-use Rattle.split_file.specs.NewFile.{file_text, front_text, table_of}
+use Rattle.split_tool.specs.NewFile.{file_text, front_text, table_of}
 use Rattle.split_tool.specs.declared.lists.Ends.{Ends}
 use Rattle.split_tool.specs.Counted.{lists_of}
 use Rattle.split_tool.specs.Lists.{lists_left, bad_left}

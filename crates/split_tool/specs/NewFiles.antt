@@ -11,8 +11,8 @@ use Rattle.time_merge.specs.declared.ending.End.{End}
 use Rattle.time_merge.specs.declared.ending.End.TheVariants as code
 use Rattle.split_pieces.specs.declared.rules.Rules.{Rules}
 use Rattle.split_pieces.specs.Cuts.{bad_reached, file_items}
-use Rattle.split_file.specs.Names.{file_name}
-use Rattle.split_file.specs.NewFile.{ReadsBack, file_text}
+use Rattle.split_tool.specs.Names.{file_name}
+use Rattle.split_tool.specs.NewFile.{ReadsBack, file_text}
 use Rattle.split_tool.specs.Counted.{lists_of}
 use Rattle.new_files.specs.Requested.{AskedAll, AskedFirst, names_of}
 use Rattle.new_files.specs.Stored.{NewFile, FilesStored, FirstFilesStored}

@@ -8,7 +8,7 @@ use Rattle.page_pool.specs.declared.lane.Lane.{Lane}
 use Rattle.time_merge.specs.declared.ending.End.{End}
 use Rattle.time_merge.specs.declared.ending.End.TheVariants as code
 use Rattle.new_files.specs.Stored.{FilesStored, IsUnmade, NewFile}
-use Rattle.split_file.specs.Names.{file_name}
+use Rattle.split_tool.specs.Names.{file_name}
 use Rattle.split_passes.specs.AllAgain.{TellsHeld}
 
 -- files of these contents, numbered from n on

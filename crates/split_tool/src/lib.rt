@@ -3,14 +3,20 @@
 //! [`split`] goes through the lanes once for each file: a first pass measures the file's piece, so that its table is
 //! known before its first byte, and a second one packs it. A file stands under its name only once it is finished. All
 //! memory is taken by [`SplitWork::new`].
+//!
+//! Of a new file, `front` writes what stands before its sub-buffers: the header with its table, and zero bytes.
 #![tactic(auto)]
 
 mod files;
+mod front;
 pub mod laws;
 mod lists;
+mod names;
 mod splitting;
 mod start;
 mod table;
+#[cfg(test)]
+mod tests;
 mod work;
 
 pub use splitting::{SplitPlan, split};

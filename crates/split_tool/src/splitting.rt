@@ -16,11 +16,11 @@ ghost use Rattle.split_tool.specs.Work.{IsWorkFor};
 
 use crate::files::make_file;
 use crate::lists::Ends;
+use crate::names::FileName;
 use crate::start::pass_start;
 use crate::work::SplitWork;
 use dat_header::Header;
 use page_pool::Lane;
-use split_file::FileName;
 use split_pieces::Rules;
 use time_merge::End;
 use trace_outside::{File, Folder};

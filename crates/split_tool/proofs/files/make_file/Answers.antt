@@ -1,7 +1,7 @@
 use Rattle.std.proofs.Common.{inl, refl, ◌∙◌, arith}
 use Rattle.trace_outside.specs.Seen.{folder_seen}
 use Rattle.event_cursor.proofs.Told.{told_all, told_again}
-use Rattle.split_file.specs.Names.{file_name}
+use Rattle.split_tool.specs.Names.{file_name}
 use Rattle.split_passes.specs.AllAgain.{owns}
 use Rattle.split_passes.proofs.Stopping.{tells_held}
 use Rattle.split_tool.specs.Measured.{taken_of}

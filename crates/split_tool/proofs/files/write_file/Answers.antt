@@ -8,7 +8,7 @@ use Rattle.split_passes.specs.AllAgain.{AreFronts}
 use Rattle.split_passes.specs.Reads.{all_packing}
 use Rattle.split_passes.specs.declared.tally.Tally.{Tally}
 use Rattle.split_passes.proofs.AllPacked.{gains_more}
-use Rattle.split_file.specs.NewFile.{front_text}
+use Rattle.split_tool.specs.NewFile.{front_text}
 use Rattle.split_tool.proofs.Preparing.{written_all}
 use Rattle.split_tool.proofs.Spending.{same_to_read}
 use Rattle.split_tool.proofs.files.write_file.Goals as goal

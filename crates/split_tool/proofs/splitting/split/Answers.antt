@@ -5,7 +5,7 @@ use Rattle.subpage.specs.Arrangement.{CpusRise}
 use Rattle.trace_base.proofs.Layouts.{carried}
 use Rattle.event_cursor.proofs.Told.{told_all, told_both, told_map, told_again}
 use Rattle.split_pieces.specs.Cuts.{bad_reached, file_items}
-use Rattle.split_file.specs.Names.{file_name}
+use Rattle.split_tool.specs.Names.{file_name}
 use Rattle.new_files.specs.Requested.{names_of}
 use Rattle.split_tool.specs.NewFiles.{new_files}
 use Rattle.time_merge.proofs.Advancing.{same_length}

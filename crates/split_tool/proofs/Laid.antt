@@ -22,8 +22,8 @@ use Rattle.page_write.specs.Record.{zeros}
 use Rattle.page_write.specs.Pack.{packed, pack}
 use Rattle.page_write.specs.Placed.{parts_from, data_of}
 use Rattle.page_write.proofs.Lifting.{file_again, pack_len}
-use Rattle.split_file.specs.NewFile.{front_len, front_text, table_of, file_text, StandInRow, ReadsBack}
-use Rattle.split_file.proofs.Placing.{page_some, front_of}
+use Rattle.split_tool.specs.NewFile.{front_len, front_text, table_of, file_text, StandInRow, ReadsBack}
+use Rattle.split_tool.proofs.Placing.{page_some, front_of}
 
 pub length-parts : (l : Layout) (at : ℕ) (lists : List (List ItemData)) → length (parts_from l at lists) ≡ length lists
 unfolding parts_from

@@ -3,7 +3,8 @@
 ghost use Rattle.std.specs.Prelude.{IfOk};
 ghost use Rattle.dat_header.specs.Allowed.{IsHeader};
 
-use crate::{FileName, data_place, put_name, write_front};
+use crate::front::{data_place, write_front};
+use crate::names::{FileName, put_name};
 use dat_header::{Body, Header, OpenFault, read_header, text_before_table};
 use std::alloc::Global;
 use std::test::Fail;

@@ -5,9 +5,9 @@ use Rattle.trace_base.specs.declared.part.Part.{Part}
 use Rattle.dat_header.specs.Written.{header_text}
 use Rattle.dat_header.specs.Tables.{blank}
 use Rattle.new_files.specs.Padding.{up_to_page}
-use Rattle.split_file.specs.NewFile.{front_len}
-use Rattle.split_file.proofs.Placing.{is_page}
-use Rattle.split_file.proofs.front.data_place.Goals as goal
+use Rattle.split_tool.specs.NewFile.{front_len}
+use Rattle.split_tool.proofs.Placing.{is_page}
+use Rattle.split_tool.proofs.front.data_place.Goals as goal
 
 pub gap-requires : goal.gap-requires
 gap-requires c = is_page c.args.header.now.page c.requires.page

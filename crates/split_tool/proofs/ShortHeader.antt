@@ -14,7 +14,7 @@ use Rattle.dat_header.specs.Allowed.{IsHeader}
 use Rattle.dat_header.specs.Header.{header_of}
 use Rattle.dat_header.specs.Written.{header_text, is_instance, section_len, without_instances}
 use Rattle.dat_header.proofs.Wrapped.{length-header_text}
-use Rattle.split_file.proofs.HeaderLength.{header_inside}
+use Rattle.split_tool.proofs.HeaderLength.{header_inside}
 
 -- options that are left out take no room
 filter_shorter : {X : Type 0} (spell : X → List ℕ) (p : X → Bool) (xs : List X) → length (flat_map spell (filter p xs)) ≤ length (flat_map spell xs)

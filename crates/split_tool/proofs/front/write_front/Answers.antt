@@ -4,10 +4,10 @@ use Rattle.std.specs.Io.KnownBytes.{append_known}
 use Rattle.trace_outside.proofs.Gains.{gained_both, gained_nothing, on_err, prefix_behind}
 use Rattle.dat_header.specs.Written.{header_text}
 use Rattle.page_write.specs.Record.{zeros}
-use Rattle.split_file.specs.NewFile.{front_len, front_text}
-use Rattle.split_file.proofs.Placing.{front_of, is_page}
-use Rattle.split_file.proofs.Wholes.{when_err, when_ok}
-use Rattle.split_file.proofs.front.write_front.Goals as goal
+use Rattle.split_tool.specs.NewFile.{front_len, front_text}
+use Rattle.split_tool.proofs.Placing.{front_of, is_page}
+use Rattle.split_tool.proofs.Wholes.{when_err, when_ok}
+use Rattle.split_tool.proofs.front.write_front.Goals as goal
 
 pub gap-requires : goal.gap-requires
 gap-requires g c = is_page c.args.header.now.page c.requires.allowed.page

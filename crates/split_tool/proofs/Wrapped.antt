@@ -5,7 +5,7 @@ use Rattle.dat_header.specs.declared.header.Header.{Header}
 use Rattle.dat_header.specs.Tables.{in_table}
 use Rattle.dat_header.proofs.Tables.{header_wrapped}
 use Rattle.page_write.specs.Record.{zeros}
-use Rattle.split_file.specs.NewFile.{front_len, front_text}
+use Rattle.split_tool.specs.NewFile.{front_len, front_text}
 
 pub front_wrapped : (header : Header) (parts : List Part) → front_text header (map in_table parts) ≡ front_text header parts
 unfolding front_text

@@ -7,7 +7,7 @@ use Rattle.dat_header.specs.Allowed.{IsPageSize}
 use Rattle.dat_header.specs.Written.{header_text}
 use Rattle.dat_header.proofs.Tables.{same_len}
 use Rattle.new_files.specs.Padding.{IsPage, up_to_page}
-use Rattle.split_file.specs.NewFile.{front_len}
+use Rattle.split_tool.specs.NewFile.{front_len}
 
 pub is_page : (page : ℕ) → IsPageSize page → IsPage page
 is_page page p = (p.0, p.2, p.3)

@@ -1,6 +1,0 @@
-pub mod Placing
-pub mod Laid
-pub mod Wholes
-pub mod Wrapped
-pub mod HeaderLength
-pub mod ShortHeader
