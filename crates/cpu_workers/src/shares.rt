@@ -50,12 +50,11 @@ pub(crate) fn threads_for(
     lanes: &[Lane],
     moved: &[bool],
 ) -> usize
-    requires some { 1 ≤ asked }
     requires in_order { All (IsInOrder layout.now) lanes.now }
     requires marks { length moved.now ≡ length lanes.now }
     ensures value { result
         ≡ threads_for asked shared_from layout.now.page (busy_lanes layout.now lanes.now moved.now) }
-    ensures asked { result ≤ asked }
+    ensures asked { 1 < result → result ≤ asked }
     ensures busy { 1 < result → result ≤ busy_lanes layout.now lanes.now moved.now }
 {
     // Where no number of busy ones would be worth several threads, they are not counted.

@@ -1,5 +1,5 @@
 -- How a report of one file ended, and how much it read, by what was seen of the file and of the output before and after.
-use Rattle.std.specs.Prelude.{Option, ◌≡◌, ◌≤◌, ℕ, Bool, List, map, length, IfSome}
+use Rattle.std.specs.Prelude.{Option, ◌≡◌, ◌≤◌, ℕ, Bool, List, length, IfSome}
 use Rattle.std.specs.Option.{option_map}
 use Rattle.trace_base.specs.declared.part.Part.{Part}
 use Rattle.trace_outside.specs.declared.outside.File as file
@@ -8,14 +8,11 @@ use Rattle.trace_outside.specs.Causes.{Rose, raised}
 use Rattle.dat_header.specs.declared.header.Header.{Header}
 use Rattle.dat_header.specs.declared.header.Body.{Body}
 use Rattle.subpage.specs.Arrangement.{CpusRise}
-use Rattle.filter_truth.specs.declared.select.FilterUse.{FilterUse}
-use Rattle.filter_truth.specs.SelectionView.{use_of}
 use Rattle.report_print.specs.ContextData.{ContextData}
 use Rattle.trace_args.specs.Command.{ReportData}
 use Rattle.file_report.specs.declared.report.ReportPlan.{ReportPlan}
 use Rattle.file_report.specs.declared.report.Shown.{Shown}
 use Rattle.run_endings.specs.declared.status.Status.{Status}
-use Rattle.run_words.specs.Allowed.{IsWorkers}
 use Rattle.report_context.specs.Context.{context_of}
 use Rattle.run_endings.specs.Ending.{IfNoMemory, Prints}
 use Rattle.run_endings.specs.Progress.{Progress, progress_at}
@@ -25,13 +22,7 @@ use Rattle.file_report.specs.Meaning.{body_report, report_as, report_by}
 use Rattle.run_endings.specs.Outside.{SinkSeen, sink_seen}
 use Rattle.file_report.specs.Report.{Events, body_events, events_on, listed_events, unless_calls, body_calls, listed_calls}
 use Rattle.run_endings.specs.Selection.{chosen, set_or_all}
-use Rattle.run_words.specs.Usage.{uses_in}
 use Rattle.run_endings.specs.Output.{GathersFirst}
-
--- what the words and their filters keep
-pub record IsAsked (words : ReportData) (uses : List FilterUse) : Type 0 where
-  pub workers : IsWorkers words.workers
-  pub filters : uses_in words.filters ≡ map use_of uses
 
 -- What a report is to do: what it means of the file's bytes, how many of them it needs after the header, the events of which it
 -- reads no more than their lines need, if any, and whether it shows calls.
@@ -81,9 +72,8 @@ abbrev pub shown_task : ReportPlan → Shown → Task
 shown_task plan shown =
     parts_task plan.words.now.calls plan.words.now.wakeups shown.form.now.context shown.parts.now plan.header.now
 
--- parts that are shown are those of processors in order, and from 1 to 64 threads form their lines
-pub record IsShown (plan : ReportPlan) (shown : Shown) : Type 0 where
-  pub workers : IsWorkers plan.words.now.workers
+-- parts that are shown are those of processors in order
+pub record IsShown (shown : Shown) : Type 0 where
   pub few : length shown.parts.now ≤ 1024
   pub rise : CpusRise shown.parts.now
 

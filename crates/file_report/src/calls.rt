@@ -39,7 +39,7 @@ pub(crate) fn print_calls<I: File, O: Sink>(
     file: &mut I,
     out: &mut O,
 ) -> Status
-    requires { IsShown plan.now shown.now }
+    requires { IsShown shown.now }
     ensures prints { Prints (Rose (I.faults file.old) (I.faults file.new))
         (option_map (λ bytes. calls_report (events_shown plan.now shown.now bytes)) (I.bytes file.old)) result
         (sink_seen O.Sink out.old) (sink_seen O.Sink out.new) }

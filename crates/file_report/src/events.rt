@@ -37,7 +37,7 @@ pub(crate) fn print_lines<R: Threads + Sync, I: File, O: Sink, G: Gate>(
     file: &mut I,
     out: &mut O,
 ) -> Option<End>
-    requires { IsShown plan.now shown.now }
+    requires { IsShown shown.now }
     ensures writes { IfSome result (λ end. WritesFor (λ bytes. events_report (events_shown plan.now shown.now bytes))
         (I.bytes file.old) (status_of_end end) (O.written out.old) (O.written out.new)) }
     ensures shows { IfSome result (λ end. Shows (Rose (I.faults file.old) (I.faults file.new)) (status_of_end end)
@@ -95,7 +95,7 @@ pub(crate) fn print_waits<R: Threads + Sync, I: File, O: Sink, G: Gate>(
     file: &mut I,
     out: &mut O,
 ) -> Status
-    requires { IsShown plan.now shown.now }
+    requires { IsShown shown.now }
     ensures prints { Prints (Rose (I.faults file.old) (I.faults file.new))
         (option_map (λ bytes. shown_report true (events_shown plan.now shown.now bytes)) (I.bytes file.old)) result
         (sink_seen O.Sink out.old) (sink_seen O.Sink out.new) }

@@ -1,12 +1,14 @@
 ghost use Rattle.std.specs.Option.{option_map};
-ghost use Rattle.std.specs.Prelude.{◌≡◌, ◌≤◌, ◌-◌, length, IfOk};
+ghost use Rattle.std.specs.Prelude.{◌≡◌, ◌≤◌, ◌-◌, length, map, IfOk};
 ghost use Rattle.trace_outside.specs.Causes.{Rose, raised};
 ghost use Rattle.dat_header.specs.Allowed.{IsBody};
+ghost use Rattle.filter_truth.specs.SelectionView.{use_of};
 ghost use Rattle.trace_args.specs.Command.{report_view};
+ghost use Rattle.run_words.specs.Usage.{uses_in};
 ghost use Rattle.run_endings.specs.Ending.{IfNoMemory, Prints};
 ghost use Rattle.file_report.specs.Meaning.{latency_report};
 ghost use Rattle.run_endings.specs.Outside.{sink_seen};
-ghost use Rattle.file_report.specs.Reported.{IsAsked, IsShown, Reported, at_work, chosen_task, file_task, shown_task};
+ghost use Rattle.file_report.specs.Reported.{IsShown, Reported, at_work, chosen_task, file_task, shown_task};
 
 use crate::calls::print_calls;
 use crate::events::{print_cpus, print_lines, print_waits};
@@ -44,7 +46,7 @@ pub fn print_report<R: Threads + Sync, I: File, O: Sink, G: Gate>(
     file: &mut I,
     out: &mut O,
 ) -> Status
-    requires asked { IsAsked (report_view plan.now.words.now) filters.items }
+    requires filters { uses_in (report_view plan.now.words.now).filters ≡ map use_of filters.items }
     requires inside { plan.now.header.now.end ≤ I.size file.old }
     requires parts { IsBody plan.now.header.now.cpus plan.now.header.now.body }
     requires few { plan.now.header.now.cpus ≤ 1024 }
@@ -70,7 +72,7 @@ fn print_parts<R: Threads + Sync, I: File, O: Sink, G: Gate>(
     file: &mut I,
     out: &mut O,
 ) -> Status
-    requires asked { IsAsked (report_view plan.now.words.now) filters.items }
+    requires filters { uses_in (report_view plan.now.words.now).filters ≡ map use_of filters.items }
     requires few { length parts.now ≤ 1024 }
     ensures { Reported (chosen_task (report_view plan.now.words.now) plan.now.header.now parts.now) (I.bytes file.old) result
         (at_work I.File O.Sink file.old out.old) (at_work I.File O.Sink file.new out.new) }
@@ -101,7 +103,7 @@ fn print_shown<R: Threads + Sync, I: File, O: Sink, G: Gate>(
     file: &mut I,
     out: &mut O,
 ) -> Status
-    requires shown { IsShown plan.now shown.now }
+    requires shown { IsShown shown.now }
     ensures { Reported (shown_task plan.now shown.now) (I.bytes file.old) result
         (at_work I.File O.Sink file.old out.old) (at_work I.File O.Sink file.new out.new) }
 {

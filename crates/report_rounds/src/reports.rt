@@ -40,7 +40,6 @@ pub fn report_rounds<R: Threads + Sync, F: File, L: LineFormat, G: Gate, O: Sink
     work: &mut RoundWork,
     out: &mut O,
 ) -> End
-    requires workers { (1 ≤ workers.now.count) × (workers.now.count ≤ 64) }
     requires start { All (IsAtStart layout.now) lanes.old }
     requires room { All (HasRoom (L.text form.now)) lanes.old }
     requires shown { HidesNoHole (L.text form.now) }

@@ -1,4 +1,4 @@
-ghost use Rattle.std.specs.Prelude.{◌≡◌, ◌≤◌, All, IfSome};
+ghost use Rattle.std.specs.Prelude.{◌≡◌, All, IfSome};
 ghost use Rattle.trace_outside.specs.Causes.{Rose};
 ghost use Rattle.trace_outside.specs.Keeping.{KeepsFile, KeepsSink};
 ghost use Rattle.event_cursor.specs.Standing.{Stands};
@@ -29,7 +29,6 @@ pub(crate) fn turn<R: Threads + Sync, F: File, L: LineFormat, G: Gate, O: Sink>(
     last: &mut Option<u64>,
     out: &mut O,
 ) -> Outcome
-    requires workers { (1 ≤ workers.now.count) × (workers.now.count ≤ 64) }
     requires between { AreBetween (L.text form.now) layout.now lanes.old work.old }
     ensures between { result ≡ Outcome.GoesOn → AreBetween (L.text form.now) layout.now lanes.new work.new }
     ensures goes_on { result ≡ Outcome.GoesOn

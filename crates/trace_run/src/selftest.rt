@@ -3,7 +3,6 @@
 ghost use Rattle.std.specs.Prelude.{◌≡◌, [], Some, IfOk, OnOk};
 ghost use Rattle.trace_outside.specs.Writing.{Gained};
 ghost use Rattle.trace_args.specs.Command.{report_view, self_view};
-ghost use Rattle.run_words.specs.Allowed.{IsWorkers};
 ghost use Rattle.run_endings.specs.Ending.{Prints};
 ghost use Rattle.trace_run.specs.Meaning.{self_test};
 ghost use Rattle.run_endings.specs.Outside.{sink_seen};
@@ -25,7 +24,6 @@ pub(crate) fn print_self_test<R: Threads + Sync, O: Sink, G: Gate>(
     words: &SelfWords,
     out: &mut O,
 ) -> Status
-    requires { IsWorkers words.now.workers }
     ensures { Prints ⊥ (Some (self_test (self_view words.now))) result (sink_seen O.Sink out.old) (sink_seen O.Sink out.new) }
 {
     let Ok(line) = line_of(resources, words) else {
@@ -42,7 +40,6 @@ fn line_of<R: Threads + Sync, G: Gate>(
     resources: &Resources<'_, R, G>,
     words: &SelfWords,
 ) -> Result<ByteText, AllocError>
-    requires { IsWorkers words.now.workers }
     ensures { IfOk result (λ line. line ≡ self_test_line (self_view words.now)) }
 {
     let alloc = resources.alloc;
@@ -57,7 +54,6 @@ fn report_generated<R: Threads + Sync, G: Gate>(
     words: &SelfWords,
     report: &mut MemSink,
 ) -> Result<(), AllocError>
-    requires { IsWorkers words.now.workers }
     ensures { OnOk result (Gained (⟦<MemSink as Sink>⟧.written report.old) (⟦<MemSink as Sink>⟧.written report.new) (generated_report words.now.seed words.now.events)) }
 {
     let alloc = resources.alloc;

@@ -13,7 +13,6 @@ pub print_shown-status-requires-clause-shown : goal.print_shown-status-requires-
 print_shown-status-requires-clause-shown g c κs live =
     let are = c.as_slice.ensures.value ∙ c.in-Ok-chosen_with_bytes.ensures.chosen ∙ ap (λ (by : Selection). with_bytes (chosen by c.args.parts.now)) c.set_or_all.ensures in
     record {
-      workers = c.requires.asked.workers;
       few = subst (λ (ps : List (ℕ × Part)). length ps ≤ 1024) (sym c.as_slice.ensures.value) c.in-Ok-chosen_with_bytes.ensures.few;
       rise = subst (λ (ps : List (ℕ × Part)). CpusRise ps) (sym are) (rise_same (chosen (set_or_all c.args.plan.now.words.now.cpus) c.args.parts.now) (chosen_rise (λ part. has (set_or_all c.args.plan.now.words.now.cpus) part.0) 0 c.args.parts.now).1);
     }

@@ -1,6 +1,3 @@
-use Rattle.std.proofs.Common.{subst, sym}
-use Rattle.trace_args.specs.Command.{ReportData}
-use Rattle.run_words.specs.Allowed.{IsWorkers}
 use Rattle.trace_run.proofs.GeneratedReport.{generated_printed}
 use Rattle.trace_run.proofs.SelfTested.{no_uses}
 use Rattle.trace_run.proofs.selftest.report_generated.Goals as goal
@@ -10,8 +7,5 @@ returns-in-Done g c =
     generated_printed c.args.words.now.seed c.args.words.now.events c.args.words.now.workers _ _ _ _ _ _ _ _ c.in_ok-file.ensures.bytes c.in_ok-file.ensures.generated c.read_header.ensures.keeps.bytes c.in-Ok.ensures.answer
     c.plain_words-plain.ensures c.in-Done.ensures.prints
 
-pub print_report-requires-clause-asked : goal.print_report-requires-clause-asked
-print_report-requires-clause-asked g c κs live = record {
-  workers = subst (λ (words : ReportData). IsWorkers words.workers) (sym c.plain_words-plain.ensures) c.requires;
-  filters = no_uses _ c.args.words.now.workers _ c.plain_words-plain.ensures c.new-filters.ensures.items;
-}
+pub print_report-requires-clause-filters : goal.print_report-requires-clause-filters
+print_report-requires-clause-filters g c κs live = no_uses _ c.args.words.now.workers _ c.plain_words-plain.ensures c.new-filters.ensures.items
