@@ -1,5 +1,5 @@
 -- One piece written after another.
-use Rattle.std.proofs.Common.{◌≡◌, ℕ, ◌+◌, ◌<◌, ◌≤◌, List, [], ◌∷◌, ◌++◌, length, take, drop, get_or, Option, None, Some, Result, Ok, Err, OnOk, OnErr, IfOk, IfSome, not, refl, sym, ap, subst, ◌∙◌, append_assoc, arith}
+use Rattle.std.proofs.Common.{◌≡◌, ℕ, ◌+◌, ◌<◌, ◌≤◌, List, [], ◌∷◌, ◌++◌, length, take, drop, get_or, Option, None, Some, Result, Ok, Err, OnOk, OnErr, IfSome, not, refl, sym, ap, subst, ◌∙◌, append_assoc, arith}
 use Rattle.std.proofs.lemmas.List.{append-nil, take_more, take-append-drop, take_all, drop-drop}
 use Rattle.std.proofs.lemmas.List.Concat.{flat_map-cons}
 use Rattle.std.proofs.lemmas.Grind.{flat_map-append}
@@ -184,12 +184,10 @@ table_behind header parts =
 pub held_text : (header : Header) (before bytes : List ℕ) (parts : List Part) → before ≡ text_before_table header → bytes ≡ before → bytes ++ table_text header.order parts ≡ header_text header parts
 held_text header before bytes parts is same = ap (λ (t : List ℕ). t ++ table_text header.order parts) (same ∙ is) ∙ table_behind header parts
 
--- a copy of what an empty sink in memory gained
-pub copied : {E : Type 0} (result : Result (List ℕ) E) (before now bytes content : List ℕ) → Some before ≡ Some [] → Gained (Some before) (Some now) content → Some now ≡ Some bytes
-    → IfOk result (λ copy. copy ≡ bytes) → IfOk result (λ copy. copy ≡ content)
-copied (Ok copy) before now bytes content empty gained told same =
-    same ∙ sym (some_is now bytes told) ∙ some_is now (before ++ content) gained ∙ ap (λ (t : List ℕ). t ++ content) (some_is before [] empty)
-copied (Err error) before now bytes content empty gained told same = tt
+-- the text of a sink that was empty and gained this
+pub text_gained : (before now result content : List ℕ) → Some before ≡ Some [] → Gained (Some before) (Some now) content → Some now ≡ Some result → result ≡ content
+text_gained before now result content empty gained told =
+    sym (some_is now result told) ∙ some_is now (before ++ content) gained ∙ ap (λ (t : List ℕ). t ++ content) (some_is before [] empty)
 
 -- options of which some were taken away are allowed still
 pub still_options : (told : Option (List Opt)) (options items kept result : List Opt) → Some options ≡ told → items ≡ options → kept ≡ filter (λ option. not (is_instance option)) items → result ≡ kept

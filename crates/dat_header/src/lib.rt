@@ -22,6 +22,7 @@ mod pieces;
 mod put;
 mod read;
 mod sections;
+mod text_sink;
 mod write;
 
 pub use dat_options::{OpenFault, Opt};
