@@ -1,7 +1,9 @@
 -- The first lines of several files, one after another.
-use Rattle.std.proofs.Common.{Option, ◌≡◌, ℕ, List, [], ◌∷◌, ◌++◌, map, refl, ap, ◌∙◌, subst, append_assoc, Result, Ok, Err, IsErr}
+use Rattle.std.proofs.Common.{Option, ◌≡◌, ℕ, List, [], ◌∷◌, ◌++◌, ◌+◌, ◌<◌, ◌≤◌, length, get_or, map, take, refl, sym, ap, ◌∙◌, subst, append_assoc, Result, Ok, Err, IsErr, arith}
+use Rattle.std.proofs.lemmas.List.{append-nil, take_all, take_more}
+use Rattle.std.proofs.lemmas.List.Concat.{flat_map-append, flat_map-cons}
 use Rattle.std.specs.List.{flat_map}
-use Rattle.trace_outside.specs.Causes.{HasCause}
+use Rattle.trace_outside.specs.Causes.{HasCause, Rose}
 use Rattle.trace_outside.specs.Pending.{Holds, OnWay, Puts, PutsText}
 use Rattle.trace_outside.specs.Writing.{GainedPrefix}
 use Rattle.trace_outside.proofs.PendingLemmas.{prefix_longer}
@@ -38,3 +40,31 @@ pub stopped_at : {S : Type 0} (f : S → SourceView) (s at : S) (written now : O
     → ((before : Option (List ℕ)) (text : List ℕ) → Holds before written waiting text → GainedPrefix before now (text ++ head_line (shown_of (f s))))
     → (before : Option (List ℕ)) (text : List ℕ) → Holds before written waiting text → GainedPrefix before now (text ++ head_line (shown_of (f at)))
 stopped_at {S = S} f s at written now waiting is h before text held = subst (λ (x : S). GainedPrefix before now (text ++ head_line (shown_of (f x)))) is (h before text held)
+
+-- a write that failed after others that did not is the fault of all
+pub stopped_cause : {T E : Type 0} (before mid now : ℕ) (result : Result T E) → mid ≡ before → mid ≤ now → Rose mid now → IsErr result → HasCause before now result
+stopped_cause before mid now (Ok value) same later rose failed = absurd (let bad : ⊥ = cc in bad)
+stopped_cause before mid now (Err error) same later rose failed = record { later = omega arith; failed = subst (λ (n : ℕ). Rose n now) same rose; kept = tt }
+
+-- one more of them was put
+one_more : {X : Type 0} (f : X → List ℕ) (xs : List X) (i : ℕ) (d : X) (text : List ℕ) → i < length xs → (text ++ flat_map f (take i xs)) ++ f (get_or xs i d) ≡ text ++ flat_map f (take (i + 1) xs)
+one_more f xs i d text inside =
+    append_assoc text (flat_map f (take i xs)) (f (get_or xs i d))
+    ∙ ap (λ (tail : List ℕ). text ++ tail) (sym (ap (flat_map f) (take_more xs i d inside) ∙ flat_map-append f (take i xs) (get_or xs i d ∷ [])
+    ∙ ap (λ (tail : List ℕ). flat_map f (take i xs) ++ tail) (flat_map-cons f (get_or xs i d) [] ∙ append-nil (f (get_or xs i d)))))
+
+pub held_more : {S : Type 0} (f : S → SourceView) (xs : List S) (i : ℕ) (s : S) (old mid now : Option (List ℕ)) (waiting waiting_mid waiting_now : List ℕ) → i < length xs → s ≡ get_or xs i s
+    → ((before : Option (List ℕ)) (text : List ℕ) → Holds before old waiting text → Holds before mid waiting_mid (text ++ flat_map (λ x. head_line (shown_of (f x))) (take i xs)))
+    → ((before : Option (List ℕ)) (text : List ℕ) → Holds before mid waiting_mid text → Holds before now waiting_now (text ++ head_line (shown_of (f s))))
+    → (before : Option (List ℕ)) (text : List ℕ) → Holds before old waiting text → Holds before now waiting_now (text ++ flat_map (λ x. head_line (shown_of (f x))) (take (i + 1) xs))
+held_more {S = S} f xs i s old mid now waiting waiting_mid waiting_now inside is one two before text held =
+    let line : S → List ℕ = λ x. head_line (shown_of (f x)) in
+    let front = text ++ flat_map line (take i xs) in
+    subst (λ (t : List ℕ). Holds before now waiting_now t) (ap (λ (x : S). front ++ line x) is ∙ one_more line xs i s text inside) (two before front (one before text held))
+
+-- all of them were put
+pub held_all : {S : Type 0} (f : S → SourceView) (xs : List S) (i : ℕ) (old now : Option (List ℕ)) (waiting waiting_now : List ℕ) → length xs ≤ i
+    → ((before : Option (List ℕ)) (text : List ℕ) → Holds before old waiting text → Holds before now waiting_now (text ++ flat_map (λ x. head_line (shown_of (f x))) (take i xs)))
+    → (before : Option (List ℕ)) (text : List ℕ) → Holds before old waiting text → Holds before now waiting_now (text ++ flat_map (λ x. head_line (shown_of (f x))) xs)
+held_all {S = S} f xs i old now waiting waiting_now all held before text h =
+    subst (λ (ys : List S). Holds before now waiting_now (text ++ flat_map (λ x. head_line (shown_of (f x))) ys)) (take_all i xs all) (held before text h)
