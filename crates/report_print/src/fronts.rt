@@ -313,42 +313,18 @@ fn put_with_any_task(context: &Context, pid: i32, front: &mut Front, into: &mut 
     }
 }
 
-/// Puts the front of a line. Most have the same length: a text of a length that is known beforehand needs no call.
+/// Puts the front of a line. Most have one of three lengths, since most pids have no more than seven digits: a text of a length
+/// that is known beforehand needs no call.
 #[inline(always)]
 fn put_known_length(front: &[u8], into: &mut Tail<'_>)
     ensures same_slice { lent into.new ≡ lent into.old }
     ensures value { held into.new ≡ put_held (held into.old) front.now }
 {
-    if front.len() == USUAL_FRONT {
-        into.put(&front[..USUAL_FRONT]);
-    } else {
-        put_wide(front, into);
-    }
-}
-
-/// The same where the pid has six digits, as is usual where a machine may have so many tasks.
-#[inline(always)]
-fn put_wide(front: &[u8], into: &mut Tail<'_>)
-    ensures same_slice { lent into.new ≡ lent into.old }
-    ensures value { held into.new ≡ put_held (held into.old) front.now }
-{
-    if front.len() == WIDE_FRONT {
-        into.put(&front[..WIDE_FRONT]);
-    } else {
-        put_wider(front, into);
-    }
-}
-
-/// The same where it has seven.
-#[inline(always)]
-fn put_wider(front: &[u8], into: &mut Tail<'_>)
-    ensures same_slice { lent into.new ≡ lent into.old }
-    ensures value { held into.new ≡ put_held (held into.old) front.now }
-{
-    if front.len() == WIDER_FRONT {
-        into.put(&front[..WIDER_FRONT]);
-    } else {
-        put_piece(front, into);
+    match front.len() {
+        USUAL_FRONT => into.put(&front[..USUAL_FRONT]),
+        WIDE_FRONT => into.put(&front[..WIDE_FRONT]),
+        WIDER_FRONT => into.put(&front[..WIDER_FRONT]),
+        _ => put_piece(front, into),
     }
 }
 
