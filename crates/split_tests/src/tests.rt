@@ -1,6 +1,7 @@
 //! Traces in memory, split and read back.
 
 mod faults;
+mod fronts;
 mod items;
 mod lanes;
 mod passes;

@@ -13,7 +13,7 @@ use trace_base::{ByteText, Part};
 use trace_outside::{Failed, Sink};
 
 /// The place of the first sub-buffer: the first multiple of the page size from the end of the header on. It is told modulo 2^64.
-pub(crate) fn data_place(header: &Header) -> u64
+pub fn data_place(header: &Header) -> u64
     requires { IsHeader header.now }
     ensures { result ≡ front_len header.now % 2 ^ 64 }
 {
@@ -26,7 +26,7 @@ pub(crate) fn data_place(header: &Header) -> u64
 ///
 /// # Errors
 /// `Failed` where a write failed; a prefix of all this was written then.
-pub(crate) fn write_front<O: Sink>(
+pub fn write_front<O: Sink>(
     header: &Header,
     before: &ByteText,
     parts: &[Part],

@@ -4,7 +4,8 @@
 //! known before its first byte, and a second one packs it. A file stands under its name only once it is finished. All
 //! memory is taken by [`SplitWork::new`].
 //!
-//! Of a new file, `front` writes what stands before its sub-buffers: the header with its table, and zero bytes.
+//! Of a new file, [`put_name`] makes the name, [`data_place`] the place of its first sub-buffer, and [`write_front`] writes what
+//! stands before that place: the header with its table, and zero bytes.
 #![tactic(auto)]
 
 mod files;
@@ -15,10 +16,10 @@ mod names;
 mod splitting;
 mod start;
 mod table;
-#[cfg(test)]
-mod tests;
 mod work;
 
+pub use front::{data_place, write_front};
+pub use names::{FileName, put_name};
 pub use splitting::{SplitPlan, split};
 pub use time_merge::End;
 pub use work::SplitWork;

@@ -11,10 +11,10 @@ use itoa::Buffer;
 const LONGEST: usize = 4096 + 40;
 
 /// Room for the name of a new file.
-pub(crate) type FileName = ArrayString<LONGEST>;
+pub type FileName = ArrayString<LONGEST>;
 
 /// Puts the name of a new file there: the base, a point and its number in decimal (trace-cmd-split(1)).
-pub(crate) fn put_name(base: &str, number: u128, name: &mut FileName)
+pub fn put_name(base: &str, number: u128, name: &mut FileName)
     requires { length base.now ≤ 4096 }
     ensures { name.new.bytes ≡ file_name base.now number }
 {

@@ -3,9 +3,8 @@
 ghost use Rattle.std.specs.Prelude.{IfOk};
 ghost use Rattle.dat_header.specs.Allowed.{IsHeader};
 
-use crate::front::{data_place, write_front};
-use crate::names::{FileName, put_name};
 use dat_header::{Body, Header, OpenFault, read_header, text_before_table};
+use split_tool::{FileName, data_place, put_name, write_front};
 use std::alloc::Global;
 use std::test::Fail;
 use trace_base::ByteText;
