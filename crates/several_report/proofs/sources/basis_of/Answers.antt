@@ -9,10 +9,11 @@ use Rattle.run_words.specs.Usage.{filters_read}
 use Rattle.run_words.proofs.Usages.{uses_known}
 use Rattle.several_report.proofs.sources.basis_of.Goals as goal
 
-pub context_of-requires-clause-filters : goal.context_of-requires-clause-filters
-context_of-requires-clause-filters c =
-    uses_known (map filter_view c.args.words.now.filters.items) (map use_of c.in-Ok.filters.items)
-    (subst (λ (words : List FilterWord). filters_read (map filter_view words) ≡ Ok (map use_of c.in-Ok.filters.items)) c.as_slice.ensures.value c.in-Ok.ensures.read)
+pub context_of-requires : goal.context_of-requires
+context_of-requires c = record {
+  filters = uses_known (map filter_view c.args.words.now.filters.items) (map use_of c.in-Ok.filters.items)
+      (subst (λ (words : List FilterWord). filters_read (map filter_view words) ≡ Ok (map use_of c.in-Ok.filters.items)) c.as_slice.ensures.value c.in-Ok.ensures.read);
+}
 
 pub returns : goal.returns
 returns c = record {
