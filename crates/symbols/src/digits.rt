@@ -151,8 +151,18 @@ pub(crate) fn address_at(text: &[u8]) -> Option<(u64, &[u8])>
 {
     match high_address(text) {
         Some((address, rest)) => Some((address, rest)),
-        None => other_address(text),
+        None => found_address(text),
     }
+}
+
+// The same, for addresses that need not be high. It stands by itself, so that room for the answer of the call is cleared where
+// the call is made, and not for each line.
+#[inline(always)]
+fn found_address(text: &[u8]) -> Option<(u64, &[u8])>
+    ensures { option_map (λ r. (r.0, r.1.now)) result ≡ address_at text.now }
+{
+    let (address, rest) = other_address(text)?;
+    Some((address, rest))
 }
 
 // The same, for addresses that need not be high.

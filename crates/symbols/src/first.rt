@@ -59,6 +59,16 @@ fn rest_of_line(text: &[u8]) -> (&[u8], Option<&[u8]>)
         let (_, behind) = text.split_at(1);
         (&[], Some(behind))
     } else {
-        first_line(text)
+        found_line(text)
     }
+}
+
+// The same, where the line goes on. It stands by itself, so that room for the answer of the call is cleared where the call is
+// made, and not for each line.
+#[inline(always)]
+fn found_line(text: &[u8]) -> (&[u8], Option<&[u8]>)
+    ensures { lines_of text.now ≡ result.0.now ∷ lines_left result.1 }
+{
+    let (line, behind) = first_line(text);
+    (line, behind)
 }

@@ -64,12 +64,26 @@ fn put_first<'a>(
             names.point(symbol.key, start, end)?;
             Ok(symbol.behind)
         }
-        None => {
-            let (line, behind) = first_line(lines);
-            put_line(form, line, names)?;
-            Ok(behind)
-        }
+        None => put_found(form, lines, names),
     }
+}
+
+// The same, by way of the line's end. It stands by itself, so that room for the answer of the call is cleared where the call is
+// made, and not for each line.
+#[inline(always)]
+fn put_found<'a>(
+    form: Form,
+    lines: &'a [u8],
+    names: &mut Names,
+) -> Result<Option<&'a [u8]>, AllocError>
+    requires { AreInside names.old }
+    ensures inside { OnOk result (AreInside names.new) }
+    ensures block { OnOk result (BeginsWith names.new.block.items names.old.block.items) }
+    ensures put { IfOk result (λ behind. PutsFirst form lines.now (names_view names.old) (names_view names.new) (lines_left behind)) }
+{
+    let (line, behind) = first_line(lines);
+    put_line(form, line, names)?;
+    Ok(behind)
 }
 
 // The symbol of the first line of kallsyms, where it is read in one pass.
