@@ -7,7 +7,7 @@ ghost use Rattle.fmt_fold.specs.Same.{IsSame};
 ghost use Rattle.fmt_fold.specs.Constants.{is_written, is_constant};
 ghost use Rattle.fmt_fold.specs.Folded.{EachPart, IsNoneLeft, IsFolded, FoldedOperands, FoldedEntries};
 
-use crate::constants::settled;
+use crate::constants::{is_constant, settled, written};
 use crate::make::{chained, flagged, named, nameless};
 use fmt_expr::{CastTo, Entry, Expr, Operand, PrefixOp};
 use std::alloc::{AllocError, Global};
@@ -150,6 +150,10 @@ fn folded_array(alloc: Global, bytes: &Expr, count: &Expr, size: &Expr) -> Resul
 fn folded_tree(alloc: Global, expr: &Expr) -> Result<Expr, AllocError>
     ensures { IfOk result (λ e. IsFolded (tree_of e) (tree_of expr.now)) }
 {
+    if is_constant(expr) {
+        // Most values of flags are constants, some of which have hundreds of parts.
+        return Ok(written(expr));
+    }
     match expr {
         Expr::Number { bits, kind } => Ok(Expr::Number {
             bits: *bits,
