@@ -57,18 +57,17 @@ fn note(spots: &[Spot], before: &mut [u32])
     }
 }
 
-/// Gives each page in which no address is the place of the page before. The first page follows the last.
+/// Gives each page in which no address is the place of the page before. The first page follows the last. Each is written, since
+/// which of them have an address cannot be foreseen.
 fn fill(before: &mut [u32])
     requires { length before.old ≡ PAGES + 1 }
     ensures { length before.new ≡ PAGES + 1 }
 {
     let mut last = 0;
     for page in 1..PAGES + 1 {
-        if before[page] == 0 {
-            before[page] = last;
-        } else {
-            last = before[page];
-        }
+        let place = before[page];
+        last = if place == 0 { last } else { place };
+        before[page] = last;
     }
     before[0] = last;
 }
