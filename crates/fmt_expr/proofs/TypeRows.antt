@@ -1,10 +1,11 @@
 -- Names and stars, one after another.
-use Rattle.std.proofs.Common.{◌≡◌, ℕ, zero, suc, ◌+◌, ◌-◌, ◌<◌, ◌≤◌, append_assoc, append-nil, Bool, true, false, List, [], ◌∷◌, ◌++◌, drop, Some, None, refl, sym, ap, ◌∙◌, codes, arith, option_and_then, inl, inr}
+use Rattle.std.proofs.Common.{◌≡◌, ℕ, zero, suc, ◌+◌, ◌-◌, ◌<◌, ◌≤◌, append_assoc, append-nil, Bool, true, false, List, [], ◌∷◌, ◌++◌, drop, Option, Some, None, refl, sym, ap, ◌∙◌, codes, arith, option_and_then, inl, inr}
 use Rattle.std.specs.Prelude.{slice_get}
 use Rattle.std.specs.List.{prefix_len}
 use Rattle.fmt_lexer.specs.Tokens.{bytes_of}
 use Rattle.fmt_expr.specs.Source.{Source, as_mark, as_name, is_text, is_mark, mark_at, name_at}
-use Rattle.fmt_expr.specs.Types.{is_type_name, is_type_word, is_star, names_len, stars_len, spaced, spaced_names, type_at, closed_type}
+use Rattle.fmt_expr.specs.Types.{is_type_name, is_type_word, is_star, names_len, stars_len, spaced, spaced_names, words_at, type_at, closed_type}
+use Rattle.fmt_literal.specs.Types.{is_qualifier}
 use Rattle.fmt_expr.proofs.Chances.{option_cases}
 
 run_yes : {X : Type 0} (p : X → Bool) (xs : List X) (i : ℕ) (x : X) → slice_get xs i ≡ Some x → p x ≡ true → prefix_len p (drop i xs) ≡ 1 + prefix_len p (drop (suc i) xs)
@@ -87,3 +88,14 @@ none_left s i (suc n) e = absurd (omega arith)
 
 pub words_done : (s : Source) (i end : ℕ) (front all : List ℕ) → end ≤ i → front ++ spaced_names s (end - i) i ≡ all → front ≡ all
 words_done s i end front all le h = sym (append-nil front) ∙ ap (λ (r : List ℕ). front ++ r) (sym (none_left s i (end - i) (omega arith))) ∙ h
+
+-- a type of one name
+pub one_word : (s : Source) (at names : ℕ) (name : List ℕ) → names ≡ 1 → Some name ≡ name_at s at → is_qualifier name ≡ false → name ≡ words_at s at names
+one_word s at names name one is plain =
+    let rest : spaced_names s (names - 1) (at + 1) ≡ [] = none_left s (at + 1) (names - 1) (omega (arith, one)) in
+    let all : spaced_names s names at ≡ (32 ∷ name) ++ [] =
+    words_now s at names (omega (arith, one))
+    ∙ ap (λ (r : List ℕ). spaced (name_at s at) ++ r) rest
+    ∙ ap (λ (o : Option (List ℕ)). spaced o ++ []) (sym is)
+    ∙ rw plain refl in
+    sym (ap (λ (l : List ℕ). drop 1 l) all ∙ append-nil name)

@@ -126,11 +126,26 @@ impl<'a> Reader<'a> {
         }
     }
 
-    /// What a cast to the type at a place makes of a number.
+    /// The name at a place, if it is all that a type has and no qualifier.
+    #[tactic(auto, using(crate::proofs::TypeRows::one_word))]
+    fn only_name(&self, at: usize, names: usize) -> Option<&'a [u8]>
+        ensures { IfSome result (λ name. name.now ≡ words_at (source self.now) at names) }
+    {
+        if names != 1 {
+            return None;
+        }
+        let name = self.name(at)?;
+        if is_qualifier(name) { None } else { Some(name) }
+    }
+
+    /// What a cast to the type at a place makes of a number. Most types are one name, which stands in the text as it is.
     pub fn cast_of(&self, at: usize, names: usize, stars: usize) -> Result<CastTo, AllocError>
         requires { at + names ≤ length self.now.tokens.now }
         ensures { IfOk result (λ to. to ≡ cast_of (words_at (source self.now) at names) stars self.now.long) }
     {
+        if let Some(name) = self.only_name(at, names) {
+            return Ok(cast_of(name, stars, self.long));
+        }
         let words = self.spaced_names(at, names)?;
         Ok(cast_of(joined(&words), stars, self.long))
     }
