@@ -121,9 +121,9 @@ impl<'a> Reader<'a> {
         }
     }
 
-    /// The operators of a level and of those that bind tighter, after the first operand of all.
+    /// The operators of a level and of those that bind tighter, after the first operand of all: row after row, from the level
+    /// of the next operator on.
     #[cycle(parser)]
-    #[tactic(auto, using(crate::proofs::RowTurns::rows_none, crate::proofs::RowTurns::rows_row, crate::proofs::RowTurns::rows_zero))]
     fn rows(&self, level: u32, left: u32, first: Taken) -> Result<Taken, ParseFault>
         requires inside { first.next ≤ length self.now.tokens.now }
         requires top { level ≤ 10 }
@@ -131,11 +131,18 @@ impl<'a> Reader<'a> {
         ensures value { Gives taken result (rows_behind (source self.now) (unary_at (source self.now) left) level (taken first)) }
         ensures bound { IfOk result (λ t. (first.next ≤ t.next) × (t.next ≤ length self.now.tokens.now) × (t.nest ≤ left)) }
     {
-        if level == 0 {
-            return Ok(first);
+        let mut all = first;
+        let mut done = 0;
+        while let Some(op) = self.operator(all.next) {
+            let next = op.level().max(done + 1);
+            if level < next {
+                return Ok(all);
+            }
+            let more = self.row(next, left, all)?;
+            all = more;
+            done = next;
         }
-        let tighter = self.rows(level - 1, left, first)?;
-        self.row(level, left, tighter)
+        Ok(all)
     }
 
     /// The operators of a level after their first operand.

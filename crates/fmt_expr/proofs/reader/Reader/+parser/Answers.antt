@@ -1,15 +1,16 @@
-use Rattle.std.proofs.Common.{rules, arith, ◌≡◌, ◌+◌, ◌-◌, ◌<◌, ◌∙◌, max, length, Some, true, false, sym, ap, ap₂, codes, option_map}
+use Rattle.std.proofs.Common.{rules, refl, ℕ, arith, ◌≡◌, ◌+◌, ◌-◌, ◌<◌, ◌∙◌, max, length, Some, true, false, sym, ap, ap₂, codes, option_map}
 use Rattle.std.proofs.lemmas.Result.{err_from_is_err_and}
 use Rattle.fmt_expr.specs.Tree.{no_operands, operand, no_entries, entry}
 use Rattle.fmt_expr.specs.TreeView.{operands_of, entries_of}
 use Rattle.fmt_expr.specs.Kinds.{is_number}
-use Rattle.fmt_expr.specs.Parsing.{found, row_at, row_behind, level_at, unary_at, inner_cond, entry_at, tail_at, entries_behind}
+use Rattle.c_operators.specs.Operators.{level_of}
+use Rattle.fmt_expr.specs.Parsing.{found, row_at, row_behind, rows_behind, level_at, unary_at, inner_cond, entry_at, tail_at, entries_behind}
 use Rattle.fmt_expr.specs.SourceView.{source}
 use Rattle.fmt_expr.specs.TakenView.{taken, taken_entry}
 use Rattle.fmt_expr.specs.Source.{is_mark}
 use Rattle.fmt_expr.proofs.EntryTurns.{after, both, first_only, tail_over, tail_fails, tail_goes_on, added, passed_entries}
 use Rattle.fmt_expr.proofs.Layers.{cond_plain}
-use Rattle.fmt_expr.proofs.RowTurns.{append, level_alone, ends, begins, row_over, row_fails, row_mixed, row_goes_on, pushed, alone, in_chain, no_chain, passed}
+use Rattle.fmt_expr.proofs.RowTurns.{append, level_alone, rows_zero, rows_over, rows_loose, rows_next, rows_stop, ends, begins, row_over, row_fails, row_mixed, row_goes_on, pushed, alone, in_chain, no_chain, passed}
 use Rattle.fmt_expr.proofs.reader.Reader.+parser.Goals as goal
 
 pub cond-returns-else-is_mark-clause-value : goal.cond-returns-else-is_mark-clause-value
@@ -20,6 +21,62 @@ pub level-returns-in-None-clause-value : goal.level-returns-in-None-clause-value
 level-returns-in-None-clause-value t c =
     let s = source c.args.self.now in
     level_alone s (unary_at s c.args.left) c.args.level c.args.at (taken c.in_ok-first.first) c.in_ok-first.ensures.value c.in-None.ensures
+
+pub rows-loop-op-init : goal.rows-loop-op-init
+rows-loop-op-init t c =
+    let s = source c.args.self.now in
+    record {
+      rows = rows_zero s (unary_at s c.args.left) 0 (taken c.args.first) refl;
+      few = omega arith;
+      behind = omega arith;
+      inside = c.requires.inside;
+      nest = c.requires.nest;
+    }
+
+pub rows-returns-clause-value : goal.rows-returns-clause-value
+rows-returns-clause-value t c =
+    let s = source c.args.self.now in
+    let l = c.loop-op in
+    rows_over s (unary_at s c.args.left) l.done c.args.level (taken c.args.first) (taken l.all) l.invariant.rows l.invariant.few c.in_default.ensures
+
+pub rows-returns-then-level-next-clause-value : goal.rows-returns-then-level-next-clause-value
+rows-returns-then-level-next-clause-value t c =
+    let s = source c.args.self.now in
+    let l = c.loop-op in
+    let greater : max c.level.result (l.done + 1) ≡ c.max-next.result = search rules in
+    let next : max (level_of c.in-Some.op) (l.done + 1) ≡ c.max-next.result = ap (λ (n : ℕ). max n (l.done + 1)) (sym c.level.ensures.value) ∙ greater in
+    rows_loose s (unary_at s c.args.left) l.done c.args.level c.max-next.result (taken c.args.first) (taken l.all) c.in-Some.op l.invariant.rows l.invariant.few c.in-Some.ensures next c.if-level-next.true
+
+pub rows-returns-in_err-more-clause-value : goal.rows-returns-in_err-more-clause-value
+rows-returns-in_err-more-clause-value t c =
+    let s = source c.args.self.now in
+    let read = unary_at s c.args.left in
+    let l = c.loop-op in
+    let x = taken c.args.first in
+    let greater : max c.level.result (l.done + 1) ≡ c.max-next.result = search rules in
+    let next : max (level_of c.in-Some.op) (l.done + 1) ≡ c.max-next.result = ap (λ (n : ℕ). max n (l.done + 1)) (sym c.level.ensures.value) ∙ greater in
+    let p = err_from_is_err_and c.from_residual.result c.from_residual.ensures.1 in
+    rw (p.1, p.2) (passed c.in_err-more.field-0.0 (row_behind s (level_at s read (c.max-next.result - 1)) c.max-next.result (taken l.all)) (rows_behind s read c.args.level x)
+    (λ none.
+    let whole = rows_next s read l.done c.max-next.result x (taken l.all) c.in-Some.op l.invariant.rows c.in-Some.ensures next in
+    rows_stop s read c.max-next.result c.args.level x (whole ∙ none) (omega (arith, c.if-level-next.false)))
+    c.in_err-more.ensures.value)
+
+pub rows-loop-op-preserved : goal.rows-loop-op-preserved
+rows-loop-op-preserved t c =
+    let s = source c.args.self.now in
+    let read = unary_at s c.args.left in
+    let l = c.loop-op in
+    let greater : max c.level.result (l.done + 1) ≡ c.max-next.result = search rules in
+    let next : max (level_of c.in-Some.op) (l.done + 1) ≡ c.max-next.result = ap (λ (n : ℕ). max n (l.done + 1)) (sym c.level.ensures.value) ∙ greater in
+    let more = c.in_ok-more.ensures in
+    record {
+      rows = rows_next s read l.done c.max-next.result (taken c.args.first) (taken l.all) c.in-Some.op l.invariant.rows c.in-Some.ensures next ∙ more.value;
+      few = omega (arith, c.if-level-next.false);
+      behind = omega (arith, l.invariant.behind, more.bound.0);
+      inside = more.bound.1;
+      nest = more.bound.2;
+    }
 
 pub row-loop-op-init : goal.row-loop-op-init
 row-loop-op-init t c =

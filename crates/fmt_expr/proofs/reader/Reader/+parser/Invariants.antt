@@ -1,6 +1,6 @@
-use Rattle.std.proofs.Common.{◌≡◌, ◌+◌, ◌<◌, ◌≤◌, ◌-◌, length, ℕ, ◌*◌, option_map}
+use Rattle.std.proofs.Common.{Some, ◌≡◌, ◌+◌, ◌<◌, ◌≤◌, ◌-◌, length, ℕ, ◌*◌, option_map}
 use Rattle.fmt_expr.specs.TreeView.{operands_of, entries_of}
-use Rattle.fmt_expr.specs.Parsing.{row_at, row_behind, level_at, unary_at, inner_cond, entries_behind, tail_at}
+use Rattle.fmt_expr.specs.Parsing.{row_at, row_behind, rows_behind, level_at, unary_at, inner_cond, entries_behind, tail_at}
 use Rattle.fmt_expr.specs.SourceView.{source}
 use Rattle.fmt_expr.specs.TakenView.{taken, taken_entry}
 use Rattle.fmt_expr.proofs.RowTurns.{ends}
@@ -79,6 +79,19 @@ decreases-more_entries l = 48 * l.left + 3
 
 abbrev pub decreases-entries : goal.decreases-entries
 decreases-entries l = 48 * l.left + 4
+
+-- The rows of the levels that are done are read.
+abbrev pub invariant-rows-loop-op : goal.invariant-rows-loop-op
+invariant-rows-loop-op l = let s = source l.self in record {
+  rows : rows_behind s (unary_at s l.left) l.done (taken l.fn.first) ≡ Some (taken l.all);
+  few : l.done ≤ l.level;
+  behind : l.fn.first.next ≤ l.all.next;
+  inside : l.all.next ≤ length l.self.tokens.now;
+  nest : l.all.nest ≤ l.left;
+}
+
+abbrev pub decreases-rows-loop-op : goal.decreases-rows-loop-op
+decreases-rows-loop-op l = l.level - l.done
 
 -- What was read, with the row after it, is the whole row.
 abbrev pub invariant-row-loop-op : goal.invariant-row-loop-op
