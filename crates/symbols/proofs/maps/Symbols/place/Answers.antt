@@ -1,4 +1,4 @@
-use Rattle.std.proofs.Common.{◌≡◌, ◌≤◌, length, sym, ap, ◌∙◌, arith}
+use Rattle.std.proofs.Common.{◌≤◌, length, sym, ap, ◌∙◌, arith}
 use Rattle.symbols.specs.Maps.{Maps}
 use Rattle.symbols.specs.NameMap.{first_at}
 use Rattle.symbols.proofs.PlaceLemmas.{no_task}
