@@ -109,3 +109,10 @@ texts_stand s i t e =
           let same = some_is _ t g.1 in
           subst (λ (x : Joined). AreTexts s i x.text x.next) same (stand s (length s.tokens) i (omega arith) there.0 there.1))
     ]
+
+-- a text that stands alone
+pub lone_text : (s : Source) (i : ℕ) (b : List ℕ) → literal_at s i ≡ Some b → literal_at s (i + 1) ≡ None → text_at s i ≡ Some (joined_text b (i + 1))
+lone_text s i b e none =
+    let row : texts_from s i ≡ texts b 1 =
+    texts_more s i b e ∙ ap (λ (t : Texts). with_text (Some b) t) (texts_over s (i + 1) none) ∙ ap (λ (l : List ℕ). texts l 1) (append-nil b) in
+    text_there s i 1 b row (omega arith)

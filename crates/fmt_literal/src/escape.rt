@@ -152,7 +152,7 @@ pub fn item(first: u8, behind: &[u8]) -> Spelled
 }
 
 /// Whether each of these bytes stands for itself.
-fn is_plain(bytes: &[u8]) -> bool
+pub(crate) fn is_plain(bytes: &[u8]) -> bool
     ensures { result ≡ is_plain bytes.now }
 {
     !bytes.contains(&b'\\')

@@ -4,7 +4,7 @@ ghost use Rattle.std.specs.Prelude.{◌≡◌, ◌++◌, ◌<◌, ◌≤◌, Lis
 ghost use Rattle.fmt_literal.specs.Pushed.{GainedFront};
 ghost use Rattle.fmt_literal.specs.Quoted.{inside, text_of, letter_of, IsTextOf, IsLetterOf};
 
-use crate::escape::{item, push_meant};
+use crate::escape::{is_plain, item, push_meant};
 use std::alloc::AllocError;
 
 /// What stands between the two quotes of a letter or a text.
@@ -39,6 +39,14 @@ pub fn letter(spelling: &[u8]) -> Option<u8>
     ensures exact { result ≡ letter_of spelling.now }
 {
     only_byte(spelling)
+}
+
+/// The bytes of a text, by its spelling with both quotes, where each of them stands for itself. None tells nothing.
+pub fn plain_text(spelling: &[u8]) -> Option<&[u8]>
+    ensures { IfSome result (λ bytes. bytes.now ≡ text_of spelling.now) }
+{
+    let bytes = inside(spelling);
+    if is_plain(bytes) { Some(bytes) } else { None }
 }
 
 /// Appends a text, by its spelling with both quotes.
