@@ -20,7 +20,7 @@ fn show_piece(text: &[u8], into: &mut Tail<'_>)
     match text.len() {
         0 => {}
         1 => into.put(&text[..1]),
-        _ => into.put(text),
+        _ => into.put_piece(text),
     }
 }
 

@@ -1,4 +1,4 @@
--- The first bytes of a text, of which sixteen are copied after what was put.
+-- A piece that is copied after what was put, where there is room for it: one of sixteen bytes, of which the first count, or a whole one.
 use Rattle.std.proofs.Common.{◌≡◌, ℕ, ◌+◌, ◌^◌, ◌<◌, ◌≤◌, min, List, ◌++◌, length, take, drop, refl, sym, ap, ◌∙◌, length-append, length-drop, arith}
 use Rattle.std.proofs.Math.Seq.{take-append-add}
 use Rattle.std.proofs.lemmas.List.{length-take, take-take, take_all}
@@ -40,3 +40,13 @@ front_put total k len into copied text small is_k room is le longer =
     (added total k len into copied (take len text) (omega (arith, room)) (omega (arith, sixteen, le)) (first_copied len copied text is le)
     ∙ sym (take_all (length into) (take total into ++ take len text) (omega (arith, room, le, piece, length-append (take total into) (take len text), length-take total into))))
     (omega (arith, small, room, piece))
+
+pub piece_put : (total k : ℕ) (into copied piece : List ℕ) → length into < 2 ^ 63 → k ≡ length piece → total + length piece ≤ length into → copied ≡ piece
+    → made (length (put_mid total k into copied)) (take (total + length piece) (put_mid total k into copied)) (min (total + length piece) most) ≡ put_held (made (length into) (take total into) (min total most)) piece
+unfolding put_held
+piece_put total k into copied piece small is_k room is =
+    let same : length copied ≡ length piece = ap length is in
+    same_held (length_mid total k into copied (omega (arith, is_k, same)) (omega (arith, is_k, room)))
+    (added total k (length piece) into copied piece (omega (arith, room)) (omega (arith, same)) (take_all (length piece) copied (omega (arith, same)) ∙ is)
+    ∙ sym (take_all (length into) (take total into ++ piece) (omega (arith, room, length-append (take total into) piece, length-take total into))))
+    (omega (arith, small, room))

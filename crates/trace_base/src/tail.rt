@@ -1,4 +1,4 @@
-ghost use Rattle.std.specs.Prelude.{◌≡◌, ℕ, List, ◌<◌, ◌^◌, ◌≤◌, ◌++◌, length, take, drop};
+ghost use Rattle.std.specs.Prelude.{◌≡◌, ℕ, List, ◌<◌, ◌^◌, ◌≤◌, ◌+◌, ◌++◌, length, take, drop};
 ghost use Rattle.std.specs.List.{last_or};
 ghost use Rattle.trace_base.specs.Kept.{Kept, nothing, nul_after, text_end, put, put_held, cut, watched, of_text};
 ghost use Rattle.trace_base.specs.TailView.{kept, held, lent};
@@ -68,6 +68,30 @@ impl<'a> Tail<'a> {
         }
     }
 
+    /// Puts a piece of a line whose length is not known beforehand. Of the tail the contract tells what stays true through
+    /// cuts.
+    #[inline(always)]
+    pub fn put_piece(&mut self, piece: &[u8])
+        ensures same_slice { lent self.new ≡ lent self.old }
+        ensures held { held self.new ≡ put_held (held self.old) piece.now }
+    {
+        let len = piece.len();
+        if len < 8 || len > 32 || self.total.saturating_add(len as u64) > self.into.len() as u64 {
+            return self.put_any_piece(piece);
+        }
+        let at = self.total as usize;
+        copy_short(&mut self.into[at..at + len], piece);
+        self.total += len as u64;
+    }
+
+    #[inline(never)]
+    fn put_any_piece(&mut self, piece: &[u8])
+        ensures same_slice { lent self.new ≡ lent self.old }
+        ensures held { held self.new ≡ put_held (held self.old) piece.now }
+    {
+        self.put(piece);
+    }
+
     /// The true length of what was put. It saturates at the greatest number of 64 bits.
     pub fn total(&self) -> u64
         ensures value { result ≡ (kept self.now).total }
@@ -134,6 +158,39 @@ fn fill(into: &mut [u8], piece: &[u8])
     } else {
         into.copy_from_slice(&piece[..into.len()]);
     }
+}
+
+// A piece of 8 to 32 bytes, without a call.
+#[inline(always)]
+fn copy_short(into: &mut [u8], piece: &[u8])
+    requires same { length into.old ≡ length piece.now }
+    requires least { 8 ≤ length piece.now }
+    requires most { length piece.now ≤ 32 }
+    ensures { into.new ≡ piece.now }
+{
+    if piece.len() < 16 {
+        copy_by_ends::<8>(into, piece);
+    } else {
+        copy_by_ends::<16>(into, piece);
+    }
+}
+
+// A piece of `N` to twice as many bytes, by its first and its last `N`, which may overlap: two copies of a fixed length need
+// no call. Each goes by way of a place of its own, as in `put_front`.
+#[inline(always)]
+fn copy_by_ends<const N: usize>(into: &mut [u8], piece: &[u8])
+    requires same { length into.old ≡ length piece.now }
+    requires least { N ≤ length piece.now }
+    requires most { length piece.now ≤ N + N }
+    ensures { into.new ≡ piece.now }
+{
+    let rest = piece.len() - N;
+    let mut front = [0; N];
+    front.copy_from_slice(&piece[..N]);
+    let mut back = [0; N];
+    back.copy_from_slice(&piece[rest..]);
+    into[..N].copy_from_slice(&front);
+    into[rest..].copy_from_slice(&back);
 }
 
 // The last byte of the piece, or else the one before.
