@@ -102,6 +102,7 @@ pub fn prefix(context: &Context, cpu: u32, time: u64, common: &Common, into: &mu
 }
 
 /// Puts the columns of a line, and a short text after them. Gives where the time ends: a colon and a space follow it.
+#[inline(always)]
 pub(crate) fn put_front(
     context: &Context,
     cpu: u32,
