@@ -39,6 +39,7 @@ pub struct ItemLines {
 impl LineFormat for ItemLines {
     ghost text = { λ lines cpu item. item_line lines.context cpu item };
 
+    #[inline(always)]
     fn line(&self, cpu: u32, item: &Item<'_>, into: &mut Tail<'_>) -> (u32, Option<(u32, u64)>) {
         line(&self.context, cpu, item, into)
     }
