@@ -37,8 +37,8 @@ pub fn clipped(from: i128, to: i128) -> u64
     let more = to.saturating_sub(from);
     if more < 0 {
         0
-    } else if more > 18_446_744_073_709_551_615 {
-        18_446_744_073_709_551_615
+    } else if more > u64::MAX as i128 {
+        u64::MAX
     } else {
         more as u64
     }

@@ -1,5 +1,5 @@
 ghost use Rattle.std.specs.Prelude.{◌≡◌};
-ghost use Rattle.call_pairs.specs.Threads.{is_same, thread_of};
+ghost use Rattle.call_pairs.specs.Threads.{thread_of};
 
 use crate::graph_item::GraphEvent;
 
@@ -21,22 +21,6 @@ impl Thread {
             Thread::Idle(event.cpu)
         } else {
             Thread::Task(event.common.pid)
-        }
-    }
-
-    /// Whether two are the same.
-    pub fn is_same(self, other: Thread) -> bool
-        ensures { result ≡ is_same self other }
-    {
-        match self {
-            Thread::Task(pid) => match other {
-                Thread::Task(it) => pid == it,
-                Thread::Idle(_) => false,
-            },
-            Thread::Idle(cpu) => match other {
-                Thread::Task(_) => false,
-                Thread::Idle(it) => cpu == it,
-            },
         }
     }
 }

@@ -105,7 +105,7 @@ impl Threads {
         ensures { result ≡ true → thread_at self.now.stacks.items place ≡ Some thread }
     {
         match self.stacks.get(place) {
-            Some(stack) => stack.thread.is_same(thread),
+            Some(stack) => stack.thread == thread,
             None => false,
         }
     }
