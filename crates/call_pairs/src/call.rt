@@ -15,7 +15,7 @@ pub enum Call {
         depth: u32,
         func: u64,
         /// The call's duration in nanoseconds, where it is a leaf: its thread did nothing up to its exit.
-        leaf: Option<u64>,
+        duration: Option<u64>,
     },
     /// An exit.
     Exit {
@@ -27,7 +27,7 @@ pub enum Call {
         leaf: bool,
         func: u64,
         /// The call's duration in nanoseconds, where the exit belongs to an entry.
-        span: Option<u64>,
+        duration: Option<u64>,
     },
     /// Events of this processor were lost, so many where that is known.
     Loss {
@@ -38,8 +38,8 @@ pub enum Call {
 
 /// What is told of an entry.
 #[inline(always)]
-pub(crate) fn entry_call(entry: &GraphEvent, leaf: Option<u64>) -> Call
-    ensures { result ≡ entry_call entry.now leaf }
+pub(crate) fn entry_call(entry: &GraphEvent, duration: Option<u64>) -> Call
+    ensures { result ≡ entry_call entry.now duration }
 {
     Call::Entry {
         cpu: entry.cpu,
@@ -47,14 +47,14 @@ pub(crate) fn entry_call(entry: &GraphEvent, leaf: Option<u64>) -> Call
         common: entry.common,
         depth: entry.depth,
         func: entry.func,
-        leaf,
+        duration,
     }
 }
 
 /// What is told of an exit.
 #[inline(always)]
-pub(crate) fn exit_call(exit: &GraphEvent, span: Option<u64>, leaf: bool) -> Call
-    ensures { result ≡ exit_call exit.now span leaf }
+pub(crate) fn exit_call(exit: &GraphEvent, duration: Option<u64>, leaf: bool) -> Call
+    ensures { result ≡ exit_call exit.now duration leaf }
 {
     Call::Exit {
         cpu: exit.cpu,
@@ -62,7 +62,7 @@ pub(crate) fn exit_call(exit: &GraphEvent, span: Option<u64>, leaf: bool) -> Cal
         common: exit.common,
         depth: exit.depth,
         func: exit.func,
-        span,
+        duration,
         leaf,
     }
 }

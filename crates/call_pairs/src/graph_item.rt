@@ -23,7 +23,7 @@ pub struct GraphEvent {
 pub enum GraphItem {
     /// An entry.
     Entry(GraphEvent),
-    /// An exit, with the nanoseconds that its call took where its own fields tell them.
+    /// An exit, with its call's duration in nanoseconds where its own fields tell it.
     Exit(GraphEvent, Option<u64>),
     /// Events of this processor were lost, so many where that is known.
     Loss { cpu: u32, count: Option<u64> },

@@ -14,10 +14,10 @@ pub fn told_calls()
 
 /// Each entry and each exit is in at most one pair.
 pub fn one_pair()
-    ensures one_entry { (seen : List GraphItem) (i k j : ℕ) (e f x y : GraphEvent) (ran run : Option ℕ)
-        → IsPair seen i j e x ran → IsPair seen k j f y run → i ≡ k }
-    ensures one_exit { (seen : List GraphItem) (i j k : ℕ) (e f x y : GraphEvent) (ran run : Option ℕ)
-        → IsPair seen i j e x ran → IsPair seen i k f y run → j ≡ k }
-    ensures not_both { (seen : List GraphItem) (i j k : ℕ) (e f x y : GraphEvent) (ran run : Option ℕ)
-        → IsPair seen i j e x ran → IsPair seen j k f y run → ⊥ }
+    ensures one_entry { (seen : List GraphItem) (i k j : ℕ) (e f x y : GraphEvent) (d1 d2 : Option ℕ)
+        → IsPair seen i j e x d1 → IsPair seen k j f y d2 → i ≡ k }
+    ensures one_exit { (seen : List GraphItem) (i j k : ℕ) (e f x y : GraphEvent) (d1 d2 : Option ℕ)
+        → IsPair seen i j e x d1 → IsPair seen i k f y d2 → j ≡ k }
+    ensures not_both { (seen : List GraphItem) (i j k : ℕ) (e f x y : GraphEvent) (d1 d2 : Option ℕ)
+        → IsPair seen i j e x d1 → IsPair seen j k f y d2 → ⊥ }
 {}

@@ -24,12 +24,12 @@ pub struct Tracing {
     threads: Threads,
 }
 
-/// The time from an entry to its exit.
-fn duration(entry: &GraphEvent, exit: &GraphEvent, ran: Option<u64>) -> u64
-    ensures { result ≡ duration entry.now exit.now ran }
+/// The duration of a call: as its exit's own fields tell, or else the time from its entry to its exit.
+fn duration(entry: &GraphEvent, exit: &GraphEvent, recorded: Option<u64>) -> u64
+    ensures { result ≡ duration entry.now exit.now recorded }
 {
-    match ran {
-        Some(ran) => ran,
+    match recorded {
+        Some(recorded) => recorded,
         None => exit.time.saturating_sub(entry.time),
     }
 }
@@ -49,22 +49,22 @@ fn is_last(top: &Open, last: Option<usize>) -> bool
 fn end_call(
     calls: &mut Vec<Call>,
     exit: &GraphEvent,
-    ran: Option<u64>,
+    recorded: Option<u64>,
     left: Left,
 ) -> Result<(), AllocError>
     requires inside { IfSome left.top (λ top. top.place < length calls.old.items) }
-    ensures { OnOk result (calls.new.items ≡ with_leaf exit.now ran (leaf_open left.last left.top) calls.old.items ++ ended exit.now ran left.last left.top ∷ []) }
+    ensures { OnOk result (calls.new.items ≡ with_leaf exit.now recorded (leaf_open left.last left.top) calls.old.items ++ ended exit.now recorded left.last left.top ∷ []) }
 {
     let Some(open) = left.top else {
         calls.push(exit_call(exit, None, false))?;
         return Ok(());
     };
-    let took = duration(&open.entry, exit, ran);
+    let duration = duration(&open.entry, exit, recorded);
     let leaf = is_last(&open, left.last);
     if leaf {
-        calls[open.place] = entry_call(&open.entry, Some(took));
+        calls[open.place] = entry_call(&open.entry, Some(duration));
     }
-    calls.push(exit_call(exit, Some(took), leaf))?;
+    calls.push(exit_call(exit, Some(duration), leaf))?;
     Ok(())
 }
 
@@ -89,7 +89,7 @@ impl Tracing {
     {
         match seen {
             GraphItem::Entry(entry) => self.enter(entry),
-            GraphItem::Exit(exit, ran) => self.leave(exit, *ran),
+            GraphItem::Exit(exit, recorded) => self.leave(exit, *recorded),
             GraphItem::Loss { cpu, count } => self.lose(*cpu, *count),
         }
     }
@@ -106,13 +106,13 @@ impl Tracing {
     }
 
     #[inline(always)]
-    fn leave(&mut self, exit: &GraphEvent, ran: Option<u64>) -> Result<(), AllocError>
+    fn leave(&mut self, exit: &GraphEvent, recorded: Option<u64>) -> Result<(), AllocError>
         requires known { WasSeen self.old }
         ensures known { OnOk result (WasSeen self.new) }
-        ensures seen { Sees (code.Exit exit.now ran) self.old self.new result }
+        ensures seen { Sees (code.Exit exit.now recorded) self.old self.new result }
     {
         let left = self.threads.leave(self.since, self.calls.len(), exit)?;
-        end_call(&mut self.calls, exit, ran, left)
+        end_call(&mut self.calls, exit, recorded, left)
     }
 
     fn lose(&mut self, cpu: u32, count: Option<u64>) -> Result<(), AllocError>

@@ -12,7 +12,7 @@ use Rattle.report_print.specs.Prefix.{prefix_text}
 use Rattle.report_print.proofs.LineLength.{closed_short}
 use Rattle.call_pairs.specs.declared.call.Call.{Call}
 use Rattle.call_pairs.specs.declared.call.Call.TheVariants.{Entry, Exit, Loss}
-use Rattle.graph_report.specs.CallText.{took_text, indent_text, function_text, name_of, entry_word, exit_word, parts, call_text, call_line, is_silent}
+use Rattle.graph_report.specs.CallText.{duration_column, indent_text, function_text, name_of, entry_word, exit_word, parts, call_text, call_line, is_silent}
 
 none_some : (b : ℕ) → None ≡ Some b → ⊥
 none_some b e = grind (arith, e)
@@ -28,10 +28,10 @@ last_from d (x ∷ xs) ys b is = last_from (Some x) xs ys b is
 last_behind : (xs ys : List ℕ) (b : ℕ) → last_or None ys ≡ Some b → last_or None (xs ++ ys) ≡ Some b
 last_behind xs ys b is = last_from None xs ys b is
 
-parts_last : (columns : List ℕ) (took : Option ℕ) (depth : ℕ) (word : List ℕ) (b : ℕ) → last_or None word ≡ Some b → last_or None (parts columns took depth word) ≡ Some b
-parts_last columns took depth word b is =
-    last_behind columns (took_text took ++ (codes " | " ++ (indent_text depth ++ word))) b
-    (last_behind (took_text took) (codes " | " ++ (indent_text depth ++ word)) b
+parts_last : (columns : List ℕ) (duration : Option ℕ) (depth : ℕ) (word : List ℕ) (b : ℕ) → last_or None word ≡ Some b → last_or None (parts columns duration depth word) ≡ Some b
+parts_last columns duration depth word b is =
+    last_behind columns (duration_column duration ++ (codes " | " ++ (indent_text depth ++ word))) b
+    (last_behind (duration_column duration) (codes " | " ++ (indent_text depth ++ word)) b
     (last_behind (codes " | ") (indent_text depth ++ word) b (last_behind (indent_text depth) word b is)))
 
 no_newline : (text : List ℕ) (b : ℕ) → last_or None text ≡ Some b → is_newline (Some b) ≡ false → ends_in_newline text ≡ false
@@ -49,13 +49,13 @@ loss_end cpu (Some count) = no_newline (loss_text cpu (Some count)) 93
 pub text_end : (given : ContextData) (call : Call) → ends_in_newline (call_text given call) ≡ false
 text_end given (Entry cpu time common depth func None) =
     no_newline _ 123 (parts_last (prefix_text given cpu time common) None depth (entry_word (function_text func (name_of given func)) None) 123 (last_behind (function_text func (name_of given func)) (codes "() {") 123 refl)) refl
-text_end given (Entry cpu time common depth func (Some took)) =
-    no_newline _ 59 (parts_last (prefix_text given cpu time common) (Some took) depth (entry_word (function_text func (name_of given func)) (Some took)) 59 (last_behind (function_text func (name_of given func)) (codes "();") 59 refl)) refl
+text_end given (Entry cpu time common depth func (Some duration)) =
+    no_newline _ 59 (parts_last (prefix_text given cpu time common) (Some duration) depth (entry_word (function_text func (name_of given func)) (Some duration)) 59 (last_behind (function_text func (name_of given func)) (codes "();") 59 refl)) refl
 text_end given (Exit cpu time common depth leaf func None) =
     no_newline _ 47 (parts_last (prefix_text given cpu time common) None depth (exit_word (function_text func (name_of given func)) None) 47
     (last_behind (codes "} /* ") (function_text func (name_of given func) ++ codes " */") 47 (last_behind (function_text func (name_of given func)) (codes " */") 47 refl))) refl
-text_end given (Exit cpu time common depth leaf func (Some took)) =
-    no_newline _ 125 (parts_last (prefix_text given cpu time common) (Some took) depth (exit_word (function_text func (name_of given func)) (Some took)) 125 refl) refl
+text_end given (Exit cpu time common depth leaf func (Some duration)) =
+    no_newline _ 125 (parts_last (prefix_text given cpu time common) (Some duration) depth (exit_word (function_text func (name_of given func)) (Some duration)) 125 refl) refl
 text_end given (Loss cpu count) = loss_end cpu count
 
 pub line_told : (h : Held) (room : ℕ) (silent : Bool) (text : List ℕ) → false ≡ silent → h ≡ of_held room (closed text) → h ≡ of_held room (if silent then [] else closed text)

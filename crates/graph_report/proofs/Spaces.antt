@@ -4,7 +4,7 @@ use Rattle.std.proofs.lemmas.List.{append_assoc}
 use Rattle.line_columns.specs.Columns.{duration_text}
 use Rattle.trace_base.specs.Kept.{Held, put_held}
 use Rattle.trace_base.proofs.TailJoins.{put_held_twice}
-use Rattle.graph_report.specs.CallText.{took_text}
+use Rattle.graph_report.specs.CallText.{duration_column}
 
 pub some_spaces : (n m : ℕ) → n ≤ m → take {A = ℕ} n (replicate m 32) ≡ replicate n 32
 some_spaces zero m le = refl
@@ -22,9 +22,9 @@ pub in_parts : (h0 h1 h2 h3 : Held) (a d b i w : List ℕ) → h1 ≡ put_held h
 in_parts h0 h1 h2 h3 a d b i w one two three = three ∙ ap (λ (h : Held). put_held h w) (two ∙ ap (λ (h : Held). put_held h (d ++ (b ++ i))) one) ∙ joined_parts h0 a d b i w
 
 -- spaces, and a duration after them
-pub took_is : (h0 h1 h2 : Held) (nanos : ℕ) (text : List ℕ) (count : ℕ) → text ≡ duration_text nanos → count ≡ 12 - length text
-    → h1 ≡ put_held h0 (replicate count 32) → h2 ≡ put_held h1 text → h2 ≡ put_held h0 (took_text (Some nanos))
-took_is h0 h1 h2 nanos text count same is one two =
+pub duration_column_is : (h0 h1 h2 : Held) (nanos : ℕ) (text : List ℕ) (count : ℕ) → text ≡ duration_text nanos → count ≡ 12 - length text
+    → h1 ≡ put_held h0 (replicate count 32) → h2 ≡ put_held h1 text → h2 ≡ put_held h0 (duration_column (Some nanos))
+duration_column_is h0 h1 h2 nanos text count same is one two =
     two ∙ ap (λ (h : Held). put_held h text) one ∙ put_held_twice h0 (replicate count 32) text
     ∙ ap (λ (k : ℕ). put_held h0 (replicate k 32 ++ text)) is
     ∙ ap (λ (l : List ℕ). put_held h0 (replicate (12 - length l) 32 ++ l)) same

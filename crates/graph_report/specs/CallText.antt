@@ -12,9 +12,9 @@ use Rattle.call_pairs.specs.declared.call.Call.{Call}
 use Rattle.call_pairs.specs.declared.call.Call.TheVariants.{Entry, Exit, Loss}
 
 -- the column of the duration: right in 12, or empty
-abbrev pub took_text : Option ℕ → List ℕ
-took_text None = replicate 12 32
-took_text (Some nanos) = right 12 (duration_text nanos)
+abbrev pub duration_column : Option ℕ → List ℕ
+duration_column None = replicate 12 32
+duration_column (Some nanos) = right 12 (duration_text nanos)
 
 -- two spaces per depth, up to 50
 abbrev pub indent_text : ℕ → List ℕ
@@ -32,28 +32,28 @@ function_text func (Some name) = name
 -- what an entry says, as a leaf or not, and what an exit says, paired or not
 abbrev pub entry_word : List ℕ → Option ℕ → List ℕ
 entry_word function None = function ++ codes "() {"
-entry_word function (Some took) = function ++ codes "();"
+entry_word function (Some duration) = function ++ codes "();"
 
 abbrev pub exit_word : List ℕ → Option ℕ → List ℕ
 exit_word function None = codes "} /* " ++ (function ++ codes " */")
-exit_word function (Some took) = codes "}"
+exit_word function (Some duration) = codes "}"
 
 -- the five parts of a line: the columns of any line, the duration, a bar, the indent, and what is said of the call
 abbrev pub parts : List ℕ → Option ℕ → ℕ → List ℕ → List ℕ
-parts columns took depth word = columns ++ (took_text took ++ (codes " | " ++ (indent_text depth ++ word)))
+parts columns duration depth word = columns ++ (duration_column duration ++ (codes " | " ++ (indent_text depth ++ word)))
 
 -- whether it has no line: the exit of a leaf
 abbrev pub is_silent : Call → Bool
-is_silent (Entry cpu time common depth func leaf) = false
-is_silent (Exit cpu time common depth leaf func span) = leaf
+is_silent (Entry cpu time common depth func duration) = false
+is_silent (Exit cpu time common depth leaf func duration) = leaf
 is_silent (Loss cpu count) = false
 
 -- the text of a call, where it has a line
 abbrev pub call_text : ContextData → Call → List ℕ
-call_text given (Entry cpu time common depth func leaf) =
-    parts (prefix_text given cpu time common) leaf depth (entry_word (function_text func (name_of given func)) leaf)
-call_text given (Exit cpu time common depth leaf func span) =
-    parts (prefix_text given cpu time common) span depth (exit_word (function_text func (name_of given func)) span)
+call_text given (Entry cpu time common depth func duration) =
+    parts (prefix_text given cpu time common) duration depth (entry_word (function_text func (name_of given func)) duration)
+call_text given (Exit cpu time common depth leaf func duration) =
+    parts (prefix_text given cpu time common) duration depth (exit_word (function_text func (name_of given func)) duration)
 call_text given (Loss cpu count) = loss_text cpu count
 
 -- its line; the exit of a leaf has none

@@ -73,15 +73,15 @@ graph_event given cpu time payload called = record {
   func = cast_unsigned w128 (number_at given.show.order payload called.func) % 2 ^ 64;
 }
 
--- how long the call took by the exit's own fields, from 0 to 2^64 - 1 nanoseconds
-abbrev pub ran_by : Order → List ℕ → Option Times → Option ℕ
-ran_by order payload None = None
-ran_by order payload (Some times) = Some (clip (number_at order payload times.to -ℤ number_at order payload times.from))
+-- the duration of the call by the exit's own fields, from 0 to 2^64 - 1 nanoseconds
+abbrev pub recorded_duration : Order → List ℕ → Option Times → Option ℕ
+recorded_duration order payload None = None
+recorded_duration order payload (Some times) = Some (clip (number_at order payload times.to -ℤ number_at order payload times.from))
 
 abbrev pub seen_as : ContextData → ℕ → ℕ → List ℕ → Role → Option GraphItem
 seen_as given cpu time payload (Enters called) = Some (seen.Entry (graph_event given cpu time payload called))
 seen_as given cpu time payload (Leaves called times) =
-    Some (seen.Exit (graph_event given cpu time payload called) (ran_by given.show.order payload times))
+    Some (seen.Exit (graph_event given cpu time payload called) (recorded_duration given.show.order payload times))
 seen_as given cpu time payload Other = None
 
 -- an event by its format

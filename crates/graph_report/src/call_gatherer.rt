@@ -8,7 +8,7 @@ ghost use Rattle.graph_report.specs.Roles.{event_seen, seen_of};
 ghost use Rattle.graph_report.specs.CallGatherers.{HasRoles, Notes};
 
 use crate::role::Role;
-use crate::seeing::{graph_event, ran_by};
+use crate::seeing::{graph_event, recorded_duration};
 use call_pairs::{GraphItem, Tracing};
 use format_index::FormatRoles;
 use item_pass::Gatherer;
@@ -48,8 +48,8 @@ impl CallGatherer<'_> {
             }
             Role::Leaves(called, times) => {
                 let exit = graph_event(context, cpu, time, id, payload, called);
-                let ran = ran_by(context.order(), payload, times);
-                tracing.see(&GraphItem::Exit(exit, ran))
+                let recorded = recorded_duration(context.order(), payload, times);
+                tracing.see(&GraphItem::Exit(exit, recorded))
             }
             Role::Other => Ok(()),
         }

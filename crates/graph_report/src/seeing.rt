@@ -2,7 +2,7 @@
 
 ghost use Rattle.std.specs.Prelude.{◌≡◌};
 ghost use Rattle.report_print.specs.Line.{id_of};
-ghost use Rattle.graph_report.specs.Roles.{graph_event, ran_by};
+ghost use Rattle.graph_report.specs.Roles.{graph_event, recorded_duration};
 
 use crate::role::{Called, Times};
 use call_pairs::{GraphEvent, clipped};
@@ -32,10 +32,10 @@ pub(crate) fn graph_event(
     }
 }
 
-/// How long a call took by its exit's own fields.
+/// The duration of a call, by its exit's own fields.
 #[inline(always)]
-pub(crate) fn ran_by(order: Order, payload: &[u8], times: Option<Times>) -> Option<u64>
-    ensures { result ≡ ran_by order payload.now times }
+pub(crate) fn recorded_duration(order: Order, payload: &[u8], times: Option<Times>) -> Option<u64>
+    ensures { result ≡ recorded_duration order payload.now times }
 {
     match times {
         Some(times) => {

@@ -6,7 +6,7 @@ ghost use Rattle.trace_base.specs.Kept.{put_held};
 ghost use Rattle.trace_base.specs.TailView.{held, lent};
 ghost use Rattle.report_print.specs.Ending.{of_held, empty_held};
 ghost use Rattle.graph_report.specs.CallText as spec;
-ghost use Rattle.graph_report.specs.CallText.{took_text, indent_text, function_text, entry_word, exit_word, call_text, call_line};
+ghost use Rattle.graph_report.specs.CallText.{duration_column, indent_text, function_text, entry_word, exit_word, call_text, call_line};
 
 use call_pairs::Call;
 use line_columns::Front;
@@ -36,7 +36,7 @@ fn put_two(one: &[u8], two: &[u8], into: &mut Tail<'_>)
 /// Puts a duration at the right of its column.
 fn put_nanos(nanos: u64, into: &mut Tail<'_>)
     ensures same_slice { lent into.new ≡ lent into.old }
-    ensures value { held into.new ≡ put_held (held into.old) (took_text (Some nanos)) }
+    ensures value { held into.new ≡ put_held (held into.old) (duration_column (Some nanos)) }
 {
     let mut front = Front::new();
     front.duration(nanos);
@@ -46,11 +46,11 @@ fn put_nanos(nanos: u64, into: &mut Tail<'_>)
 }
 
 /// Puts the column of the duration.
-fn put_took(took: Option<u64>, into: &mut Tail<'_>)
+fn put_duration(duration: Option<u64>, into: &mut Tail<'_>)
     ensures same_slice { lent into.new ≡ lent into.old }
-    ensures value { held into.new ≡ put_held (held into.old) (took_text took) }
+    ensures value { held into.new ≡ put_held (held into.old) (duration_column duration) }
 {
-    match took {
+    match duration {
         Some(nanos) => put_nanos(nanos, into),
         None => put_spaces(12, into),
     }
@@ -58,11 +58,11 @@ fn put_took(took: Option<u64>, into: &mut Tail<'_>)
 
 // The duration, the bar and the indent.
 #[tactic(auto, using(trace_base::proofs::TailJoins::put_held_twice))]
-fn put_middle(took: Option<u64>, depth: u32, into: &mut Tail<'_>)
+fn put_middle(duration: Option<u64>, depth: u32, into: &mut Tail<'_>)
     ensures same_slice { lent into.new ≡ lent into.old }
-    ensures value { held into.new ≡ put_held (held into.old) (took_text took ++ (codes " | " ++ indent_text depth)) }
+    ensures value { held into.new ≡ put_held (held into.old) (duration_column duration ++ (codes " | " ++ indent_text depth)) }
 {
-    put_took(took, into);
+    put_duration(duration, into);
     into.put(b" | ");
     put_spaces(2 * depth.min(50) as usize, into);
 }
@@ -104,12 +104,12 @@ fn put_known(context: &Context, func: u64, into: &mut Tail<'_>)
 }
 
 #[tactic(auto, using(trace_base::proofs::TailJoins::put_held_twice))]
-fn put_entry_word(context: &Context, func: u64, leaf: Option<u64>, into: &mut Tail<'_>)
+fn put_entry_word(context: &Context, func: u64, duration: Option<u64>, into: &mut Tail<'_>)
     ensures same_slice { lent into.new ≡ lent into.old }
-    ensures value { held into.new ≡ put_held (held into.old) (entry_word (function_text func (spec.name_of context.now func)) leaf) }
+    ensures value { held into.new ≡ put_held (held into.old) (entry_word (function_text func (spec.name_of context.now func)) duration) }
 {
     put_known(context, func, into);
-    match leaf {
+    match duration {
         Some(_) => into.put(b"();"),
         None => into.put(b"() {"),
     }
@@ -117,11 +117,11 @@ fn put_entry_word(context: &Context, func: u64, leaf: Option<u64>, into: &mut Ta
 
 // The name is looked up only where it is shown.
 #[tactic(auto, using(trace_base::proofs::TailJoins::put_held_twice))]
-fn put_exit_word(context: &Context, func: u64, span: Option<u64>, into: &mut Tail<'_>)
+fn put_exit_word(context: &Context, func: u64, duration: Option<u64>, into: &mut Tail<'_>)
     ensures same_slice { lent into.new ≡ lent into.old }
-    ensures value { held into.new ≡ put_held (held into.old) (exit_word (function_text func (spec.name_of context.now func)) span) }
+    ensures value { held into.new ≡ put_held (held into.old) (exit_word (function_text func (spec.name_of context.now func)) duration) }
 {
-    match span {
+    match duration {
         Some(_) => into.put(b"}"),
         None => {
             into.put(b"} /* ");
@@ -142,11 +142,11 @@ fn put_text(context: &Context, call: &Call, into: &mut Tail<'_>)
             common,
             depth,
             func,
-            leaf,
+            duration,
         } => {
             prefix(context, *cpu, *time, common, into);
-            put_middle(*leaf, *depth, into);
-            put_entry_word(context, *func, *leaf, into);
+            put_middle(*duration, *depth, into);
+            put_entry_word(context, *func, *duration, into);
         }
         Call::Exit {
             cpu,
@@ -155,11 +155,11 @@ fn put_text(context: &Context, call: &Call, into: &mut Tail<'_>)
             depth,
             leaf: _,
             func,
-            span,
+            duration,
         } => {
             prefix(context, *cpu, *time, common, into);
-            put_middle(*span, *depth, into);
-            put_exit_word(context, *func, *span, into);
+            put_middle(*duration, *depth, into);
+            put_exit_word(context, *func, *duration, into);
         }
         Call::Loss { cpu, count } => put_loss(*cpu, *count, into),
     }

@@ -77,18 +77,18 @@ fn common() -> Common {
     }
 }
 
-fn entry(depth: u32, func: u64, leaf: Option<u64>) -> Call {
+fn entry(depth: u32, func: u64, duration: Option<u64>) -> Call {
     Call::Entry {
         cpu: 0,
         time: 1000,
         common: common(),
         depth,
         func,
-        leaf,
+        duration,
     }
 }
 
-fn exit(depth: u32, func: u64, span: Option<u64>, leaf: bool) -> Call {
+fn exit(depth: u32, func: u64, duration: Option<u64>, leaf: bool) -> Call {
     Call::Exit {
         cpu: 0,
         time: 1000,
@@ -96,7 +96,7 @@ fn exit(depth: u32, func: u64, span: Option<u64>, leaf: bool) -> Call {
         depth,
         leaf,
         func,
-        span,
+        duration,
     }
 }
 

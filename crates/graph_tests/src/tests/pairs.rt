@@ -60,7 +60,7 @@ fn event(text: &str) -> Result<GraphEvent, Fail> {
 
 fn exit(text: &str) -> Result<GraphItem, Fail> {
     match text.split_once(":") {
-        Some((event_text, ran)) => Ok(GraphItem::Exit(event(event_text)?, Some(ran.parse()?))),
+        Some((event_text, nanos)) => Ok(GraphItem::Exit(event(event_text)?, Some(nanos.parse()?))),
         None => Ok(GraphItem::Exit(event(text)?, None)),
     }
 }
@@ -97,11 +97,11 @@ fn is_lasting(word: &str, mark: &str, nanos: u64) -> Result<bool, Fail> {
 // Whether the word tells the call.
 fn is_told(call: &Call, word: &str) -> Result<bool, Fail> {
     match call {
-        Call::Entry { leaf, .. } => match leaf {
+        Call::Entry { duration, .. } => match duration {
             Some(nanos) => is_lasting(word, "()", *nanos),
             None => Ok(word == "("),
         },
-        Call::Exit { leaf, span, .. } => match span {
+        Call::Exit { leaf, duration, .. } => match duration {
             Some(nanos) => is_lasting(word, if *leaf { "_" } else { ")" }, *nanos),
             None => Ok(word == ")" && !*leaf),
         },

@@ -1,11 +1,11 @@
 use Rattle.std.proofs.Common.{◌≡◌, ℕ, List, ◌++◌, rules, ap, ◌∙◌, append-nil}
 use Rattle.trace_base.specs.TailView.{held}
 use Rattle.line_columns.specs.Columns.{duration_text}
-use Rattle.graph_report.proofs.Spaces.{took_is}
+use Rattle.graph_report.proofs.Spaces.{duration_column_is}
 use Rattle.graph_report.proofs.text.put_nanos.Goals as goal
 
 pub returns-clause-value : goal.returns-clause-value
 returns-clause-value c =
     let text : c.as_bytes-text.result.now ≡ duration_text c.args.nanos =
     c.as_bytes-text.ensures ∙ c.duration.ensures.value ∙ ap (λ (l : List ℕ). duration_text c.args.nanos ++ l) c.new-front.ensures ∙ append-nil (duration_text c.args.nanos) in
-    took_is (held c.args.into.now) (held c.put_spaces.new.into) (held c.put.new.self) c.args.nanos c.as_bytes-text.result.now c.saturating_sub.result text (search rules) c.put_spaces.ensures.value c.put.ensures.held
+    duration_column_is (held c.args.into.now) (held c.put_spaces.new.into) (held c.put.new.self) c.args.nanos c.as_bytes-text.result.now c.saturating_sub.result text (search rules) c.put_spaces.ensures.value c.put.ensures.held
