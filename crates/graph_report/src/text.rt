@@ -24,15 +24,6 @@ fn put_spaces(count: usize, into: &mut Tail<'_>)
     into.put(&row[..count]);
 }
 
-#[tactic(auto, using(trace_base::proofs::TailJoins::put_held_twice))]
-fn put_two(one: &[u8], two: &[u8], into: &mut Tail<'_>)
-    ensures same_slice { lent into.new ≡ lent into.old }
-    ensures value { held into.new ≡ put_held (held into.old) (one.now ++ two.now) }
-{
-    into.put(one);
-    into.put(two);
-}
-
 /// Puts a duration at the right of its column.
 fn put_nanos(nanos: u64, into: &mut Tail<'_>)
     ensures same_slice { lent into.new ≡ lent into.old }
@@ -73,7 +64,8 @@ fn put_address(func: u64, into: &mut Tail<'_>)
 {
     let mut buffer = [0; 64];
     let start = write_digits(func, false, false, &mut buffer);
-    put_two(b"0x", &buffer[start..], into);
+    into.put(b"0x");
+    into.put(&buffer[start..]);
 }
 
 /// Puts a function's name, or its address.

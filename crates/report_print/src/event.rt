@@ -150,36 +150,15 @@ pub fn put_loss(cpu: u32, count: Option<u64>, into: &mut Tail<'_>)
     ensures same_slice { lent into.new ≡ lent into.old }
     ensures value { held into.new ≡ put_held (held into.old) (spec.loss_text cpu count) }
 {
-    let mut cpu_digits = Buffer::new();
-    let cpu = cpu_digits.format(cpu).as_bytes();
+    let mut digits = Buffer::new();
+    into.put(b"CPU:");
+    into.put(digits.format(cpu).as_bytes());
     match count {
-        None => put_three(b"CPU:", cpu, b" [EVENTS DROPPED]", into),
+        None => into.put(b" [EVENTS DROPPED]"),
         Some(count) => {
-            let mut digits = Buffer::new();
-            let count = digits.format(count).as_bytes();
-            put_five(b"CPU:", cpu, b" [", count, b" EVENTS DROPPED]", into);
+            into.put(b" [");
+            into.put(digits.format(count).as_bytes());
+            into.put(b" EVENTS DROPPED]");
         }
     }
-}
-
-#[tactic(auto, using(trace_base::proofs::TailJoins::put_held_twice))]
-fn put_three(one: &[u8], two: &[u8], three: &[u8], into: &mut Tail<'_>)
-    ensures same_slice { lent into.new ≡ lent into.old }
-    ensures value { held into.new ≡ put_held (held into.old) (one.now ++ (two.now ++ three.now)) }
-{
-    into.put(one);
-    into.put(two);
-    into.put(three);
-}
-
-#[tactic(auto, using(trace_base::proofs::TailJoins::put_held_twice))]
-fn put_five(one: &[u8], two: &[u8], three: &[u8], four: &[u8], five: &[u8], into: &mut Tail<'_>)
-    ensures same_slice { lent into.new ≡ lent into.old }
-    ensures value { held into.new ≡ put_held (held into.old) (one.now ++ (two.now ++ (three.now ++ (four.now ++ five.now)))) }
-{
-    into.put(one);
-    into.put(two);
-    into.put(three);
-    into.put(four);
-    into.put(five);
 }
