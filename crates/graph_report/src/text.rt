@@ -30,7 +30,7 @@ fn put_nanos(nanos: u64, into: &mut Tail<'_>)
     ensures value { held into.new ≡ put_held (held into.old) (duration_column (Some nanos)) }
 {
     let mut front = Front::new();
-    front.duration(nanos);
+    front.prepend_duration(nanos);
     let text = front.as_bytes();
     put_spaces(12_usize.saturating_sub(text.len()), into);
     into.put(text);

@@ -56,18 +56,18 @@ impl Front {
             // A copy of a known length needs no call, and one by way of a place of its own no test whether the texts overlap.
             let mut label = [0; USUAL_LABEL];
             label.copy_from_slice(&text[..USUAL_LABEL]);
-            self.text(&label);
+            self.prepend_text(&label);
         } else {
-            self.any_text(text);
+            self.prepend_any_text(text);
         }
     }
 
     #[inline(never)]
-    fn any_text(&mut self, text: &[u8])
+    fn prepend_any_text(&mut self, text: &[u8])
         requires { length self.old + length text.now ≤ ROOM }
         ensures { self.new ≡ text.now ++ self.old }
     {
-        self.text(text);
+        self.prepend_text(text);
     }
 
     /// The text.
@@ -86,7 +86,7 @@ impl Front {
     }
 
     /// Puts one byte in front.
-    pub fn byte(&mut self, byte: u8)
+    pub fn prepend_byte(&mut self, byte: u8)
         requires { length self.old < ROOM }
         ensures longer { length self.new ≡ length self.old + 1 }
         ensures value { self.new ≡ byte ∷ self.old }
@@ -97,7 +97,7 @@ impl Front {
 
     /// Puts a text in front.
     #[inline(always)]
-    pub fn text(&mut self, text: &[u8])
+    pub fn prepend_text(&mut self, text: &[u8])
         requires { length self.old + length text.now ≤ ROOM }
         ensures longer { length self.new ≡ length self.old + length text.now }
         ensures value { self.new ≡ text.now ++ self.old }
@@ -108,7 +108,7 @@ impl Front {
     }
 
     /// Puts spaces in front until the text is as long as this.
-    fn fill(&mut self, len: usize)
+    fn pad_to(&mut self, len: usize)
         requires { len ≤ ROOM }
         ensures longer { length self.new ≡ max len (length self.old) }
         ensures value { self.new ≡ replicate (len - length self.old) 32 ++ self.old }
@@ -119,7 +119,7 @@ impl Front {
     /// Puts a number in front.
     #[inline(always)]
     #[tactic(auto, using(crate::proofs::Lengths::short))]
-    pub fn digits(&mut self, n: u64)
+    pub fn prepend_digits(&mut self, n: u64)
         requires { length self.old + DIGITS ≤ ROOM }
         ensures longer { length self.new ≤ length self.old + DIGITS }
         ensures value { self.new ≡ decimal n ++ self.old }
@@ -128,104 +128,104 @@ impl Front {
     }
 
     /// Puts a number in front, at the right of its column.
-    fn number(&mut self, width: usize, n: u64)
+    fn prepend_number(&mut self, width: usize, n: u64)
         requires room { length self.old + DIGITS ≤ ROOM }
         requires narrow { width ≤ DIGITS }
         ensures longer { length self.new ≡ max width (length (decimal n)) + length self.old }
         ensures value { self.new ≡ right width (decimal n) ++ self.old }
     {
         let len = self.len() + width;
-        self.digits(n);
-        self.fill(len);
+        self.prepend_digits(n);
+        self.pad_to(len);
     }
 
     /// Puts a number of two digits in front.
     #[inline(always)]
-    fn two(&mut self, n: u32)
+    fn prepend_two(&mut self, n: u32)
         requires room { length self.old + 2 ≤ ROOM }
         requires small { n < 100 }
         ensures longer { length self.new ≡ length self.old + 2 }
         ensures value { self.new ≡ zeros 2 (decimal n) ++ self.old }
     {
-        self.text(&two_digits(n));
+        self.prepend_text(&two_digits(n));
     }
 
     /// Puts a number of three digits in front.
     #[inline(always)]
     #[tactic(auto, using(crate::proofs::ZeroFills::three_front))]
-    fn three(&mut self, n: u32)
+    fn prepend_three(&mut self, n: u32)
         requires room { length self.old + 3 ≤ ROOM }
         requires small { n < 1000 }
         ensures longer { length self.new ≡ length self.old + 3 }
         ensures value { self.new ≡ zeros 3 (decimal n) ++ self.old }
     {
-        self.two(n % 100);
-        self.byte(b'0' + (n / 100) as u8);
+        self.prepend_two(n % 100);
+        self.prepend_byte(b'0' + (n / 100) as u8);
     }
 
     /// Puts a number of six digits in front.
     #[inline(always)]
     #[tactic(auto, using(crate::proofs::ZeroFills::six_front))]
-    fn six(&mut self, n: u32)
+    fn prepend_six(&mut self, n: u32)
         requires room { length self.old + 6 ≤ ROOM }
         requires small { n < 1000000 }
         ensures longer { length self.new ≡ length self.old + 6 }
         ensures value { self.new ≡ zeros 6 (decimal n) ++ self.old }
     {
-        self.two(n % 100);
-        self.two(n / 100 % 100);
-        self.two(n / 10_000);
+        self.prepend_two(n % 100);
+        self.prepend_two(n / 100 % 100);
+        self.prepend_two(n / 10_000);
     }
 
     /// Puts a number of nine digits in front.
     #[tactic(auto, using(crate::proofs::ZeroFills::nine_front))]
-    fn nine(&mut self, n: u32)
+    fn prepend_nine(&mut self, n: u32)
         requires room { length self.old + 9 ≤ ROOM }
         requires small { n < 1000000000 }
         ensures longer { length self.new ≡ length self.old + 9 }
         ensures value { self.new ≡ zeros 9 (decimal n) ++ self.old }
     {
-        self.three(n % 1000);
-        self.six(n / 1000);
+        self.prepend_three(n % 1000);
+        self.prepend_six(n / 1000);
     }
 
     /// Puts seconds and their part in front.
     #[tactic(auto, unfolding(crate::specs::Columns::time_text))]
-    pub fn time(&mut self, full: bool, time: u64)
+    pub fn prepend_time(&mut self, full: bool, time: u64)
         requires { length self.old ≤ BEFORE_TIME }
         ensures longer { length self.new ≤ length self.old + LONGEST_TIME }
         ensures value { self.new ≡ time_text full time ++ self.old }
     {
         if full {
-            self.nine((time % 1_000_000_000) as u32);
-            self.byte(b'.');
-            self.number(5, time / 1_000_000_000);
+            self.prepend_nine((time % 1_000_000_000) as u32);
+            self.prepend_byte(b'.');
+            self.prepend_number(5, time / 1_000_000_000);
         } else {
             let micros = micros(time);
-            self.six((micros % 1_000_000) as u32);
-            self.byte(b'.');
-            self.number(5, micros / 1_000_000);
+            self.prepend_six((micros % 1_000_000) as u32);
+            self.prepend_byte(b'.');
+            self.prepend_number(5, micros / 1_000_000);
         }
     }
 
     /// Puts seconds of up to five digits and their part in front: what most times are.
     #[inline(always)]
     #[tactic(auto, unfolding(crate::specs::Columns::time_text))]
-    pub fn usual_time(&mut self, time: u64)
+    pub fn prepend_usual_time(&mut self, time: u64)
         requires room { length self.old ≤ BEFORE_TIME }
         requires narrow { time < USUAL_TIMES }
         ensures longer { length self.new ≡ length self.old + 12 }
         ensures value { self.new ≡ time_text false time ++ self.old }
     {
         let micros = micros(time);
-        self.six((micros % 1_000_000) as u32);
-        self.byte(b'.');
-        self.five(micros / 1_000_000);
+        self.prepend_six((micros % 1_000_000) as u32);
+        self.prepend_byte(b'.');
+        self.prepend_five(micros / 1_000_000);
     }
 
     /// Puts a number of up to five digits in front, at the right of its column.
     #[inline(always)]
-    fn five(&mut self, n: u64)
+    fn prepend_five(&mut self, n: u64)
         requires room { length self.old + 5 ≤ ROOM }
         requires small { n < 100000 }
         ensures longer { length self.new ≡ length self.old + 5 }
@@ -233,126 +233,126 @@ impl Front {
     {
         let mut column = [b' '; 5];
         write_digits(n, &mut column, 5);
-        self.text(&column);
+        self.prepend_text(&column);
     }
 
     /// Puts seconds and their part in front, without leading spaces.
     #[tactic(auto, unfolding(crate::specs::Columns::bare_time_text))]
-    pub fn bare_time(&mut self, full: bool, time: u64)
+    pub fn prepend_bare_time(&mut self, full: bool, time: u64)
         requires { length self.old ≤ BEFORE_TIME }
         ensures longer { length self.new ≤ length self.old + LONGEST_TIME }
         ensures value { self.new ≡ bare_time_text full time ++ self.old }
     {
         if full {
-            self.nine((time % 1_000_000_000) as u32);
-            self.byte(b'.');
-            self.digits(time / 1_000_000_000);
+            self.prepend_nine((time % 1_000_000_000) as u32);
+            self.prepend_byte(b'.');
+            self.prepend_digits(time / 1_000_000_000);
         } else {
             let micros = micros(time);
-            self.six((micros % 1_000_000) as u32);
-            self.byte(b'.');
-            self.digits(micros / 1_000_000);
+            self.prepend_six((micros % 1_000_000) as u32);
+            self.prepend_byte(b'.');
+            self.prepend_digits(micros / 1_000_000);
         }
     }
 
     /// Puts so many nanoseconds in front, as microseconds with three digits after the point.
     #[tactic(auto, unfolding(crate::specs::Columns::duration_text))]
-    pub fn duration(&mut self, nanos: u64)
+    pub fn prepend_duration(&mut self, nanos: u64)
         requires { length self.old ≤ BEFORE_TIME }
         ensures longer { length self.new ≤ length self.old + LONGEST_DURATION }
         ensures value { self.new ≡ duration_text nanos ++ self.old }
     {
-        self.text(b" us");
-        self.three((nanos % 1000) as u32);
-        self.byte(b'.');
-        self.digits(nanos / 1000);
+        self.prepend_text(b" us");
+        self.prepend_three((nanos % 1000) as u32);
+        self.prepend_byte(b'.');
+        self.prepend_digits(nanos / 1000);
     }
 
     /// Puts the processor in front.
     #[tactic(auto, using(crate::proofs::ZeroFills::between))]
-    pub fn processor(&mut self, cpu: u32)
+    pub fn prepend_processor(&mut self, cpu: u32)
         requires { length self.old ≤ BEFORE_PLACE }
         ensures longer { length self.new ≤ length self.old + LONGEST_PROCESSOR }
         ensures value { self.new ≡ (codes " [" ++ (zeros 3 (decimal cpu) ++ codes "] ")) ++ self.old }
     {
-        self.text(b"] ");
-        self.cpu(cpu);
-        self.text(b" [");
+        self.prepend_text(b"] ");
+        self.prepend_cpu(cpu);
+        self.prepend_text(b" [");
     }
 
     /// Puts the number of a processor in front.
     #[inline(always)]
     #[tactic(auto, using(crate::proofs::ZeroFills::two_of_three, crate::proofs::Lengths::no_zeros))]
-    fn cpu(&mut self, cpu: u32)
+    fn prepend_cpu(&mut self, cpu: u32)
         requires { length self.old + DIGITS ≤ ROOM }
         ensures longer { length self.new ≤ length self.old + CPU }
         ensures value { self.new ≡ zeros 3 (decimal cpu) ++ self.old }
     {
         if cpu < 100 {
             // Most machines have fewer processors.
-            self.two(cpu);
-            self.byte(b'0');
+            self.prepend_two(cpu);
+            self.prepend_byte(b'0');
         } else if cpu < 1000 {
-            self.three(cpu);
+            self.prepend_three(cpu);
         } else {
-            self.digits(cpu as u64);
+            self.prepend_digits(cpu as u64);
         }
     }
 
     /// Puts a processor of up to two digits in front.
     #[inline(always)]
     #[tactic(auto, using(crate::proofs::ZeroFills::usual_between))]
-    pub fn usual_processor(&mut self, cpu: u32)
+    pub fn prepend_usual_processor(&mut self, cpu: u32)
         requires room { length self.old ≤ BEFORE_PLACE }
         requires small { cpu < 100 }
         ensures longer { length self.new ≡ length self.old + 7 }
         ensures value { self.new ≡ (codes " [" ++ (zeros 3 (decimal cpu) ++ codes "] ")) ++ self.old }
     {
-        self.text(b"] ");
-        self.two(cpu);
-        self.text(b" [0");
+        self.prepend_text(b"] ");
+        self.prepend_two(cpu);
+        self.prepend_text(b" [0");
     }
 
     /// Puts the processor in front, and what an event says of its context.
-    pub fn latency(&mut self, cpu: u32, flags: u32, preempt_count: u32)
+    pub fn prepend_latency(&mut self, cpu: u32, flags: u32, preempt_count: u32)
         requires { length self.old ≤ BEFORE_PLACE }
         ensures longer { length self.new ≤ length self.old + LONGEST_PROCESSOR }
         ensures value { self.new ≡ (codes " " ++ (right 3 (decimal cpu) ++ (spec.latency_marks flags preempt_count ++ codes " "))) ++ self.old }
     {
-        self.byte(b' ');
-        self.text(&latency_marks(flags, preempt_count));
-        self.number(3, cpu as u64);
-        self.byte(b' ');
+        self.prepend_byte(b' ');
+        self.prepend_text(&latency_marks(flags, preempt_count));
+        self.prepend_number(3, cpu as u64);
+        self.prepend_byte(b' ');
     }
 
     /// Puts a task's name in front, at the right of its column.
-    pub fn task(&mut self, width: usize, name: &[u8])
+    pub fn prepend_task(&mut self, width: usize, name: &[u8])
         requires room { length self.old ≤ BEFORE_TASK }
         requires narrow { width ≤ 16 }
         requires short { length name.now ≤ LONGEST_TASK }
         ensures { self.new ≡ right width name.now ++ self.old }
     {
         let len = self.len() + width;
-        self.text(name);
-        self.fill(len);
+        self.prepend_text(name);
+        self.pad_to(len);
     }
 
     /// Puts a pid in front, at the left of its column.
-    pub fn pid(&mut self, pid: i32)
+    pub fn prepend_pid(&mut self, pid: i32)
         requires room { length self.old ≤ BEFORE_PID }
         requires range { FitsSigned w32 pid }
         ensures longer { length self.new ≤ length self.old + LONGEST_PID }
         ensures value { self.new ≡ left 5 (signed_decimal pid) ++ self.old }
     {
         match u32::try_from(pid) {
-            Ok(pid) if pid < 100_000 => self.short_pid(pid as u64),
-            Ok(pid) => self.wide_pid(pid),
-            Err(_) => self.long_pid(pid),
+            Ok(pid) if pid < 100_000 => self.prepend_short_pid(pid as u64),
+            Ok(pid) => self.prepend_wide_pid(pid),
+            Err(_) => self.prepend_long_pid(pid),
         }
     }
 
     /// Puts a pid in front that is not wider than its column.
-    fn short_pid(&mut self, pid: u64)
+    fn prepend_short_pid(&mut self, pid: u64)
         requires room { length self.old ≤ BEFORE_PID }
         requires small { pid < 100000 }
         ensures longer { length self.new ≡ length self.old + PID }
@@ -360,23 +360,23 @@ impl Front {
     {
         let mut column = [b' '; 10];
         let start = write_digits(pid, &mut column, 5);
-        self.text(&column[start..start + 5]);
+        self.prepend_text(&column[start..start + 5]);
     }
 
     /// Puts a pid in front that is wider than its column.
     #[inline(always)]
-    fn wide_pid(&mut self, pid: u32)
+    fn prepend_wide_pid(&mut self, pid: u32)
         requires room { length self.old ≤ BEFORE_PID }
         requires wide { 100000 ≤ pid }
         ensures longer { length self.new ≤ length self.old + LONGEST_PID }
         ensures value { self.new ≡ left 5 (decimal pid) ++ self.old }
     {
-        self.digits(pid as u64);
+        self.prepend_digits(pid as u64);
     }
 
     /// Puts any pid in front.
     #[inline(never)]
-    fn long_pid(&mut self, pid: i32)
+    fn prepend_long_pid(&mut self, pid: i32)
         requires room { length self.old ≤ BEFORE_PID }
         requires range { FitsSigned w32 pid }
         ensures longer { length self.new ≤ length self.old + LONGEST_PID }
@@ -384,7 +384,7 @@ impl Front {
     {
         let mut buffer = Buffer::new();
         let digits = buffer.format(pid).as_bytes();
-        self.fill(self.len() + 5usize.saturating_sub(digits.len()));
-        self.text(digits);
+        self.pad_to(self.len() + 5usize.saturating_sub(digits.len()));
+        self.prepend_text(digits);
     }
 }

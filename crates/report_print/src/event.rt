@@ -138,9 +138,9 @@ fn unknown(id: u32) -> Front
     ensures short { length result ≤ LONGEST_BEHIND }
 {
     let mut text = Front::new();
-    text.byte(b']');
-    text.digits(id as u64);
-    text.text(b"[UNKNOWN EVENT ");
+    text.prepend_byte(b']');
+    text.prepend_digits(id as u64);
+    text.prepend_text(b"[UNKNOWN EVENT ");
     text
 }
 

@@ -182,9 +182,9 @@ fn put_usual_when(cpu: u32, time: u64, label: &[u8], front: &mut Front)
     ensures short { length front.new ≤ BEFORE_PID }
 {
     front.start(label);
-    front.text(b": ");
-    front.usual_time(time);
-    front.usual_processor(cpu);
+    front.prepend_text(b": ");
+    front.prepend_usual_time(time);
+    front.prepend_usual_processor(cpu);
 }
 
 /// Puts a text with the task in front of it, whose column has its usual width, and gives the length of both.
@@ -229,9 +229,9 @@ fn put_task(task: &[u8], front: &mut Front)
     ensures { front.new ≡ task.now ++ front.old }
 {
     if task.len() == USUAL_TASK {
-        front.text(&task[..USUAL_TASK]);
+        front.prepend_text(&task[..USUAL_TASK]);
     } else {
-        front.text(task);
+        front.prepend_text(task);
     }
 }
 
@@ -251,8 +251,8 @@ fn put_without_name(pid: i32, front: &mut Front, into: &mut Tail<'_>) -> usize
     ensures value { held into.new ≡ put_held (held into.old) ((right 16 unnamed ++ codes "-") ++ (left 5 (signed_decimal pid) ++ front.old)) }
     ensures len { result ≡ length ((right 16 unnamed ++ codes "-") ++ (left 5 (signed_decimal pid) ++ front.old)) }
 {
-    front.pid(pid);
-    front.text(no_name());
+    front.prepend_pid(pid);
+    front.prepend_text(no_name());
     put_known_length(front.as_bytes(), into);
     front.len()
 }
@@ -302,10 +302,10 @@ fn put_with_any_task(context: &Context, pid: i32, front: &mut Front, into: &mut 
     ensures len { result ≡ length (task_front context.now.show context.now.symbols.tasks pid ++ front.old) }
 {
     let name = context.symbols().comm_of(pid);
-    front.pid(pid);
-    front.byte(b'-');
+    front.prepend_pid(pid);
+    front.prepend_byte(b'-');
     if name.len() <= LONGEST_TASK {
-        front.task(task_width(context.show()), name);
+        front.prepend_task(task_width(context.show()), name);
         into.put(front.as_bytes());
         front.len()
     } else {
@@ -350,8 +350,8 @@ fn put_when(show: &Show, cpu: u32, time: u64, common: &Common, front: &mut Front
     ensures value { front.new ≡ spec.when_of show.now cpu time common.now ++ front.old }
     ensures longer { length front.new ≤ BEFORE_PID }
 {
-    front.text(b": ");
-    front.time(show.full, time);
+    front.prepend_text(b": ");
+    front.prepend_time(show.full, time);
     put_place(show, cpu, common.flags, common.preempt, front);
 }
 
@@ -363,9 +363,9 @@ fn put_place(show: &Show, cpu: u32, flags: u32, preempt: u32, front: &mut Front)
     ensures value { front.new ≡ line.place_text show.now cpu flags preempt ++ front.old }
 {
     if show.latency {
-        front.latency(cpu, flags, preempt);
+        front.prepend_latency(cpu, flags, preempt);
     } else {
-        front.processor(cpu);
+        front.prepend_processor(cpu);
     }
 }
 

@@ -58,9 +58,9 @@ impl TaskFront {
             return Ok(None);
         }
         let mut front = Front::new();
-        front.pid(pid);
-        front.byte(b'-');
-        front.task(task_width(show), name);
+        front.prepend_pid(pid);
+        front.prepend_byte(b'-');
+        front.prepend_task(task_width(show), name);
         Ok(Some(TaskFront::from_text(alloc, pid, front.as_bytes())?))
     }
 

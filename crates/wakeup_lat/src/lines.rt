@@ -27,7 +27,7 @@ fn put_pair(context: &Context, pair: &Pair, into: &mut Tail<'_>)
     ensures value { held into.new ≡ put_held (held into.old) (spec.pair_text context.now pair.now) }
 {
     let mut waited = Front::new();
-    waited.duration(latency(pair));
+    waited.prepend_duration(latency(pair));
     prefix(context, pair.cpu, pair.time, &pair.common, into);
     into.put(b"latency ");
     into.put(waited.as_bytes());

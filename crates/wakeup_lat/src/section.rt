@@ -144,8 +144,8 @@ fn put_average<O: Sink>(nanos: u64, pending: &mut Pending, out: &mut O) -> Resul
         (on_way O.written O.name O.faults out.old pending.old) (on_way O.written O.name O.faults out.new pending.new) result }
 {
     let mut text = Front::new();
-    text.byte(b'\n');
-    text.duration(nanos);
+    text.prepend_byte(b'\n');
+    text.prepend_duration(nanos);
     pending.put_parts(out, &[b"average ", text.as_bytes()])
 }
 
@@ -161,9 +161,9 @@ fn put_extreme<O: Sink>(
         (on_way O.written O.name O.faults out.old pending.old) (on_way O.written O.name O.faults out.new pending.new) result }
 {
     let mut time = Front::new();
-    time.byte(b'\n');
-    time.bare_time(full, pair.time);
+    time.prepend_byte(b'\n');
+    time.prepend_bare_time(full, pair.time);
     let mut waited = Front::new();
-    waited.duration(latency(&pair));
+    waited.prepend_duration(latency(&pair));
     pending.put_parts(out, &[name, waited.as_bytes(), b" at ", time.as_bytes()])
 }

@@ -7,5 +7,5 @@ use Rattle.graph_report.proofs.text.put_nanos.Goals as goal
 pub returns-clause-value : goal.returns-clause-value
 returns-clause-value c =
     let text : c.as_bytes-text.result.now ≡ duration_text c.args.nanos =
-    c.as_bytes-text.ensures ∙ c.duration.ensures.value ∙ ap (λ (l : List ℕ). duration_text c.args.nanos ++ l) c.new-front.ensures ∙ append-nil (duration_text c.args.nanos) in
+    c.as_bytes-text.ensures ∙ c.prepend_duration.ensures.value ∙ ap (λ (l : List ℕ). duration_text c.args.nanos ++ l) c.new-front.ensures ∙ append-nil (duration_text c.args.nanos) in
     duration_column_is (held c.args.into.now) (held c.put_spaces.new.into) (held c.put.new.self) c.args.nanos c.as_bytes-text.result.now c.saturating_sub.result text (search rules) c.put_spaces.ensures.value c.put.ensures.held

@@ -14,7 +14,7 @@ unfolding pair_text
 returns-clause-value c =
     let pair = c.args.pair.now in
     let text : c.as_bytes.result.now ≡ duration_text (latency pair) =
-    c.as_bytes.ensures ∙ c.duration.ensures.value ∙ ap (λ (l : List ℕ). duration_text c.latency.result ++ l) c.new-waited.ensures
+    c.as_bytes.ensures ∙ c.prepend_duration.ensures.value ∙ ap (λ (l : List ℕ). duration_text c.latency.result ++ l) c.new-waited.ensures
     ∙ append-nil (duration_text c.latency.result) ∙ ap duration_text c.latency.ensures in
     puts (held c.args.into.now) (held c.prefix.new.into) (held c.put.new.self) (held c.put-2.new.self)
     (prefix_text c.args.context.now pair.cpu pair.time pair.common) (codes "latency ") (duration_text (latency pair))
