@@ -20,18 +20,26 @@ use trace_base::ByteText;
 use trace_outside::{File, Gate, MemFile, MemSink, NoGate, Pending, Sink};
 use trace_samples::layout;
 
-// Reports processors from number 3 on, each with so many of the file's sub-buffers, in regions of `room` bytes, on so many
-// workers, to whom lanes are shared out from so many bytes on. `None`: there is no such call.
+/// What a report is made with.
+#[derive(Clone, Copy)]
+struct Setup<'a> {
+    /// How many of the file's sub-buffers each processor has, from number 3 on.
+    counts: &'a [u32],
+    /// How many bytes a region has.
+    room: u32,
+    /// How many workers there are, and from how many bytes on lanes are shared out to them.
+    workers: (u32, u64),
+}
+
+// Reports the processors of a file. `None`: there is no such call.
 fn report<R: Threads + Sync, F: File, O: Sink>(
     rt: &R,
     alloc: Global,
-    counts: &[u32],
-    room: u32,
-    workers: (u32, u64),
+    setup: Setup<'_>,
     file: &mut F,
     out: &mut O,
 ) -> Result<Option<End>, AllocError> {
-    report_behind(rt, alloc, &NoGate, counts, room, workers, file, out)
+    report_behind(rt, alloc, &NoGate, setup, file, out)
 }
 
 // The same with lanes that pass this gate.
@@ -39,12 +47,15 @@ fn report_behind<R: Threads + Sync, G: Gate, F: File, O: Sink>(
     rt: &R,
     alloc: Global,
     gate: &G,
-    counts: &[u32],
-    room: u32,
-    (workers, shared_from): (u32, u64),
+    setup: Setup<'_>,
     file: &mut F,
     out: &mut O,
 ) -> Result<Option<End>, AllocError> {
+    let Setup {
+        counts,
+        room,
+        workers: (workers, shared_from),
+    } = setup;
     if counts.len() > 1024 || room < 2 || workers < 1 || workers > 64 {
         return Ok(None);
     }
@@ -71,17 +82,15 @@ fn report_behind<R: Threads + Sync, G: Gate, F: File, O: Sink>(
 fn reports<R: Threads + Sync>(
     rt: &R,
     alloc: Global,
-    counts: &[u32],
+    setup: Setup<'_>,
     pages: &[Page],
-    room: u32,
-    workers: (u32, u64),
     text: &[u8],
     end: End,
 ) -> Result<bool, AllocError> {
     let bytes = bytes_of(alloc, pages)?;
     let mut file = MemFile::new(ByteText::copy(alloc, bytes.as_slice())?);
     let mut out = MemSink::new(alloc);
-    let found = report(rt, alloc, counts, room, workers, &mut file, &mut out)?;
+    let found = report(rt, alloc, setup, &mut file, &mut out)?;
     Ok(found == Some(end) && out.bytes() == text)
 }
 
@@ -153,16 +162,12 @@ fn row_reports<R: Threads + Sync>(
     }
     let text = words.next().unwrap_or("");
     let end = end_of(words.next().unwrap_or(""));
-    reports(
-        rt,
-        alloc,
-        &[first, 4 - first],
-        pages.as_slice(),
+    let setup = Setup {
+        counts: &[first, 4 - first],
         room,
         workers,
-        text.as_bytes(),
-        end,
-    )
+    };
+    reports(rt, alloc, setup, pages.as_slice(), text.as_bytes(), end)
 }
 
 // How many workers there are, and from how many bytes on lanes are shared out to them: one; several in each round, in those
@@ -207,15 +212,12 @@ fn lanes_of_like_rates_form_a_sub_buffer_each_in_a_round(rt: HostRuntime) -> Res
     let bytes = bytes_of(rt.alloc(), pages.as_slice())?;
     let mut file = MemFile::new(ByteText::from_vec(bytes));
     let mut out = MemSink::new(rt.alloc());
-    let end = report(
-        &rt,
-        rt.alloc(),
-        &[20; 16],
-        65_537,
-        (1, 0),
-        &mut file,
-        &mut out,
-    )?;
+    let setup = Setup {
+        counts: &[20; 16],
+        room: 65_537,
+        workers: (1, 0),
+    };
+    let end = report(&rt, rt.alloc(), setup, &mut file, &mut out)?;
     assert!(rt; end == Some(Done));
     assert!(rt; out.writes() <= 22, "{}", out.writes());
     Ok(())
@@ -264,7 +266,12 @@ fn often_reports<R: Threads + Sync>(
     text: &[u8],
 ) -> Result<bool, AllocError> {
     for (room, workers) in rooms {
-        if !reports(rt, alloc, counts, pages, *room, *workers, text, Done)? {
+        let setup = Setup {
+            counts,
+            room: *room,
+            workers: *workers,
+        };
+        if !reports(rt, alloc, setup, pages, text, Done)? {
             return Ok(false);
         }
     }
@@ -399,67 +406,139 @@ fn sink_of(alloc: Global, room: u64) -> MemSink {
     out
 }
 
-// The byte that cannot be read and how many bytes can be written, the size of the regions, the end, how many bytes are read
-// where that is told, and the text.
-const ENDINGS: &[((u64, u64), u32, End, Option<u64>, &str)] = &[
-    ((0, u64::MAX), 2, Read, Some(0), ""),
+/// How a report ends whose file or sink fails.
+#[derive(Clone, Copy)]
+struct Ending {
+    /// The byte that cannot be read.
+    unread: u64,
+    /// How many bytes can be written.
+    space: u64,
+    /// How many bytes a region has.
+    room: u32,
+    end: End,
+    /// How many bytes are read, where that is told.
+    reads: Option<u64>,
+    /// The text, where it is told.
+    text: Option<&'static str>,
+}
+
+const ENDINGS: &[Ending] = &[
+    Ending {
+        unread: 0,
+        space: u64::MAX,
+        room: 2,
+        end: Read,
+        reads: Some(0),
+        text: Some(""),
+    },
     // The first sub-buffer of the second processor.
-    ((8192, u64::MAX), 2, Read, Some(4096), ""),
+    Ending {
+        unread: 8192,
+        space: u64::MAX,
+        room: 2,
+        end: Read,
+        reads: Some(4096),
+        text: Some(""),
+    },
     // The last sub-buffer is read before the second one where that is far from being needed.
-    ((12_288, u64::MAX), 2, Read, Some(8192), "d0d1e1e1e1"),
-    ((12_288, u64::MAX), 65_537, Read, Some(12_288), "d0d1e1e1e1"),
-    (
-        (16_384, u64::MAX),
-        2,
-        Done,
-        Some(16_384),
-        "d0d1e1e1e1d2d3d0e4d5",
-    ),
-    (
-        (16_384, u64::MAX),
-        65_537,
-        Done,
-        Some(16_384),
-        "d0d1e1e1e1d2d3d0e4d5",
-    ),
-    ((u64::MAX, 0), 65_537, Write, None, ""),
-    ((u64::MAX, 3), 65_537, Write, None, "d0d"),
-    ((u64::MAX, 19), 65_537, Write, None, "d0d1e1e1e1d2d3d0e4d"),
-    ((u64::MAX, 20), 65_537, Done, None, "d0d1e1e1e1d2d3d0e4d5"),
+    Ending {
+        unread: 12_288,
+        space: u64::MAX,
+        room: 2,
+        end: Read,
+        reads: Some(8192),
+        text: Some("d0d1e1e1e1"),
+    },
+    Ending {
+        unread: 12_288,
+        space: u64::MAX,
+        room: 65_537,
+        end: Read,
+        reads: Some(12_288),
+        text: Some("d0d1e1e1e1"),
+    },
+    Ending {
+        unread: 16_384,
+        space: u64::MAX,
+        room: 2,
+        end: Done,
+        reads: Some(16_384),
+        text: Some("d0d1e1e1e1d2d3d0e4d5"),
+    },
+    Ending {
+        unread: 16_384,
+        space: u64::MAX,
+        room: 65_537,
+        end: Done,
+        reads: Some(16_384),
+        text: Some("d0d1e1e1e1d2d3d0e4d5"),
+    },
+    Ending {
+        unread: u64::MAX,
+        space: 0,
+        room: 65_537,
+        end: Write,
+        reads: None,
+        text: Some(""),
+    },
+    Ending {
+        unread: u64::MAX,
+        space: 3,
+        room: 65_537,
+        end: Write,
+        reads: None,
+        text: Some("d0d"),
+    },
+    Ending {
+        unread: u64::MAX,
+        space: 19,
+        room: 65_537,
+        end: Write,
+        reads: None,
+        text: Some("d0d1e1e1e1d2d3d0e4d"),
+    },
+    Ending {
+        unread: u64::MAX,
+        space: 20,
+        room: 65_537,
+        end: Done,
+        reads: None,
+        text: Some("d0d1e1e1e1d2d3d0e4d5"),
+    },
 ];
 
-// Whether a report ends so, with so many bytes read and this text where these are told, and with its one fault.
+// Whether a report of processors with so many of these sub-buffers ends so, with its one fault.
 fn ends_so<R: Threads + Sync>(
     rt: &R,
     alloc: Global,
-    (pages, counts): (&[Page], &[u32]),
-    (byte, space): (u64, u64),
-    room: u32,
-    end: End,
-    reads: Option<u64>,
-    text: Option<&str>,
+    pages: &[Page],
+    counts: &[u32],
+    ending: &Ending,
 ) -> Result<bool, AllocError> {
-    let mut file = failing_file(alloc, pages, byte)?;
-    let mut out = sink_of(alloc, space);
-    let found = report(rt, alloc, counts, room, (2, 0), &mut file, &mut out)?;
-    let is_text = match text {
+    let mut file = failing_file(alloc, pages, ending.unread)?;
+    let mut out = sink_of(alloc, ending.space);
+    let setup = Setup {
+        counts,
+        room: ending.room,
+        workers: (2, 0),
+    };
+    let found = report(rt, alloc, setup, &mut file, &mut out)?;
+    let is_text = match ending.text {
         Some(text) => out.bytes() == text.as_bytes(),
         None => true,
     };
-    let is_faulty = file.faults() == u64::from(end == Read)
-        && out.faults() == u64::from(end == Write);
-    let is_read = reads.is_none() || reads == Some(file.reads());
-    Ok(found == Some(end) && is_text && is_faulty && is_read)
+    let is_faulty = file.faults() == u64::from(ending.end == Read)
+        && out.faults() == u64::from(ending.end == Write);
+    let is_read = ending.reads.is_none() || ending.reads == Some(file.reads());
+    Ok(found == Some(ending.end) && is_text && is_faulty && is_read)
 }
 
 #[test]
 fn lines_are_whole_before_a_failed_read_and_a_prefix_before_a_failed_write(
     rt: HostRuntime,
 ) -> Result<(), Fail> {
-    let pages = (FAILING.as_slice(), [2, 2].as_slice());
-    for (faults, room, end, reads, text) in ENDINGS {
-        let text = Some(*text);
-        assert!(rt; ends_so(&rt, rt.alloc(), pages, *faults, *room, *end, *reads, text)?);
+    for ending in ENDINGS {
+        assert!(rt; ends_so(&rt, rt.alloc(), &FAILING, &[2, 2], ending)?);
     }
     Ok(())
 }
@@ -483,11 +562,16 @@ fn reads_what_is_due<R: Threads + Sync>(
     alloc: Global,
     pages: &[Page],
 ) -> Result<bool, AllocError> {
-    let pages = (pages, [9, 21].as_slice());
     for (space, read, due, end) in DUE {
-        let reads = Some(read.saturating_mul(4096));
-        let faults = (u64::MAX, *space);
-        if read > due || !ends_so(rt, alloc, pages, faults, 65_537, *end, reads, None)? {
+        let ending = Ending {
+            unread: u64::MAX,
+            space: *space,
+            room: 65_537,
+            end: *end,
+            reads: Some(read.saturating_mul(4096)),
+            text: None,
+        };
+        if read > due || !ends_so(rt, alloc, pages, &[9, 21], &ending)? {
             return Ok(false);
         }
     }

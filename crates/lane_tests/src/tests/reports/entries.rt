@@ -2,7 +2,7 @@
 
 use super::marks::{len_of, mark};
 use super::pages::{Page, bytes_of};
-use super::{put_marks, report_behind};
+use super::{Setup, put_marks, report_behind};
 use std::alloc::{AllocError, Global};
 use std::sync::atomic::AtomicU64;
 use std::sync::atomic::Ordering::SeqCst;
@@ -71,7 +71,12 @@ fn entries<R: Threads + Sync>(
     };
     let mut counts = [1; 16];
     counts[0] = 200;
-    let end = report_behind(rt, alloc, &gate, &counts, 2, workers, &mut file, &mut out)?;
+    let setup = Setup {
+        counts: &counts,
+        room: 2,
+        workers,
+    };
+    let end = report_behind(rt, alloc, &gate, setup, &mut file, &mut out)?;
     let text = lines(alloc)?;
     if end == Some(Done) && out.bytes() == text.as_slice() {
         Ok(Some(gate.entries.load(SeqCst)))

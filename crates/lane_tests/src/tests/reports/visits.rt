@@ -1,7 +1,7 @@
 //! In which rounds of a report lanes are shared out to several threads.
 
 use super::pages::{Page, bytes_of};
-use super::report_behind;
+use super::{Setup, report_behind};
 use cpu_workers::SHARED_FROM;
 use std::alloc::{AllocError, Global};
 use std::sync::atomic::AtomicU64;
@@ -87,16 +87,12 @@ fn met<R: Threads + Sync>(
         inside: AtomicU64::new(0),
         met: AtomicU64::new(0),
     };
-    let end = report_behind(
-        rt,
-        alloc,
-        &gate,
-        &[3, 3],
-        65_537,
+    let setup = Setup {
+        counts: &[3, 3],
+        room: 65_537,
         workers,
-        &mut file,
-        &mut out,
-    )?;
+    };
+    let end = report_behind(rt, alloc, &gate, setup, &mut file, &mut out)?;
     if end == Some(Done) && out.bytes() == b"d0e1d0e1d0e1".as_slice() {
         Ok(Some(gate.met.load(SeqCst)))
     } else {
