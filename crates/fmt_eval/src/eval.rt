@@ -45,7 +45,7 @@ pub fn number(expr: &Expr, rec: &Rec<'_>) -> Num
         Expr::Length { field } => length_of(rec, field),
         Expr::Prefix { op, of } => prefixed(*op, number(of, rec)),
         Expr::Cast { to, of } => cast(*to, number(of, rec)),
-        Expr::Chain { first, rest } => folded(part_number(first, rec), rest.as_slice(), rec),
+        Expr::Chain { first, rest } => folded(operand_number(first, rec), rest.as_slice(), rec),
         // The kind is that of both arms, so both have their values; neither has an effect.
         Expr::Choice { test, yes, no } => {
             let holds = number(test, rec).is_true();
@@ -64,7 +64,7 @@ pub fn number(expr: &Expr, rec: &Rec<'_>) -> Num
 /// The number of an operand or a mask. Most are written out, which needs no call.
 #[inline(always)]
 #[cycle(walk)]
-pub fn part_number(expr: &Expr, rec: &Rec<'_>) -> Num
+pub(crate) fn operand_number(expr: &Expr, rec: &Rec<'_>) -> Num
     ensures { num_view result ≡ number_of (given rec.now) (tree_of expr.now) }
 {
     match expr {
@@ -83,7 +83,7 @@ fn folded(first: Num, rest: &[Operand], rec: &Rec<'_>) -> Num
 {
     let mut total = first;
     for operand in rest {
-        total = applied(operand.op, total, part_number(&operand.value, rec));
+        total = applied(operand.op, total, operand_number(&operand.value, rec));
     }
     total
 }

@@ -9,9 +9,9 @@ ghost use Rattle.fmt_eval.specs.Values.{given, number_of};
 ghost use Rattle.fmt_eval.specs.Flags.{is_flag, flags_text, flags_from, symbol_text};
 ghost use Rattle.fmt_eval.specs.Entered.{rows_in, row_of};
 
-use crate::eval::part_number;
+use crate::eval::operand_number;
 use crate::pieces::{put_between, put_hexadecimal, put_piece};
-use crate::short::number_now;
+use crate::short::quick_number;
 use fmt_expr::{Entry, Expr};
 use trace_base::{Rec, Tail};
 
@@ -20,7 +20,7 @@ use trace_base::{Rec, Tail};
 fn mask_of(entry: &Entry, rec: &Rec<'_>) -> u64
     ensures { result ≡ (row_of (given rec.now) entry.now).0 }
 {
-    part_number(&entry.value, rec).pattern()
+    operand_number(&entry.value, rec).pattern()
 }
 
 /// Whether a mask is printed.
@@ -79,7 +79,7 @@ pub fn put_flags(value: u64, between: &[u8], entries: &[Entry], rec: &Rec<'_>, i
 pub fn only_flag<'e>(value: &Expr, entries: &'e [Entry], rec: &Rec<'_>) -> Option<&'e [u8]>
     ensures { IfSome result (λ text. (between : List ℕ) → text.now ≡ flags_text between (pattern (number_of (given rec.now) (tree_of value.now)).exact) (rows_in (given rec.now) entries.now)) }
 {
-    let bits = number_now(value, rec).pattern();
+    let bits = quick_number(value, rec).pattern();
     for entry in entries {
         let mask = mask_of(entry, rec);
         if is_flag(bits, bits, false, mask) {

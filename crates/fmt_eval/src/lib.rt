@@ -1,7 +1,7 @@
 //! The values of typed trees over a record: numbers of C's kinds, texts and bytes.
 //!
 //! [`number`] is the definition in Rust, one recursion over the tree, and [`holds`] tells whether it is not 0. Of a tree that is used over
-//! many records [`read_of`] and [`test_of`] tell once what is known before any: [`number_read`] and [`test_holds`] go by that.
+//! many records [`read_of`] and [`test_of`] tell once what is known before any: [`number_by`] and [`holds_by`] go by that.
 //!
 //! Of a tree whose kind is a text [`put_text`] puts it, and of one that has bytes [`bytes`] gives them; [`only_flag`] gives the text of
 //! flags without putting it, where it is that of one alone. [`put_hexadecimal`], [`put_octets`] and [`put_piece`] are for others who
@@ -30,6 +30,6 @@ pub use flags::only_flag;
 pub use laws::{one_reduced, reduced_is, values_by_kind};
 pub use num::Num;
 pub use pieces::{put_hexadecimal, put_octets, put_piece};
-pub use read::{Read, Test, number_read, read_of, test_holds, test_of};
+pub use read::{Read, Test, holds_by, number_by, read_of, test_of};
 pub use short::holds;
 pub use text::put_text;

@@ -10,7 +10,7 @@ ghost use Rattle.fmt_expr.specs.TreeView.{tree_of, operands_of};
 use crate::field::{half_at, whole_at};
 use crate::num::Num;
 use crate::operators::bit_and;
-use crate::short::{holds, number_now};
+use crate::short::{holds, quick_number};
 use c_operators::BinaryOp;
 use fmt_expr::{CastTo, Expr, Operand};
 use trace_base::{Field, FieldKind, Rec};
@@ -95,14 +95,14 @@ pub fn read_of(expr: &Expr) -> Read
 
 /// The number that a tree is over a record, as it is read.
 #[inline(always)]
-pub fn number_read(read: Read, expr: &Expr, rec: &Rec<'_>) -> Num
+pub fn number_by(read: Read, expr: &Expr, rec: &Rec<'_>) -> Num
     requires { ReadsAs read (tree_of expr.now) }
     ensures { num_view result ≡ number_of (given rec.now) (tree_of expr.now) }
 {
     match read {
         Read::Half { at, signed } => half_at(rec, at, signed),
         Read::Whole { at, signed } => whole_at(rec, at, signed),
-        Read::Walk => number_now(expr, rec),
+        Read::Walk => quick_number(expr, rec),
     }
 }
 
@@ -186,7 +186,7 @@ pub fn test_of(expr: &Expr) -> Test
 
 /// Whether the number of a tree is not 0, by the test that is made of it.
 #[inline(always)]
-pub fn test_holds(test: Test, expr: &Expr, rec: &Rec<'_>) -> bool
+pub fn holds_by(test: Test, expr: &Expr, rec: &Rec<'_>) -> bool
     requires { TestsAs test (tree_of expr.now) }
     ensures { result ≡ is_true (number_of (given rec.now) (tree_of expr.now)) }
 {

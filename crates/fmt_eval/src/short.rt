@@ -69,7 +69,7 @@ fn short(expr: &Expr, rec: &Rec<'_>) -> Option<Num>
 
 /// The number of a tree, with a walk only where it is not short.
 #[inline(never)]
-pub fn number_now(expr: &Expr, rec: &Rec<'_>) -> Num
+pub(crate) fn quick_number(expr: &Expr, rec: &Rec<'_>) -> Num
     ensures { num_view result ≡ number_of (given rec.now) (tree_of expr.now) }
 {
     match short(expr, rec) {

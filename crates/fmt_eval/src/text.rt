@@ -11,7 +11,7 @@ use crate::array::{put_array, put_hex};
 use crate::eval::number;
 use crate::field_bytes::bytes;
 use crate::flags::{put_flags, put_symbol};
-use crate::short::{holds, number_now};
+use crate::short::{holds, quick_number};
 use fmt_expr::Expr;
 use trace_base::{Rec, Tail, bytes_of, until_nul};
 
@@ -37,12 +37,12 @@ pub fn put_text(expr: &Expr, rec: &Rec<'_>, into: &mut Tail<'_>)
             between,
             entries,
         } => {
-            let value = number_now(value, rec).pattern();
+            let value = quick_number(value, rec).pattern();
             put_flags(value, between.as_bytes(), entries.as_slice(), rec, into);
         }
         Expr::Symbolic { value, entries } => {
             put_symbol(
-                number_now(value, rec).pattern(),
+                quick_number(value, rec).pattern(),
                 entries.as_slice(),
                 rec,
                 into,

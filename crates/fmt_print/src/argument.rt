@@ -11,7 +11,7 @@ ghost use Rattle.fmt_eval.specs.Texts.{text_of};
 ghost use Rattle.fmt_eval.specs.Values.{given, number_of};
 ghost use Rattle.fmt_print.specs.Known.{test_in, StandsAt};
 
-use fmt_eval::{Num, Read, Test, holds, number_read, read_of, test_holds, test_of};
+use fmt_eval::{Num, Read, Test, holds, holds_by, number_by, read_of, test_of};
 use fmt_expr::{Expr, Kind, kind};
 use trace_base::{Field, FieldPlace, Rec};
 
@@ -128,7 +128,7 @@ impl Argument {
     pub fn number(&self, rec: &Rec<'_>) -> Num
         ensures { num_view result ≡ number_of (given rec.now) (argument_tree self.now) }
     {
-        number_read(self.read, &self.tree, rec)
+        number_by(self.read, &self.tree, rec)
     }
 
     /// Its number over a record, where it is read from four bytes.
@@ -173,7 +173,7 @@ impl Argument {
     {
         match &self.tree {
             Expr::Choice { test, yes, no } => {
-                if test_holds(self.test, test, rec) {
+                if holds_by(self.test, test, rec) {
                     arm_source(yes, rec)
                 } else {
                     arm_source(no, rec)

@@ -10,4 +10,4 @@ pub returns-then-bits-mask-eq0 : goal.returns-then-bits-mask-eq0
 returns-then-bits-mask-eq0 c =
     λ (between : List ℕ).
     the_only between (given c.args.rec.now) c.args.entries.now c.loop-entry.entry-index c.entry-item.result c.pattern-bits.result c.mask_of-mask.result c.as_bytes.result.now c.loop-entry-test.true c.entry-item.is c.mask_of-mask.ensures c.as_bytes.ensures c.if-is_flag.ensures c.if-bits-mask-eq0.true c.loop-entry.invariant
-    ∙ ap (λ (n : ℕ). flags_text between n (rows_in (given c.args.rec.now) c.args.entries.now)) (c.pattern-bits.ensures ∙ ap (λ (v : Number). pattern v.exact) c.number_now.ensures)
+    ∙ ap (λ (n : ℕ). flags_text between n (rows_in (given c.args.rec.now) c.args.entries.now)) (c.pattern-bits.ensures ∙ ap (λ (v : Number). pattern v.exact) c.quick_number.ensures)
