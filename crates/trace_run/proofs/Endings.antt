@@ -15,19 +15,20 @@ use Rattle.run_endings.specs.declared.status.Status.{Status}
 use Rattle.run_endings.specs.declared.status.Status.TheVariants.{Usage, Refused, ReadFault, NoMemory}
 use Rattle.run_words.specs.declared.usage.UsageFault.{UsageFault}
 use Rattle.run_endings.specs.Ending.{Ended, Ends, IfNoMemory, IsUnasked, Prints, KeepsOut}
-use Rattle.trace_run.specs.Input.{ReadsInputs, input_of_run}
-use Rattle.run_endings.specs.Progress.{progress}
+use Rattle.several_report.specs.Inputs.{input_named}
+use Rattle.trace_run.specs.Input.{GathersCalls}
 use Rattle.run_words.specs.Job.{FileCommand, Report, Dump, Split, Job, OnFile, OnFiles, SelfTest, Restore, About}
 use Rattle.run_endings.specs.Meaning.{Meaning, Target, on_nothing, on_out, only}
 use Rattle.trace_run.specs.Meaning.{header_means, file_means, input_means, command_means, command_meaning, meaning_read, input_of, target_of, target_read}
 use Rattle.run_endings.specs.Outside.{FolderSeen, Outside, SinkSeen, beside}
-use Rattle.trace_run.specs.Ran.{KeepsOff, Ran, Unread}
+use Rattle.trace_run.specs.Ran.{KeepsOff, Ran, Unread, most_opened}
 use Rattle.run_endings.specs.Ran.{MissesNothingElse}
 use Rattle.run_endings.specs.Requested.{AsksFor}
 use Rattle.trace_run.specs.Requested.{Asks, names_of, new_names}
 use Rattle.trace_run.specs.Work.{Worked}
-use Rattle.run_endings.proofs.Endings.{if_known, stored_none, unmoved, untouched, unheld, because, refused_by, finished_nothing, Around, CleanAround, ended_complete, ended_around, keeps_out, no_memory_map}
+use Rattle.run_endings.proofs.Endings.{if_known, stored_none, unmoved, untouched, unheld, because, refused_by, finished_nothing, Around, CleanAround, ended_complete, ended_around, keeps_out, no_memory_map, unbegun}
 use Rattle.run_endings.proofs.Requesting.{asked_first, asked_none, asked_still, asks_for}
+use Rattle.trace_run.proofs.Reading.{gathers_nothing}
 
 -- AFTER A HEADER
 
@@ -145,33 +146,28 @@ ran_unasked fault before =
     let how : Ended on_nothing ⊥ (Some (only Usage)) Usage before before =
     record { ends = finished_nothing Usage before; untouched = untouched before; causes = tt; kept = tt } in
     record {
-      ended = how;
-      complete = ended_complete on_nothing ⊥ (Some (only Usage)) Usage before before how;
+      job = record {
+        ended = how;
+        complete = ended_complete on_nothing ⊥ (Some (only Usage)) Usage before before how;
+        misses = λ other. refl;
+        closes = λ opened closed. omega arith;
+        opens = omega arith;
+      };
       usage = (inl refl, refl);
-      misses = λ other. refl;
-      closes = λ opened closed. omega arith;
-      opens = omega arith;
       requested = refl;
       reads = tt;
       gathers = tt;
-      reads_all = tt;
     }
 
 -- there was no memory to read the words, and nothing was touched
 pub ran_unread : (read : Result Job UsageFault) (before : Outside) → Ran read NoMemory before before
 ran_unread read before =
-    let how = unheld (target_read read) (Unread read before before) (meaning_read read before.folder.files) before in
     record {
-      ended = how;
-      complete = ended_complete (target_read read) (Unread read before before) (meaning_read read before.folder.files) NoMemory before before how;
+      job = unbegun (target_read read) (Unread read before before) (meaning_read read before.folder.files) (most_opened read) before;
       usage = keeps_off read;
-      misses = if_known (λ m. MissesNothingElse m before.folder.counts before.folder.counts) (meaning_read read before.folder.files) (λ m other. refl);
-      closes = λ opened closed. omega arith;
-      opens = omega arith;
       requested = asks_nothing read;
       reads = tt;
-      gathers = if_known _ (input_of_run read before.folder.files) (λ input calls unread. refl);
-      reads_all = nothing read;
+      gathers = gathers_none read;
     }
   where
     asks_nothing : (r : Result Job UsageFault) → Asks r (meaning_read r before.folder.files) before.folder.requested before.folder.requested
@@ -180,13 +176,14 @@ ran_unread read before =
         (λ news. asked_none (names_of job news) before.folder.requested)
     asks_nothing (Err fault) = refl
 
-    nothing : (r : Result Job UsageFault) → ReadsInputs r before.folder.files NoMemory (progress before) (progress before)
-    nothing (Ok (OnFile command)) = tt
-    nothing (Ok (OnFiles words)) = tt
-    nothing (Ok (SelfTest words)) = tt
-    nothing (Ok (Restore words)) = tt
-    nothing (Ok (About topic)) = tt
-    nothing (Err fault) = tt
+    gathers_none : (r : Result Job UsageFault) → GathersCalls r before.folder.files NoMemory before.out before.out
+    gathers_none (Ok (OnFile command)) =
+        if_known _ before.folder.files (λ files. gathers_nothing command (input_named files (input_of command)) NoMemory before.out)
+    gathers_none (Ok (OnFiles words)) = tt
+    gathers_none (Ok (SelfTest words)) = tt
+    gathers_none (Ok (Restore words)) = tt
+    gathers_none (Ok (About topic)) = tt
+    gathers_none (Err fault) = tt
 
     keeps_off : (r : Result Job UsageFault) → KeepsOff r NoMemory before before
     keeps_off (Ok (OnFile command)) = ((λ is. cc), keeps_out (target_of command) before.out)

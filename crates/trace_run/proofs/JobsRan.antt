@@ -4,7 +4,6 @@ use Rattle.std.specs.Option.{option_map}
 use Rattle.trace_args.specs.Command.{ReportData, RestoreData}
 use Rattle.run_endings.specs.declared.status.Status.{Status}
 use Rattle.run_endings.specs.Outside.{Outside}
-use Rattle.run_endings.specs.Progress.{progress}
 use Rattle.run_words.specs.Job.{OnFiles, Restore}
 use Rattle.several_report.specs.Ran.{FilesRan}
 use Rattle.restore_run.specs.Ran.{RestoreRan}
@@ -13,32 +12,21 @@ use Rattle.restore_run.specs.Restore.{restore_meaning}
 use Rattle.trace_run.specs.Ran.{Ran}
 use Rattle.trace_run.specs.Requested.{names_of}
 use Rattle.run_endings.proofs.Requesting.{asks_for}
-use Rattle.trace_run.proofs.Reading.{no_input}
 
 pub files_ran : (words : ReportData) (status : Status) (before now : Outside) → FilesRan words status before now → Ran (Ok (OnFiles words)) status before now
 files_ran words status before now did = record {
-  ended = did.ran.ended;
-  complete = did.ran.complete;
+  job = did.ran;
   usage = did.usage;
-  misses = did.ran.misses;
-  closes = did.ran.closes;
-  opens = did.ran.opens;
   requested = asks_for (names_of (OnFiles words)) (option_map (files_meaning words) before.folder.files) before.folder.requested now.folder.requested (λ news. did.requested);
-  reads = no_input status (progress before) (progress now);
+  reads = did.reads;
   gathers = tt;
-  reads_all = did.reads;
 }
 
 pub restore_ran : (words : RestoreData) (status : Status) (before now : Outside) → RestoreRan words status before now → Ran (Ok (Restore words)) status before now
 restore_ran words status before now did = record {
-  ended = did.ran.ended;
-  complete = did.ran.complete;
+  job = did.ran;
   usage = did.usage;
-  misses = did.ran.misses;
-  closes = did.ran.closes;
-  opens = did.ran.opens;
   requested = asks_for (names_of (Restore words)) (option_map (restore_meaning words) before.folder.files) before.folder.requested now.folder.requested (λ news. did.requested);
-  reads = no_input status (progress before) (progress now);
+  reads = did.reads;
   gathers = tt;
-  reads_all = did.reads;
 }

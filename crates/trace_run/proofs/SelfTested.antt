@@ -5,7 +5,6 @@ use Rattle.trace_args.specs.Command.{SelfData, ReportData}
 use Rattle.trace_gen.specs.Summary.{summary_line}
 use Rattle.run_endings.specs.declared.status.Status.{Status}
 use Rattle.run_endings.specs.Ending.{Prints}
-use Rattle.run_endings.specs.Progress.{progress}
 use Rattle.run_words.specs.Job.{SelfTest}
 use Rattle.run_endings.specs.Meaning.{on_out}
 use Rattle.trace_run.specs.Meaning.{self_test}
@@ -15,7 +14,7 @@ use Rattle.trace_run.specs.Requested.{names_of}
 use Rattle.trace_run.specs.Selftest.{generated_report, self_test_line, plain_report}
 use Rattle.run_endings.proofs.Endings.{ended_complete, not_usage}
 use Rattle.run_endings.proofs.Requesting.{asked_none, asks_for}
-use Rattle.trace_run.proofs.Reading.{no_input}
+use Rattle.run_endings.proofs.Reading.{any_answer}
 use Rattle.filter_truth.specs.SelectionView.{use_of}
 use Rattle.filter_truth.specs.declared.select.FilterUse.{FilterUse}
 use Rattle.run_words.specs.Usage.{uses_in}
@@ -39,16 +38,17 @@ pub self_tested : (words : SelfData) (status : Status) (folder : FolderSeen) (be
 self_tested words status folder before now prints =
     let ended = prints folder in
     record {
-      ended = ended;
-      complete = ended_complete on_out ⊥ (Some (self_test words)) status (beside folder before) (beside folder now) ended;
+      job = record {
+        ended = ended;
+        complete = ended_complete on_out ⊥ (Some (self_test words)) status (beside folder before) (beside folder now) ended;
+        misses = λ other. refl;
+        closes = λ opened closed. omega arith;
+        opens = omega arith;
+      };
       usage = (not_usage on_out ⊥ status (beside folder before) (beside folder now) (λ unasked. unasked) ended.causes, refl);
-      misses = λ other. refl;
-      closes = λ opened closed. omega arith;
-      opens = omega arith;
       requested = asks_for (names_of (SelfTest words)) (Some (self_test words)) folder.requested folder.requested (λ news. asked_none [] folder.requested);
-      reads = no_input status (progress (beside folder before)) (progress (beside folder now));
+      reads = any_answer status refl;
       gathers = tt;
-      reads_all = tt;
     }
 
 -- words without filters

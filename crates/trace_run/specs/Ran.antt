@@ -1,17 +1,17 @@
 -- All that is said of a run over a folder and an output, by what its words ask for.
-use Rattle.std.specs.Prelude.{Result, Ok, Err, ℕ, length, ◌≡◌, ◌≢◌, ◌⊎◌, ◌+◌, ◌≤◌, IfSome}
-use Rattle.trace_outside.specs.Causes.{Rose, raised}
+use Rattle.std.specs.Prelude.{Result, Ok, Err, ℕ, length, ◌≡◌, ◌≢◌, ◌⊎◌, ◌+◌}
+use Rattle.trace_outside.specs.Causes.{Rose}
 use Rattle.run_endings.specs.declared.status.Status.{Status}
 use Rattle.run_endings.specs.declared.status.Status.TheVariants.{Usage, ReadFault, NoMemory}
 use Rattle.run_words.specs.declared.usage.UsageFault.{UsageFault}
-use Rattle.run_endings.specs.Ending.{Ended, IsComplete, KeepsOut}
-use Rattle.trace_run.specs.Input.{ReadsInput, ReadsInputs, input_of_run, GathersInput}
-use Rattle.run_endings.specs.Progress.{progress}
+use Rattle.run_endings.specs.Ending.{KeepsOut}
+use Rattle.trace_run.specs.Input.{ReadsNeeded, GathersCalls}
+use Rattle.run_endings.specs.Progress.{BehindHeader, progress}
 use Rattle.run_words.specs.Job.{Job, OnFile, OnFiles, SelfTest, Restore, About}
 use Rattle.trace_run.specs.Meaning.{meaning_read, target_read, target_of}
 use Rattle.trace_run.specs.Requested.{Asks}
 use Rattle.run_endings.specs.Outside.{Outside}
-use Rattle.run_endings.specs.Ran.{MissesNothingElse, ClosesAll}
+use Rattle.run_endings.specs.Ran.{JobRan}
 
 -- That a read failed shows in the folder's count. A self-test, and what the program tells of itself, read no file.
 abbrev pub Unread : Result Job UsageFault → Outside → Outside → Type 0
@@ -42,14 +42,10 @@ most_opened (Ok (Restore words)) = length words.files + 1
 most_opened (Ok (About topic)) = 0
 most_opened (Err fault) = 0
 
+-- how it ended, and what it opened and closed; what it kept off; the names that it asked for; what it read; and that calls are gathered first
 pub record Ran (read : Result Job UsageFault) (status : Status) (before now : Outside) : Type 0 where
-  pub ended : Ended (target_read read) (Unread read before now) (meaning_read read before.folder.files) status before now
-  pub complete : IfSome (meaning_read read before.folder.files) (λ m. IsComplete (target_read read) (Unread read before now) m status before now)
+  pub job : JobRan (target_read read) (Unread read before now) (meaning_read read before.folder.files) (most_opened read) status before now
   pub usage : KeepsOff read status before now
-  pub misses : IfSome (meaning_read read before.folder.files) (λ m. MissesNothingElse m before.folder.counts now.folder.counts)
-  pub closes : ClosesAll before.folder.counts now.folder.counts
-  pub opens : now.folder.counts.opened ≤ raised before.folder.counts.opened (most_opened read)
   pub requested : Asks read (meaning_read read before.folder.files) before.folder.requested now.folder.requested
-  pub reads : ReadsInput (input_of_run read before.folder.files) status (progress before) (progress now)
-  pub gathers : GathersInput (input_of_run read before.folder.files) status before.out now.out
-  pub reads_all : ReadsInputs read before.folder.files status (progress before) (progress now)
+  pub reads : BehindHeader status (ReadsNeeded read before.folder.files (progress before) (progress now))
+  pub gathers : GathersCalls read before.folder.files status before.out now.out

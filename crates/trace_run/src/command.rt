@@ -2,14 +2,15 @@
 // stands here once for all such commands.
 
 ghost use Rattle.std.specs.Option.{option_map};
-ghost use Rattle.std.specs.Prelude.{Ok, ◌≡◌, ◌≤◌, map, IfSome};
+ghost use Rattle.std.specs.Prelude.{Ok, ◌≡◌, ◌≤◌, map, IfOk, IfSome};
 ghost use Rattle.trace_outside.specs.Causes.{Rose, raised};
 ghost use Rattle.dat_header.specs.Allowed.{IsHeader};
 ghost use Rattle.dat_header.specs.Header.{ReadsHeader};
 ghost use Rattle.run_words.specs.Allowed.{IsAllowed, IsAllowedJob};
 ghost use Rattle.file_report.specs.Due.{ReadsDue};
-ghost use Rattle.trace_run.specs.Input.{ReadsInput, events_of, input_told, share, GathersInput, command_calls};
-ghost use Rattle.run_endings.specs.Progress.{progress_at};
+ghost use Rattle.several_report.specs.Inputs.{input_found};
+ghost use Rattle.trace_run.specs.Input.{ReadsNoMore, events_of, share, shows_calls};
+ghost use Rattle.run_endings.specs.Progress.{BehindHeader, progress_at};
 ghost use Rattle.run_words.specs.Job.{OnFile, command_view, job_view};
 ghost use Rattle.trace_run.specs.Meaning as spec;
 ghost use Rattle.trace_run.specs.Meaning.{header_means, input_means};
@@ -119,9 +120,11 @@ fn run_on_file<R: Threads + Sync, F: Folder, O: Sink, G: Gate>(
         (option_map (input_means (command_view command.now)) (F.In.bytes file.old)) result
         (outside_seen F.Folder O.Sink folder.old out.old) (outside_seen F.Folder O.Sink folder.new out.new) }
     ensures kept { IfNoMemory result (F.In.faults file.new ≡ F.In.faults file.old) }
-    ensures gathers { GathersInput (input_told (command_view command.now) (F.In.bytes file.old)) result (sink_seen O.Sink out.old) (sink_seen O.Sink out.new) }
-    ensures reads { ReadsInput (input_told (command_view command.now) (F.In.bytes file.old)) result
-        (progress_at (O.written out.old) (F.In.reads file.old)) (progress_at (O.written out.new) (F.In.reads file.new)) }
+    ensures gathers { IfOk (input_found (spec.input_of (command_view command.now)) (F.In.bytes file.old))
+        (λ input. GathersFirst (shows_calls (command_view command.now) input.header) result (sink_seen O.Sink out.old) (sink_seen O.Sink out.new)) }
+    ensures reads { BehindHeader result (IfOk (input_found (spec.input_of (command_view command.now)) (F.In.bytes file.old))
+        (λ input. ReadsNoMore (command_view command.now) input
+        (progress_at (O.written out.old) (F.In.reads file.old)) (progress_at (O.written out.new) (F.In.reads file.new)))) }
 {
     match read_header(resources.alloc, file) {
         Ok(header) => run_on_header(resources, command, filters, header, file, folder, out),
@@ -151,7 +154,7 @@ fn run_on_header<R: Threads + Sync, F: Folder, O: Sink, G: Gate>(
         (option_map (header_means (command_view command.now) header) (F.In.bytes file.old)) result
         (outside_seen F.Folder O.Sink folder.old out.old) (outside_seen F.Folder O.Sink folder.new out.new) }
     ensures kept { IfNoMemory result (F.In.faults file.new ≡ F.In.faults file.old) }
-    ensures gathers { GathersFirst (command_calls (command_view command.now) header) result (sink_seen O.Sink out.old) (sink_seen O.Sink out.new) }
+    ensures gathers { GathersFirst (shows_calls (command_view command.now) header) result (sink_seen O.Sink out.old) (sink_seen O.Sink out.new) }
     ensures reads { F.In.reads file.new ≤ raised (F.In.reads file.old) (share (command_view command.now) header (F.In.size file.old)) }
     ensures due { IfSome (F.In.bytes file.old) (λ bytes. IfSome (events_of (command_view command.now) header bytes)
         (λ events. ReadsDue events 0 (progress_at (O.written out.old) (F.In.reads file.old)) (progress_at (O.written out.new) (F.In.reads file.new)))) }

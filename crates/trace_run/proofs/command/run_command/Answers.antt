@@ -1,13 +1,14 @@
-use Rattle.std.proofs.Common.{◌∙◌, ap, subst, refl, arith, ℕ, Ok}
+use Rattle.std.proofs.Common.{◌∙◌, ap, subst, refl, arith, ℕ, IfOk, Ok}
 use Rattle.trace_outside.specs.Causes.{Rose, raised}
 use Rattle.run_endings.specs.declared.status.Status.TheVariants.{ReadFault}
-use Rattle.trace_run.specs.Input.{ReadsInput, input_told, input_of_run}
-use Rattle.run_endings.specs.Progress.{progress_at}
+use Rattle.several_report.specs.Inputs.{input_found, input_named}
+use Rattle.trace_run.specs.Input.{ReadsNoMore}
+use Rattle.run_endings.specs.Progress.{BehindHeader, progress_at}
 use Rattle.run_words.specs.Job.{OnFile, command_view}
-use Rattle.trace_run.specs.Meaning.{meaning_read, target_of}
+use Rattle.trace_run.specs.Meaning.{input_of, meaning_read, target_of}
 use Rattle.run_endings.specs.Outside.{beside, folder_seen, sink_seen}
 use Rattle.trace_run.specs.Ran.{Unread}
-use Rattle.run_endings.proofs.Endings.{Around, ended_complete, not_usage, keeps_out}
+use Rattle.run_endings.proofs.Endings.{Around, ended_complete, if_known, not_usage, keeps_out}
 use Rattle.trace_run.proofs.Endings.{clean_around, command_asked, command_asks, command_ended, command_misses, unopened_asks, unopened_ended}
 use Rattle.trace_run.proofs.Reading.{command_reads, command_gathers, gathers_nothing}
 use Rattle.trace_run.proofs.command.run_command.Goals as goal
@@ -22,16 +23,17 @@ returns-in-Err g c =
     let unread = Unread (Ok (OnFile command)) before now in
     let ended = unopened_ended command before.folder.files unread before now c.in-Err.ensures.counts.failed refl c.open_file.ensures.files opens.created in
     record {
-      ended = ended;
-      complete = ended_complete (target_of command) unread (meaning_read (Ok (OnFile command)) before.folder.files) ReadFault before now ended;
+      job = record {
+        ended = ended;
+        complete = ended_complete (target_of command) unread (meaning_read (Ok (OnFile command)) before.folder.files) ReadFault before now ended;
+        misses = command_misses command _ _ before.folder.counts now.folder.counts now.folder.counts c.input_of.ensures opens.misses refl;
+        closes = λ opened closed. omega (arith, c.in-Err.ensures.counts.opened, opens.closed);
+        opens = omega (arith, c.in-Err.ensures.counts.opened);
+      };
       usage = ((λ is. cc), keeps_out (target_of command) out);
-      misses = command_misses command _ _ before.folder.counts now.folder.counts now.folder.counts c.input_of.ensures opens.misses refl;
-      closes = λ opened closed. omega (arith, c.in-Err.ensures.counts.opened, opens.closed);
-      opens = omega (arith, c.in-Err.ensures.counts.opened);
       requested = unopened_asks command (meaning_read (Ok (OnFile command)) before.folder.files) _ before.folder.requested now.folder.requested c.input_of.ensures c.open_file.ensures.requested;
       reads = tt;
-      gathers = gathers_nothing (input_of_run (Ok (OnFile command)) before.folder.files) ReadFault out;
-      reads_all = tt;
+      gathers = if_known _ before.folder.files (λ files. gathers_nothing command (input_named files (input_of command)) ReadFault out);
     }
 
 pub returns-in-Ok : goal.returns-in-Ok
@@ -69,17 +71,19 @@ returns-in-Ok g c =
     c.in-Ok.ensures.counts.kept opens.writing c.in-Ok.ensures.no_faults closes c.run_on_file-status.ensures.kept in
     let ended = command_ended before opened worked now around command before.folder.files (g.F.In.File.bytes c.in-Ok.file) _ unread status given risen clean work.ended in
     record {
-      ended = ended;
-      complete = ended_complete (target_of command) unread (meaning_read (Ok (OnFile command)) before.folder.files) status before now ended;
+      job = record {
+        ended = ended;
+        complete = ended_complete (target_of command) unread (meaning_read (Ok (OnFile command)) before.folder.files) status before now ended;
+        misses = command_misses command _ _ before.folder.counts opened.folder.counts now.folder.counts c.input_of.ensures opens.misses (closes.misses ∙ work.counts.misses);
+        closes = λ last_opened last_closed. omega (arith, c.in-Ok.ensures.counts.opened, opens.closed, work.counts.opened, work.counts.closed, closes.opened, closes.closed);
+        opens = omega (arith, c.in-Ok.ensures.counts.opened, work.counts.opened, closes.opened);
+      };
       usage = (not_usage (target_of command) unread status before now (command_asked command) ended.causes, work.out);
-      misses = command_misses command _ _ before.folder.counts opened.folder.counts now.folder.counts c.input_of.ensures opens.misses (closes.misses ∙ work.counts.misses);
-      closes = λ last_opened last_closed. omega (arith, c.in-Ok.ensures.counts.opened, opens.closed, work.counts.opened, work.counts.closed, closes.opened, closes.closed);
-      opens = omega (arith, c.in-Ok.ensures.counts.opened, work.counts.opened, closes.opened);
       requested = command_asks command before.folder.files (g.F.In.File.bytes c.in-Ok.file) _ before.folder.requested opened.folder.requested worked.folder.requested now.folder.requested
           c.input_of.ensures given c.open_file.ensures.requested work.requested c.close_file.ensures.requested;
       reads = command_reads command _ _ status out.written out_now.written reads _ _ given
           (closes.bytes ∙ ap (λ (b : ℕ). raised b reads) (work.counts.bytes ∙ opens.bytes))
-          (subst (λ (n : ℕ). ReadsInput (input_told command (g.F.In.File.bytes c.in-Ok.file)) status (progress_at out.written n) (progress_at out_now.written reads)) c.in-Ok.ensures.no_reads c.run_on_file-status.ensures.reads);
+          (subst (λ (n : ℕ). BehindHeader status (IfOk (input_found (input_of command) (g.F.In.File.bytes c.in-Ok.file))
+          (λ input. ReadsNoMore command input (progress_at out.written n) (progress_at out_now.written reads)))) c.in-Ok.ensures.no_reads c.run_on_file-status.ensures.reads);
       gathers = command_gathers command _ _ status out out_now given c.run_on_file-status.ensures.gathers;
-      reads_all = tt;
     }

@@ -5,7 +5,8 @@ use Rattle.run_endings.proofs.Endings.{no_memory_map}
 use Rattle.trace_run.proofs.Endings.{behind_header, header_refused, header_unheld, header_unread}
 use Rattle.trace_run.proofs.Reading.{read_behind_header, gathers_behind_header, gathers_nothing}
 use Rattle.trace_run.proofs.command.run_on_file.Goals as goal
-use Rattle.trace_run.specs.Input.{input_told}
+use Rattle.several_report.specs.Inputs.{input_found}
+use Rattle.trace_run.specs.Meaning.{input_of}
 
 pub run_on_header-requires-clause-read : goal.run_on_header-requires-clause-read
 run_on_header-requires-clause-read g c κs live =
@@ -32,7 +33,7 @@ pub returns : goal.returns
 returns g c = record {
   worked = header_refused (command_view c.args.command.now) c.in-Err.fault _ _ _ (search rules) c.in-Err.ensures.answer;
   kept = tt;
-  gathers = gathers_nothing (input_told (command_view c.args.command.now) (g.F.In.File.bytes c.args.file.now)) _ _;
+  gathers = gathers_nothing (command_view c.args.command.now) (input_found (input_of (command_view c.args.command.now)) (g.F.In.File.bytes c.args.file.now)) _ _;
   reads = tt;
 }
 
@@ -46,4 +47,4 @@ returns-in-Ok-clause-gathers g c =
     gathers_behind_header (command_view c.args.command.now) c.in-Ok.header _ c.run_on_header.result _ _ c.in-Ok.ensures.answer c.run_on_header.ensures.gathers
 
 pub returns-in-Err-Read-clause-gathers : goal.returns-in-Err-Read-clause-gathers
-returns-in-Err-Read-clause-gathers g c = gathers_nothing (input_told (command_view c.args.command.now) (g.F.In.File.bytes c.args.file.now)) _ _
+returns-in-Err-Read-clause-gathers g c = gathers_nothing (command_view c.args.command.now) (input_found (input_of (command_view c.args.command.now)) (g.F.In.File.bytes c.args.file.now)) _ _
