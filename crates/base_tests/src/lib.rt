@@ -3,8 +3,8 @@
 //!
 //! A line of a field and its reading is a row of `LINES` in `field_lines`, a line of words and its reading one of `LINES` in
 //! `words`, a sample sub-buffer and its items one of `PAGES` in `samples`, and a call of a file, folder or writer that fails,
-//! in memory or of the system, a row of the tables in `outside`. `texts` calls each function over numbers, texts and lists
-//! once.
+//! in memory or of the system, a row of the tables in `outside`. A piece and what a tail keeps of it is a row of `PIECES` in
+//! `tails`. `texts` calls each function over numbers, texts and lists once.
 #![tactic(auto)]
 
 #[cfg(test)]
@@ -13,6 +13,8 @@ mod field_lines;
 mod outside;
 #[cfg(test)]
 mod samples;
+#[cfg(test)]
+mod tails;
 #[cfg(test)]
 mod texts;
 #[cfg(test)]
