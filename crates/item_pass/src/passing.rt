@@ -15,17 +15,20 @@ use crate::skipping::use_up;
 use crate::taking::take_head;
 use page_pool::Lane;
 use std::alloc::Global;
+use thiserror::Error;
 use time_merge::{Next, next_lane_by};
 use tournament_tree::TournamentTree;
 use trace_base::Layout;
 use trace_outside::{Failed, File};
 
 /// Why a pass, or the gathering that it is part of, ended early.
-#[derive(Clone, Copy, Debug, PartialEq, Eq)]
+#[derive(Clone, Copy, Debug, PartialEq, Eq, Error)]
 pub enum PassFault {
     /// A read failed. The lanes are not to be used again.
+    #[error("read failed")]
     Read,
     /// There is no memory.
+    #[error("out of memory")]
     Memory,
 }
 

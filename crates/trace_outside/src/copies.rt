@@ -7,13 +7,16 @@ ghost use Rattle.trace_outside.specs.Copies.{Copies};
 
 use crate::outside::{Failed, File, Sink};
 use crate::whole::{read_all, write_all};
+use thiserror::Error;
 
 /// Why a copy stopped.
-#[derive(Clone, Copy, Debug, PartialEq, Eq)]
+#[derive(Clone, Copy, Debug, PartialEq, Eq, Error)]
 pub enum CopyFault {
     /// A read failed.
+    #[error("read failed")]
     Read,
     /// A write failed.
+    #[error("write failed")]
     Write,
 }
 

@@ -11,8 +11,11 @@ ghost use Rattle.trace_outside.specs.Writing.{Takes};
 ghost use Rattle.trace_outside.specs.Names.{NamedFiles};
 ghost use Rattle.trace_outside.specs.Folders.{IsEmptySink, IsFileOf, Opens, Closes, Creates, Finishes, Drops, Stores, KeepsOthers};
 
+use thiserror::Error;
+
 /// A call of the outside did not do what it was asked. The object's count of faults rose.
-#[derive(Clone, Copy, Debug, PartialEq, Eq)]
+#[derive(Clone, Copy, Debug, PartialEq, Eq, Error)]
+#[error("a call of the outside failed")]
 pub struct Failed;
 
 /// A file that is read at places, counted in bytes from 0. Its bytes and its length never change.

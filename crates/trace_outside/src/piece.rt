@@ -9,16 +9,20 @@ ghost use Rattle.trace_outside.specs.declared.piece.PieceFault.TheVariants.{Read
 use crate::outside::{Failed, File};
 use crate::whole::read_all;
 use std::alloc::Global;
+use thiserror::Error;
 use trace_base::ByteText;
 
 /// Why a piece of a file was not read.
-#[derive(Clone, Copy, Debug, PartialEq, Eq)]
+#[derive(Clone, Copy, Debug, PartialEq, Eq, Error)]
 pub enum PieceFault {
     /// The file ends before the piece does. It has this many bytes, and none of them was read.
+    #[error("file ends early at byte {0}")]
     EndsEarly(u64),
     /// A read failed.
+    #[error("read failed")]
     Read,
     /// There was no memory for the piece.
+    #[error("out of memory")]
     Memory,
 }
 
