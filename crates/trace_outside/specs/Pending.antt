@@ -1,5 +1,5 @@
 -- Text on its way to a sink: what the sink has of it and what still waits.
-use Rattle.std.specs.Prelude.{Option, Result, ◌≡◌, ℕ, ◌≤◌, List, [], ◌++◌, length, take, drop, MatchResult}
+use Rattle.std.specs.Prelude.{Option, Result, ◌≡◌, ◌==◌, ◌&&◌, ℕ, Bool, nat_le, ◌≤◌, List, [], ◌++◌, length, take, drop, MatchResult}
 use Rattle.trace_outside.specs.Causes.{HasCause}
 use Rattle.trace_outside.specs.Writing.{Gained, GainedPrefix}
 
@@ -37,3 +37,7 @@ pub record PutsText {T E : Type 0} (piece : List ℕ) (before now : OnWay) (resu
   pub puts : Puts piece before.written before.waiting now.written now.waiting result
   pub name : now.name ≡ before.name
   pub cause : HasCause before.faults now.faults result
+
+-- a piece of so many bytes is worth a write of its own, and so many bytes that wait are none that could go with it
+abbrev pub is_written_at_once : ℕ → ℕ → Bool
+is_written_at_once waiting len = (waiting == 0) && nat_le 8192 len

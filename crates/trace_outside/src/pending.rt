@@ -1,7 +1,7 @@
-ghost use Rattle.std.specs.Prelude.{◌≡◌, ◌≤◌, ◌+◌, ◌++◌, [], List, ℕ, length, nat_le, IfOk, vec_len, vec_capacity, if◌then◌else◌};
+ghost use Rattle.std.specs.Prelude.{◌≡◌, ◌≤◌, ◌+◌, ◌++◌, ◌&&◌, not, [], List, ℕ, length, nat_le, IfOk, vec_len, vec_capacity, if◌then◌else◌};
 ghost use Rattle.std.specs.List.{flat_map};
 ghost use Rattle.trace_outside.specs.Causes.{HasCause};
-ghost use Rattle.trace_outside.specs.Pending.{PutsText, Flushes, on_way};
+ghost use Rattle.trace_outside.specs.Pending.{PutsText, Flushes, is_written_at_once, on_way};
 
 use crate::outside::{Failed, Sink};
 use crate::whole::write_all;
@@ -10,8 +10,9 @@ use std::marker::Model;
 
 /// Text on its way to a sink, which gets it in large pieces. Contracts see what still waits.
 ///
-/// Memory is taken at the start alone: from then on pieces go to room that is there, or past it to the sink. After a fault the
-/// sink has a prefix of all that was put, and nothing is said of what waits: it is not to be used again.
+/// Memory is taken at the start alone: from then on pieces go to room that is there, or past it to the sink, as large ones
+/// do where nothing waits. After a fault the sink has a prefix of all that was put, and nothing is said of what waits: it is
+/// not to be used again.
 #[derive(Drop)]
 pub struct Pending {
     bytes: Vec<u8>,
@@ -24,6 +25,16 @@ impl Model for Pending {
 
     // No more than `ROOM` bytes wait, and there is memory for as many.
     ghost invariant = { λ pending. (vec_len pending.bytes ≤ 65536) × (65536 ≤ vec_capacity pending.bytes) };
+}
+
+/// From so many bytes on a piece is worth a write of its own.
+const LARGE: usize = 8_192;
+
+/// Whether a piece goes to the sink without a copy: it is large, and nothing waits that could be written with it.
+fn is_written_at_once(waiting: usize, len: usize) -> bool
+    ensures { result ≡ is_written_at_once waiting len }
+{
+    waiting == 0 && len >= LARGE
 }
 
 impl Pending {
@@ -52,12 +63,15 @@ impl Pending {
         write_all(out, piece)
     }
 
-    // Lets the piece wait, just where there is room for it. It takes no memory.
+    // Lets the piece wait, just where there is room for it and it is not to be written at once. It takes no memory.
     fn append(&mut self, piece: &[u8]) -> bool
-        ensures fits { result ≡ nat_le (length self.old + length piece.now) Pending.ROOM }
+        ensures fits { result ≡ (nat_le (length self.old + length piece.now) Pending.ROOM && not (is_written_at_once (length self.old) (length piece.now))) }
         ensures waits { self.new ≡ (if result then self.old ++ piece.now else self.old) }
     {
         if piece.len() > Pending::ROOM - self.bytes.len() {
+            return false;
+        }
+        if is_written_at_once(self.bytes.len(), piece.len()) {
             return false;
         }
         self.bytes.extend_from_slice(piece).is_ok()
