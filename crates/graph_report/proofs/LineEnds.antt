@@ -7,8 +7,7 @@ use Rattle.std.proofs.lemmas.Bool.{cases_Bool}
 use Rattle.trace_base.specs.Kept.{Held}
 use Rattle.report_print.specs.ContextData.{ContextData}
 use Rattle.report_print.specs.Ending.{is_newline, ends_in_newline, of_held, closed}
-use Rattle.report_print.specs.Line.{loss_text}
-use Rattle.report_print.specs.Prefix.{prefix_text}
+use Rattle.report_print.specs.Line.{loss_text, prefix_text}
 use Rattle.report_print.proofs.LineLength.{closed_short}
 use Rattle.call_pairs.specs.declared.call.Call.{Call}
 use Rattle.call_pairs.specs.declared.call.Call.TheVariants.{Entry, Exit, Loss}

@@ -6,8 +6,7 @@ use Rattle.line_columns.specs.Columns.{right, duration_text}
 use Rattle.symbols.specs.NameMap.{nearest}
 use Rattle.report_print.specs.ContextData.{ContextData}
 use Rattle.report_print.specs.Ending.{closed}
-use Rattle.report_print.specs.Line.{loss_text}
-use Rattle.report_print.specs.Prefix.{prefix_text}
+use Rattle.report_print.specs.Line.{loss_text, prefix_text}
 use Rattle.call_pairs.specs.declared.call.Call.{Call}
 use Rattle.call_pairs.specs.declared.call.Call.TheVariants.{Entry, Exit, Loss}
 

@@ -11,10 +11,9 @@ use Rattle.format_parse.specs.declared.format.EventFormat.{EventFormat}
 use Rattle.format_parse.specs.Table.{format_at}
 use Rattle.subpage.specs.ItemData.{ItemData, EventAt, LossAt}
 use Rattle.report_print.specs.ContextData.{ContextData}
-use Rattle.report_print.specs.Line.{id_of}
+use Rattle.report_print.specs.Line.{id_of, common_in}
 use Rattle.report_print.specs.NumberFields.{of_counted, of_number, number_at, low_32}
 use Rattle.report_print.specs.declared.number_field.NumberField.{NumberField}
-use Rattle.report_print.specs.Prefix.{common_in}
 use Rattle.call_pairs.specs.declared.graph_item.GraphEvent.{GraphEvent}
 use Rattle.call_pairs.specs.declared.graph_item.GraphItem.{GraphItem}
 use Rattle.call_pairs.specs.declared.graph_item.GraphItem.TheVariants as seen

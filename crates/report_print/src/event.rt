@@ -9,8 +9,7 @@ ghost use Rattle.std.specs.Option.{option_map};
 ghost use Rattle.fmt_print.specs.PlanView.{plan_view};
 ghost use Rattle.report_print.specs.FieldTexts.{is_common};
 ghost use Rattle.report_print.specs.Line as spec;
-ghost use Rattle.report_print.specs.Line.{IsTimeEnd};
-ghost use Rattle.report_print.specs.Prefix.{prefix_text};
+ghost use Rattle.report_print.specs.Line.{IsTimeEnd, prefix_text};
 
 use crate::context::Context;
 use crate::fields::{put_fields_behind, put_unread};

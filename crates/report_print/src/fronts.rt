@@ -1,12 +1,11 @@
 // The front of a line: the columns before what is said.
 
-ghost use Rattle.std.specs.Prelude.{◌≡◌, ◌<◌, ◌≤◌, ◌+◌, ◌++◌, [], ℕ, List, codes, length, true, false};
+ghost use Rattle.std.specs.Prelude.{◌≡◌, ◌<◌, ◌≤◌, ◌+◌, ◌++◌, [], ℕ, codes, length, true, false};
 ghost use Rattle.std.specs.Fmt.{signed_decimal};
 ghost use Rattle.trace_base.specs.Kept.{put_held};
 ghost use Rattle.trace_base.specs.TailView.{held, lent};
 ghost use Rattle.symbols.specs.Maps.{unnamed};
 ghost use Rattle.line_columns.specs.Columns.{left, right};
-ghost use Rattle.report_print.specs.ContextData.{ContextData};
 ghost use Rattle.report_print.specs.Line as line;
 ghost use Rattle.report_print.specs.Prefix as spec;
 ghost use Rattle.report_print.specs.Prefix.{columns, IsUsual};
@@ -40,7 +39,7 @@ impl Context {
 
     /// The numbers that an event begins with.
     pub fn common(&self, payload: &[u8]) -> Common
-        ensures { result ≡ spec.common_in self.now payload.now }
+        ensures { result ≡ line.common_in self.now payload.now }
     {
         self.common_of(self.id(payload), payload)
     }
@@ -49,7 +48,7 @@ impl Context {
     #[inline(always)]
     pub fn common_of(&self, id: u32, payload: &[u8]) -> Common
         requires { id ≡ line.id_of self.now payload.now }
-        ensures { result ≡ spec.common_in self.now payload.now }
+        ensures { result ≡ line.common_in self.now payload.now }
     {
         Common {
             id,
@@ -62,7 +61,7 @@ impl Context {
     /// The same as far as an event's line shows them.
     #[tactic(auto, using(crate::proofs::FrontLemmas::shown_prefix))]
     pub(crate) fn shown_common(&self, payload: &[u8]) -> Common
-        ensures { (cpu : ℕ) (time : ℕ) → spec.prefix_text self.now cpu time result ≡ line.front_text self.now cpu time payload.now }
+        ensures { (cpu : ℕ) (time : ℕ) → line.prefix_text self.now cpu time result ≡ line.front_text self.now cpu time payload.now }
     {
         let (flags, preempt) = self.shown_marks(payload);
         Common {
@@ -96,7 +95,7 @@ impl Context {
 /// Puts the columns of a line up to the colon after the time: the task with its pid, where and when it was.
 pub fn prefix(context: &Context, cpu: u32, time: u64, common: &Common, into: &mut Tail<'_>)
     ensures same_slice { lent into.new ≡ lent into.old }
-    ensures value { held into.new ≡ put_held (held into.old) (spec.prefix_text context.now cpu time common.now) }
+    ensures value { held into.new ≡ put_held (held into.old) (line.prefix_text context.now cpu time common.now) }
 {
     put_any(context, cpu, time, common, b"", into);
 }
@@ -113,8 +112,8 @@ pub(crate) fn put_front(
 ) -> usize
     requires short { length behind.now ≤ LONGEST_BEHIND }
     ensures same_slice { lent into.new ≡ lent into.old }
-    ensures value { held into.new ≡ put_held (put_held (held into.old) (spec.prefix_text context.now cpu time common.now)) behind.now }
-    ensures until { result + 2 ≡ length (spec.prefix_text context.now cpu time common.now) }
+    ensures value { held into.new ≡ put_held (put_held (held into.old) (line.prefix_text context.now cpu time common.now)) behind.now }
+    ensures until { result + 2 ≡ length (line.prefix_text context.now cpu time common.now) }
 {
     let len = put_columns(context, cpu, time, common, behind, into);
     len - (behind.len() + 2)
@@ -368,10 +367,3 @@ fn put_place(show: &Show, cpu: u32, flags: u32, preempt: u32, front: &mut Front)
         front.prepend_processor(cpu);
     }
 }
-
-/// The columns of an event's line are those of the numbers that it begins with.
-#[tactic(auto, unfolding(crate::specs::Prefix::prefix_text, crate::specs::Prefix::columns_of, crate::specs::Line::front_text, crate::specs::Line::columns_text))]
-pub fn own_front()
-    ensures { (given : ContextData) (cpu : ℕ) (time : ℕ) (payload : List ℕ)
-        → line.front_text given cpu time payload ≡ spec.prefix_text given cpu time (spec.common_in given payload) }
-{}

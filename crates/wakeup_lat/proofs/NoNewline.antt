@@ -6,7 +6,7 @@ use Rattle.std.specs.List.{last_or}
 use Rattle.line_columns.specs.Columns.{duration_text, zeros}
 use Rattle.report_print.specs.ContextData.{ContextData}
 use Rattle.report_print.specs.Ending.{is_newline, ends_in_newline}
-use Rattle.report_print.specs.Prefix.{prefix_text}
+use Rattle.report_print.specs.Line.{prefix_text}
 use Rattle.wakeup_pairs.specs.declared.wakeup_item.Pair.{Pair}
 use Rattle.wakeup_pairs.specs.Figures.{latency}
 use Rattle.wakeup_lat.specs.Section.{pair_text}

@@ -12,8 +12,7 @@ use Rattle.report_print.specs.declared.number_field.NumberField.{NumberField}
 use Rattle.report_print.specs.NumberFields.{of_number, signed_32}
 use Rattle.trace_base.specs.Fields.{field_named}
 use Rattle.report_print.specs.ContextData.{ContextData}
-use Rattle.report_print.specs.Line.{id_of}
-use Rattle.report_print.specs.Prefix.{common_in}
+use Rattle.report_print.specs.Line.{id_of, common_in}
 use Rattle.wakeup_pairs.specs.declared.wakeup_item.WakeupItem.{WakeupItem}
 use Rattle.wakeup_pairs.specs.declared.wakeup_item.WakeupItem.TheVariants as seen
 use Rattle.wakeup_lat.specs.declared.role.Role.{Role}

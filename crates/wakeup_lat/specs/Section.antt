@@ -4,7 +4,7 @@ use Rattle.std.specs.Fmt.{decimal}
 use Rattle.line_columns.specs.Columns.{duration_text, bare_time_text}
 use Rattle.report_print.specs.ContextData.{ContextData}
 use Rattle.report_print.specs.Ending.{closed}
-use Rattle.report_print.specs.Prefix.{prefix_text}
+use Rattle.report_print.specs.Line.{prefix_text}
 use Rattle.wakeup_pairs.specs.declared.wakeup_item.Pair.{Pair}
 use Rattle.wakeup_pairs.specs.Figures.{latency, average, longest, shortest}
 

@@ -2,8 +2,7 @@ use Rattle.std.proofs.Common.{◌∙◌, sym, ap, refl}
 use Rattle.std.specs.Option.{option_map}
 use Rattle.trace_base.specs.TailView.{held}
 use Rattle.report_print.specs.HeadView.{known_view}
-use Rattle.report_print.specs.Line.{unknown_text}
-use Rattle.report_print.specs.Prefix.{prefix_text}
+use Rattle.report_print.specs.Line.{unknown_text, prefix_text}
 use Rattle.report_print.proofs.FrontLemmas.{known_put, unknown_put}
 use Rattle.report_print.proofs.TimeEnds.{end_is}
 use Rattle.report_print.proofs.event.put_event.Goals as goal

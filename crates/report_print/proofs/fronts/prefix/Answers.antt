@@ -1,6 +1,6 @@
 use Rattle.std.proofs.Common.{◌∙◌, []}
 use Rattle.trace_base.specs.TailView.{held}
-use Rattle.report_print.specs.Prefix.{prefix_text}
+use Rattle.report_print.specs.Line.{prefix_text}
 use Rattle.report_print.proofs.FrontLemmas.{front_put}
 use Rattle.report_print.proofs.HeldPuts.{put_end}
 use Rattle.report_print.proofs.fronts.prefix.Goals as goal

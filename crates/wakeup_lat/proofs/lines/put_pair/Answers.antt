@@ -3,7 +3,7 @@ use Rattle.std.specs.Prelude.{codes}
 use Rattle.trace_base.specs.Kept.{put_held}
 use Rattle.trace_base.specs.TailView.{held}
 use Rattle.line_columns.specs.Columns.{duration_text}
-use Rattle.report_print.specs.Prefix.{prefix_text}
+use Rattle.report_print.specs.Line.{prefix_text}
 use Rattle.wakeup_pairs.specs.Figures.{latency}
 use Rattle.wakeup_lat.specs.Section.{pair_text}
 use Rattle.wakeup_lat.proofs.ThreePuts.{puts}
