@@ -5,6 +5,7 @@ ghost use Rattle.std.specs.Prelude.{◌≡◌, IfOk};
 use filter_lang::{FilterFault, parse_filter};
 use filter_truth::FilterUse;
 use format_parse::FormatTable;
+use line_holes::Hole;
 use report_print::{Context, Show, line, selected};
 use std::alloc::{AllocError, Global};
 use std::process::Abort;
@@ -442,7 +443,7 @@ fn named(alloc: Global, task: &str) -> Result<Context, AllocError> {
 }
 
 /// The hole of an event of the task 42.
-fn hole_of(context: &Context) -> Option<(u32, u64)> {
+fn hole_of(context: &Context) -> Option<Hole> {
     let item = Item::Event {
         time: 7,
         payload: b"\x09\0\0\0\x2a\0\0\0",
@@ -452,7 +453,7 @@ fn hole_of(context: &Context) -> Option<(u32, u64)> {
 }
 
 /// The same where the task's name has so many letters, and differences are asked for.
-fn hole_behind(alloc: Global, letters: u32) -> Result<Option<(u32, u64)>, AllocError> {
+fn hole_behind(alloc: Global, letters: u32) -> Result<Option<Hole>, AllocError> {
     let mut name = String::new(alloc);
     put_name(&mut name, letters)?;
     let context = named(alloc, name.as_str())?;
@@ -477,7 +478,10 @@ const HOLES: &[(u32, Option<u32>)] = &[
 fn a_hole_stands_behind_the_time(rt: HostRuntime) -> Result<(), Fail> {
     for (letters, place) in HOLES {
         let hole = hole_behind(rt.alloc(), *letters)?;
-        assert!(rt; hole == place.map(|place| (place, 7)), "{letters}");
+        assert!(rt;
+            hole == place.map(|place| Hole { place, time: 7 }),
+            "{letters}"
+        );
     }
     Ok(())
 }

@@ -5,7 +5,7 @@ ghost use Rattle.trace_outside.specs.Pending.{PutsText, on_way};
 ghost use Rattle.report_context.specs.Lines.{cpus_line, item_line};
 
 use itoa::Buffer;
-use line_holes::LineFormat;
+use line_holes::{Hole, LineFormat};
 use report_print::{Context, line};
 use std::alloc::{AllocError, Global};
 use subpage::Item;
@@ -40,7 +40,7 @@ impl LineFormat for ItemLines {
     ghost text = { λ lines cpu item. item_line lines.context cpu item };
 
     #[inline(always)]
-    fn line(&self, cpu: u32, item: &Item<'_>, into: &mut Tail<'_>) -> (u32, Option<(u32, u64)>) {
+    fn line(&self, cpu: u32, item: &Item<'_>, into: &mut Tail<'_>) -> (u32, Option<Hole>) {
         line(&self.context, cpu, item, into)
     }
 }

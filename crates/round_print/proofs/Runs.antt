@@ -5,6 +5,7 @@ use Rattle.std.specs.List.{All, prefix_len}
 use Rattle.std.proofs.lemmas.Bool.{leb-true}
 use Rattle.std.proofs.lemmas.List.{get_or-take, length-take}
 use Rattle.std.proofs.lemmas.List.Sums.{prefix_len-le-length, prefix_len_passes}
+use Rattle.line_holes.specs.declared.hole.Hole.{Hole}
 use Rattle.page_pool.specs.Lines.{Line, is_plain_up_to}
 use Rattle.page_pool.specs.declared.lane.Lane.{Lane}
 use Rattle.time_merge.specs.declared.horizons.Horizon.{Horizon}
@@ -22,7 +23,7 @@ record IsPlainLine (most : ℕ) (line : Line) : Type 0 where
   key : line.key ≤ most
   hole : line.text.hole ≡ None
 
-no_hole : (b : Bool) (hole : Option (ℕ × ℕ)) → (b && is_none hole) ≡ true → (b ≡ true) × (hole ≡ None)
+no_hole : (b : Bool) (hole : Option Hole) → (b && is_none hole) ≡ true → (b ≡ true) × (hole ≡ None)
 no_hole true None e = (refl, refl)
 no_hole true (Some hole) e = cc
 no_hole false None e = cc

@@ -6,6 +6,7 @@ ghost use Rattle.round_print.specs.Prints.{KeysRise, KeysUpTo, head_kept};
 ghost use Rattle.round_print.specs.Rounds.{AreRising};
 
 use Horizon::{All, Start, To};
+use line_holes::Hole;
 use page_pool::{Lane, Pool};
 use round_print::{head_kept, print_round};
 use std::alloc::{AllocError, Global};
@@ -15,7 +16,7 @@ use tournament_tree::TournamentTree;
 use trace_outside::{Failed, MemSink, Pending, Sink};
 
 /// A line that is kept: its key, its text and its hole.
-type Kept = (u64, &'static str, Option<(u32, u64)>);
+type Kept = (u64, &'static str, Option<Hole>);
 
 /// The lines of processors 3 and 7.
 type Lines = [&'static [Kept]; 2];
@@ -32,11 +33,14 @@ const LINES: Lines = [
 
 const HOLED: Lines = [
     &[
-        (10, "a1\n", Some((2, 10))),
+        (10, "a1\n", Some(Hole { place: 2, time: 10 })),
         (30, "b\n", None),
-        (50, "c\n", Some((0, 5))),
+        (50, "c\n", Some(Hole { place: 0, time: 5 })),
     ],
-    &[(20, "d2\n", Some((2, 17))), (40, "e4\n", Some((3, 40)))],
+    &[
+        (20, "d2\n", Some(Hole { place: 2, time: 17 })),
+        (40, "e4\n", Some(Hole { place: 3, time: 40 })),
+    ],
 ];
 
 // Lines that come one after another, and lines of both processors at one key. What the first processor keeps after its run is
@@ -77,15 +81,15 @@ const FROM_NOTHING: Lines = [
 // Holes before, in and after runs.
 const HOLED_RUNS: Lines = [
     &[
-        (1, "a", Some((1, 1))),
+        (1, "a", Some(Hole { place: 1, time: 1 })),
         (2, "b", None),
         (3, "c", None),
-        (4, "d", Some((0, 4))),
+        (4, "d", Some(Hole { place: 0, time: 4 })),
         (5, "e", None),
         (6, "f", None),
-        (7, "g", Some((1, 9))),
+        (7, "g", Some(Hole { place: 1, time: 9 })),
     ],
-    &[(8, "h", None), (9, "i", Some((1, 7)))],
+    &[(8, "h", None), (9, "i", Some(Hole { place: 1, time: 7 }))],
 ];
 
 const WIDE: Kept = (
@@ -101,10 +105,10 @@ const HOLED_BEHIND: Lines = [
     &[
         (1, "a", None),
         (2, "b", None),
-        (3, "c", Some((1, 3))),
+        (3, "c", Some(Hole { place: 1, time: 3 })),
         (4, "d", None),
     ],
-    &[(5, "e", Some((0, 4)))],
+    &[(5, "e", Some(Hole { place: 0, time: 4 }))],
 ];
 
 // Copies the text to the front of the bytes, as far as there is room.
@@ -115,16 +119,16 @@ fn copy(into: &mut [u8], text: &[u8]) -> u32 {
 }
 
 // A hole that is in a line of this length.
-fn hole_in(hole: Option<(u32, u64)>, len: u32) -> Option<(u32, u64)>
-    ensures { IfSome result (λ hole. hole.0 ≤ len) }
+fn hole_in(hole: Option<Hole>, len: u32) -> Option<Hole>
+    ensures { IfSome result (λ hole. hole.place ≤ len) }
 {
     match hole {
-        Some((place, time)) if place <= len => Some((place, time)),
+        Some(hole) if hole.place <= len => Some(hole),
         _ => None,
     }
 }
 
-fn keep(lane: &mut Lane, last: u64, key: u64, text: &[u8], hole: Option<(u32, u64)>)
+fn keep(lane: &mut Lane, last: u64, key: u64, text: &[u8], hole: Option<Hole>)
     requires not_before { last ≤ key }
     requires rises { KeysRise lane.old }
     requires up_to { KeysUpTo last lane.old }

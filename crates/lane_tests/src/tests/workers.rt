@@ -11,7 +11,7 @@ ghost use Rattle.event_cursor.specs.Standing.{IsInOrder};
 use super::times::time_of;
 use cpu_workers::{Workers, format_lanes};
 use event_cursor::load;
-use line_holes::LineFormat;
+use line_holes::{Hole, LineFormat};
 use page_pool::{Lane, LaneState, Pool, Region};
 use std::alloc::{AllocError, Global};
 use std::test::Fail;
@@ -43,7 +43,7 @@ impl LineFormat for Letters {
     ghost text = { λ form cpu item. line_text
         (if item_time item % 3 == 0 then [] else if item_time item % 3 == 1 then 97 ∷ [] else 98 ∷ 99 ∷ []) None };
 
-    fn line(&self, _cpu: u32, item: &Item<'_>, into: &mut Tail<'_>) -> (u32, Option<(u32, u64)>) {
+    fn line(&self, _cpu: u32, item: &Item<'_>, into: &mut Tail<'_>) -> (u32, Option<Hole>) {
         let text = letters_of(time_of(item));
         into.put(text);
         (text.len() as u32, None)

@@ -5,7 +5,7 @@ ghost use Rattle.line_holes.specs.Holes.{line_text};
 ghost use Rattle.subpage.specs.ItemData.{item_time};
 
 use crate::tests::times::time_of;
-use line_holes::LineFormat;
+use line_holes::{Hole, LineFormat};
 use subpage::Item;
 use trace_base::Tail;
 
@@ -30,7 +30,7 @@ impl LineFormat for Marks {
     ghost text = { λ form cpu item. line_text
         (take (if item_time item % 10 == 7 then 0 else 2) ((97 + cpu % 26) ∷ (48 + item_time item % 10) ∷ [])) None };
 
-    fn line(&self, cpu: u32, item: &Item<'_>, into: &mut Tail<'_>) -> (u32, Option<(u32, u64)>) {
+    fn line(&self, cpu: u32, item: &Item<'_>, into: &mut Tail<'_>) -> (u32, Option<Hole>) {
         let time = time_of(item);
         let text = mark(cpu, time);
         let len = len_of(time);
