@@ -1,38 +1,21 @@
-//! Sections of the latencies: the items of two processors, and the text that comes of them.
+// Sections of latencies: the items of two processors, and the text that comes of them.
 
 mod formats;
 mod sections;
-mod sub_buffers;
 
-use formats::context_of;
+use crate::tests::contexts::context_of;
+use crate::tests::sub_buffers::recording_of;
+use formats::formats;
 use item_pass::PassFault;
 use report_print::Context;
 use sections::{IN_FULL, ROWS};
 use std::alloc::{AllocError, Global};
 use std::test::Fail;
-use sub_buffers::put_sub_buffers;
 use trace_base::{ByteText, Part};
 use trace_outside::{File, MemFile, MemSink, Pending, Sink};
 use trace_samples::layout;
 use wakeup_lat::{gather, put_wakeups};
 use wakeup_pairs::Wakeups;
-
-/// The bytes of the sub-buffers of processors 0 and 1, and where those of processor 1 begin.
-#[derive(Drop)]
-struct Recorded {
-    bytes: Vec<u8>,
-    middle: u64,
-}
-
-// What is recorded of the items of both processors, which are parted by a `&`.
-fn recording_of(alloc: Global, items: &str) -> Result<Recorded, Fail> {
-    let (first, second) = items.split_once("&").ok_or("two processors")?;
-    let mut bytes = Vec::new(alloc);
-    put_sub_buffers(alloc, &mut bytes, first)?;
-    let middle = bytes.len() as u64;
-    put_sub_buffers(alloc, &mut bytes, second)?;
-    Ok(Recorded { bytes, middle })
-}
 
 fn gather_from<F: File>(
     alloc: Global,
@@ -149,7 +132,7 @@ fn wrong_of(alloc: Global, context: &Context, rows: &'static str) -> Result<&'st
 
 // The same where the columns of latencies and all digits of times are shown, or not.
 fn wrong_row(alloc: Global, all: bool, rows: &'static str) -> Result<&'static str, Fail> {
-    let context = context_of(alloc, all)?;
+    let context = context_of(alloc, formats(alloc)?, b"", all)?;
     wrong_of(alloc, &context, rows)
 }
 

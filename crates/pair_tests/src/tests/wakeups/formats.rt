@@ -1,10 +1,8 @@
-// What the sections stand on: formats of the scheduler's events with numbers of several lengths, and one name.
+// Formats of the scheduler's events with numbers of several lengths, and one of the same name in another system.
 
 use format_parse::FormatTable;
-use report_print::{Context, Show};
 use std::alloc::{AllocError, Global};
-use symbols::Symbols;
-use trace_base::{ByteText, ListOf, Order};
+use trace_base::ByteText;
 
 /// A format of one field: each bar is a part of a row below, and what else a row has follows it.
 const FORMAT: &str = "name: |\nID: |\n\tfield:| |;\toffset:8;\tsize:|;\tsigned:1;\n|";
@@ -45,22 +43,9 @@ fn texts(alloc: Global, rows: &[&str]) -> Result<Vec<ByteText>, AllocError> {
     Ok(texts)
 }
 
-/// A context of these formats. With `all` the columns of latencies and all digits of times are shown.
-pub(super) fn context_of(alloc: Global, all: bool) -> Result<Context, AllocError> {
-    let formats = FormatTable::new(alloc)
+/// The formats of both systems.
+pub(super) fn formats(alloc: Global) -> Result<FormatTable, AllocError> {
+    FormatTable::new(alloc)
         .with_texts(alloc, b"other", &texts(alloc, OTHER)?)?
-        .with_texts(alloc, b"sched", &texts(alloc, SCHED)?)?;
-    let symbols = Symbols::read(alloc, b"", b"", b"7 init\n")?;
-    let show = Show {
-        order: Order::Little,
-        long: 8,
-        full: all,
-        diff: false,
-        latency: all,
-        raw: false,
-        no_hard: false,
-        no_soft: false,
-        raw_events: ListOf::from_vec(Vec::new(alloc)),
-    };
-    Context::build(alloc, formats, symbols, Vec::new(alloc), show)
+        .with_texts(alloc, b"sched", &texts(alloc, SCHED)?)
 }

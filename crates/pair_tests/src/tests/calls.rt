@@ -1,4 +1,5 @@
+// Calls of the function graph.
+
 mod lines;
 mod pairs;
-mod sub_buffers;
 mod traces;

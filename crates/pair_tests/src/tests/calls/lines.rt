@@ -1,34 +1,13 @@
 // The lines of calls.
 
+use crate::tests::contexts::context_of;
 use call_pairs::Call;
 use format_parse::FormatTable;
 use graph_report::put_line;
-use report_print::{Context, Show};
-use std::alloc::{AllocError, Global};
+use report_print::Context;
+use std::alloc::Global;
 use std::test::Fail;
-use symbols::Symbols;
-use trace_base::{ByteText, Common, ListOf, Order, Tail};
-
-/// A context with these formats and symbols, and the task `sh` of pid 7.
-pub(super) fn context(
-    alloc: Global,
-    formats: FormatTable,
-    kallsyms: &[u8],
-) -> Result<Context, AllocError> {
-    let symbols = Symbols::read(alloc, kallsyms, b"", b"7 sh\n")?;
-    let show = Show {
-        order: Order::Little,
-        long: 8,
-        full: false,
-        diff: false,
-        latency: false,
-        raw: false,
-        no_hard: false,
-        no_soft: false,
-        raw_events: ListOf::from_vec(Vec::<ByteText>::new(alloc)),
-    };
-    Context::build(alloc, formats, symbols, Vec::new(alloc), show)
-}
+use trace_base::{Common, Tail};
 
 pub(super) const KALLSYMS: &[u8] = b"1000 T outer\n2000 T inner\n";
 
@@ -177,7 +156,7 @@ fn wrong_of(alloc: Global, context: &Context, rows: &'static str) -> Result<&'st
 
 // The same with these symbols.
 fn wrong_row(alloc: Global, kallsyms: &[u8], rows: &'static str) -> Result<&'static str, Fail> {
-    let context = context(alloc, FormatTable::new(alloc), kallsyms)?;
+    let context = context_of(alloc, FormatTable::new(alloc), kallsyms, false)?;
     wrong_of(alloc, &context, rows)
 }
 

@@ -6,8 +6,9 @@ ghost use Rattle.page_pool.specs.Fresh.{IsFresh, IsNew};
 ghost use Rattle.event_cursor.specs.Standing.{IsInOrder};
 ghost use Rattle.time_merge.specs.LaneRows.{parts_of};
 
-use super::lines::{KALLSYMS, context};
-use super::sub_buffers::recording_of;
+use super::lines::KALLSYMS;
+use crate::tests::contexts::context_of;
+use crate::tests::sub_buffers::recording_of;
 use format_parse::FormatTable;
 use graph_report::{Calls, gather_calls, put_calls};
 use item_pass::PassFault;
@@ -66,41 +67,42 @@ ID: 10
 ";
 
 /// Each row ends at a `#`. Its first line tells what it shows, its second what is recorded (see `sub_buffers`), and the others are
-/// the lines. A row of the title `a full sink` has what a sink takes whose first write takes 100 bytes, and whose second fails;
+/// the lines. Of the events 11 is an entry, with its function (4096 is `outer`, and 8192 `inner`) and its depth; 10 is an exit, with
+/// its function, when its call began and ended, and its depth; 12 is of another format. A row of the title `a full sink` has what a sink takes whose first write takes 100 bytes, and whose second fails;
 /// one of `a cut` has no items from the second sub-buffer of processor 1, and in one of `no read` the file cannot be read.
 const ROWS: &str = "\
 a call in a call, all on processor 0
-1000: 0+11.7.l4096.0 1000+11.7.l8192.1 100+12.7.l0 600+10.7.l8192.l2000.l2600.1 2300+10.7.l4096.l1000.l4900.0&
+11.7.l4096.0@1000 11.7.l8192.1@2000 12.7.l0@2100 10.7.l8192.l2000.l2600.1@2700 10.7.l4096.l1000.l4900.0@5000&
               sh-7     [000]     0.000001:              | outer() {
               sh-7     [000]     0.000002:     0.600 us |   inner();
               sh-7     [000]     0.000005:     3.900 us | }
 #an exit whose entry is not there
-1000: 0+10.7.l8192.l2000.l2600.1&
+10.7.l8192.l2000.l2600.1@1000&
               sh-7     [000]     0.000001:              |   } /* inner */
 #a loss on the other processor
-1000: 0+11.7.l4096.0 4000+10.7.l4096.l1000.l4900.0&!2000:
+11.7.l4096.0@1000 10.7.l4096.l1000.l4900.0@5000&!@2000
               sh-7     [000]     0.000001:              | outer() {
 CPU:1 [EVENTS DROPPED]
               sh-7     [000]     0.000005:              | } /* outer */
 #threads and idle tasks of two processors
-1000: 0+11.0.l4096.0 2000+11.7.l8192.0 2000+10.0.l4096.l1000.l4900.0&2000: 0+11.0.l4096.0 2000+10.7.l8192.l3000.l3500.0 2000+10.0.l4096.l2000.l2001.0
+11.0.l4096.0@1000 11.7.l8192.0@3000 10.0.l4096.l1000.l4900.0@5000&11.0.l4096.0@2000 10.7.l8192.l3000.l3500.0@4000 10.0.l4096.l2000.l2001.0@6000
           <idle>-0     [000]     0.000001:     3.900 us | outer();
           <idle>-0     [001]     0.000002:     0.001 us | outer();
               sh-7     [000]     0.000003:     0.500 us | inner();
 #a cut
-1000: 0+11.7.l4096.0/5000000000: 0+10.7.l4096.l1000.l4900.0&2000: 0+11.7.l8192.1/0:
+11.7.l4096.0@1000/10.7.l4096.l1000.l4900.0@5000000000&11.7.l8192.1@2000/malformed
               sh-7     [000]     0.000001:              | outer() {
               sh-7     [001]     0.000002:              |   inner() {
 #no read
-1000: 0+11.7.l4096.0 1000+11.7.l8192.1 100+12.7.l0 600+10.7.l8192.l2000.l2600.1 2300+10.7.l4096.l1000.l4900.0&
+11.7.l4096.0@1000 11.7.l8192.1@2000 12.7.l0@2100 10.7.l8192.l2000.l2600.1@2700 10.7.l4096.l1000.l4900.0@5000&
 #a full sink
-1000: 0+11.7.l4096.0 1000+11.7.l8192.1 100+12.7.l0 600+10.7.l8192.l2000.l2600.1 2300+10.7.l4096.l1000.l4900.0&
+11.7.l4096.0@1000 11.7.l8192.1@2000 12.7.l0@2100 10.7.l8192.l2000.l2600.1@2700 10.7.l4096.l1000.l4900.0@5000&
               sh-7     [000]     0.000001:              | outer() {
               sh-7     [000]    ";
 
 const UNTIMED: &str = "\
 a call is timed by its events
-1000: 0+11.7.l4096.0 1000+11.7.l8192.1 100+12.7.l0 600+10.7.l8192.l2000.l2600.1 2300+10.7.l4096.l1000.l4900.0&
+11.7.l4096.0@1000 11.7.l8192.1@2000 12.7.l0@2100 10.7.l8192.l2000.l2600.1@2700 10.7.l4096.l1000.l4900.0@5000&
               sh-7     [000]     0.000001:              | outer() {
               sh-7     [000]     0.000002:     0.700 us |   inner();
               sh-7     [000]     0.000005:     4.000 us | }
@@ -108,7 +110,7 @@ a call is timed by its events
 
 const SHORT_TIMED: &str = "\
 times of four bytes
-1000: 0+11.7.l4096.0 1000+11.7.l8192.1 100+12.7.l0 600+10.7.l8192.l2000.l2600.1 2300+10.7.l4096.l1000.l4900.0&
+11.7.l4096.0@1000 11.7.l8192.1@2000 12.7.l0@2100 10.7.l8192.l2000.l2600.1@2700 10.7.l4096.l1000.l4900.0@5000&
               sh-7     [000]     0.000001:              | outer() {
               sh-7     [000]     0.000002:     0.600 us |   inner();
               sh-7     [000]     0.000005:     3.900 us | }
@@ -116,14 +118,14 @@ times of four bytes
 
 const TEXT: &str = "\
 events of the name that are no exits
-1000: 0+11.7.l4096.0 1000+11.7.l8192.1 100+12.7.l0 600+10.7.l8192.l2000.l2600.1 2300+10.7.l4096.l1000.l4900.0&
+11.7.l4096.0@1000 11.7.l8192.1@2000 12.7.l0@2100 10.7.l8192.l2000.l2600.1@2700 10.7.l4096.l1000.l4900.0@5000&
               sh-7     [000]     0.000001:              | outer() {
               sh-7     [000]     0.000002:              |   inner() {
 ";
 
 const SIGNED: &str = "\
 times below 0
-1000: 0+11.7.l4096.0 9+10.7.l4096.l18446744073709551615.l599.0&
+11.7.l4096.0@1000 10.7.l4096.l18446744073709551615.l599.0@1009&
               sh-7     [000]     0.000001:     0.600 us | outer();
 ";
 
@@ -144,12 +146,12 @@ fn set_parts(layout: &Layout, lanes: &mut [Lane], size: u64, other: u64)
 }
 
 // A context with the entry's format and this one.
-fn context_with(alloc: Global, format: &str) -> Result<Context, Fail> {
+fn context_with(alloc: Global, format: &str) -> Result<Context, AllocError> {
     let mut texts = Vec::new(alloc);
     texts.push(ByteText::copy(alloc, format.as_bytes())?)?;
     texts.push(ByteText::copy(alloc, ENTRY.as_bytes())?)?;
     let formats = FormatTable::new(alloc).with_texts(alloc, b"ftrace", &texts)?;
-    Ok(context(alloc, formats, KALLSYMS)?)
+    context_of(alloc, formats, KALLSYMS, false)
 }
 
 fn gather_over<F: File>(

@@ -2,7 +2,7 @@ use Rattle.std.proofs.Common.{ℕ, List, arith, refl, subst, sym}
 use Rattle.trace_base.specs.declared.part.Part.{Part}
 use Rattle.subpage.specs.Arrangement.{CpusRise}
 use Rattle.time_merge.proofs.UnusedLanes.{new_unused, unused_fresh, unused_in_order}
-use Rattle.graph_tests.proofs.tests.traces.set_parts.Goals as goal
+use Rattle.pair_tests.proofs.tests.calls.traces.set_parts.Goals as goal
 
 pub returns-clause-in_order : goal.returns-clause-in_order
 returns-clause-in_order c =

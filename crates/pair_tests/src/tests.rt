@@ -1,0 +1,4 @@
+mod calls;
+mod contexts;
+mod sub_buffers;
+mod wakeups;
