@@ -6,7 +6,7 @@ ghost use Rattle.trace_outside.specs.Memory.{sink_wants, sink_writes, sink_limit
 
 use crate::memory::faults::{at_limit, is_failing, is_from, next_number};
 use crate::outside::{Failed, Sink};
-use std::alloc::Global;
+use std::alloc::{AllocError, Global};
 use trace_base::ByteText;
 
 /// A sink in memory, which tells what was written to it. Its writes fail just where a fault was set for them, or where they
@@ -36,6 +36,22 @@ impl MemSink {
         ensures unlimited { sink_limit result ≡ None }
     {
         MemSink::named(alloc, ByteText::from_vec(Vec::new(alloc)))
+    }
+
+    /// The same, with room for so many bytes.
+    pub fn with_capacity(alloc: Global, capacity: usize) -> Result<MemSink, AllocError>
+        ensures named { IfOk result (λ sink. ⟦<MemSink as Sink>⟧.name sink ≡ []) }
+        ensures empty { IfOk result (λ sink. ⟦<MemSink as Sink>⟧.written sink ≡ Some []) }
+        ensures no_faults { IfOk result (λ sink. ⟦<MemSink as Sink>⟧.faults sink ≡ 0) }
+        ensures no_wants { IfOk result (λ sink. sink_wants sink ≡ 0) }
+        ensures no_writes { IfOk result (λ sink. sink_writes sink ≡ 0) }
+        ensures no_fault_set { IfOk result (λ sink. sink_from sink ≡ None) }
+        ensures no_due_set { IfOk result (λ sink. sink_due sink ≡ None) }
+        ensures unlimited { IfOk result (λ sink. sink_limit sink ≡ None) }
+    {
+        let mut sink = MemSink::new(alloc);
+        sink.kept = Vec::with_capacity(alloc, capacity)?;
+        Ok(sink)
     }
 
     pub(super) fn named(alloc: Global, label: ByteText) -> MemSink
@@ -93,6 +109,13 @@ impl MemSink {
         ensures { ⟦<MemSink as Sink>⟧.written self.now ≡ Some result.now }
     {
         &self.kept
+    }
+
+    /// All that was written, as a text; no memory is taken.
+    pub fn into_text(self) -> ByteText
+        ensures { ⟦<MemSink as Sink>⟧.written self ≡ Some result }
+    {
+        ByteText::from_vec(self.kept)
     }
 
     /// How often it was written to, including the writes that failed.
