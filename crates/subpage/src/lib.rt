@@ -15,6 +15,7 @@
 //! processors that [`drop_empty`] drops.
 #![tactic(auto)]
 
+mod cut_place;
 mod element;
 mod item;
 mod items;
@@ -29,6 +30,7 @@ mod run;
 mod running_time;
 mod summary;
 
+pub use cut_place::CutPlace;
 pub use item::Item;
 pub use items::Items;
 pub use mark::{Mark, Span, first_at, item_between, pass_item};
