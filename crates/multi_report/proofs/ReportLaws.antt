@@ -12,7 +12,7 @@ use Rattle.multi_report.specs.Order.{ShownFile, cut_of_files, reached}
 use Rattle.multi_report.specs.Sources.{SourceView, IsFreshSource, IsKnown, Keeps, shown_of, next_key, to_come_of}
 use Rattle.multi_report.specs.Pieces.{text_of}
 use Rattle.multi_report.specs.Reports.{AreSame, IsEnded, IsFilesReport, ReadRose, head_line, lines, pieces}
-use Rattle.multi_report.specs.Turns.{EndsWith, Going, IsUnderway, lines_left}
+use Rattle.multi_report.specs.Turns.{EndsWith, Going, IsUnderway, ReportState, lines_left, state_of}
 use Rattle.multi_report.proofs.Files.{Tied, all_fresh_known, fresh_left, keeps_same, known_all, left_keeps, same_shown}
 use Rattle.multi_report.proofs.Going.{end_read, prefix_of_whole}
 
@@ -49,7 +49,7 @@ heads_stopped first before written waiting empty puts =
 pub underway_first : (first now : List SourceView) (keys : List (Option (Option ℕ))) (before written : Option (List ℕ)) (waiting waiting_now : List ℕ) → All IsFreshSource first → All (λ source. IsSome source.told) first → waiting ≡ []
     → length now ≡ length first → Tied Keeps first now → (All IsKnown now → keys ≡ map next_key now)
     → ((b : Option (List ℕ)) (text : List ℕ) → Holds b before waiting text → Holds b written waiting_now (text ++ text_of (heads_of first)))
-    → IsUnderway before (whole_of first) now keys written waiting_now
+    → IsUnderway before (whole_of first) (state_of now keys written waiting_now)
 underway_first first now keys before written waiting waiting_now fresh told empty long tied keys_are puts =
     let known = known_all first now long tied (all_fresh_known first fresh told) in
     record { known = known; keys_are = keys_are known; going = going_heads first now before written waiting waiting_now fresh told empty long tied puts }
@@ -73,8 +73,9 @@ read_from (code.Read source) first before now same rose =
     (inside, λ d. omega (arith, (same.each source d inside).faults, rose.1 d))
 read_from code.Write first before now same rose = tt
 
-abbrev pub IsOnWay : List SourceView → List SourceView → List (Option (Option ℕ)) → Option (List ℕ) → Option (List ℕ) → List ℕ → Type 0
-IsOnWay first now keys before written waiting = All (λ source. IsSome source.told) first → IsUnderway before (whole_of first) now keys written waiting
+-- where all files tell their bytes, the report of them goes on
+abbrev pub IsOnWay : List SourceView → Option (List ℕ) → ReportState → Type 0
+IsOnWay first before state = All (λ source. IsSome source.told) first → IsUnderway before (whole_of first) state
 
 -- a report that began and ended, told by what the files were
 pub report_is : (first now : List SourceView) (before new : Option (List ℕ)) (end : FilesEnd) → AreSame first now → IsEnded (whole_of first) (cut_of_files (map shown_of now)) before new end

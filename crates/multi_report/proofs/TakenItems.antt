@@ -22,10 +22,10 @@ use Rattle.time_merge.proofs.Starting.{cut_of_rows as one_cut}
 use Rattle.multi_report.specs.declared.taking.Taken.{Taken}
 use Rattle.multi_report.specs.declared.taking.Taken.TheVariants as took
 use Rattle.multi_report.specs.Order.{ShownFile, own_cut}
-use Rattle.multi_report.specs.Sources.{SourceView, IsKnown, IsReadied, IsSame, Keeps, bytes_of, due, shown_of, next_key}
+use Rattle.multi_report.specs.Sources.{SourceView, IsKnown, IsReadied, IsSame, Keeps, bytes_of, due, shown_of, next_key, cut_left, left_in}
 use Rattle.multi_report.specs.Nexts.{IsLaneStepped, cut_at}
 use Rattle.multi_report.specs.Reports.{line_of}
-use Rattle.multi_report.specs.Taking.{IsGoing, IsStill, ItemTaken, LineStopped, TakenFrom, TakenOf, cut_left, left_in}
+use Rattle.multi_report.specs.Taking.{IsGoing, IsStill, ItemTaken, LineStopped, TakenFrom, TakenOf}
 use Rattle.multi_report.proofs.Files.{same_one}
 
 some_lane : (lanes : List Lane) (i : ℕ) → i < length lanes → Lane

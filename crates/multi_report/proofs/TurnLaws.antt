@@ -18,11 +18,11 @@ use Rattle.multi_report.specs.declared.report.FilesEnd.TheVariants as code
 use Rattle.multi_report.specs.declared.taking.Taken.{Taken}
 use Rattle.multi_report.specs.declared.taking.Taken.TheVariants as took
 use Rattle.multi_report.specs.Order.{ShownFile, cut_in, in_file, cut_of_files}
-use Rattle.multi_report.specs.Sources.{SourceView, IsKnown, IsPrepared, IsSame, IsUsable, due, shown_of, next_key, to_come_of, work}
+use Rattle.multi_report.specs.Sources.{SourceView, IsKnown, IsPrepared, IsSame, IsUsable, due, shown_of, next_key, to_come_of, work, cut_left}
 use Rattle.multi_report.specs.Pieces.{text_of}
 use Rattle.multi_report.specs.Reports.{AreSame, IsEnded, ReadRose, WriteRose, line_in, line_of, lines}
-use Rattle.multi_report.specs.Taking.{ItemTaken, TakenFrom, cut_left}
-use Rattle.multi_report.specs.Turns.{AreReadied, EndsWith, Going, IsTold, IsUnderway, lines_left}
+use Rattle.multi_report.specs.Taking.{ItemTaken, TakenFrom}
+use Rattle.multi_report.specs.Turns.{AreReadied, EndsWith, Going, IsTold, IsUnderway, lines_left, state_of}
 use Rattle.multi_report.proofs.FileRows.{file_next, file_cut, file_first, file_none, file_some}
 use Rattle.multi_report.proofs.Files.{no_cut, one_cut_is, same_one}
 use Rattle.multi_report.proofs.Going.{end_read, end_whole, line_at, put_one, put_stopped}
@@ -62,7 +62,7 @@ none_left sources e = ap (map (line_in (map shown_of sources))) e
 pub turn_done : (before : Option (List ℕ)) (whole : List (List ℕ)) (sources : List SourceView) (keys : List (Option (Option ℕ))) (old new : Option (List ℕ)) (waiting : List ℕ) (result : FilesEnd)
     → IsLeastAt keys None
     → ((b : Option (List ℕ)) (text : List ℕ) → Holds b old waiting text → EndsWith b new text code.Done result)
-    → IsUnderway before whole sources keys old waiting → IsEnded whole (cut_of_files (map shown_of sources)) before new result
+    → IsUnderway before whole (state_of sources keys old waiting) → IsEnded whole (cut_of_files (map shown_of sources)) before new result
 turn_done before whole sources keys old new waiting result none ends under =
     let law = file_none sources (subst (λ (ks : List (Option (Option ℕ))). IsLeastAt ks None) under.keys_are none) in
     end_whole before whole (cut_of_files (map shown_of sources)) old new waiting (lines_left sources) code.Done result ends under.going (none_left sources law.0) (λ gained. (gained, no_cut sources law.1))
@@ -114,14 +114,14 @@ module _ (before : Option (List ℕ)) (whole : List (List ℕ)) (sources : List 
   same_givens one e = map-set_same shown_of sources j one d e
 
   -- the keys are those of what comes next of each file
-  least_here : (here : Option ℕ) → IsLeastOf keys j here → IsUnderway before whole sources keys way.written way.waiting → IsLeastOf (map next_key sources) j here
+  least_here : (here : Option ℕ) → IsLeastOf keys j here → IsUnderway before whole (state_of sources keys way.written way.waiting) → IsLeastOf (map next_key sources) j here
   least_here here least under = subst (λ (ks : List (Option (Option ℕ))). IsLeastOf ks j here) under.keys_are least
 
-  one_known : IsUnderway before whole sources keys way.written way.waiting → IsKnown (get_or sources j d)
+  one_known : IsUnderway before whole (state_of sources keys way.written way.waiting) → IsKnown (get_or sources j d)
   one_known under = All-get_or IsKnown sources j d lt under.known
 
   -- the line of an item is on its way, and the others are left
-  going_one : (one : SourceView) (here : Option ℕ) → IsLeastOf keys j here → IsUnderway before whole sources keys way.written way.waiting
+  going_one : (one : SourceView) (here : Option ℕ) → IsLeastOf keys j here → IsUnderway before whole (state_of sources keys way.written way.waiting)
       → shown_of one ≡ shown_of (get_or sources j d) → ItemTaken (get_or sources j d) one way way_now
       → Going before whole way_now.written way_now.waiting (lines_left (set sources j one))
   unfolding lines
@@ -138,13 +138,13 @@ module _ (before : Option (List ℕ)) (whole : List (List ℕ)) (sources : List 
 
   -- an item was taken
   pub turn_item : (now : List SourceView) (here : Option ℕ) (key : Option (Option ℕ)) → IsLeastOf keys j here → TakenFrom sources j way (took.Item key) now way_now
-      → IsUnderway before whole sources keys way.written way.waiting → IsUnderway before whole now (set keys j key) way_now.written way_now.waiting
+      → IsUnderway before whole (state_of sources keys way.written way.waiting) → IsUnderway before whole (state_of now (set keys j key) way_now.written way_now.waiting)
   turn_item now here key least from under =
       let is = from.is d in
       let t = is.taken (one_known under) in
       let same_keys : set keys j key ≡ map next_key (set sources j from.one) =
       ap (λ (ks : List (Option (Option ℕ))). set ks j key) under.keys_are ∙ ap (set (map next_key sources) j) t.1 ∙ sym (map-set next_key sources j from.one) in
-      subst (λ (ss : List SourceView). IsUnderway before whole ss (set keys j key) way_now.written way_now.waiting) (sym from.set) (record {
+      subst (λ (ss : List SourceView). IsUnderway before whole (state_of ss (set keys j key) way_now.written way_now.waiting)) (sym from.set) (record {
         known = All-set IsKnown sources j from.one t.0.known under.known;
         keys_are = same_keys;
         going = going_one from.one here least under is.same.shown t.0;
@@ -153,7 +153,7 @@ module _ (before : Option (List ℕ)) (whole : List (List ℕ)) (sources : List 
   -- an item was taken, and then a read failed
   pub turn_read : (now : List SourceView) (here : Option ℕ) (new : Option (List ℕ)) (result : FilesEnd) → IsLeastOf keys j here → TakenFrom sources j way took.Read now way_now
       → ((b : Option (List ℕ)) (text : List ℕ) → Holds b way_now.written way_now.waiting text → EndsWith b new text (code.Read j) result)
-      → IsUnderway before whole sources keys way.written way.waiting → IsEnded whole (cut_of_files (map shown_of now)) before new result
+      → IsUnderway before whole (state_of sources keys way.written way.waiting) → IsEnded whole (cut_of_files (map shown_of now)) before new result
   turn_read now here new result least from ends under =
       let is = from.is d in
       end_read before whole (cut_of_files (map shown_of now)) way_now.written new way_now.waiting (lines_left (set sources j from.one)) j result ends
@@ -161,7 +161,7 @@ module _ (before : Option (List ℕ)) (whole : List (List ℕ)) (sources : List 
 
   -- its line could not be written
   pub turn_stopped : (now : List SourceView) (here : Option ℕ) → IsLeastOf keys j here → TakenFrom sources j way took.Write now way_now
-      → IsUnderway before whole sources keys way.written way.waiting → GainedPrefix before way_now.written (text_of whole)
+      → IsUnderway before whole (state_of sources keys way.written way.waiting) → GainedPrefix before way_now.written (text_of whole)
   unfolding lines
   turn_stopped now here least from under =
       let t = (from.is d).taken (one_known under) in
@@ -176,7 +176,7 @@ module _ (before : Option (List ℕ)) (whole : List (List ℕ)) (sources : List 
   pub turn_cut : (now : List SourceView) (here : Option ℕ) (cpu page : ℕ) (new : Option (List ℕ)) (result : FilesEnd) → IsLeastOf keys j here
       → TakenFrom sources j way (took.Cut cpu page) now way_now
       → ((b : Option (List ℕ)) (text : List ℕ) → Holds b way_now.written way_now.waiting text → EndsWith b new text (code.Malformed j cpu page) result)
-      → IsUnderway before whole sources keys way.written way.waiting → IsEnded whole (cut_of_files (map shown_of now)) before new result
+      → IsUnderway before whole (state_of sources keys way.written way.waiting) → IsEnded whole (cut_of_files (map shown_of now)) before new result
   turn_cut now here cpu page new result least from ends under =
       let is = from.is d in
       let t = is.taken (one_known under) in
@@ -190,7 +190,7 @@ module _ (before : Option (List ℕ)) (whole : List (List ℕ)) (sources : List 
 
   -- nothing is left of the file of which the least comes next: that is not so
   pub turn_nothing : (now : List SourceView) (here : Option ℕ) → IsLeastOf keys j here → TakenFrom sources j way took.Done now way_now
-      → IsUnderway before whole sources keys way.written way.waiting → ⊥
+      → IsUnderway before whole (state_of sources keys way.written way.waiting) → ⊥
   turn_nothing now here least from under =
       let s = get_or sources j d in
       let t = (from.is d).taken (one_known under) in

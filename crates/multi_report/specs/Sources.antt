@@ -6,7 +6,8 @@ use Rattle.trace_outside.specs.Causes.{raised}
 use Rattle.trace_outside.specs.declared.outside.File as file
 use Rattle.line_holes.specs.Holes.{LineText}
 use Rattle.subpage.specs.ItemData.{ItemData}
-use Rattle.subpage.specs.Arrangement.{CpusRise, key_of, cpu_of}
+use Rattle.subpage.specs.Arrangement.{CpusRise, Keyed, key_of, cpu_of}
+use Rattle.subpage.specs.Cut.{Cut}
 use Rattle.page_pool.specs.declared.lane.Lane.{Lane}
 use Rattle.page_pool.specs.Fresh.{IsFresh}
 use Rattle.event_cursor.specs.Standing.{IsInOrder, Stands, most_left}
@@ -98,15 +99,21 @@ pub record IsSame (before now : SourceView) : Type 0 where
 abbrev pub ReadsItsParts : SourceView → SourceView → Type 0
 ReadsItsParts before now = now.reads ≤ raised before.reads (sum_by (λ part. part.1.size) (parts_of before.lanes))
 
--- what a file has left, and its least cut, as a row
+-- the items that a file has left
+abbrev pub left_in : SourceView → List Keyed
+left_in source = to_come source.layout (bytes_of source) source.lanes
+
+-- and the cut that ends them, if there is one
+abbrev pub cut_left : SourceView → Option Cut
+cut_left source = least_cut (rows_of source.layout (bytes_of source) source.lanes)
+
+-- both as a row
 abbrev pub left_row : ℕ × SourceView → Row FileItem
-left_row source = row_with source.0 (to_come source.1.layout (bytes_of source.1) source.1.lanes)
-    (least_cut (rows_of source.1.layout (bytes_of source.1) source.1.lanes))
+left_row source = row_with source.0 (left_in source.1) (cut_left source.1)
 
 -- what comes next of a file: its first item's key, or that of its cut
 abbrev pub next_key : SourceView → Option (Option ℕ)
-next_key source = bound_of key_of cpu_of (to_come source.layout (bytes_of source) source.lanes)
-    (least_cut (rows_of source.layout (bytes_of source) source.lanes))
+next_key source = bound_of key_of cpu_of (left_in source) (cut_left source)
 
 -- what all files have left, in its order
 unfoldable pub to_come_of : List SourceView → List FileItem

@@ -4,20 +4,10 @@ use Rattle.trace_outside.specs.Causes.{Rose}
 use Rattle.trace_outside.specs.Pending.{Holds, OnWay}
 use Rattle.trace_outside.specs.Writing.{GainedPrefix}
 use Rattle.subpage.specs.Arrangement.{Keyed}
-use Rattle.subpage.specs.Cut.{Cut}
-use Rattle.time_merge.specs.Rows.{least_cut}
-use Rattle.time_merge.specs.LaneRows.{rows_of, to_come}
 use Rattle.multi_report.specs.declared.taking.Taken.{Taken}
 use Rattle.multi_report.specs.declared.taking.Taken.TheVariants as code
-use Rattle.multi_report.specs.Sources.{SourceView, IsKnown, IsReadied, IsSame, IsUsable, bytes_of, shown_of, next_key, work}
+use Rattle.multi_report.specs.Sources.{SourceView, IsKnown, IsReadied, IsSame, IsUsable, shown_of, left_in, cut_left, next_key, work}
 use Rattle.multi_report.specs.Reports.{line_of}
-
--- what a file has left, and its least cut
-abbrev pub left_in : SourceView → List Keyed
-left_in source = to_come source.layout (bytes_of source) source.lanes
-
-abbrev pub cut_left : SourceView → Option Cut
-cut_left source = least_cut (rows_of source.layout (bytes_of source) source.lanes)
 
 -- a piece was put after what is on its way
 abbrev pub Put : List ℕ → OnWay → OnWay → Type 0

@@ -21,16 +21,27 @@ pub record Going (before : Option (List ℕ)) (whole : List (List ℕ)) (written
   pub holds : Holds before written waiting (text_of done)
   pub parted : whole ≡ done ++ rest
 
--- All files are known, keys tell what comes next of each, and what they have left is what is to come.
-pub record IsUnderway (before : Option (List ℕ)) (whole : List (List ℕ)) (sources : List SourceView) (keys : List (Option (Option ℕ))) (written : Option (List ℕ)) (waiting : List ℕ) : Type 0 where
-  pub known : All IsKnown sources
-  pub keys_are : keys ≡ map next_key sources
-  pub going : Going before whole written waiting (lines_left sources)
+-- a report at one moment: its files, the tree's keys of what comes next of each, what the output has, and what waits for it
+pub record ReportState : Type 0 where
+  pub sources : List SourceView
+  pub keys : List (Option (Option ℕ))
+  pub written : Option (List ℕ)
+  pub waiting : List ℕ
 
--- the report ended, or goes on
-abbrev pub IsTurned : Option (List ℕ) → List (List ℕ) → List SourceView → List (Option (Option ℕ)) → Option (List ℕ) → List ℕ → Option FilesEnd → Type 0
-IsTurned before whole now keys written waiting (Some end) = IsEnded whole (cut_of_files (map shown_of now)) before written end
-IsTurned before whole now keys written waiting None = IsUnderway before whole now keys written waiting
+abbrev pub state_of : List SourceView → List (Option (Option ℕ)) → Option (List ℕ) → List ℕ → ReportState
+state_of sources keys written waiting = record { sources = sources; keys = keys; written = written; waiting = waiting }
+
+-- A report that is to write these pieces behind what the output had goes on: all files are known, the keys are theirs, and what
+-- they have left is what is to come.
+pub record IsUnderway (before : Option (List ℕ)) (whole : List (List ℕ)) (state : ReportState) : Type 0 where
+  pub known : All IsKnown state.sources
+  pub keys_are : state.keys ≡ map next_key state.sources
+  pub going : Going before whole state.written state.waiting (lines_left state.sources)
+
+-- it ended, or goes on
+abbrev pub IsTurned : Option (List ℕ) → List (List ℕ) → ReportState → Option FilesEnd → Type 0
+IsTurned before whole state (Some end) = IsEnded whole (cut_of_files (map shown_of state.sources)) before state.written end
+IsTurned before whole state None = IsUnderway before whole state
 
 -- The files are ready to be gone on with, and what was read of them is not to be read again.
 pub record AreReadied (before now : List SourceView) : Type 0 where

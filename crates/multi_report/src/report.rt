@@ -3,7 +3,7 @@ ghost use Rattle.trace_outside.specs.Keeping.{KeepsSink};
 ghost use Rattle.trace_outside.specs.Pending.{Holds};
 ghost use Rattle.multi_report.specs.Reports.{AllReadTheirParts, AreSame, IsFilesReport, ReadRose, WriteRose, pieces};
 ghost use Rattle.multi_report.specs.Sources.{HasRoom, IsFreshSource, IsPrepared, IsUsable, shown_of, seen, work};
-ghost use Rattle.multi_report.specs.Turns.{AreReadied, EndsWith, IsTold, IsTurned, IsUnderway};
+ghost use Rattle.multi_report.specs.Turns.{AreReadied, EndsWith, IsTold, IsTurned, IsUnderway, state_of};
 
 use crate::printing::put_heads;
 use crate::source::Source;
@@ -57,7 +57,7 @@ fn begin<F: File, L: LineFormat, O: Sink>(
         (AreReadied (map (seen F.File L.text) sources.old) (map (seen F.File L.text) sources.new)) }
     ensures turned { All (λ source. IsSome source.told) (map (seen F.File L.text) sources.old)
         → IsTurned (O.written out.old) (pieces (map shown_of (map (seen F.File L.text) sources.old)))
-        (map (seen F.File L.text) sources.new) nexts.new (O.written out.new) pending.new result }
+        (state_of (map (seen F.File L.text) sources.new) nexts.new (O.written out.new) pending.new) result }
     ensures read { IfSome result (λ end. ReadRose end (map (seen F.File L.text) sources.old)
         (map (seen F.File L.text) sources.new)) }
     ensures write { IfSome result (λ end. WriteRose end (O.faults out.old) (O.faults out.new)) }
@@ -94,8 +94,8 @@ fn turn<F: File, L: LineFormat, O: Sink>(
     ensures less { IfNone result (sum_by work (map (seen F.File L.text) sources.new)
         < sum_by work (map (seen F.File L.text) sources.old)) }
     ensures turned { (before : Option (List ℕ)) (whole : List (List ℕ))
-        → IsUnderway before whole (map (seen F.File L.text) sources.old) nexts.old (O.written out.old) pending.old
-        → IsTurned before whole (map (seen F.File L.text) sources.new) nexts.new (O.written out.new) pending.new result }
+        → IsUnderway before whole (state_of (map (seen F.File L.text) sources.old) nexts.old (O.written out.old) pending.old)
+        → IsTurned before whole (state_of (map (seen F.File L.text) sources.new) nexts.new (O.written out.new) pending.new) result }
     ensures read { IfSome result (λ end. ReadRose end (map (seen F.File L.text) sources.old)
         (map (seen F.File L.text) sources.new)) }
     ensures write { IfSome result (λ end. WriteRose end (O.faults out.old) (O.faults out.new)) }

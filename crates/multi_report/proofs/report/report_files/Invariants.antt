@@ -3,6 +3,7 @@ use Rattle.std.specs.List.{All}
 use Rattle.trace_outside.specs.Keeping.{KeepsSink}
 use Rattle.multi_report.specs.Reports.{AreSame}
 use Rattle.multi_report.specs.Sources.{HasRoom, IsPrepared, IsUsable, seen, work}
+use Rattle.multi_report.specs.Turns.{state_of}
 use Rattle.multi_report.proofs.Files.{NoMoreDue}
 use Rattle.multi_report.proofs.ReportLaws.{IsOnWay}
 use Rattle.multi_report.proofs.report.report_files.Given as goal
@@ -15,7 +16,7 @@ invariant-loop-end g l = record {
   slots : length l.nexts ≡ length l.sources;
   same : AreSame (map (seen g.F.File g.L.LineFormat.text) l.fn.sources) (map (seen g.F.File g.L.LineFormat.text) l.sources);
   due : NoMoreDue (map (seen g.F.File g.L.LineFormat.text) l.fn.sources) (map (seen g.F.File g.L.LineFormat.text) l.sources);
-  way : IsOnWay (map (seen g.F.File g.L.LineFormat.text) l.fn.sources) (map (seen g.F.File g.L.LineFormat.text) l.sources) l.nexts (g.O.Sink.written l.fn.out) (g.O.Sink.written l.out) l.pending;
+  way : IsOnWay (map (seen g.F.File g.L.LineFormat.text) l.fn.sources) (g.O.Sink.written l.fn.out) (state_of (map (seen g.F.File g.L.LineFormat.text) l.sources) l.nexts (g.O.Sink.written l.out) l.pending);
   keeps_out : KeepsSink g.O.Sink l.fn.out l.out;
 }
 
