@@ -6,6 +6,7 @@ pub mod Page
 pub mod Processor
 pub mod Arrangement
 pub mod Cut
+pub mod CutPlaces
 pub mod ElementView
 pub mod ItemView
 pub mod NextEvent
