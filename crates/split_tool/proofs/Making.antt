@@ -74,7 +74,7 @@ stored_is old1 (Some files) new w0 w name name1 content e n empty gained stores 
 pub finished : (header : Header) (file : List ℕ) (rules : Rules) (name name1 : List ℕ) (first mid now : List Lane) (fronts : List Place) (tallies : List Tally) (table : List Part) (old old1 new : Option NamedFiles) (w0 w : Option (List ℕ)) (ends : Ends)
     → old1 ≡ old → name1 ≡ name → IsEmptySink old w0 → Stores old1 new name1 w → Prepared header file rules first mid (record { fronts = fronts; tallies = tallies; table = table }) ends
     → Written header file table (owns first (taken_of header.layout file rules first)) (record { lanes = mid; written = w0 }) (record { lanes = now; written = w })
-    → Made (record { header = header; rules = rules; name = name }) file first now old new ends
+    → Made (record { header = header; rules = rules; name = name }) file (record { lanes = first; files = old }) (record { lanes = now; files = new }) ends
 unfolding file_text
 finished header file rules name name1 first mid now fronts tallies table old old1 new w0 w ends e n empty stores p written =
     let lists = lists_of header.cpus (taken_of header.layout file rules first) in
@@ -167,7 +167,7 @@ progress_none header base rules file first now old allowed rise cpus fresh parts
     }
 
 module _ (header : Header) (base : List ℕ) (file : List ℕ) (rules : Rules) (news : List NewFile) (bad : Option (ℕ × ℕ)) (number : ℕ) (now later : List Lane) (old mid new : Option NamedFiles) where
-  pub progress_more : (ends : Ends) → IsUnit rules.unit → (ends.more && rules.repeat) ≡ true → Made (record { header = header; rules = rules; name = file_name base number }) file now later mid new ends
+  pub progress_more : (ends : Ends) → IsUnit rules.unit → (ends.more && rules.repeat) ≡ true → Made (record { header = header; rules = rules; name = file_name base number }) file (record { lanes = now; files = mid }) (record { lanes = later; files = new }) ends
       → Progress header base file rules news bad number now old mid → Progress header base file rules news bad (number + 1) later old new
   progress_more ends unit more m p =
       let l = header.layout in
@@ -186,7 +186,7 @@ module _ (header : Header) (base : List ℕ) (file : List ℕ) (rules : Rules) (
         few = omega (arith, p.few, fewer, long);
       }
 
-  pub progress_last : (ends : Ends) (result : End) (counts now_counts : Counts) → (ends.more && rules.repeat) ≡ false → result ≡ end_by ends.bad → Made (record { header = header; rules = rules; name = file_name base number }) file now later mid new ends
+  pub progress_last : (ends : Ends) (result : End) (counts now_counts : Counts) → (ends.more && rules.repeat) ≡ false → result ≡ end_by ends.bad → Made (record { header = header; rules = rules; name = file_name base number }) file (record { lanes = now; files = mid }) (record { lanes = later; files = new }) ends
       → Progress header base file rules news bad number now old mid → IsSplit news (end_by bad) counts now_counts old new result
   progress_last ends result counts now_counts more is m p =
       let l = header.layout in
@@ -200,14 +200,14 @@ module _ (header : Header) (base : List ℕ) (file : List ℕ) (rules : Rules) (
       ended_by None b result is same s = subst (λ (e : End). IsSplit news (end_by b) counts now_counts old new e) (sym is) (ap end_by same, s)
       ended_by (Some place) b result is same s = subst (λ (e : End). IsSplit news (end_by b) counts now_counts old new e) (sym is) (ap end_by same, s)
 
-  none_behind : (ends : Ends) → (ends.more && rules.repeat) ≡ false → Made (record { header = header; rules = rules; name = file_name base number }) file now later mid new ends
+  none_behind : (ends : Ends) → (ends.more && rules.repeat) ≡ false → Made (record { header = header; rules = rules; name = file_name base number }) file (record { lanes = now; files = mid }) (record { lanes = later; files = new }) ends
       → files_behind rules (lists_left header.layout file rules now) ≡ []
   none_behind ends more m =
       no_files rules (lists_left header.layout file rules now)
       (ap (λ (xss : List (List Keyed)). is_some_left (joined_lists xss) && rules.repeat) (sym m.left.left) ∙ ap (λ (b : Bool). b && rules.repeat) (sym m.left.more) ∙ more)
 
   -- the last file is that of this number
-  pub last_counted : (ends : Ends) → (ends.more && rules.repeat) ≡ false → Made (record { header = header; rules = rules; name = file_name base number }) file now later mid new ends
+  pub last_counted : (ends : Ends) → (ends.more && rules.repeat) ≡ false → Made (record { header = header; rules = rules; name = file_name base number }) file (record { lanes = now; files = mid }) (record { lanes = later; files = new }) ends
       → Progress header base file rules news bad number now old mid → length news ≡ number
   last_counted ends more m p =
       let none : length (files_from header base (number + 1) (files_behind rules (lists_left header.layout file rules now))) ≡ 0 =
@@ -218,7 +218,7 @@ module _ (header : Header) (base : List ℕ) (file : List ℕ) (rules : Rules) (
   pub some_counted : Progress header base file rules news bad number now old mid → number ≤ length news
   some_counted p = omega (arith, p.counted)
 
-  pub created_last : (ends : Ends) (result : End) (first before after : ℕ) → (ends.more && rules.repeat) ≡ false → result ≡ end_by ends.bad → Made (record { header = header; rules = rules; name = file_name base number }) file now later mid new ends
+  pub created_last : (ends : Ends) (result : End) (first before after : ℕ) → (ends.more && rules.repeat) ≡ false → result ≡ end_by ends.bad → Made (record { header = header; rules = rules; name = file_name base number }) file (record { lanes = now; files = mid }) (record { lanes = later; files = new }) ends
       → 1 ≤ number → before ≡ raised first (number - 1) → after ≡ raised before 1
       → Progress header base file rules news bad number now old mid → Creates (length news) first after result
   created_last ends result first before after more is m least so_far one p = by_bad ends.bad result is (omega (arith, last_counted ends more m p, least, so_far, one))
@@ -227,7 +227,7 @@ module _ (header : Header) (base : List ℕ) (file : List ℕ) (rules : Rules) (
       by_bad None result is e = subst (λ (r : End). Creates (length news) first after r) (sym is) e
       by_bad (Some place) result is e = subst (λ (r : End). Creates (length news) first after r) (sym is) e
 
-  pub created_stops : (end result : End) (first before after : ℕ) → result ≡ end → IsMade (record { header = header; rules = rules; name = file_name base number }) file now later mid new (Err end)
+  pub created_stops : (end result : End) (first before after : ℕ) → result ≡ end → IsMade (record { header = header; rules = rules; name = file_name base number }) file (record { lanes = now; files = mid }) (record { lanes = later; files = new }) (Err end)
       → 1 ≤ number → before ≡ raised first (number - 1) → after ≤ raised before 1
       → Progress header base file rules news bad number now old mid → Creates (length news) first after result
   created_stops code.Done result first before after is m least so_far one p = absurd m
@@ -236,7 +236,7 @@ module _ (header : Header) (base : List ℕ) (file : List ℕ) (rules : Rules) (
   created_stops code.Write result first before after is m least so_far one p = subst (λ (r : End). Creates (length news) first after r) (sym is) (omega (arith, some_counted p, least, so_far, one))
 
   pub progress_stops : (end result : End) (counts between now_counts : Counts) (asked asked_now : List (List ℕ)) → result ≡ end → counts.unfinished ≤ between.unfinished
-      → IsMade (record { header = header; rules = rules; name = file_name base number }) file now later mid new (Err end)
+      → IsMade (record { header = header; rules = rules; name = file_name base number }) file (record { lanes = now; files = mid }) (record { lanes = later; files = new }) (Err end)
       → LeavesFile (file_name base number) later (record { files = mid; counts = between; requested = asked }) (record { files = new; counts = now_counts; requested = asked_now }) (Err end)
       → Progress header base file rules news bad number now old mid → IsSplit news (end_by bad) counts now_counts old new result
   progress_stops code.Done result counts between now_counts asked asked_now is since m leaves p = absurd m

@@ -208,14 +208,16 @@ whole_measured l file rules first now tallies before ends whole more bad m =
     let nows = lists_whole l file rules now whole in
     let taken_is : p.taken ≡ taken_of l file rules first = p.piece ∙ sym (append-nil (piece rules.unit left)) ∙ ap (next_file rules.unit) (sym firsts) in
     record {
-      stands = p.passed.stands;
+      left = record {
+        stands = p.passed.stands;
+        left = nows ∙ ap (λ (xs : List Keyed). xs ∷ []) p.left ∙ ap (behind_file rules.unit) (sym firsts);
+        more = m.more ∙ ap (λ (b : Bool). b || is_some_left (left_in_rows rules.stop (rows_of l file now))) more
+            ∙ ap is_some_left (sym (append-nil (left_in_rows rules.stop (rows_of l file now)))) ∙ ap (λ (xss : List (List Keyed)). is_some_left (joined_lists xss)) (sym nows);
+        bad_ends = λ last. m.bad last ∙ ap (λ (o : Option (ℕ × ℕ)). option_or o (bad_in_rows rules (rows_of l file first))) bad ∙ sym (bad_whole l file rules first whole);
+        bad = λ again. bad_whole l file rules now whole ∙ p.bad again ∙ sym (bad_whole l file rules first whole);
+      };
       lefts = λ i d lt. subst (λ (ts : List Keyed). left_of l file (get_or first i d) ≡ items_of_cpu (get_or first i d).cpu ts ++ left_of l file (get_or now i d)) taken_is (p.passed.lefts i d lt);
       tallied = subst (λ (ts : List Keyed). Tallied l first ts tallies) taken_is p.tallied;
-      left = nows ∙ ap (λ (xs : List Keyed). xs ∷ []) p.left ∙ ap (behind_file rules.unit) (sym firsts);
-      more = m.more ∙ ap (λ (b : Bool). b || is_some_left (left_in_rows rules.stop (rows_of l file now))) more
-          ∙ ap is_some_left (sym (append-nil (left_in_rows rules.stop (rows_of l file now)))) ∙ ap (λ (xss : List (List Keyed)). is_some_left (joined_lists xss)) (sym nows);
-      bad_ends = λ last. m.bad last ∙ ap (λ (o : Option (ℕ × ℕ)). option_or o (bad_in_rows rules (rows_of l file first))) bad ∙ sym (bad_whole l file rules first whole);
-      bad = λ again. bad_whole l file rules now whole ∙ p.bad again ∙ sym (bad_whole l file rules first whole);
     }
 
 -- EACH LANE AS A LIST
@@ -336,7 +338,13 @@ all_measured l file rules n first now tallies0 tallies ends apart rise enough en
     let own : (i : ℕ) (d : Lane) → i < length first → items_of_cpu (get_or first i d).cpu (taken_of l file rules first) ≡ items_of_cpu (get_or first i d).cpu (piece rules.unit (left_in_rows rules.stop (row_of l file (get_or first i d) ∷ []))) =
     λ i d lt. ap (λ (xss : List (List Keyed)). items_of_cpu (get_or first i d).cpu (next_file rules.unit xss)) lists ∙ own_apart l file rules.unit rules.stop first i d rise lt in
     record {
-      stands = taken_stand l file rules first now tallies each;
+      left = record {
+        stands = taken_stand l file rules first now tallies each;
+        left = lists_apart l file rules now apart ∙ lefts_behind l file rules first now tallies each ∙ ap (behind_file rules.unit) (sym lists);
+        more = s.more ∙ ap (λ (xs : List Lane). is_some_left (joined_lists (all_left l file rules xs))) nows ∙ ap (λ (xss : List (List Keyed)). is_some_left (joined_lists xss)) (sym (lists_apart l file rules now apart));
+        bad_ends = λ last. s.bad last ∙ ap (all_bad l file rules) firsts ∙ sym (bad_apart l file rules first apart);
+        bad = λ again. bad_apart l file rules now apart ∙ ap (λ (bads : List (ℕ × ℕ)). slice_get bads 0) (bads_same l file rules first now tallies again each) ∙ sym (bad_apart l file rules first apart);
+      };
       lefts = λ i d lt.
           let a = get_or first i d in
           let b = get_or now i d in
@@ -346,10 +354,6 @@ all_measured l file rules n first now tallies0 tallies ends apart rise enough en
           let a = get_or first i d in
           let p = trio_at P first now tallies i d d e each lt in
           subst (IsTally l (get_or tallies i e)) (ap (items_of_cpu a.cpu) p.piece ∙ sym (own i d lt)) (p.tallied 0 d e (omega arith));
-      left = lists_apart l file rules now apart ∙ lefts_behind l file rules first now tallies each ∙ ap (behind_file rules.unit) (sym lists);
-      more = s.more ∙ ap (λ (xs : List Lane). is_some_left (joined_lists (all_left l file rules xs))) nows ∙ ap (λ (xss : List (List Keyed)). is_some_left (joined_lists xss)) (sym (lists_apart l file rules now apart));
-      bad_ends = λ last. s.bad last ∙ ap (all_bad l file rules) firsts ∙ sym (bad_apart l file rules first apart);
-      bad = λ again. bad_apart l file rules now apart ∙ ap (λ (bads : List (ℕ × ℕ)). slice_get bads 0) (bads_same l file rules first now tallies again each) ∙ sym (bad_apart l file rules first apart);
     }
 
 -- the tallies of the lane at hand count nothing

@@ -21,7 +21,7 @@ use Rattle.split_tool.specs.Names.{file_name}
 use Rattle.split_passes.specs.AllAgain.{TellsHeld}
 use Rattle.split_passes.specs.Outputs.{LanesOutput}
 use Rattle.split_passes.specs.Packs.{GainsSome}
-use Rattle.split_tool.specs.Made.{AsksForIt, FilePlan, IsFinished, IsMade, IsWritten, LeavesFile}
+use Rattle.split_tool.specs.Made.{AsksForIt, FilePlan, IsFinished, IsMade, IsWritten, LanesFiles, LeavesFile}
 use Rattle.split_tool.specs.NewFiles.{AsksFor, end_by, files_from}
 use Rattle.split_tool.specs.Numbered.{LeavesFiles, Numbered, first_names, numbered}
 use Rattle.split_tool.proofs.Making.{stored_is}
@@ -48,12 +48,12 @@ pub asked_by : (name own : List ℕ) (old mid new : List (List ℕ)) → own ≡
 asked_by name own old mid new named one same = same ∙ one ∙ ap (λ (n : List ℕ). old ++ n ∷ []) named
 
 -- over a file with these bytes
-pub stopped_by : (plan : FilePlan) (header : Header) (file : List ℕ) (table : List Part) (lists : List (List ItemData)) (before after : LanesOutput) (first now : List Lane) (old new : Option NamedFiles) (end : End) → (end ≡ code.Done → ⊥)
-    → IsWritten header file table lists before after end → IsMade plan file first now old new (Err end)
-stopped_by plan header file table lists before after first now old new code.Done some written = absurd (some refl)
-stopped_by plan header file table lists before after first now old new (code.Malformed cpu page) some written = written
-stopped_by plan header file table lists before after first now old new code.Read some written = tt
-stopped_by plan header file table lists before after first now old new code.Write some written = tt
+pub stopped_by : (plan : FilePlan) (header : Header) (file : List ℕ) (table : List Part) (lists : List (List ItemData)) (before after : LanesOutput) (old new : LanesFiles) (end : End) → (end ≡ code.Done → ⊥)
+    → IsWritten header file table lists before after end → IsMade plan file old new (Err end)
+stopped_by plan header file table lists before after old new code.Done some written = absurd (some refl)
+stopped_by plan header file table lists before after old new (code.Malformed cpu page) some written = written
+stopped_by plan header file table lists before after old new code.Read some written = tt
+stopped_by plan header file table lists before after old new code.Write some written = tt
 
 -- NAMES BY THEIR NUMBERS
 
@@ -180,15 +180,15 @@ asked_all base news count before now bad result is names long asked = by_bad bad
     by_bad None is = subst (AsksFor news before now) (sym is) all
     by_bad (Some place) is = subst (AsksFor news before now) (sym is) all
 
-pub asked_stops : (plan : FilePlan) (file : List ℕ) (first last : List Lane) (old new : Option NamedFiles) (base : List ℕ) (news : List NewFile) (count number : ℕ) (before mid now : List (List ℕ)) (end : End)
-    → IsMade plan file first last old new (Err end) → names_of news ≡ first_names base (length news) → count + 1 ≡ number → number ≤ length news → mid ≡ before ++ first_names base (count + 0)
+pub asked_stops : (plan : FilePlan) (file : List ℕ) (old new : LanesFiles) (base : List ℕ) (news : List NewFile) (count number : ℕ) (before mid now : List (List ℕ)) (end : End)
+    → IsMade plan file old new (Err end) → names_of news ≡ first_names base (length news) → count + 1 ≡ number → number ≤ length news → mid ≡ before ++ first_names base (count + 0)
     → AsksForIt (file_name base number) mid now (Err end) → AsksFor news before now end
-asked_stops plan file first last old new base news count number before mid now end made names next few so_far asks = by_end end made asks
+asked_stops plan file old new base news count number before mid now end made names next few so_far asks = by_end end made asks
   where
     begun : AskedAll (file_name base number ∷ []) mid now → AskedFirst (names_of news) before now
     begun asked = asked_few base news number before now names few (asked_more base count (count + 0) number number before mid now (omega arith) next refl so_far asked)
 
-    by_end : (e : End) → IsMade plan file first last old new (Err e) → AsksForIt (file_name base number) mid now (Err e) → AsksFor news before now e
+    by_end : (e : End) → IsMade plan file old new (Err e) → AsksForIt (file_name base number) mid now (Err e) → AsksFor news before now e
     by_end code.Done made asks = absurd made
     by_end (code.Malformed cpu page) made asks = absurd made
     by_end code.Read made (inl none) = asked_few base news (count + 0) before now names (omega (arith, next, few)) (none ∙ so_far)

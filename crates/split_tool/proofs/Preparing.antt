@@ -168,7 +168,7 @@ prepared header file rules first ready now fronts tallies table0 table at ends a
     let few : FewEach ready taken1 = few_each l file ready now taken1 (carried header.layout) small stands m.lefts in
     let count : AreCounted l now tallies taken = subst (AreCounted l now tallies) same (counted l file rules ready now tallies later m.tallied few) in
     record {
-      left = left_still l file rules first ready now now ends rows refl m.stands (record { stands = m.stands; left = m.left; more = m.more; bad_ends = m.bad_ends; bad = m.bad });
+      left = left_still l file rules first ready now now ends rows refl m.left.stands m.left;
       fronts_are = subst (AreFronts l file now fronts tallies) (ap (owns ready) same ∙ same_owns ready first taken parts)
           (fronts_all l file ready now fronts tallies taken1 order are_ready stands later noted m.lefts m.tallied few);
       table_is = filled taken (front_len header) place count ∙ ap (λ (n : ℕ). map in_table (parts_from l (front_len header) (lists_of n taken))) cpus;

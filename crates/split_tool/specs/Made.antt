@@ -1,8 +1,7 @@
 -- One new file on its way.
-use Rattle.std.specs.Prelude.{◌≡◌, ◌≤◌, ◌⊎◌, ℕ, true, false, ◌&&◌, List, [], ◌∷◌, ◌++◌, map, IfErr, IfSome, MatchResult, Option, Result, Some, Ok, Err}
+use Rattle.std.specs.Prelude.{◌≡◌, ◌≤◌, ◌⊎◌, ℕ, List, [], ◌∷◌, ◌++◌, map, IfErr, IfSome, MatchResult, Option, Result, Some, Ok, Err}
 use Rattle.std.specs.List.{All}
 use Rattle.std.specs.FinMap.{insert}
-use Rattle.trace_base.specs.declared.layout.Layout.{Layout}
 use Rattle.trace_base.specs.declared.part.Part.{Part}
 use Rattle.trace_outside.specs.declared.counts.Counts.{Counts}
 use Rattle.trace_outside.specs.Causes.{Rose, raised}
@@ -19,7 +18,6 @@ use Rattle.time_merge.specs.LaneRows.{rows_of}
 use Rattle.time_merge.specs.declared.ending.End.{End}
 use Rattle.time_merge.specs.declared.ending.End.TheVariants as code
 use Rattle.split_pieces.specs.declared.rules.Rules.{Rules}
-use Rattle.split_pieces.specs.Pieces.{is_some_left, joined_lists, behind_file}
 use Rattle.split_passes.specs.AllAgain.{AreFronts, TellsHeld, owns}
 use Rattle.split_passes.specs.Outputs.{LanesOutput}
 use Rattle.split_passes.specs.declared.tally.Tally.{Tally}
@@ -29,21 +27,12 @@ use Rattle.new_files.specs.Stored.{IsUnmade, KeepsCounts}
 use Rattle.split_tool.specs.NewFile.{file_text, front_text, table_of}
 use Rattle.split_tool.specs.declared.lists.Ends.{Ends}
 use Rattle.split_tool.specs.Counted.{lists_of}
-use Rattle.split_tool.specs.Lists.{lists_left, bad_left}
-use Rattle.split_tool.specs.Measured.{taken_of}
+use Rattle.split_tool.specs.Measured.{FileLeft, taken_of}
 use Rattle.split_tool.specs.NewFiles.{LeavesUnfinished}
 
 -- the bytes of the next file
 abbrev pub next_text : Header → List ℕ → Rules → List Lane → List ℕ
 next_text header file rules lanes = file_text header (lists_of header.cpus (taken_of header.layout file rules lanes))
-
--- what is left after a file
-pub record FileLeft (layout : Layout) (file : List ℕ) (rules : Rules) (first now : List Lane) (ends : Ends) : Type 0 where
-  pub stands : All (Stands layout file) now
-  pub left : lists_left layout file rules now ≡ behind_file rules.unit (lists_left layout file rules first)
-  pub more : ends.more ≡ is_some_left (joined_lists (lists_left layout file rules now))
-  pub bad_ends : (ends.more && rules.repeat) ≡ false → ends.bad ≡ bad_left layout file rules first
-  pub bad : rules.repeat ≡ true → bad_left layout file rules now ≡ bad_left layout file rules first
 
 -- what the second pass goes by: where each lane's items begin, how many they are, and the file's table
 pub record Noted : Type 0 where
@@ -77,18 +66,23 @@ pub record FilePlan : Type 0 where
   pub rules : Rules
   pub name : List ℕ
 
--- a file was finished
-pub record Made (plan : FilePlan) (file : List ℕ) (first now : List Lane) (old new : Option NamedFiles) (ends : Ends) : Type 0 where
-  pub left : FileLeft plan.header.layout file plan.rules first now ends
-  pub stored : IfSome old (λ files. new ≡ Some (insert files plan.name (next_text plan.header file plan.rules first)))
+-- the lanes beside the files of the folder, at one moment
+pub record LanesFiles : Type 0 where
+  pub lanes : List Lane
+  pub files : Option NamedFiles
 
--- Over a file with these bytes: a file was finished, or a call of the outside failed.
-abbrev pub IsMade : FilePlan → List ℕ → List Lane → List Lane → Option NamedFiles → Option NamedFiles → Result Ends End → Type 0
-IsMade plan file first now old new (Ok ends) = Made plan file first now old new ends
-IsMade plan file first now old new (Err code.Done) = ⊥
-IsMade plan file first now old new (Err (code.Malformed cpu page)) = ⊥
-IsMade plan file first now old new (Err code.Read) = Unit {0}
-IsMade plan file first now old new (Err code.Write) = Unit {0}
+-- The new file was finished: under its name stands the next file of what the lanes had left, and the rest is left.
+pub record Made (plan : FilePlan) (file : List ℕ) (before now : LanesFiles) (ends : Ends) : Type 0 where
+  pub left : FileLeft plan.header.layout file plan.rules before.lanes now.lanes ends
+  pub stored : IfSome before.files (λ files. now.files ≡ Some (insert files plan.name (next_text plan.header file plan.rules before.lanes)))
+
+-- Over an input with these bytes: the new file was finished, or a call of the outside failed.
+abbrev pub IsMade : FilePlan → List ℕ → LanesFiles → LanesFiles → Result Ends End → Type 0
+IsMade plan file before now (Ok ends) = Made plan file before now ends
+IsMade plan file before now (Err code.Done) = ⊥
+IsMade plan file before now (Err (code.Malformed cpu page)) = ⊥
+IsMade plan file before now (Err code.Read) = Unit {0}
+IsMade plan file before now (Err code.Write) = Unit {0}
 
 -- some file of this name was finished, and every other name is as before
 abbrev pub IsFinished : List ℕ → Option NamedFiles → Option NamedFiles → Type 0

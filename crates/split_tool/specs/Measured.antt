@@ -30,13 +30,17 @@ bad_of_end code.Full closed = None
 bad_of_end code.Past closed = None
 bad_of_end code.Done closed = None
 
--- the piece of one list was taken
+-- what lanes of one list have left of it
+abbrev pub list_left : Layout → List ℕ → Rules → List Lane → List Keyed
+list_left layout file rules lanes = left_in_rows rules.stop (rows_of layout file lanes)
+
+-- the piece of one list was taken, and the rest of the list is left
 pub record PieceTaken (layout : Layout) (file : List ℕ) (rules : Rules) (first now : List Lane) (tallies : List Tally) : Type 0 where
   pub taken : List Keyed
   pub passed : Passed layout file first now taken
   pub tallied : Tallied layout first taken tallies
-  pub piece : taken ≡ piece rules.unit (left_in_rows rules.stop (rows_of layout file first))
-  pub left : left_in_rows rules.stop (rows_of layout file now) ≡ rest rules.unit (left_in_rows rules.stop (rows_of layout file first))
+  pub piece : taken ≡ piece rules.unit (list_left layout file rules first)
+  pub left : list_left layout file rules now ≡ rest rules.unit (list_left layout file rules first)
   pub bad : rules.repeat ≡ true → bad_in_rows rules (rows_of layout file now) ≡ bad_in_rows rules (rows_of layout file first)
 
 -- the lanes of a list, and what is left after the pieces of this list and of those before it
@@ -44,10 +48,11 @@ pub record ListsBehind : Type 0 where
   pub lanes : List Lane
   pub ends : Ends
 
--- with the lists before it. Where a list goes on nothing is said of a malformed sub-buffer.
+-- The same beside the lists before it: whether one of them goes on, and the first malformed sub-buffer that one of them leads to,
+-- of which nothing is said while a list goes on.
 pub record ListMeasured (layout : Layout) (file : List ℕ) (rules : Rules) (before now : ListsBehind) (tallies : List Tally) : Type 0 where
   pub taken : PieceTaken layout file rules before.lanes now.lanes tallies
-  pub more : now.ends.more ≡ (before.ends.more || is_some_left (left_in_rows rules.stop (rows_of layout file now.lanes)))
+  pub more : now.ends.more ≡ (before.ends.more || is_some_left (list_left layout file rules now.lanes))
   pub bad : (now.ends.more && rules.repeat) ≡ false
       → now.ends.bad ≡ option_or before.ends.bad (bad_in_rows rules (rows_of layout file before.lanes))
 
@@ -55,14 +60,19 @@ pub record ListMeasured (layout : Layout) (file : List ℕ) (rules : Rules) (bef
 abbrev pub taken_of : Layout → List ℕ → Rules → List Lane → List Keyed
 taken_of layout file rules lanes = next_file rules.unit (lists_left layout file rules lanes)
 
--- the pieces of all lists were taken
-pub record FileMeasured (layout : Layout) (file : List ℕ) (rules : Rules) (first now : List Lane) (tallies : List Tally) (ends : Ends) : Type 0 where
+-- What is left after a file that took its pieces: of each list the rest of it, whether an item is left, and the first malformed
+-- sub-buffer that a list leads to, where no further file is made.
+pub record FileLeft (layout : Layout) (file : List ℕ) (rules : Rules) (first now : List Lane) (ends : Ends) : Type 0 where
   pub stands : All (Stands layout file) now
-  pub lefts : (i : ℕ) (d : Lane) → i < length first
-      → left_of layout file (slice_index_or first i d)
-      ≡ items_of_cpu (slice_index_or first i d).cpu (taken_of layout file rules first) ++ left_of layout file (slice_index_or now i d)
-  pub tallied : Tallied layout first (taken_of layout file rules first) tallies
   pub left : lists_left layout file rules now ≡ behind_file rules.unit (lists_left layout file rules first)
   pub more : ends.more ≡ is_some_left (joined_lists (lists_left layout file rules now))
   pub bad_ends : (ends.more && rules.repeat) ≡ false → ends.bad ≡ bad_left layout file rules first
   pub bad : rules.repeat ≡ true → bad_left layout file rules now ≡ bad_left layout file rules first
+
+-- the pieces of all lists were taken: each lane went on behind its own items of them, and they were tallied
+pub record FileMeasured (layout : Layout) (file : List ℕ) (rules : Rules) (first now : List Lane) (tallies : List Tally) (ends : Ends) : Type 0 where
+  pub left : FileLeft layout file rules first now ends
+  pub lefts : (i : ℕ) (d : Lane) → i < length first
+      → left_of layout file (slice_index_or first i d)
+      ≡ items_of_cpu (slice_index_or first i d).cpu (taken_of layout file rules first) ++ left_of layout file (slice_index_or now i d)
+  pub tallied : Tallied layout first (taken_of layout file rules first) tallies

@@ -136,7 +136,7 @@ pub(crate) fn make_file<F: File, D: Folder>(
     ensures told { IfSome (F.bytes file.old) (λ bytes. All (Stands plan.now.header.now.layout bytes) lanes.old
         → length bytes < 2 ^ 64
         → IsMade (record { header = plan.now.header.now; rules = plan.now.rules; name = file_name plan.now.base.now number })
-        bytes lanes.old lanes.new (D.files folder.old) (D.files folder.new) result) }
+        bytes (record { lanes = lanes.old; files = D.files folder.old }) (record { lanes = lanes.new; files = D.files folder.new }) result) }
     ensures leaves { LeavesFile (file_name plan.now.base.now number) lanes.new
         (folder_seen D.Folder folder.old) (folder_seen D.Folder folder.new) result }
     ensures requested { AsksForIt (file_name plan.now.base.now number) (D.requested folder.old) (D.requested folder.new) result }

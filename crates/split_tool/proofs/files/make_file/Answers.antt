@@ -92,7 +92,7 @@ returns-in_default-write_file-clause-told g c =
     let p = m s small in
     stopped_by (record { header = header; rules = c.args.plan.now.rules; name = file_name c.args.plan.now.base.now c.args.number }) header file work.table.items (owns c.args.lanes.now (taken_of header.layout file c.args.plan.now.rules c.args.lanes.now))
     (record { lanes = c.measure_file.new.lanes; written = g.D.Out.Sink.written c.in-Ok-create_file.out }) (record { lanes = c.write_file.new.lanes; written = g.D.Out.Sink.written c.write_file.new.out })
-    c.args.lanes.now c.write_file.new.lanes (g.D.Folder.files c.args.folder.now) (g.D.Folder.files c.drop_file.new.self) c.write_file.result c.in_default-write_file.not-Done
+    (record { lanes = c.args.lanes.now; files = g.D.Folder.files c.args.folder.now }) (record { lanes = c.write_file.new.lanes; files = g.D.Folder.files c.drop_file.new.self }) c.write_file.result c.in_default-write_file.not-Done
     (w p.left.stands (owns c.args.lanes.now (taken_of header.layout file c.args.plan.now.rules c.args.lanes.now)) p.fronts_are))
     c.in-Ok.ensures.told c.write_file.ensures.told
 

@@ -241,7 +241,7 @@ returns-in-Err-clause-requested g c =
     told_again _ _ _ (g.F.File.bytes c.args.file.now) (g.F.File.bytes c.loop-number.file) c.loop-number.invariant.keeps.bytes (λ file p m.
     let news = new_files rules base header file (parts_of c.args.lanes.now) in
     let bad = bad_reached rules header.layout file (parts_of c.args.lanes.now) in
-    asked_stops (record { header = header; rules = rules; name = file_name base c.loop-number.number }) file c.loop-number.lanes c.make_file.new.lanes mid new base news (c.loop-number.number - 1) c.loop-number.number
+    asked_stops (record { header = header; rules = rules; name = file_name base c.loop-number.number }) file (record { lanes = c.loop-number.lanes; files = mid }) (record { lanes = c.make_file.new.lanes; files = new }) base news (c.loop-number.number - 1) c.loop-number.number
     (g.D.Folder.requested c.args.folder.now) (g.D.Folder.requested c.loop-number.folder) (g.D.Folder.requested c.make_file.new.folder) c.in-Err.end (m p.stands p.small)
     (names_new header base (file_items rules header.layout file (parts_of c.args.lanes.now))) (omega (arith, c.loop-number.invariant.least))
     (some_counted header base file rules news bad c.loop-number.number c.loop-number.lanes c.make_file.new.lanes old mid new p)
