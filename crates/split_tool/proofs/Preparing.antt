@@ -41,8 +41,8 @@ use Rattle.split_tool.specs.NewFile.{front_len, front_text, table_of}
 use Rattle.split_tool.specs.declared.lists.Ends.{Ends}
 use Rattle.split_tool.specs.Counted.{lists_of, AreCounted}
 use Rattle.split_tool.specs.Lists.{groups, left_in_rows, bad_in_rows, lists_left, bad_left}
-use Rattle.split_tool.specs.Measured.{taken_of, FileMeasured}
-use Rattle.split_tool.specs.Made.{FileLeft, Prepared, IsWritten}
+use Rattle.split_tool.specs.Measured.{taken_of, FileLeft, FileMeasured}
+use Rattle.split_tool.specs.Made.{Prepared, IsWritten}
 use Rattle.split_tool.proofs.FewItems.{few_in_list}
 use Rattle.split_tool.proofs.Owning.{IsNotLane, none_else}
 use Rattle.split_tool.proofs.Tables.{same_data}
