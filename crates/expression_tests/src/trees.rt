@@ -2,8 +2,8 @@
 
 ghost use Rattle.std.specs.Prelude.{◌≡◌, ◌⊎◌};
 
+use crate::marks::{add, put_mark};
 use crate::rows::{put_often, repeated};
-use c_operators::BinaryOp;
 use fmt_expr::{Entry, Expr, Operand, PrefixOp, PrintFmt, parse_args};
 use fmt_lexer::tokens;
 use fmt_literal::{CKind, CastTo};
@@ -11,40 +11,12 @@ use std::alloc::{AllocError, Global};
 use std::test::Fail;
 use trace_base::{ByteText, Field, FieldKind, FieldPlace};
 
-/// Appends bytes. Where memory runs out they are left out, and the row that wants them fails.
-fn add(out: &mut Vec<u8>, bytes: &[u8]) {
-    let _ = out.extend_from_slice(bytes);
-}
-
 fn prefix_text(op: PrefixOp) -> &'static [u8] {
     match op {
         PrefixOp::Plus => b"(+",
         PrefixOp::Minus => b"(-",
         PrefixOp::LogicNot => b"(!",
         PrefixOp::Invert => b"(~",
-    }
-}
-
-fn op_text(op: BinaryOp) -> &'static [u8] {
-    match op {
-        BinaryOp::LogicOr => b" || ",
-        BinaryOp::LogicAnd => b" && ",
-        BinaryOp::BitOr => b" | ",
-        BinaryOp::BitXor => b" ^ ",
-        BinaryOp::BitAnd => b" & ",
-        BinaryOp::Equal => b" == ",
-        BinaryOp::NotEqual => b" != ",
-        BinaryOp::Less => b" < ",
-        BinaryOp::LessEqual => b" <= ",
-        BinaryOp::Greater => b" > ",
-        BinaryOp::GreaterEqual => b" >= ",
-        BinaryOp::ShiftLeft => b" << ",
-        BinaryOp::ShiftRight => b" >> ",
-        BinaryOp::Plus => b" + ",
-        BinaryOp::Minus => b" - ",
-        BinaryOp::Times => b" * ",
-        BinaryOp::Divide => b" / ",
-        BinaryOp::Remainder => b" % ",
     }
 }
 
@@ -89,7 +61,7 @@ fn put_text(out: &mut Vec<u8>, text: &ByteText) {
 #[cycle(put)]
 fn put_rest(out: &mut Vec<u8>, rest: &[Operand]) {
     for operand in rest {
-        add(out, op_text(operand.op));
+        put_mark(out, operand.op);
         put(out, &operand.value);
     }
 }

@@ -1,12 +1,12 @@
 // Dumps into memory. What they print was written down by hand.
 
-use dat_header::{Header, read_header};
+use crate::headers::open;
+use dat_header::Header;
 use dump_tool::dump;
 use std::alloc::{AllocError, Global};
 use std::process::Abort;
 use std::test::Fail;
-use trace_base::ByteText;
-use trace_outside::{MemFile, MemSink, Pending};
+use trace_outside::{MemSink, Pending};
 use word_values::Section;
 
 /// Dumps of a little-endian file with one processor and nothing else.
@@ -72,11 +72,6 @@ irq\0\0\0\0\0timer\0\0\0\0\x01\0\0\0\0\0\0\0\x05start\
 \0\0\0\0\0\0\0\x090x1 : \"a\"\0\0\0\0\0\0\0\x0b1 init\n2 sh\
 \0\0\0\x02options  \0\0\x01\0\0\0\x03abc\xff\xff\0\0\0\0\0\0latency  \0";
 
-fn header_of(alloc: Global, bytes: &[u8]) -> Result<Header, Fail> {
-    let mut file = MemFile::new(ByteText::copy(alloc, bytes)?);
-    Ok(read_header(alloc, &mut file)?)
-}
-
 fn choose(chosen: &mut [bool; 12], sections: &[Section]) {
     for section in sections {
         if let Some(slot) = chosen.get_mut(section.place()) {
@@ -118,7 +113,7 @@ fn prints_full(rt: &impl Abort, alloc: Global, header: &Header) -> Result<(), Al
 
 #[test]
 fn dumps_print_their_sections(rt: HostRuntime) -> Result<(), Fail> {
-    let header = header_of(rt.alloc(), PLAIN_FILE)?;
+    let header = open(rt.alloc(), PLAIN_FILE)?;
     prints_plain(&rt, rt.alloc(), &header)?;
     Ok(())
 }
@@ -139,7 +134,7 @@ fn prints_all(rt: &impl Abort, alloc: Global, header: &Header) -> Result<(), All
 
 #[test]
 fn all_sections_stand_in_their_order(rt: HostRuntime) -> Result<(), Fail> {
-    let header = header_of(rt.alloc(), FULL_FILE)?;
+    let header = open(rt.alloc(), FULL_FILE)?;
     prints_full(&rt, rt.alloc(), &header)?;
     prints_all(&rt, rt.alloc(), &header)?;
     Ok(())

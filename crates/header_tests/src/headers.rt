@@ -49,7 +49,8 @@ fn whole(alloc: Global) -> Result<Vec<u8>, AllocError> {
     Ok(bytes)
 }
 
-fn open(alloc: Global, bytes: &[u8]) -> Result<Header, Fail>
+/// The header that a file begins with.
+pub(crate) fn open(alloc: Global, bytes: &[u8]) -> Result<Header, Fail>
     ensures allowed { IfOk result IsHeader }
 {
     let mut file = MemFile::new(ByteText::copy(alloc, bytes)?);

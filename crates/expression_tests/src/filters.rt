@@ -1,32 +1,11 @@
 //! Texts, and the filters that they are or the places where they are refused.
 
-use c_operators::BinaryOp;
+use crate::marks::{add, put_mark};
+use crate::rows::put_often;
 use filter_lang::{EventName, Filter, FilterExpr, FilterFault, FilterPrefix, parse_filter};
 use std::alloc::{AllocError, Global};
+use std::process::Abort;
 use std::test::Fail;
-
-fn mark(op: BinaryOp) -> &'static [u8] {
-    match op {
-        BinaryOp::LogicOr => b"||",
-        BinaryOp::LogicAnd => b"&&",
-        BinaryOp::BitOr => b"|",
-        BinaryOp::BitXor => b"^",
-        BinaryOp::BitAnd => b"&",
-        BinaryOp::Equal => b"==",
-        BinaryOp::NotEqual => b"!=",
-        BinaryOp::Less => b"<",
-        BinaryOp::LessEqual => b"<=",
-        BinaryOp::Greater => b">",
-        BinaryOp::GreaterEqual => b">=",
-        BinaryOp::ShiftLeft => b"<<",
-        BinaryOp::ShiftRight => b">>",
-        BinaryOp::Plus => b"+",
-        BinaryOp::Minus => b"-",
-        BinaryOp::Times => b"*",
-        BinaryOp::Divide => b"/",
-        BinaryOp::Remainder => b"%",
-    }
-}
 
 fn prefix_mark(op: FilterPrefix) -> &'static [u8] {
     match op {
@@ -34,11 +13,6 @@ fn prefix_mark(op: FilterPrefix) -> &'static [u8] {
         FilterPrefix::Minus => b"-",
         FilterPrefix::Invert => b"~",
     }
-}
-
-/// Appends bytes. Where memory runs out they are left out, and the row that wants them fails.
-fn add(out: &mut Vec<u8>, bytes: &[u8]) {
-    let _ = out.extend_from_slice(bytes);
 }
 
 /// Appends a condition.
@@ -62,9 +36,7 @@ fn put_condition(out: &mut Vec<u8>, expr: &FilterExpr) {
             add(out, b"[");
             put_condition(out, first);
             for operand in rest {
-                add(out, b" ");
-                add(out, mark(operand.op));
-                add(out, b" ");
+                put_mark(out, operand.op);
                 put_condition(out, &operand.value);
             }
             add(out, b"]");
@@ -104,15 +76,36 @@ fn reading(alloc: Global, text: &[u8]) -> Result<Vec<u8>, AllocError> {
     }
 }
 
-#[test]
-fn texts_are_these_filters_or_refused_at_these_places(rt: HostRuntime) -> Result<(), Fail> {
-    for table in [TREES, REFUSALS] {
-        for row in table.lines().filter(|row| !row.starts_with("# ")) {
-            let (text, expected) = row.split_once(" => ").ok_or("a row has two parts")?;
-            let found = reading(rt.alloc(), text.as_bytes())?;
-            assert_eq!(rt; found.as_slice(), expected.as_bytes(), "{row}");
+fn is_read(
+    rt: &impl Abort,
+    alloc: Global,
+    text: &[u8],
+    expected: &[u8],
+    row: &str,
+) -> Result<(), AllocError> {
+    let found = reading(alloc, text)?;
+    assert!(rt; found.as_slice() == expected, "{row}");
+    Ok(())
+}
+
+fn row_is_read(rt: &impl Abort, alloc: Global, row: &str) -> Result<(), AllocError> {
+    let (text, expected) = row.split_once(" => ").unwrap_or((row, "no row"));
+    is_read(rt, alloc, text.as_bytes(), expected.as_bytes(), row)
+}
+
+fn all_are_read(rt: &impl Abort, alloc: Global, rows: &str) -> Result<(), AllocError> {
+    for row in rows.lines() {
+        if !row.starts_with("# ") {
+            row_is_read(rt, alloc, row)?;
         }
     }
+    Ok(())
+}
+
+#[test]
+fn texts_are_these_filters_or_refused_at_these_places(rt: HostRuntime) -> Result<(), Fail> {
+    all_are_read(&rt, rt.alloc(), TREES)?;
+    all_are_read(&rt, rt.alloc(), REFUSALS)?;
     Ok(())
 }
 
@@ -128,40 +121,54 @@ const BLANKS: [(&[u8], &[u8]); 6] = [
 
 #[test]
 fn blanks_are_those_of_every_format(rt: HostRuntime) -> Result<(), Fail> {
-    for (text, expected) in BLANKS {
-        let found = reading(rt.alloc(), text)?;
-        assert_eq!(rt; found.as_slice(), expected);
+    for (text, expected) in &BLANKS {
+        is_read(&rt, rt.alloc(), text, expected, "a blank")?;
     }
     Ok(())
 }
 
-/// The reading of `a:`, so many of one byte, `x`, and so many of another.
-fn nested(alloc: Global, opens: u32, open: u8, closes: u32) -> Result<Option<u64>, AllocError> {
-    let mut text = b"a:".to_vec(alloc)?;
-    for _ in 0..opens {
-        text.push(open)?;
-    }
+/// An opener so many times, after `a:`, then `x` and so many brackets that close; and where that is refused, if it is.
+const NESTED: &[(&str, u32, u32, Option<u64>)] = &[
+    ("(", 64, 64, None),
+    ("(", 64, 63, Some(130)),
+    ("(", 64, 65, Some(131)),
+    ("(", 65, 65, Some(66)),
+    ("!", 64, 0, None),
+    ("-", 65, 0, Some(66)),
+    ("~", 3000, 0, Some(66)),
+];
+
+fn put_nested(text: &mut Vec<u8>, open: &str, opens: u32, closes: u32) -> Result<(), AllocError> {
+    text.extend_from_slice(b"a:")?;
+    put_often(text, open, opens)?;
     text.push(b'x')?;
-    for _ in 0..closes {
-        text.push(b')')?;
-    }
-    match parse_filter(alloc, &text) {
+    put_often(text, ")", closes)
+}
+
+fn refusal(alloc: Global, text: &[u8]) -> Result<Option<u64>, AllocError> {
+    match parse_filter(alloc, text) {
         Ok(_) => Ok(None),
         Err(FilterFault::At(place)) => Ok(Some(place)),
         Err(FilterFault::Memory) => Err(AllocError),
     }
 }
 
+fn is_nested(
+    rt: &impl Abort,
+    alloc: Global,
+    (open, opens, closes, expected): (&str, u32, u32, Option<u64>),
+) -> Result<(), AllocError> {
+    let mut text = Vec::new(alloc);
+    put_nested(&mut text, open, opens, closes)?;
+    assert!(rt; refusal(alloc, &text)? == expected, "{opens} {open}");
+    Ok(())
+}
+
 #[test]
 fn the_65th_opener_is_refused(rt: HostRuntime) -> Result<(), Fail> {
-    let alloc = rt.alloc();
-    assert_eq!(rt; nested(alloc, 64, b'(', 64)?, None);
-    assert_eq!(rt; nested(alloc, 64, b'(', 63)?, Some(130));
-    assert_eq!(rt; nested(alloc, 64, b'(', 65)?, Some(131));
-    assert_eq!(rt; nested(alloc, 65, b'(', 65)?, Some(66));
-    assert_eq!(rt; nested(alloc, 64, b'!', 0)?, None);
-    assert_eq!(rt; nested(alloc, 65, b'-', 0)?, Some(66));
-    assert_eq!(rt; nested(alloc, 3000, b'~', 0)?, Some(66));
+    for row in NESTED {
+        is_nested(&rt, rt.alloc(), *row)?;
+    }
     Ok(())
 }
 

@@ -1,6 +1,6 @@
-//! The numbers of fields, of their elements and of their lengths.
+// The numbers of fields, of their elements and of their lengths.
 
-use crate::trees::{PAYLOAD, boxed, field, int, rec};
+use super::samples::{PAYLOAD, boxed, field, int, rec};
 use fmt_eval::{Num, number};
 use fmt_expr::CKind::{I32, I64, U32, U64};
 use fmt_expr::{CKind, Expr};

@@ -4,8 +4,7 @@ ghost use Rattle.std.specs.Prelude.{◌≡◌, IfOk, vec_len};
 
 use dat_header::{Body, OpenFault, read_header};
 use restore_tool::{Answer, Names, Source, restore_named};
-use std::alloc::Global;
-use std::test::Fail;
+use std::alloc::{AllocError, Global};
 use trace_base::{ByteText, Part};
 use trace_outside::{MemFault, MemFile, MemFolder};
 use trace_samples::{ONE_EVENT, TraceFile};
@@ -56,7 +55,7 @@ pub(super) struct Row {
 }
 
 // The first so many bytes of a header with this header_page text and without formats and names.
-fn header(alloc: Global, page_text: &[u8], len: usize) -> Result<Vec<u8>, Fail>
+fn header(alloc: Global, page_text: &[u8], len: usize) -> Result<Vec<u8>, AllocError>
     ensures { IfOk result (λ bytes. vec_len bytes ≡ len) }
 {
     let mut trace = TraceFile::new(alloc);
@@ -68,7 +67,7 @@ fn header(alloc: Global, page_text: &[u8], len: usize) -> Result<Vec<u8>, Fail>
 
 // The number of processors stands after 83 bytes and the header_page text. Byte 12 tells the byte order, and the bytes 14 to 17
 // the page size.
-fn partial_bytes(alloc: Global, partial: Partial) -> Result<Option<Vec<u8>>, Fail> {
+fn partial_bytes(alloc: Global, partial: Partial) -> Result<Option<Vec<u8>>, AllocError> {
     let mut bytes = header(alloc, b"", 83)?;
     match partial {
         Partial::Missing => return Ok(None),
@@ -91,35 +90,41 @@ fn partial_bytes(alloc: Global, partial: Partial) -> Result<Option<Vec<u8>>, Fai
     Ok(Some(bytes))
 }
 
-fn data_bytes(alloc: Global, data: Data) -> Result<Option<Vec<u8>>, Fail> {
-    let mut bytes = Vec::new(alloc);
-    match data {
-        Data::Missing => return Ok(None),
-        Data::Zeros(count) => bytes.resize(count, 0)?,
-        Data::Event => {
-            bytes.extend_from_slice(ONE_EVENT)?;
-            bytes.resize(4096, 0)?;
-        }
-        Data::Rising(count) => {
-            for place in 0..count {
-                bytes.push((place % 251) as u8)?;
-            }
-        }
-    }
-    Ok(Some(bytes))
-}
-
-fn put_answer(text: &mut String, answer: Answer) -> Result<(), Fail> {
-    match answer {
-        Answer::Done => text.push_str("done")?,
-        Answer::Refused(OpenFault::Truncated(place)) => write!(text, "truncated {place}")?,
-        Answer::Refused(_) => text.push_str("refused")?,
-        Answer::Read(Source::Partial) => text.push_str("read partial")?,
-        Answer::Read(Source::File(file)) => write!(text, "read {file}")?,
-        Answer::Write => text.push_str("write")?,
-        Answer::NoMemory => text.push_str("no memory")?,
+fn put_rising(bytes: &mut Vec<u8>, count: usize) -> Result<(), AllocError> {
+    for place in 0..count {
+        bytes.push((place % 251) as u8)?;
     }
     Ok(())
+}
+
+fn put_data(bytes: &mut Vec<u8>, data: Data) -> Result<(), AllocError> {
+    match data {
+        Data::Missing => Ok(()),
+        Data::Zeros(count) => bytes.resize(count, 0),
+        Data::Event => {
+            bytes.extend_from_slice(ONE_EVENT)?;
+            bytes.resize(4096, 0)
+        }
+        Data::Rising(count) => put_rising(bytes, count),
+    }
+}
+
+fn data_bytes(alloc: Global, data: Data) -> Result<Vec<u8>, AllocError> {
+    let mut bytes = Vec::new(alloc);
+    put_data(&mut bytes, data)?;
+    Ok(bytes)
+}
+
+fn put_answer(text: &mut String, answer: Answer) -> Result<(), AllocError> {
+    match answer {
+        Answer::Done => text.push_str("done"),
+        Answer::Refused(OpenFault::Truncated(place)) => write!(text, "truncated {place}"),
+        Answer::Refused(_) => text.push_str("refused"),
+        Answer::Read(Source::Partial) => text.push_str("read partial"),
+        Answer::Read(Source::File(file)) => write!(text, "read {file}"),
+        Answer::Write => text.push_str("write"),
+        Answer::NoMemory => text.push_str("no memory"),
+    }
 }
 
 // Whether a part of the bytes is just the data file.
@@ -140,14 +145,25 @@ fn put_part(
     bytes: &[u8],
     part: Part,
     data: Data,
-) -> Result<(), Fail> {
-    let (offset, size) = (part.offset, part.size);
-    write!(text, " {offset}+{size}")?;
+) -> Result<(), AllocError> {
     let given = data_bytes(alloc, data)?;
-    if let Some(given) = given {
-        if !is_given(bytes, part, &given) {
-            text.push_str("!")?;
-        }
+    let mark = if is_given(bytes, part, &given) {
+        ""
+    } else {
+        "!"
+    };
+    write!(text, " {}+{}{mark}", part.offset, part.size)
+}
+
+fn put_parts(
+    alloc: Global,
+    text: &mut String,
+    bytes: &[u8],
+    parts: &[Part],
+    files: &[(&str, Data)],
+) -> Result<(), AllocError> {
+    for (part, (_, data)) in parts.iter().zip(files) {
+        put_part(alloc, text, bytes, *part, *data)?;
     }
     Ok(())
 }
@@ -158,18 +174,41 @@ fn put_file(
     text: &mut String,
     bytes: &[u8],
     files: &[(&str, Data)],
-) -> Result<(), Fail> {
-    let len = bytes.len();
-    write!(text, " {len}")?;
+) -> Result<(), AllocError> {
+    write!(text, " {}", bytes.len())?;
     let mut file = MemFile::new(ByteText::copy(alloc, bytes)?);
-    let Ok(header) = read_header(alloc, &mut file) else {
-        text.push_str(" no header")?;
-        return Ok(());
-    };
-    if let Body::Fly(parts) = &header.body {
-        for (part, (_, data)) in parts.as_slice().iter().zip(files) {
-            put_part(alloc, text, bytes, *part, *data)?;
-        }
+    match read_header(alloc, &mut file) {
+        Ok(header) => match &header.body {
+            Body::Fly(parts) => put_parts(alloc, text, bytes, parts.as_slice(), files),
+            Body::Latency => Ok(()),
+        },
+        Err(_) => text.push_str(" no header"),
+    }
+}
+
+fn put_partial(alloc: Global, folder: &mut MemFolder, row: &Row) -> Result<(), AllocError> {
+    match partial_bytes(alloc, row.partial)? {
+        Some(bytes) => folder.put("p.dat", &bytes),
+        None => Ok(()),
+    }
+}
+
+fn put_data_file(
+    alloc: Global,
+    folder: &mut MemFolder,
+    name: &str,
+    data: Data,
+) -> Result<(), AllocError> {
+    match data {
+        Data::Missing => Ok(()),
+        _ => folder.put(name, &data_bytes(alloc, data)?),
+    }
+}
+
+fn put_files(alloc: Global, folder: &mut MemFolder, row: &Row) -> Result<(), AllocError> {
+    put_partial(alloc, folder, row)?;
+    for (name, data) in row.files {
+        put_data_file(alloc, folder, name, *data)?;
     }
     Ok(())
 }
@@ -180,16 +219,9 @@ fn folder_of(
     row: &Row,
     fault: Option<MemFault>,
     most: u32,
-) -> Result<MemFolder, Fail> {
+) -> Result<MemFolder, AllocError> {
     let mut folder = MemFolder::new(alloc);
-    if let Some(bytes) = partial_bytes(alloc, row.partial)? {
-        folder.put("p.dat", &bytes)?;
-    }
-    for (name, data) in row.files {
-        if let Some(bytes) = data_bytes(alloc, *data)? {
-            folder.put(name, &bytes)?;
-        }
-    }
+    put_files(alloc, &mut folder, row)?;
     folder.short(most);
     if let Some(fault) = fault {
         folder.fail(fault);
@@ -197,49 +229,61 @@ fn folder_of(
     Ok(folder)
 }
 
-// What comes of a row, and the folder as it is then.
-fn restored(
-    alloc: Global,
-    row: &Row,
-    fault: Option<MemFault>,
-    most: u32,
-) -> Result<(Option<Answer>, MemFolder), Fail> {
-    let mut folder = folder_of(alloc, row, fault, most)?;
-    let mut names = Vec::new(alloc);
+fn push_names(names: &mut Vec<&'static str>, row: &Row) -> Result<(), AllocError> {
     for (name, _) in row.files {
         names.push(*name)?;
     }
+    Ok(())
+}
+
+// Restores a row, unless it has more files than may be.
+fn restore(alloc: Global, row: &Row, folder: &mut MemFolder) -> Result<Option<Answer>, AllocError> {
+    let mut names = Vec::new(alloc);
+    push_names(&mut names, row)?;
     if names.len() > 256 {
-        return Ok((None, folder));
+        return Ok(None);
     }
     let names = Names {
         partial: "p.dat",
         files: names.as_slice(),
         output: row.output,
     };
-    let answer = restore_named(alloc, &names, &mut folder);
-    Ok((Some(answer), folder))
+    Ok(Some(restore_named(alloc, &names, folder)))
 }
 
-/// What comes of a row, and after it the files that are open still, if any.
+// The answer and the new file, and whether files are open still.
+fn put_told(
+    alloc: Global,
+    text: &mut String,
+    row: &Row,
+    answer: Option<Answer>,
+    folder: &MemFolder,
+) -> Result<(), AllocError> {
+    if let Some(answer) = answer {
+        put_answer(text, answer)?;
+    }
+    if let Some(bytes) = folder.get(row.output) {
+        put_file(alloc, text, bytes, row.files)?;
+    }
+    let counts = folder.counts();
+    text.push_str(if counts.opened == counts.closed {
+        ""
+    } else {
+        " open"
+    })
+}
+
+/// What comes of a row, and after it whether files are open still.
 pub(super) fn text_of(
     alloc: Global,
     row: &Row,
     fault: Option<MemFault>,
     most: u32,
-) -> Result<String, Fail> {
-    let (answer, folder) = restored(alloc, row, fault, most)?;
+) -> Result<String, AllocError> {
+    let mut folder = folder_of(alloc, row, fault, most)?;
+    let answer = restore(alloc, row, &mut folder)?;
     let mut text = String::new(alloc);
-    if let Some(answer) = answer {
-        put_answer(&mut text, answer)?;
-    }
-    if let Some(bytes) = folder.get(row.output) {
-        put_file(alloc, &mut text, bytes, row.files)?;
-    }
-    let counts = folder.counts();
-    if counts.opened != counts.closed {
-        text.push_str(" open")?;
-    }
+    put_told(alloc, &mut text, row, answer, &folder)?;
     Ok(text)
 }
 
@@ -249,7 +293,8 @@ pub(super) fn bytes_read(
     row: &Row,
     fault: Option<MemFault>,
     most: u32,
-) -> Result<u64, Fail> {
-    let (_, folder) = restored(alloc, row, fault, most)?;
+) -> Result<u64, AllocError> {
+    let mut folder = folder_of(alloc, row, fault, most)?;
+    restore(alloc, row, &mut folder)?;
     Ok(folder.counts().bytes)
 }

@@ -1,4 +1,4 @@
-//! Restored files, read back.
+// Restorings of partial files.
 
 mod faults;
 mod reads;

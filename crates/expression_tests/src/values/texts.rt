@@ -1,6 +1,6 @@
-//! The texts of flags, symbols and bytes.
+// The texts of flags, symbols and bytes.
 
-use crate::trees::{PAYLOAD, boxed, field, int, rec};
+use super::samples::{PAYLOAD, boxed, field, int, rec};
 use fmt_eval::{bytes, put_text};
 use fmt_expr::{Entry, Expr};
 use std::alloc::{AllocError, Global};

@@ -1,9 +1,11 @@
 //! What filters are at events, and what is shown.
 
+use crate::rows::put_often;
 use filter_lang::{FilterFault, parse_filter};
 use filter_truth::{Event, FilterUse, Filters, bind, holds};
 use format_parse::{EventFormat, FormatTable};
 use std::alloc::{AllocError, Global};
+use std::process::Abort;
 use std::test::Fail;
 use trace_base::{ByteText, Field, FieldKind, FieldPlace, ListOf, Order, Rec};
 
@@ -14,21 +16,29 @@ const PAYLOAD: [u8; 44] = [
     b'x', 0, 0,
 ];
 
-fn field(alloc: Global, row: &str) -> Result<Field, Fail> {
-    let mut words = row.split(' ');
-    let name = words.next().ok_or("a name")?;
-    let kind = match words.next().ok_or("a kind")? {
+fn number(word: Option<&str>) -> u32 {
+    word.unwrap_or("").parse::<u32>().unwrap_or(0)
+}
+
+fn kind_of(word: Option<&str>) -> FieldKind {
+    match word.unwrap_or("") {
         "number" => FieldKind::Number,
         "pointer" => FieldKind::Pointer,
         "text" => FieldKind::Text,
         _ => FieldKind::Bytes,
-    };
-    let offset = words.next().ok_or("a place")?;
-    let size = words.next().ok_or("a size")?;
+    }
+}
+
+fn field(alloc: Global, row: &str) -> Result<Field, AllocError> {
+    let mut words = row.split(' ');
+    let name = words.next().unwrap_or("");
+    let kind = kind_of(words.next());
+    let offset = number(words.next());
+    let size = number(words.next());
     Ok(Field {
         name: ByteText::copy(alloc, name.as_bytes())?,
-        offset: offset.parse()?,
-        size: size.parse()?,
+        offset,
+        size,
         signed: words.next() == Some("signed"),
         kind,
         place: FieldPlace::Fixed,
@@ -36,39 +46,44 @@ fn field(alloc: Global, row: &str) -> Result<Field, Fail> {
     })
 }
 
-fn field_list(alloc: Global) -> Result<Vec<Field>, Fail> {
-    let mut fields = Vec::new(alloc);
-    for row in FIELDS.lines() {
+fn push_fields(alloc: Global, fields: &mut Vec<Field>, rows: &str) -> Result<(), AllocError> {
+    for row in rows.lines() {
         fields.push(field(alloc, row)?)?;
     }
-    Ok(fields)
+    Ok(())
 }
 
-/// Adds a format with the fields above.
+/// Adds a format with these fields.
 fn add(
     alloc: Global,
     table: &mut FormatTable,
-    system: &[u8],
-    name: &[u8],
+    name: (&[u8], &[u8]),
     id: u32,
-) -> Result<(), Fail> {
+    rows: &str,
+) -> Result<(), AllocError> {
+    let mut fields = Vec::new(alloc);
+    push_fields(alloc, &mut fields, rows)?;
     table.add(EventFormat {
-        system: ByteText::copy(alloc, system)?,
-        name: ByteText::copy(alloc, name)?,
+        system: ByteText::copy(alloc, name.0)?,
+        name: ByteText::copy(alloc, name.1)?,
         id,
-        fields: ListOf::from_vec(field_list(alloc)?),
+        fields: ListOf::from_vec(fields),
         print: ByteText::copy(alloc, b"")?,
         text: ByteText::copy(alloc, b"")?,
     })?;
     Ok(())
 }
 
-/// The formats `sched/sched_switch`, `ftrace/function` and `timer/sched`.
-fn formats(alloc: Global) -> Result<FormatTable, Fail> {
+fn add_all(alloc: Global, table: &mut FormatTable) -> Result<(), AllocError> {
+    add(alloc, table, (b"sched", b"sched_switch"), 316, FIELDS)?;
+    add(alloc, table, (b"ftrace", b"function"), 1, FIELDS)?;
+    add(alloc, table, (b"timer", b"sched"), 400, FIELDS)
+}
+
+/// The formats `sched/sched_switch`, `ftrace/function` and `timer/sched`, each with the fields below.
+fn formats(alloc: Global) -> Result<FormatTable, AllocError> {
     let mut table = FormatTable::new(alloc);
-    add(alloc, &mut table, b"sched", b"sched_switch", 316)?;
-    add(alloc, &mut table, b"ftrace", b"function", 1)?;
-    add(alloc, &mut table, b"timer", b"sched", 400)?;
+    add_all(alloc, &mut table)?;
     Ok(table)
 }
 
@@ -91,140 +106,189 @@ fn is_held(
     Ok(holds(&bound, format, &record(), b"bash", 3))
 }
 
-#[test]
-fn filters_name_these_events(rt: HostRuntime) -> Result<(), Fail> {
-    let table = formats(rt.alloc())?;
+fn is_named(
+    rt: &impl Abort,
+    alloc: Global,
+    table: &FormatTable,
+    row: &str,
+) -> Result<(), FilterFault> {
+    let (text, rest) = row.split_once(" at ").unwrap_or((row, ""));
+    let (format, expected) = rest.split_once(" => ").unwrap_or(("", "no truth"));
+    let format = format.parse::<usize>().unwrap_or(usize::MAX);
+    let held = is_held(alloc, table, text.as_bytes(), format)?;
+    assert!(rt; expected == if held { "true" } else { "false" }, "{row}");
+    Ok(())
+}
+
+fn all_are_named(rt: &impl Abort, alloc: Global, table: &FormatTable) -> Result<(), FilterFault> {
     for row in NAMES.lines() {
-        let (text, rest) = row.split_once(" at ").ok_or("a row has a format")?;
-        let (format, expected) = rest.split_once(" => ").ok_or("a row has a truth")?;
-        let found = is_held(rt.alloc(), &table, text.as_bytes(), format.parse()?)?;
-        assert_eq!(rt; found, expected == "true", "{row}");
+        is_named(rt, alloc, table, row)?;
     }
     Ok(())
 }
 
-/// Whether a condition on the first format is true.
-fn is_true(alloc: Global, table: &FormatTable, condition: &str) -> Result<bool, FilterFault> {
-    let mut text = b"sched_switch:".to_vec(alloc)?;
-    text.extend_from_slice(condition.as_bytes())?;
-    is_held(alloc, table, &text, 0)
+#[test]
+fn filters_name_these_events(rt: HostRuntime) -> Result<(), Fail> {
+    let table = formats(rt.alloc())?;
+    all_are_named(&rt, rt.alloc(), &table)?;
+    Ok(())
+}
+
+/// A condition on the first format is true, or not.
+fn is_so(
+    rt: &impl Abort,
+    alloc: Global,
+    table: &FormatTable,
+    condition: &str,
+    expected: bool,
+) -> Result<(), FilterFault> {
+    let text = format!(in alloc; "sched_switch:{condition}")?;
+    let held = is_held(alloc, table, text.as_bytes(), 0)?;
+    assert!(rt; held == expected, "{condition}");
+    Ok(())
+}
+
+fn all_are_so(
+    rt: &impl Abort,
+    alloc: Global,
+    table: &FormatTable,
+    conditions: &str,
+    expected: bool,
+) -> Result<(), FilterFault> {
+    for condition in conditions.lines() {
+        if !condition.starts_with("# ") {
+            is_so(rt, alloc, table, condition, expected)?;
+        }
+    }
+    Ok(())
 }
 
 #[test]
 fn conditions_are_true_and_not(rt: HostRuntime) -> Result<(), Fail> {
     let table = formats(rt.alloc())?;
-    for condition in TRUE.lines().filter(|row| !row.starts_with("# ")) {
-        assert!(rt; is_true(rt.alloc(), &table, condition)?, "{condition}");
-    }
-    for condition in FALSE.lines() {
-        assert!(rt; !is_true(rt.alloc(), &table, condition)?, "{condition}");
+    all_are_so(&rt, rt.alloc(), &table, TRUE, true)?;
+    all_are_so(&rt, rt.alloc(), &table, FALSE, false)?;
+    Ok(())
+}
+
+/// Adds a filter, which hides where `-v ` stands before it.
+fn push_use(alloc: Global, uses: &mut Vec<FilterUse>, text: &str) -> Result<(), FilterFault> {
+    let hidden = text.strip_prefix("-v ");
+    let filter = parse_filter(alloc, hidden.unwrap_or(text).as_bytes())?;
+    let hide = hidden.is_some();
+    uses.push(FilterUse { hide, filter })
+        .map_err(AllocError::from)?;
+    Ok(())
+}
+
+fn push_uses(alloc: Global, uses: &mut Vec<FilterUse>, filters: &str) -> Result<(), FilterFault> {
+    for text in filters.split(';') {
+        if !text.is_empty() {
+            push_use(alloc, uses, text)?;
+        }
     }
     Ok(())
 }
 
-/// A filter, which hides where `-v ` stands before it.
-fn filter_use(alloc: Global, text: &str) -> Result<FilterUse, FilterFault> {
-    let shown = text.strip_prefix("-v ");
-    let filter = parse_filter(alloc, shown.unwrap_or(text).as_bytes())?;
-    Ok(FilterUse {
-        hide: shown.is_some(),
-        filter,
-    })
-}
-
-fn uses(alloc: Global, filters: &str) -> Result<Vec<FilterUse>, Fail> {
-    let mut uses = Vec::new(alloc);
-    for text in filters.split(';') {
-        if !text.is_empty() {
-            uses.push(filter_use(alloc, text)?)
-                .map_err(AllocError::from)?;
-        }
-    }
-    Ok(uses)
-}
-
-/// What filters show of an event of a format, and of its format before any event.
-fn shown(
-    alloc: Global,
-    table: &FormatTable,
-    filters: &str,
-    format: &str,
-) -> Result<&'static str, Fail> {
-    let uses = uses(alloc, filters)?;
-    let bound = Filters::bind(alloc, &uses, table)?;
+/// What filters do with the record above, an event of the format at this place, and whether with all events of it.
+fn done(filters: &Filters, place: Option<usize>) -> &'static str {
     let event = Event {
         rec: record(),
         comm: b"bash",
         cpu: 3,
     };
-    let place = match format {
-        "none" => None,
-        _ => Some(format.parse()?),
-    };
-    Ok(match (bound.show(place, &event), bound.settled(place)) {
+    match (filters.show(place, &event), filters.settled(place)) {
         (true, Some(true)) => "shown, all",
         (true, None) => "shown",
         (false, Some(false)) => "hidden, all",
         (false, None) => "hidden",
         _ => "not as settled",
-    })
+    }
+}
+
+/// The same of the filters of a row.
+fn done_by(
+    alloc: Global,
+    table: &FormatTable,
+    filters: &str,
+    place: Option<usize>,
+) -> Result<&'static str, FilterFault> {
+    let mut uses = Vec::new(alloc);
+    push_uses(alloc, &mut uses, filters)?;
+    let bound = Filters::bind(alloc, &uses, table)?;
+    Ok(done(&bound, place))
+}
+
+fn is_selected(
+    rt: &impl Abort,
+    alloc: Global,
+    table: &FormatTable,
+    row: &str,
+) -> Result<(), FilterFault> {
+    let (filters, rest) = row.split_once(" at ").unwrap_or((row, ""));
+    let (format, expected) = rest.split_once(" => ").unwrap_or(("", "no row"));
+    let found = done_by(alloc, table, filters, format.parse::<usize>().ok())?;
+    assert!(rt; found == expected, "{row}");
+    Ok(())
+}
+
+fn all_are_selected(
+    rt: &impl Abort,
+    alloc: Global,
+    table: &FormatTable,
+) -> Result<(), FilterFault> {
+    for row in SELECTIONS.lines() {
+        is_selected(rt, alloc, table, row)?;
+    }
+    Ok(())
 }
 
 #[test]
 fn filters_show_these_events(rt: HostRuntime) -> Result<(), Fail> {
     let table = formats(rt.alloc())?;
-    for row in SELECTIONS.lines() {
-        let (filters, rest) = row.split_once(" at ").ok_or("a row has a format")?;
-        let (format, expected) = rest.split_once(" => ").ok_or("a row has two parts")?;
-        let found = shown(rt.alloc(), &table, filters, format)?;
-        assert_eq!(rt; found, expected, "{row}");
+    all_are_selected(&rt, rt.alloc(), &table)?;
+    Ok(())
+}
+
+fn add_many(alloc: Global, table: &mut FormatTable) -> Result<(), AllocError> {
+    for id in 0..3_000_u32 {
+        add(alloc, table, (b"sched", b"event"), id, "")?;
     }
     Ok(())
 }
 
-/// A filter that names `sched`, whose condition is so many ones joined by `&&`.
-fn long_filter(alloc: Global, operands: u32) -> Result<Vec<u8>, AllocError> {
+/// A filter of the system `sched` whose condition is a thousand ones, joined by `&&`.
+fn long_filter(alloc: Global) -> Result<Vec<u8>, AllocError> {
     let mut text = b"sched:1".to_vec(alloc)?;
-    for _ in 1..operands {
-        text.extend_from_slice(b" && 1")?;
-    }
+    put_often(&mut text, " && 1", 999)?;
     Ok(text)
 }
 
-fn many_formats(alloc: Global, count: u32) -> Result<FormatTable, AllocError> {
-    let mut table = FormatTable::new(alloc);
-    for id in 0..count {
-        table.add(EventFormat {
-            system: ByteText::copy(alloc, b"sched")?,
-            name: ByteText::copy(alloc, b"event")?,
-            id,
-            fields: ListOf::from_vec(Vec::new(alloc)),
-            print: ByteText::copy(alloc, b"")?,
-            text: ByteText::copy(alloc, b"")?,
-        })?;
-    }
-    Ok(table)
+fn push_long(alloc: Global, uses: &mut Vec<FilterUse>) -> Result<(), FilterFault> {
+    let filter = parse_filter(alloc, &long_filter(alloc)?)?;
+    let hide = false;
+    uses.push(FilterUse { hide, filter })
+        .map_err(AllocError::from)?;
+    Ok(())
+}
+
+fn is_bound_to_all(rt: &impl Abort, alloc: Global, table: &FormatTable) -> Result<(), FilterFault> {
+    let mut uses = Vec::new(alloc);
+    push_long(alloc, &mut uses)?;
+    let bound = Filters::bind(alloc, &uses, table)?;
+    assert!(rt;
+        done(&bound, Some(0)) == "shown"
+            && done(&bound, Some(2999)) == "shown"
+            && done(&bound, None) == "hidden, all"
+    );
+    Ok(())
 }
 
 #[test]
 fn a_long_filter_is_bound_to_many_formats(rt: HostRuntime) -> Result<(), Fail> {
-    let alloc = rt.alloc();
-    let filter = parse_filter(alloc, &long_filter(alloc, 1000)?)?;
-    let mut uses = Vec::new(alloc);
-    uses.push(FilterUse {
-        hide: false,
-        filter,
-    })
-    .map_err(AllocError::from)?;
-    let bound = Filters::bind(alloc, &uses, &many_formats(alloc, 3000)?)?;
-    let event = Event {
-        rec: record(),
-        comm: b"bash",
-        cpu: 3,
-    };
-    assert!(rt; bound.show(Some(0), &event));
-    assert!(rt; bound.show(Some(2999), &event));
-    assert!(rt; !bound.show(None, &event));
+    let mut table = FormatTable::new(rt.alloc());
+    add_many(rt.alloc(), &mut table)?;
+    is_bound_to_all(&rt, rt.alloc(), &table)?;
     Ok(())
 }
 

@@ -1,6 +1,6 @@
-//! Trees with constant parts.
+// Trees with constant parts.
 
-use crate::trees::{chain, field, int, rec};
+use super::samples::{chain, field, int, rec};
 use c_operators::BinaryOp;
 use fmt_eval::number;
 use fmt_expr::Expr;

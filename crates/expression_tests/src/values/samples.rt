@@ -1,4 +1,4 @@
-//! Trees and records for the tests.
+// Trees and records.
 
 use c_operators::BinaryOp;
 use fmt_expr::CKind::I32;
@@ -6,18 +6,23 @@ use fmt_expr::{Expr, Operand};
 use std::alloc::{AllocError, Global};
 use trace_base::{ByteText, Field, FieldKind, FieldPlace, Order, Rec};
 
-pub const PAYLOAD: [u8; 16] = *b"ab\0d\xff\xff\xfe\xff\x05\x00\x03\x00wxyz";
+pub(super) const PAYLOAD: [u8; 16] = *b"ab\0d\xff\xff\xfe\xff\x05\x00\x03\x00wxyz";
 
-pub fn boxed(alloc: Global, expr: Expr) -> Result<Box<Expr>, AllocError> {
+pub(super) fn boxed(alloc: Global, expr: Expr) -> Result<Box<Expr>, AllocError> {
     Ok(Box::new(alloc, expr)?)
 }
 
-pub fn int(bits: u64) -> Expr {
+pub(super) fn int(bits: u64) -> Expr {
     Expr::Number { bits, kind: I32 }
 }
 
 /// Two trees with an operator between them.
-pub fn chain(alloc: Global, first: Expr, op: BinaryOp, value: Expr) -> Result<Expr, AllocError> {
+pub(super) fn chain(
+    alloc: Global,
+    first: Expr,
+    op: BinaryOp,
+    value: Expr,
+) -> Result<Expr, AllocError> {
     let mut rest = Vec::new(alloc);
     rest.push(Operand { op, value })?;
     Ok(Expr::Chain {
@@ -26,7 +31,7 @@ pub fn chain(alloc: Global, first: Expr, op: BinaryOp, value: Expr) -> Result<Ex
     })
 }
 
-pub fn field(
+pub(super) fn field(
     alloc: Global,
     kind: FieldKind,
     (offset, size): (u32, u32),
@@ -44,14 +49,14 @@ pub fn field(
     })
 }
 
-pub fn rec<'a>(payload: &'a [u8]) -> Rec<'a> {
+pub(super) fn rec<'a>(payload: &'a [u8]) -> Rec<'a> {
     Rec {
         order: Order::Little,
         payload,
     }
 }
 
-pub fn no_payload() -> Rec<'static> {
+pub(super) fn no_payload() -> Rec<'static> {
     Rec {
         order: Order::Little,
         payload: &[],

@@ -1,7 +1,7 @@
-//! The operators and casts of C, whose rows are in `OPERANDS_AND_VALUES`.
+// The operators and casts of C, whose rows are in `OPERANDS_AND_VALUES`.
 
-use crate::trees::{boxed, chain, no_payload};
-use c_operators::BinaryOp;
+use super::samples::{boxed, chain, no_payload};
+use crate::marks::BINARY;
 use fmt_eval::{Num, number};
 use fmt_expr::CKind::{I32, I64, U32, U64};
 use fmt_expr::{CKind, CastTo, Expr, PrefixOp};
@@ -84,27 +84,6 @@ static OPERANDS_AND_VALUES: &str = "\
 
 -7,32 -7l,64 128u,-1l
 >> 0 0l 0u";
-
-const BINARY: &[(&str, BinaryOp)] = &[
-    ("||", BinaryOp::LogicOr),
-    ("&&", BinaryOp::LogicAnd),
-    ("|", BinaryOp::BitOr),
-    ("^", BinaryOp::BitXor),
-    ("&", BinaryOp::BitAnd),
-    ("==", BinaryOp::Equal),
-    ("!=", BinaryOp::NotEqual),
-    ("<", BinaryOp::Less),
-    ("<=", BinaryOp::LessEqual),
-    (">", BinaryOp::Greater),
-    (">=", BinaryOp::GreaterEqual),
-    ("<<", BinaryOp::ShiftLeft),
-    (">>", BinaryOp::ShiftRight),
-    ("+", BinaryOp::Plus),
-    ("-", BinaryOp::Minus),
-    ("*", BinaryOp::Times),
-    ("/", BinaryOp::Divide),
-    ("%", BinaryOp::Remainder),
-];
 
 const PREFIXES: &[(&str, PrefixOp)] = &[
     ("+", PrefixOp::Plus),

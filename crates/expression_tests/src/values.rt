@@ -1,0 +1,7 @@
+// What trees come to.
+
+mod fields;
+mod folds;
+mod operators;
+mod samples;
+mod texts;
