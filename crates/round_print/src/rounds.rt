@@ -67,10 +67,7 @@ fn put_round<O: Sink>(
     let mut alone = None;
     while let Some(i) = least_due(horizon, lanes, heads) {
         let count = run_of(horizon, &lanes[i], heads, i, alone, *last);
-        match print_front(&mut lanes[i], count, last, pending, out) {
-            Ok(()) => {}
-            Err(failed) => return Err(failed),
-        }
+        print_front(&mut lanes[i], count, last, pending, out)?;
         heads.set(i, head_kept(&lanes[i]));
         moved[i] = true;
         alone = (count == 1).then_some(i);
@@ -116,8 +113,6 @@ pub fn print_round<O: Sink>(
     ensures empty { IfOk result (λ _. pending.new ≡ []) }
     ensures parts { parts_of lanes.new ≡ parts_of lanes.old }
 {
-    match put_round(horizon, lanes, heads, moved, last, pending, out) {
-        Ok(()) => pending.flush(out),
-        Err(failed) => Err(failed),
-    }
+    put_round(horizon, lanes, heads, moved, last, pending, out)?;
+    pending.flush(out)
 }

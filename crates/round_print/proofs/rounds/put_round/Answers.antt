@@ -1,5 +1,6 @@
 use Rattle.std.proofs.Common.{◌≡◌, ◌<◌, ℕ, List, [], ◌++◌, get_or, map, length, inl, refl, sym, ap, subst, ◌∙◌, append_assoc, arith}
 use Rattle.std.proofs.lemmas.List.{append-nil, length-set, get_or-set_same, get_or_default}
+use Rattle.std.proofs.lemmas.Result.{err_from_is_err_and}
 use Rattle.trace_outside.specs.Pending.{Holds}
 use Rattle.trace_outside.specs.Writing.{GainedPrefix}
 use Rattle.trace_outside.proofs.PendingLemmas.{prefix_longer}
@@ -49,7 +50,7 @@ run_of-count-requires-clause-some g c = some_kept c.args.horizon.now c.loop-i.la
 pub loop-i-smaller : goal.loop-i-smaller
 loop-i-smaller g c =
     let lane : Lane = get_or c.loop-i.lanes c.in-Some.i c.index-lanes-i-in-Some.result in
-    let dropped : IsFrontDropped c.run_of-count.result lane c.print_front.new.lane = c.in-Ok.ensures.dropped in
+    let dropped : IsFrontDropped c.run_of-count.result lane c.print_front.new.lane = c.in_ok-print_front.ensures.dropped in
     let step : IsStep c.args.horizon.now c.loop-i.lanes c.in-Some.i c.run_of-count.result lane c.print_front.new.lane =
     step_at c.args.horizon.now c.loop-i.lanes c.loop-i.heads c.in-Some.i c.run_of-count.result c.index-lanes-i.result c.index-lanes-i-in-Some.result c.in-Some.ensures.inside c.loop-i.invariant.heads c.run_of-count.ensures
     c.print_front.new.lane c.in-Some.ensures.least c.loop-i.invariant.rising dropped.lane.cpu dropped.region.kept in
@@ -67,7 +68,7 @@ loop-i-preserved g c =
     let lt : i < length lanes = c.in-Some.ensures.inside in
     let at : lane ≡ get_or lanes i lane = get_or_default lanes i c.index-lanes-i-in-Some.result lane lt in
     let run : IsRun h (map head_kept lanes) i lane n = run_at h lanes c.loop-i.heads i n c.index-lanes-i.result c.index-lanes-i-in-Some.result lt c.loop-i.invariant.heads c.run_of-count.ensures in
-    let dropped : IsFrontDropped n lane now = c.in-Ok.ensures.dropped in
+    let dropped : IsFrontDropped n lane now = c.in_ok-print_front.ensures.dropped in
     let step : IsStep h lanes i n lane now =
     step_at h lanes c.loop-i.heads i n c.index-lanes-i.result c.index-lanes-i-in-Some.result lt c.loop-i.invariant.heads c.run_of-count.ensures now c.in-Some.ensures.least c.loop-i.invariant.rising dropped.lane.cpu dropped.region.kept in
     let done : List ℕ = c.loop-i.invariant.text.0 in
@@ -81,13 +82,13 @@ loop-i-preserved g c =
           text_on h lanes i n lane now c.loop-i.last c.print_front.new.last done (text_of (filled c.args.last.now (printed h first))) step c.print_front.ensures.last c.loop-i.invariant.text.1.0,
           λ before text held.
               let P : List ℕ → Type 0 = λ t. Holds before (g.O.Sink.written c.print_front.new.out) c.print_front.new.pending t in
-              subst P (append_assoc text done front) (c.in-Ok.ensures.puts before (text ++ done) (c.loop-i.invariant.text.1.1 before text held)),
+              subst P (append_assoc text done front) (c.in_ok-print_front.ensures.puts before (text ++ done) (c.loop-i.invariant.text.1.1 before text held)),
         ),
       );
       last = last_on h lanes i n lane now c.loop-i.last c.print_front.new.last (last_of c.args.last.now (printed h first)) step c.print_front.ensures.last c.loop-i.invariant.last;
-      name = c.in-Ok.ensures.name ∙ c.loop-i.invariant.name;
-      faults = c.in-Ok.ensures.cause.kept ∙ c.loop-i.invariant.faults;
-      parts = set_parts lanes i c.index-lanes-i-in-Some.result now lt c.in-Ok.ensures.cpu c.in-Ok.ensures.part ∙ c.loop-i.invariant.parts;
+      name = c.in_ok-print_front.ensures.name ∙ c.loop-i.invariant.name;
+      faults = c.in_ok-print_front.ensures.cause.kept ∙ c.loop-i.invariant.faults;
+      parts = set_parts lanes i c.index-lanes-i-in-Some.result now lt c.in_ok-print_front.ensures.cpu c.in_ok-print_front.ensures.part ∙ c.loop-i.invariant.parts;
       rising = record { cpus = step.rise; keys = step.rises };
       heads = heads_on c.loop-i.heads c.set.new.self lanes i now c.head_kept.result c.set.ensures key c.loop-i.invariant.heads;
       slots = ap length c.set.ensures ∙ length-set c.loop-i.heads i c.head_kept.result ∙ c.loop-i.invariant.slots;
@@ -98,8 +99,10 @@ loop-i-preserved g c =
       lanes = printing_on h first lanes i n lane now lt at step dropped c.loop-i.auto.lanes c.loop-i.invariant.lanes;
     }
 
-pub returns-in-Err-clause-puts : goal.returns-in-Err-clause-puts
-returns-in-Err-clause-puts g c = λ before text held.
+pub returns-in_err-print_front-clause-puts : goal.returns-in_err-print_front-clause-puts
+returns-in_err-print_front-clause-puts g c =
+    let p = err_from_is_err_and c.from_residual.result c.from_residual.ensures.1 in
+    rw p.1 (λ before text held.
     let n : ℕ = c.run_of-count.result in
     let lane : Lane = get_or c.loop-i.lanes c.in-Some.i c.index-lanes-i-in-Some.result in
     let step : IsStep c.args.horizon.now c.loop-i.lanes c.in-Some.i n lane (without n lane) =
@@ -112,7 +115,7 @@ returns-in-Err-clause-puts g c = λ before text held.
     let P : List ℕ → Type 0 = λ t. GainedPrefix before (g.O.Sink.written c.print_front.new.out) t in
     subst P (cut_text text done front starts.0 (text_of (filled c.args.last.now (printed c.args.horizon.now c.args.lanes.now))) (text_of (filled c.loop-i.last (printed c.args.horizon.now c.loop-i.lanes))) c.loop-i.invariant.text.1.0 starts.1)
     (prefix_longer before (g.O.Sink.written c.print_front.new.out) ((text ++ done) ++ front) starts.0
-    (c.in-Err.ensures.puts before (text ++ done) (c.loop-i.invariant.text.1.1 before text held)))
+    (c.in_err-print_front.ensures.puts before (text ++ done) (c.loop-i.invariant.text.1.1 before text held))))
 
 pub returns-clause-puts : goal.returns-clause-puts
 returns-clause-puts g c = λ before text held.
@@ -129,6 +132,6 @@ returns-clause-printed g c = record {
   rising = c.loop-i.invariant.rising;
 }
 
-pub returns-in-Err-clause-parts : goal.returns-in-Err-clause-parts
-returns-in-Err-clause-parts g c =
-    set_parts c.loop-i.lanes c.in-Some.i c.index-lanes-i-in-Some.result c.print_front.new.lane c.in-Some.ensures.inside c.in-Err.ensures.cpu c.in-Err.ensures.part ∙ c.loop-i.invariant.parts
+pub returns-in_err-print_front-clause-parts : goal.returns-in_err-print_front-clause-parts
+returns-in_err-print_front-clause-parts g c =
+    set_parts c.loop-i.lanes c.in-Some.i c.index-lanes-i-in-Some.result c.print_front.new.lane c.in-Some.ensures.inside c.in_err-print_front.ensures.cpu c.in_err-print_front.ensures.part ∙ c.loop-i.invariant.parts
