@@ -1,5 +1,5 @@
 -- From what was opened, made and closed to what a restoring by names promises.
-use Rattle.std.proofs.Common.{◌≡◌, ◌≢◌, ◌⊎◌, ℕ, suc, ◌+◌, ◌≤◌, List, [], ◌∷◌, length, map, Option, Some, None, Result, Ok, inl, inr, refl, sym, ap, subst, ◌∙◌, arith}
+use Rattle.std.proofs.Common.{◌≡◌, ◌≢◌, ◌⊎◌, ℕ, suc, ◌+◌, ◌≤◌, List, [], ◌∷◌, length, map, Option, Some, None, Result, Ok, Err, inl, inr, refl, sym, ap, subst, ◌∙◌, arith}
 use Rattle.std.specs.Option.{IfSome, IsSome, unwrap_or}
 use Rattle.std.specs.Prelude.{is_none, if◌then◌else◌, option_and_then}
 use Rattle.std.specs.FinMap.{get, insert}
@@ -13,8 +13,8 @@ use Rattle.dat_options.specs.declared.fault.OpenFault.{OpenFault}
 use Rattle.dat_header.specs.declared.header.Header.{Header}
 use Rattle.dat_header.specs.Partial.{ReadsPartial, partial_of}
 use Rattle.new_files.specs.Stored.{IsUnmade}
-use Rattle.restore_tool.specs.declared.copying.RestoreEnd.{RestoreEnd}
-use Rattle.restore_tool.specs.declared.copying.RestoreEnd.TheVariants as end_code
+use Rattle.restore_tool.specs.declared.copying.RestoreFault.{RestoreFault}
+use Rattle.restore_tool.specs.declared.copying.RestoreFault.TheVariants as fault_code
 use Rattle.restore_tool.specs.declared.named.Answer.{Answer}
 use Rattle.restore_tool.specs.declared.named.Answer.TheVariants as code
 use Rattle.restore_tool.specs.declared.named.Source.{Source}
@@ -78,16 +78,16 @@ not_missing named names header output some = by_found (texts_of named names) ref
 
 -- WHAT WAS MADE
 
-done_by : (header : Header) (texts : List (List ℕ)) (output : List ℕ) (start mid now : Counts) (named : NamedFiles) (new : Option NamedFiles) (files : List FileSeen) (end : RestoreEnd)
+done_by : (header : Header) (texts : List (List ℕ)) (output : List ℕ) (start mid now : Counts) (named : NamedFiles) (new : Option NamedFiles) (files : List FileSeen) (end : Result Unit RestoreFault)
     → map text_of files ≡ texts → AllTold files → mid.unfinished ≡ start.unfinished → mid.created ≡ start.created → Leaves header files output mid now (Some named) new end → CreatesOne mid.created now.created end
     → IsDone (made (record { name = output; content = restored header texts })) output start now named new (answer_of end)
-done_by header texts output start mid now named new files end_code.Done same told since few leaves creates =
+done_by header texts output start mid now named new files (Ok done) same told since few leaves creates =
     leaves told ∙ ap (λ (ts : List (List ℕ)). Some (insert named output (restored header ts))) same
-done_by header texts output start mid now named new files (end_code.Read file) same told since few leaves creates = (leaves, omega (arith, creates, few))
-done_by header texts output start mid now named new files end_code.Write same told since few leaves creates =
+done_by header texts output start mid now named new files (Err (fault_code.Read file)) same told since few leaves creates = (leaves, omega (arith, creates, few))
+done_by header texts output start mid now named new files (Err fault_code.Write) same told since few leaves creates =
     (refl, subst (λ (n : ℕ). IsUnmade n now.unfinished output (Some named) new) since leaves)
 
-pub data_done : (header made_header : Header) (cpus : ℕ) (output : List ℕ) (names : List (List ℕ)) (files : List FileSeen) (start mid now : Counts) (old opened new : Option NamedFiles) (end : RestoreEnd) (answer : Answer)
+pub data_done : (header made_header : Header) (cpus : ℕ) (output : List ℕ) (names : List (List ℕ)) (files : List FileSeen) (start mid now : Counts) (old opened new : Option NamedFiles) (end : Result Unit RestoreFault) (answer : Answer)
     → made_header ≡ for_processors header cpus → cpus ≡ length names → length files ≡ length names → AreFilesOf old names files → opened ≡ old → mid.unfinished ≡ start.unfinished → mid.created ≡ start.created
     → answer ≡ answer_of end → Leaves made_header files output mid now opened new end → CreatesOne mid.created now.created end
     → IfSome old (λ named. IsDone (with_texts header output (texts_of named names)) output start now named new answer)
@@ -171,23 +171,23 @@ created_since answer first before now same created = subst (λ (n : ℕ). Create
 pub created_then : (answer : Answer) (before mid now : ℕ) → now ≡ mid → Created answer before mid → Created answer before now
 created_then answer before mid now same created = subst (λ (n : ℕ). Created answer before n) (sym same) created
 
-pub created_by : (end : RestoreEnd) (answer : Answer) (first before now : ℕ) → answer ≡ answer_of end → before ≡ first → CreatesOne before now end → Created answer first now
+pub created_by : (end : Result Unit RestoreFault) (answer : Answer) (first before now : ℕ) → answer ≡ answer_of end → before ≡ first → CreatesOne before now end → Created answer first now
 created_by end answer first before now is same creates = subst (λ (a : Answer). Created a first now) (sym is) (created_since (answer_of end) first before now same (by_end end creates))
   where
-    by_end : (e : RestoreEnd) → CreatesOne before now e → Created (answer_of e) before now
-    by_end end_code.Done c = c
-    by_end (end_code.Read file) c = omega (arith, c)
-    by_end end_code.Write c = c
+    by_end : (e : Result Unit RestoreFault) → CreatesOne before now e → Created (answer_of e) before now
+    by_end (Ok done) c = c
+    by_end (Err (fault_code.Read file)) c = omega (arith, c)
+    by_end (Err fault_code.Write) c = c
 
 -- a name changed only where the new file was finished, or could not be
-pub kept_by : (header : Header) (files : List FileSeen) (output : List ℕ) (mid now : Counts) (old opened new : Option NamedFiles) (end : RestoreEnd) (answer : Answer) → answer ≡ answer_of end → opened ≡ old
+pub kept_by : (header : Header) (files : List FileSeen) (output : List ℕ) (mid now : Counts) (old opened new : Option NamedFiles) (end : Result Unit RestoreFault) (answer : Answer) → answer ≡ answer_of end → opened ≡ old
     → Leaves header files output mid now opened new end → KeepsFiles answer old new
 kept_by header files output mid now old opened new end answer is same leaves = subst (λ (a : Answer). KeepsFiles a old new) (sym is) (by_end end leaves)
   where
-    by_end : (e : RestoreEnd) → Leaves header files output mid now opened new e → KeepsFiles (answer_of e) old new
-    by_end end_code.Done leaves = tt
-    by_end (end_code.Read file) leaves = leaves ∙ same
-    by_end end_code.Write leaves = tt
+    by_end : (e : Result Unit RestoreFault) → Leaves header files output mid now opened new e → KeepsFiles (answer_of e) old new
+    by_end (Ok done) leaves = tt
+    by_end (Err (fault_code.Read file)) leaves = leaves ∙ same
+    by_end (Err fault_code.Write) leaves = tt
 
 pub kept_around : (answer : Answer) (old first new last : Option NamedFiles) → first ≡ old → last ≡ new → KeepsFiles answer first new → KeepsFiles answer old last
 kept_around code.Done old first new last before after kept = tt
@@ -196,10 +196,10 @@ kept_around (code.Read source) old first new last before after kept = after ∙ 
 kept_around code.Write old first new last before after kept = tt
 kept_around code.NoMemory old first new last before after kept = after ∙ kept ∙ before
 
-pub unfinished_by : (end : RestoreEnd) (before now : ℕ) → LeavesUnfinished before now end → before ≤ now
-unfinished_by end_code.Done before now leaves = omega (arith, leaves)
-unfinished_by (end_code.Read file) before now leaves = omega (arith, leaves)
-unfinished_by end_code.Write before now leaves = leaves.0
+pub unfinished_by : (end : Result Unit RestoreFault) (before now : ℕ) → LeavesUnfinished before now end → before ≤ now
+unfinished_by (Ok done) before now leaves = omega (arith, leaves)
+unfinished_by (Err (fault_code.Read file)) before now leaves = omega (arith, leaves)
+unfinished_by (Err fault_code.Write) before now leaves = leaves.0
 
 pub all_closed_counts : (count most : ℕ) (files : List FileSeen) (start mid now : Counts) → count ≡ length files → count ≤ most → LeavesOpen count start mid → ClosesMany files mid now → ClosesAll most start now
 all_closed_counts count most files start mid now each few opens closes = record {

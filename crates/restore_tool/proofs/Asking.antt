@@ -1,5 +1,5 @@
 -- The names that were asked for, and counts of faults where there was no memory.
-use Rattle.std.proofs.Common.{◌≡◌, ◌<◌, ◌≤◌, ◌+◌, ℕ, zero, suc, List, [], ◌∷◌, ◌++◌, length, get_or, map, take, refl, sym, ap, subst, ◌∙◌, append_assoc, append-nil, arith}
+use Rattle.std.proofs.Common.{◌≡◌, ◌<◌, ◌≤◌, ◌+◌, ℕ, zero, suc, List, [], ◌∷◌, ◌++◌, length, get_or, map, take, Result, Ok, Err, refl, sym, ap, subst, ◌∙◌, append_assoc, append-nil, arith}
 use Rattle.std.specs.List.{All}
 use Rattle.std.proofs.lemmas.List.{take-append-le, take_all}
 use Rattle.std.proofs.lemmas.List.Elements.{All-nil}
@@ -11,8 +11,8 @@ use Rattle.dat_options.specs.declared.fault.OpenFault.TheVariants.{Read, Memory}
 use Rattle.dat_options.specs.Answer.{KeptAt}
 use Rattle.dat_header.specs.Seen.{FileSeen}
 use Rattle.new_files.specs.Requested.{AskedAll, AskedFirst}
-use Rattle.restore_tool.specs.declared.copying.RestoreEnd.{RestoreEnd}
-use Rattle.restore_tool.specs.declared.copying.RestoreEnd.TheVariants as end_code
+use Rattle.restore_tool.specs.declared.copying.RestoreFault.{RestoreFault}
+use Rattle.restore_tool.specs.declared.copying.RestoreFault.TheVariants as fault_code
 use Rattle.restore_tool.specs.declared.named.Answer.{Answer}
 use Rattle.restore_tool.specs.declared.named.Answer.TheVariants as code
 use Rattle.restore_tool.specs.Answers.{IfNoMemory, answer_of, unread_of}
@@ -47,7 +47,7 @@ pub asked_few : (names more before now : List (List ℕ)) (count : ℕ) → coun
 asked_few names more before now count few asked = (count, asked ∙ ap (λ (xs : List (List ℕ)). before ++ xs) (sym (take-append-le count names more few)))
 
 -- all were opened, and the new one was asked for
-pub asked_made : (names before mid now : List (List ℕ)) (output : List ℕ) (count : ℕ) (end : RestoreEnd) (answer : Answer) → answer ≡ answer_of end → length names ≤ count → AskedAll (take count names) before mid → AskedAll (output ∷ []) mid now
+pub asked_made : (names before mid now : List (List ℕ)) (output : List ℕ) (count : ℕ) (end : Result Unit RestoreFault) (answer : Answer) → answer ≡ answer_of end → length names ≤ count → AskedAll (take count names) before mid → AskedAll (output ∷ []) mid now
     → AsksFor (names ++ output ∷ []) before now answer
 asked_made names before mid now output count end answer is long opened made = subst (AsksFor (names ++ output ∷ []) before now) (sym is) (by_end end)
   where
@@ -59,10 +59,10 @@ asked_made names before mid now output count end answer is long opened made = su
         made ∙ ap (λ (xs : List (List ℕ)). xs ++ output ∷ []) opened ∙ append_assoc before (take count names) (output ∷ [])
         ∙ ap (λ (xs : List (List ℕ)). before ++ (xs ++ output ∷ [])) (take_all count names long)
 
-    by_end : (e : RestoreEnd) → AsksFor whole before now (answer_of e)
-    by_end end_code.Done = all
-    by_end (end_code.Read file) = (length whole, all ∙ ap (λ (xs : List (List ℕ)). before ++ xs) (sym (take_all (length whole) whole (omega arith))))
-    by_end end_code.Write = all
+    by_end : (e : Result Unit RestoreFault) → AsksFor whole before now (answer_of e)
+    by_end (Ok done) = all
+    by_end (Err (fault_code.Read file)) = (length whole, all ∙ ap (λ (xs : List (List ℕ)). before ++ xs) (sym (take_all (length whole) whole (omega arith))))
+    by_end (Err fault_code.Write) = all
 
 pub asks_then : (names before mid now : List (List ℕ)) (answer : Answer) → now ≡ mid → AsksFor names before mid answer → AsksFor names before now answer
 asks_then names before mid now answer same asks = subst (λ (xs : List (List ℕ)). AsksFor names before xs answer) (sym same) asks
@@ -98,13 +98,13 @@ asks_first first names before mid now answer one asks = by_answer answer asks
 pub no_faults : (counts : Counts) → KeepsFaults counts counts
 no_faults counts = record { reading = refl; writing = refl }
 
-pub made_memory : (end : RestoreEnd) (answer : Answer) (P : Type 0) → answer ≡ answer_of end → IfNoMemory answer P
+pub made_memory : (end : Result Unit RestoreFault) (answer : Answer) (P : Type 0) → answer ≡ answer_of end → IfNoMemory answer P
 made_memory end answer P is = subst (λ (a : Answer). IfNoMemory a P) (sym is) (by_end end)
   where
-    by_end : (e : RestoreEnd) → IfNoMemory (answer_of e) P
-    by_end end_code.Done = tt
-    by_end (end_code.Read file) = tt
-    by_end end_code.Write = tt
+    by_end : (e : Result Unit RestoreFault) → IfNoMemory (answer_of e) P
+    by_end (Ok done) = tt
+    by_end (Err (fault_code.Read file)) = tt
+    by_end (Err fault_code.Write) = tt
 
 pub unread_memory : (fault : OpenFault) (answer : Answer) (before now : ℕ) (P : Type 0) → answer ≡ unread_of fault → (now ≡ before → P) → KeptAt before now fault → IfNoMemory answer P
 unread_memory fault answer before now P is f kept = subst (λ (a : Answer). IfNoMemory a P) (sym is) (by_fault fault kept)

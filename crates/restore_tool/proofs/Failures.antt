@@ -10,8 +10,8 @@ use Rattle.trace_outside.specs.Folders.{IsFileOf, misses_after}
 use Rattle.trace_outside.specs.Names.{NamedFiles}
 use Rattle.dat_options.specs.declared.fault.OpenFault.{OpenFault}
 use Rattle.dat_options.specs.declared.fault.OpenFault.TheVariants.{Read, Memory}
-use Rattle.restore_tool.specs.declared.copying.RestoreEnd.{RestoreEnd}
-use Rattle.restore_tool.specs.declared.copying.RestoreEnd.TheVariants as end_code
+use Rattle.restore_tool.specs.declared.copying.RestoreFault.{RestoreFault}
+use Rattle.restore_tool.specs.declared.copying.RestoreFault.TheVariants as fault_code
 use Rattle.restore_tool.specs.declared.named.Answer.{Answer}
 use Rattle.restore_tool.specs.declared.named.Answer.TheVariants as code
 use Rattle.restore_tool.specs.declared.named.Source.{Source}
@@ -90,30 +90,30 @@ none_missing None names files file before now lt are same = tt
 none_missing (Some named) names files file before now lt are same = λ d.
     same ∙ sym (there_is (get named (get_or names file d)) before (are file d nothing_seen lt).0)
 
-pub data_unread : (told : Option NamedFiles) (names : List (List ℕ)) (files after : List FileSeen) (before now faults faults_now : ℕ) (end : RestoreEnd) (answer : Answer) → answer ≡ answer_of end → length files ≡ length names
+pub data_unread : (told : Option NamedFiles) (names : List (List ℕ)) (files after : List FileSeen) (before now faults faults_now : ℕ) (end : Result Unit RestoreFault) (answer : Answer) → answer ≡ answer_of end → length files ≡ length names
     → AreFilesOf told names files → IsCaused end files after faults faults_now → IfSome told (λ named. now ≡ before) → IfRead answer (IsUnreadBehind told names before now)
 data_unread told names files after before now faults faults_now end answer is each are caused same =
     subst (λ (a : Answer). IfRead a (IsUnreadBehind told names before now)) (sym is) (by_end end caused)
   where
-    by_end : (e : RestoreEnd) → IsCaused e files after faults faults_now → IfRead (answer_of e) (IsUnreadBehind told names before now)
-    by_end end_code.Done caused = tt
-    by_end (end_code.Read file) caused = record {
+    by_end : (e : Result Unit RestoreFault) → IsCaused e files after faults faults_now → IfRead (answer_of e) (IsUnreadBehind told names before now)
+    by_end (Ok done) caused = tt
+    by_end (Err (fault_code.Read file)) caused = record {
       inside = omega (arith, caused.0, each);
       before = files_before told names files file (omega (arith, caused.0)) are;
       missing = none_missing told names files file before now caused.0 are same;
     }
-    by_end end_code.Write caused = tt
+    by_end (Err fault_code.Write) caused = tt
 
 -- a fault is told of the file whose count rose
-pub data_faulty : (before now : List FileSeen) (failed : Type 0) (start mid last : Counts) (end : RestoreEnd) (answer : Answer) → answer ≡ answer_of end → length now ≡ length before → start.writing ≤ mid.writing
+pub data_faulty : (before now : List FileSeen) (failed : Type 0) (start mid last : Counts) (end : Result Unit RestoreFault) (answer : Answer) → answer ≡ answer_of end → length now ≡ length before → start.writing ≤ mid.writing
     → IsCaused end before now mid.writing last.writing → Causes answer (IfRead answer (IsFaulty failed now)) (Rose start.writing last.writing)
 data_faulty before now failed start mid last end answer is each later caused =
     subst (λ (a : Answer). Causes a (IfRead a (IsFaulty failed now)) (Rose start.writing last.writing)) (sym is) (by_end end caused)
   where
-    by_end : (e : RestoreEnd) → IsCaused e before now mid.writing last.writing → Causes (answer_of e) (IfRead (answer_of e) (IsFaulty failed now)) (Rose start.writing last.writing)
-    by_end end_code.Done caused = tt
-    by_end (end_code.Read file) caused = inr (omega (arith, caused.0, each), λ d. let rose = caused.1 d in omega (arith, rose))
-    by_end end_code.Write caused = omega (arith, caused, later)
+    by_end : (e : Result Unit RestoreFault) → IsCaused e before now mid.writing last.writing → Causes (answer_of e) (IfRead (answer_of e) (IsFaulty failed now)) (Rose start.writing last.writing)
+    by_end (Ok done) caused = tt
+    by_end (Err (fault_code.Read file)) caused = inr (omega (arith, caused.0, each), λ d. let rose = caused.1 d in omega (arith, rose))
+    by_end (Err fault_code.Write) caused = omega (arith, caused, later)
 
 faulty_some : (failed : Type 0) (held : List FileSeen) (source : Source) → IsFaulty failed held source → failed ⊎ SomeFaulty held
 faulty_some failed held source_code.Partial faulty = absurd faulty

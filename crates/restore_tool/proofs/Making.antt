@@ -1,5 +1,5 @@
 -- The new file: written, finished or given up, and what is read from it.
-use Rattle.std.proofs.Common.{◌≡◌, ℕ, ◌+◌, ◌-◌, ◌%◌, ◌^◌, ◌<◌, List, [], ◌∷◌, ◌++◌, length, take, drop, map, Option, Some, None, refl, sym, ap, subst, ◌∙◌, append_assoc, arith}
+use Rattle.std.proofs.Common.{◌≡◌, ℕ, ◌+◌, ◌-◌, ◌%◌, ◌^◌, ◌<◌, ◌≤◌, List, [], ◌∷◌, ◌++◌, length, take, drop, map, Option, Some, None, Result, Ok, Err, inl, refl, sym, ap, subst, ◌∙◌, append_assoc, arith}
 use Rattle.std.specs.List.{All}
 use Rattle.std.specs.Option.{IfSome}
 use Rattle.std.specs.FinMap.{insert}
@@ -7,6 +7,8 @@ use Rattle.std.specs.Io.KnownBytes.{append_known}
 use Rattle.std.proofs.lemmas.List.{length-append, length-map, length-replicate, take_at, drop_at}
 use Rattle.std.proofs.lemmas.List.Elements.{All-nil, All-cons}
 use Rattle.trace_base.specs.declared.part.Part.{Part}
+use Rattle.trace_outside.specs.declared.counts.Counts.{Counts}
+use Rattle.trace_outside.specs.Causes.{Rose, raised}
 use Rattle.trace_outside.specs.Folders.{IsEmptySink, Stores}
 use Rattle.trace_outside.specs.Names.{NamedFiles, stored}
 use Rattle.trace_outside.specs.Writing.{Gained}
@@ -16,20 +18,21 @@ use Rattle.dat_header.specs.declared.header.Header.{Header}
 use Rattle.dat_header.specs.Allowed.{IsHeader}
 use Rattle.dat_header.specs.Tables.{blank, in_table}
 use Rattle.dat_header.specs.Written.{header_text, written}
+use Rattle.dat_header.specs.Seen.{FileSeen}
 use Rattle.dat_header.proofs.HeaderLaws.{written_spelled}
 use Rattle.dat_header.proofs.Tables.{header_wrapped, same_len}
 use Rattle.new_files.specs.Padding.{IsPage, up_to_page, zeros}
 use Rattle.new_files.proofs.Placing.{no_less}
-use Rattle.restore_tool.specs.declared.copying.RestoreEnd.{RestoreEnd}
-use Rattle.restore_tool.specs.declared.copying.RestoreEnd.TheVariants as code
-use Rattle.restore_tool.specs.Copying.{CopiesAll}
+use Rattle.restore_tool.specs.declared.copying.RestoreFault.{RestoreFault}
+use Rattle.restore_tool.specs.declared.copying.RestoreFault.TheVariants as code
+use Rattle.restore_tool.specs.Copying.{CopiesAll, IsCaused}
+use Rattle.restore_tool.specs.Restoring.{CreatesOne, Leaves, LeavesUnfinished}
 use Rattle.restore_tool.specs.Restored.{IsRestored, data_behind, header_end, parts_behind, restored, table_of}
 
 -- the data files after the header
-pub wrote_all : (text behind : List ℕ) (old mid new : Option (List ℕ)) (result : RestoreEnd) → Gained old mid text → CopiesAll behind mid new result → CopiesAll (text ++ behind) old new result
-wrote_all text behind old mid new code.Done first then = gained_both old mid new text behind first then
-wrote_all text behind old mid new (code.Read file) first then = tt
-wrote_all text behind old mid new code.Write first then = tt
+pub wrote_all : (text behind : List ℕ) (old mid new : Option (List ℕ)) (result : Result Unit RestoreFault) → Gained old mid text → CopiesAll behind mid new result → CopiesAll (text ++ behind) old new result
+wrote_all text behind old mid new (Ok done) first then = gained_both old mid new text behind first then
+wrote_all text behind old mid new (Err fault) first then = tt
 
 pub length-parts : (page place : ℕ) (sizes : List ℕ) → length (parts_behind page place sizes) ≡ length sizes
 length-parts page place [] = refl
@@ -68,6 +71,28 @@ stored_is (Some named) mid new name own text whole empty written files same made
     let has : written ≡ Some text = gained ∙ ap (λ (o : Option (List ℕ)). append_known o text) made in
     let put : new ≡ stored mid own text = subst (λ (o : Option (List ℕ)). IfSome o (λ bytes. new ≡ stored mid own bytes)) has stores in
     put ∙ ap (λ (m : Option NamedFiles). stored m own text) files ∙ ap (λ (n : List ℕ). Some (insert named n text)) same ∙ ap (λ (t : List ℕ). Some (insert named name t)) is
+
+-- A FILE THAT WAS GIVEN UP
+
+pub left_dropped : (header : Header) (files : List FileSeen) (name : List ℕ) (counts now_counts : Counts) (old new : Option NamedFiles) (fault : RestoreFault) → new ≡ old → Leaves header files name counts now_counts old new (Err fault)
+left_dropped header files name counts now_counts old new (code.Read file) same = same
+left_dropped header files name counts now_counts old new code.Write same = inl same
+
+-- its faults are the folder's then
+pub caused_dropped : (fault : RestoreFault) (before now : List FileSeen) (faults faults_now first mid last : ℕ) → first ≤ mid → (0 < faults_now → Rose mid last)
+    → IsCaused (Err fault) before now faults faults_now → IsCaused (Err fault) before now first last
+caused_dropped (code.Read file) before now faults faults_now first mid last later faulty caused = caused
+caused_dropped code.Write before now faults faults_now first mid last later faulty caused =
+    let rose = faulty (omega (arith, caused)) in
+    omega (arith, rose, later)
+
+pub created_dropped : (fault : RestoreFault) (before now : ℕ) → now ≡ raised before 1 → CreatesOne before now (Err fault)
+created_dropped (code.Read file) before now one = one
+created_dropped code.Write before now one = omega (arith, one)
+
+pub unfinished_dropped : (fault : RestoreFault) (before now : ℕ) → now ≡ before → LeavesUnfinished before now (Err fault)
+unfinished_dropped (code.Read file) before now same = same
+unfinished_dropped code.Write before now same = (omega (arith, same), omega (arith, same))
 
 -- WHAT IS READ FROM IT
 

@@ -1,22 +1,22 @@
 -- What the answer of a restoring says of the outside.
-use Rattle.std.specs.Prelude.{Option, ◌≡◌, ◌≤◌, ◌<◌, ℕ, List, length, slice_index_or}
+use Rattle.std.specs.Prelude.{Option, Result, Ok, Err, ◌≡◌, ◌≤◌, ◌<◌, ℕ, List, length, slice_index_or}
 use Rattle.trace_outside.specs.declared.counts.Counts.{Counts}
 use Rattle.trace_outside.specs.Causes.{raised}
 use Rattle.trace_outside.specs.Names.{NamedFiles}
 use Rattle.dat_options.specs.declared.fault.OpenFault.{OpenFault}
 use Rattle.dat_options.specs.declared.fault.OpenFault.TheVariants.{Read, Memory}
 use Rattle.dat_header.specs.Header.{IsRefusal}
-use Rattle.restore_tool.specs.declared.copying.RestoreEnd.{RestoreEnd}
-use Rattle.restore_tool.specs.declared.copying.RestoreEnd.TheVariants as end_code
+use Rattle.restore_tool.specs.declared.copying.RestoreFault.{RestoreFault}
+use Rattle.restore_tool.specs.declared.copying.RestoreFault.TheVariants as fault_code
 use Rattle.restore_tool.specs.declared.named.Answer.{Answer}
 use Rattle.restore_tool.specs.declared.named.Answer.TheVariants as code
 use Rattle.restore_tool.specs.declared.named.Source.TheVariants as source_code
 use Rattle.dat_header.specs.Seen.{FileSeen}
 
-abbrev pub answer_of : RestoreEnd → Answer
-answer_of end_code.Done = code.Done
-answer_of (end_code.Read file) = code.Read (source_code.File file)
-answer_of end_code.Write = code.Write
+abbrev pub answer_of : Result Unit RestoreFault → Answer
+answer_of (Ok done) = code.Done
+answer_of (Err (fault_code.Read file)) = code.Read (source_code.File file)
+answer_of (Err fault_code.Write) = code.Write
 
 -- what comes of a partial file whose header could not be read
 abbrev pub unread_of : OpenFault → Answer

@@ -1,12 +1,12 @@
 -- Data files that are copied to a sink, one after another.
-use Rattle.std.specs.Prelude.{Option, Result, ◌≡◌, ◌<◌, ◌≤◌, OnOk, ℕ, List, [], ◌++◌, length, map, unwrap_or, IfSome, IsSome, slice_index_or}
+use Rattle.std.specs.Prelude.{Option, Result, Ok, Err, ◌≡◌, ◌<◌, ◌≤◌, OnOk, ℕ, List, [], ◌++◌, length, map, unwrap_or, IfSome, IsSome, slice_index_or}
 use Rattle.std.specs.List.{All}
 use Rattle.trace_outside.specs.Causes.{Rose, raised}
 use Rattle.trace_outside.specs.Writing.{Gained}
 use Rattle.trace_outside.specs.declared.outside.File as file
 use Rattle.dat_header.specs.Seen.{FileSeen, file_seen}
-use Rattle.restore_tool.specs.declared.copying.RestoreEnd.{RestoreEnd}
-use Rattle.restore_tool.specs.declared.copying.RestoreEnd.TheVariants as code
+use Rattle.restore_tool.specs.declared.copying.RestoreFault.{RestoreFault}
+use Rattle.restore_tool.specs.declared.copying.RestoreFault.TheVariants as code
 
 abbrev pub files_seen : {F : Type 0} → file.Ghosts F → List F → List FileSeen
 files_seen f files = map (file_seen f) files
@@ -33,15 +33,13 @@ AllKeep before now = (i : ℕ) (d : FileSeen) → i < length before → Keeps (s
 abbrev pub IsOneCopied : {T E : Type 0} → List ℕ → FileSeen → Option (List ℕ) → Option (List ℕ) → Result T E → Type 0
 IsOneCopied front file old new result = OnOk result (IfSome file.bytes (λ bytes. Gained old new (front ++ bytes)))
 
--- Done: all of the text was written. After a fault nothing is said of what was.
-abbrev pub CopiesAll : List ℕ → Option (List ℕ) → Option (List ℕ) → RestoreEnd → Type 0
-CopiesAll text old new code.Done = Gained old new text
-CopiesAll text old new (code.Read file) = Unit {0}
-CopiesAll text old new code.Write = Unit {0}
+-- all of the text was written; after a fault nothing is said of what was
+abbrev pub CopiesAll : List ℕ → Option (List ℕ) → Option (List ℕ) → Result Unit RestoreFault → Type 0
+CopiesAll text old new result = OnOk result (Gained old new text)
 
 -- a fault is told only where its count rose: that of this very file, or of what is written
-abbrev pub IsCaused : RestoreEnd → List FileSeen → List FileSeen → ℕ → ℕ → Type 0
-IsCaused code.Done before now faults faults_now = Unit {0}
-IsCaused (code.Read file) before now faults faults_now =
+abbrev pub IsCaused : Result Unit RestoreFault → List FileSeen → List FileSeen → ℕ → ℕ → Type 0
+IsCaused (Ok done) before now faults faults_now = Unit {0}
+IsCaused (Err (code.Read file)) before now faults faults_now =
     (file < length before) × ((d : FileSeen) → Rose (slice_index_or before file d).faults (slice_index_or now file d).faults)
-IsCaused code.Write before now faults faults_now = Rose faults faults_now
+IsCaused (Err code.Write) before now faults faults_now = Rose faults faults_now

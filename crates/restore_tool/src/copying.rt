@@ -7,19 +7,30 @@ ghost use Rattle.new_files.specs.Padding.{IsPage, zeros};
 ghost use Rattle.dat_header.specs.Seen.{file_seen};
 ghost use Rattle.restore_tool.specs.Copying.{AllKeep, AllTold, CopiesAll, IsCaused, IsOneCopied, Keeps, files_seen, text_of};
 ghost use Rattle.restore_tool.specs.Restored.{data_behind};
+ghost use Rattle.restore_tool.specs.declared.copying.RestoreFault.TheVariants.{Write};
 
 use new_files::{gap, write_zeros};
+use thiserror::Error;
 use trace_outside::{CopyFault, Failed, File, Sink, copy_rest};
 
-/// How a restoring ends.
-#[derive(Clone, Copy, Debug, PartialEq, Eq)]
-pub enum RestoreEnd {
-    /// The file is finished.
-    Done,
+/// Why no file was restored.
+#[derive(Clone, Copy, Debug, PartialEq, Eq, Error)]
+pub enum RestoreFault {
     /// A read of this data file failed, counted from 0.
+    #[error("read of data file {file} failed")]
     Read { file: u32 },
-    /// The file could not be created, written or finished.
+    /// The new file could not be created, written or finished.
+    #[error("write failed")]
     Write,
+}
+
+/// What fails by itself is a call on the new file: a read tells its file.
+impl From<Failed> for RestoreFault {
+    ghost from_gives = { λ failed fault. fault ≡ Write };
+
+    fn from(_failed: Failed) -> RestoreFault {
+        RestoreFault::Write
+    }
 }
 
 /// Writes zero bytes and the whole of a data file after them.
@@ -50,7 +61,7 @@ pub(crate) fn copy_files<F: File, O: Sink>(
     files: &mut [F],
     buffer: &mut [u8],
     out: &mut O,
-) -> RestoreEnd
+) -> Result<(), RestoreFault>
     requires page { IsPage page }
     requires few { length files.old ≤ 256 }
     requires room { 0 < length buffer.old }
@@ -66,12 +77,12 @@ pub(crate) fn copy_files<F: File, O: Sink>(
         let missing = gap(page, place);
         match copy_file(missing, &mut files[i], buffer, out) {
             Ok(()) => {}
-            Err(CopyFault::Read) => return RestoreEnd::Read { file: i as u32 },
-            Err(CopyFault::Write) => return RestoreEnd::Write,
+            Err(CopyFault::Read) => return Err(RestoreFault::Read { file: i as u32 }),
+            Err(CopyFault::Write) => return Err(RestoreFault::Write),
         }
         place = place
             .wrapping_add(u64::from(missing))
             .wrapping_add(files[i].len());
     }
-    RestoreEnd::Done
+    Ok(())
 }

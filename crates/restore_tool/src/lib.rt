@@ -14,7 +14,7 @@ mod placing;
 mod processors;
 mod restoring;
 
-pub use copying::RestoreEnd;
+pub use copying::RestoreFault;
 pub use frame::{close_files, open_files};
 pub use named::{Answer, Names, Source, restore_named};
 pub use processors::{blank_parts, for_processors};

@@ -13,7 +13,7 @@ ghost use Rattle.restore_tool.specs.Meaning.{IsDone, missing, names_view, task_o
 ghost use Rattle.restore_tool.specs.Open.{AreThere};
 ghost use Rattle.restore_tool.specs.Reads.{DataWithin, ReadsOnce, reads_of};
 
-use crate::copying::RestoreEnd;
+use crate::copying::RestoreFault;
 use crate::frame::{close_files, open_files};
 use crate::processors::{blank_parts, for_processors};
 use crate::restoring::restore;
@@ -60,13 +60,13 @@ pub enum Answer {
 }
 
 // What came of the work on the new file.
-fn answer_of(end: RestoreEnd) -> Answer
+fn answer_of(end: Result<(), RestoreFault>) -> Answer
     ensures { result ≡ answer_of end }
 {
     match end {
-        RestoreEnd::Done => Answer::Done,
-        RestoreEnd::Read { file } => Answer::Read(Source::File(file)),
-        RestoreEnd::Write => Answer::Write,
+        Ok(()) => Answer::Done,
+        Err(RestoreFault::Read { file }) => Answer::Read(Source::File(file)),
+        Err(RestoreFault::Write) => Answer::Write,
     }
 }
 

@@ -10,11 +10,11 @@ ghost use Rattle.restore_tool.specs.Copying.{AllKeep, AllTold, CopiesAll, IsCaus
 ghost use Rattle.restore_tool.specs.Restored.{data_behind};
 ghost use Rattle.restore_tool.specs.Restoring.{CreatesOne, Leaves, LeavesUnfinished};
 
-use crate::copying::{RestoreEnd, copy_files};
+use crate::copying::{RestoreFault, copy_files};
 use crate::placing::place_files;
 use dat_header::{Header, header_len, write_header};
 use trace_base::Part;
-use trace_outside::{Failed, Folder, Sink};
+use trace_outside::{Folder, Sink};
 
 // Writes the header with this table and the data files after it.
 fn write_whole<D: Folder>(
@@ -23,7 +23,7 @@ fn write_whole<D: Folder>(
     files: &mut [D::In],
     buffer: &mut [u8],
     out: &mut D::Out,
-) -> RestoreEnd
+) -> Result<(), RestoreFault>
     requires allowed { IsHeader header.now }
     requires each { length parts.now ≡ header.now.cpus }
     requires few { length files.old ≤ 256 }
@@ -36,10 +36,8 @@ fn write_whole<D: Folder>(
         (D.Out.faults out.old) (D.Out.faults out.new) }
     ensures keeps_out { KeepsSink D.Out.Sink out.old out.new }
 {
-    match write_header(header, parts, out) {
-        Ok(len) => copy_files(header.page, len, files, buffer, out),
-        Err(Failed) => RestoreEnd::Write,
-    }
+    let len = write_header(header, parts, out)?;
+    copy_files(header.page, len, files, buffer, out)
 }
 
 /// Makes a trace file of this name from a header and one data file a processor (trace-cmd-restore(1)).
@@ -54,7 +52,7 @@ pub fn restore<D: Folder>(
     buffer: &mut [u8],
     name: &str,
     folder: &mut D,
-) -> RestoreEnd
+) -> Result<(), RestoreFault>
     requires allowed { IsHeader header.now }
     requires cpus { header.now.cpus ≡ length files.old }
     requires each { length parts.old ≡ length files.old }
@@ -71,17 +69,15 @@ pub fn restore<D: Folder>(
     ensures unfinished { LeavesUnfinished (D.counts folder.old).unfinished (D.counts folder.new).unfinished result }
 {
     place_files(header.page, header_len(header), files, parts);
-    let Ok(mut out) = folder.create_file(name) else {
-        return RestoreEnd::Write;
-    };
+    let mut out = folder.create_file(name)?;
     match write_whole::<D>(header, parts, files, buffer, &mut out) {
-        RestoreEnd::Done => match folder.finish_file(out) {
-            Ok(()) => RestoreEnd::Done,
-            Err(Failed) => RestoreEnd::Write,
-        },
-        end => {
+        Ok(()) => {
+            folder.finish_file(out)?;
+            Ok(())
+        }
+        Err(fault) => {
             folder.drop_file(out);
-            end
+            Err(fault)
         }
     }
 }
