@@ -191,14 +191,14 @@ pub record FilesReported (words : ReportData) (held : List FileSeen) (status : S
 -- one more input: it is open too, or that is the end of the report
 abbrev pub OpensNext : ReportData → FolderSeen → List (List ℕ) → List ℕ → List SourceView → FolderSeen → Result Unit JobEnd → Type 0
 OpensNext words before names name sources now (Ok done) = AreOpened words (names ++ name ∷ []) sources before now
-OpensNext words before names name sources now (Err outcome) = (rest : List (List ℕ)) (out : SinkSeen) → names_in words ≡ names ++ name ∷ rest
-    → FilesReported words (map file_in sources) outcome.status outcome.file.now (beside before out) (beside now out)
+OpensNext words before names name sources now (Err end) = (rest : List (List ℕ)) (out : SinkSeen) → names_in words ≡ names ++ name ∷ rest
+    → FilesReported words (map file_in sources) end.status end.file.now (beside before out) (beside now out)
 
 -- all inputs are open, or that is the end of the report
 abbrev pub OpensAll : ReportData → List SourceView → FolderSeen → FolderSeen → Result Unit JobEnd → Type 0
 OpensAll words sources before now (Ok done) = AreOpened words (names_in words) sources before now
-OpensAll words sources before now (Err outcome) = (out : SinkSeen)
-    → FilesReported words (map file_in sources) outcome.status outcome.file.now (beside before out) (beside now out)
+OpensAll words sources before now (Err end) = (out : SinkSeen)
+    → FilesReported words (map file_in sources) end.status end.file.now (beside before out) (beside now out)
 
 -- the answer for an end of the report
 abbrev pub status_of_files : FilesEnd → Status

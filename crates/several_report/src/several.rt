@@ -39,9 +39,9 @@ pub fn print_files<'a, F: Folder, O: Sink>(
             file: words.input,
         };
     };
-    let outcome = print_opened(alloc, words, &mut sources, folder, out);
+    let end = print_opened(alloc, words, &mut sources, folder, out);
     close_sources(sources, folder);
-    outcome
+    end
 }
 
 // Opens the files and prints their report. What is open at its end stays open.
@@ -60,7 +60,7 @@ fn print_opened<'a, F: Folder, O: Sink>(
 {
     match open_sources(alloc, words, sources, folder) {
         Ok(()) => print_sources(alloc, words, sources.as_mut_slice(), out),
-        Err(outcome) => outcome,
+        Err(end) => end,
     }
 }
 
@@ -89,11 +89,11 @@ fn print_sources<'a, I: File, O: Sink>(
         };
     };
     let end = report_files(sources, &mut nexts, &mut buffer, &mut pending, out);
-    outcome_of(words, end)
+    job_end_of(words, end)
 }
 
 // The answer for an end of the report, and the file that it is of.
-fn outcome_of<'a>(words: &ReportWords<'a>, end: FilesEnd) -> JobEnd<'a>
+fn job_end_of<'a>(words: &ReportWords<'a>, end: FilesEnd) -> JobEnd<'a>
     ensures status { result.status ≡ spec.status_of_files end }
     ensures named { Contains (names_in (report_view words.now)) result.file.now }
     ensures source { IsNameOfEnd (report_view words.now) end result.file.now }

@@ -214,7 +214,7 @@ pub(crate) fn open_sources<'a, F: Folder>(
     for place in 0..count {
         match open_next(alloc, words, input_at(words, place), sources, folder) {
             Ok(()) => {}
-            Err(outcome) => return Err(outcome),
+            Err(end) => return Err(end),
         }
     }
     Ok(())

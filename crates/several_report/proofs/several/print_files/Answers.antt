@@ -16,14 +16,14 @@ returns-in_default-clause-named g c = named_any (report_view c.args.words.now) _
 
 pub returns-clause-ran : goal.returns-clause-ran
 returns-clause-ran g c =
-    shown_ran (report_view c.args.words.now) (map file_in (map (source_seen g.F.In.File) c.print_opened-outcome.new.sources.items)) c.print_opened-outcome.result.status c.print_opened-outcome.result.file.now
-    _ _ _ _ _ c.print_opened-outcome.ensures c.close_sources.ensures.counts c.close_sources.ensures.files c.close_sources.ensures.requested
+    shown_ran (report_view c.args.words.now) (map file_in (map (source_seen g.F.In.File) c.print_opened-end.new.sources.items)) c.print_opened-end.result.status c.print_opened-end.result.file.now
+    _ _ _ _ _ c.print_opened-end.ensures c.close_sources.ensures.counts c.close_sources.ensures.files c.close_sources.ensures.requested
 
 pub returns-clause-named : goal.returns-clause-named
-returns-clause-named g c = c.print_opened-outcome.ensures.named
+returns-clause-named g c = c.print_opened-end.ensures.named
 
 pub returns-clause-unread : goal.returns-clause-unread
 returns-clause-unread g c =
-    unread_later (report_view c.args.words.now) _ c.print_opened-outcome.result.status c.print_opened-outcome.result.file.now
-    (folder_seen g.F.Folder c.args.folder.now) (folder_seen g.F.Folder c.print_opened-outcome.new.folder) (folder_seen g.F.Folder c.close_sources.new.folder)
-    c.close_sources.ensures.counts.misses c.print_opened-outcome.ensures.unread
+    unread_later (report_view c.args.words.now) _ c.print_opened-end.result.status c.print_opened-end.result.file.now
+    (folder_seen g.F.Folder c.args.folder.now) (folder_seen g.F.Folder c.print_opened-end.new.folder) (folder_seen g.F.Folder c.close_sources.new.folder)
+    c.close_sources.ensures.counts.misses c.print_opened-end.ensures.unread

@@ -24,6 +24,6 @@ returns g c = λ before now opened.
     let out = sink_seen g.O.Sink c.args.out.now in
     let out_now = sink_seen g.O.Sink c.report_files-end.new.out in
     let new = map (source_seen g.I.File) c.report_files-end.new.sources in
-    subst (λ (s : Status). FilesReported words (map file_in new) s c.outcome_of.result.file.now (beside before out) (beside now out_now)) (sym c.outcome_of.ensures.status)
-    (files_shown words (map (source_seen g.I.File) c.args.sources.now) new before now out out_now c.report_files-end.result c.outcome_of.result.file.now opened c.outcome_of.ensures.named c.outcome_of.ensures.source
+    subst (λ (s : Status). FilesReported words (map file_in new) s c.job_end_of.result.file.now (beside before out) (beside now out_now)) (sym c.job_end_of.ensures.status)
+    (files_shown words (map (source_seen g.I.File) c.args.sources.now) new before now out out_now c.report_files-end.result c.job_end_of.result.file.now opened c.job_end_of.ensures.named c.job_end_of.ensures.source
     c.report_files-end.ensures.report c.report_files-end.ensures.read c.report_files-end.ensures.write c.report_files-end.ensures.reads c.report_files-end.ensures.same)
