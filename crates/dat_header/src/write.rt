@@ -36,10 +36,8 @@ pub fn write_header<O: Sink>(header: &Header, parts: &[Part], out: &mut O) -> Re
     ensures cause { HasCause (O.faults out.old) (O.faults out.new) result }
 {
     are_words(parts);
-    match write_pieces(header, parts, out) {
-        Ok(()) => Ok(header_len(header)),
-        Err(Failed) => Err(Failed),
-    }
+    write_pieces(header, parts, out)?;
+    Ok(header_len(header))
 }
 
 fn write_pieces<O: Sink>(header: &Header, parts: &[Part], out: &mut O) -> Result<(), Failed>
@@ -93,10 +91,8 @@ pub fn write_with_table<O: Sink>(
     ensures name { O.name out.new ≡ O.name out.old }
     ensures cause { HasCause (O.faults out.old) (O.faults out.new) result }
 {
-    match write_both(header, before, parts, out) {
-        Ok(()) => Ok(len_with_table(header, before)),
-        Err(Failed) => Err(Failed),
-    }
+    write_both(header, before, parts, out)?;
+    Ok(len_with_table(header, before))
 }
 
 fn write_both<O: Sink>(
