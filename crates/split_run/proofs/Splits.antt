@@ -20,7 +20,7 @@ use Rattle.run_endings.proofs.Faultless.{end_kept}
 
 module _ (words : SplitData) (header : Header) (before now : FolderSeen) (out : SinkSeen) where
   -- the four answers of a split
-  split_ends : (bytes : List ℕ) (answer : End) → IsSplit (split_files words header bytes) (split_end words header bytes) before.counts now.counts before.files now.files answer
+  split_ends : (bytes : List ℕ) (answer : End) → IsSplit (split_files words header bytes) (split_end words header bytes) before now answer
       → Creates (length (split_files words header bytes)) before.counts.created now.counts.created answer
       → Ends (split_by words header bytes) (status_of_end answer) (beside before out) (beside now out)
   split_ends bytes end.Done split creates = record { answer = ap status_of_end split.0; output = gained_nothing out.written; files = split.1; created = creates }
@@ -52,7 +52,7 @@ cut_told words header dropped parts bytes fact dropped_is parts_are told =
 
 pub cut : (unread : Type 0) (words : SplitData) (header dropped : Header) (parts : List (ℕ × Part)) (told : Option (List ℕ)) (before now : FolderSeen)
     (answer : End) → dropped ≡ without_instances header → parts ≡ taken_of words.cpu header.body
-    → IfSome told (λ bytes. IsSplit (new_files (rules_of words) words.base dropped bytes parts) (end_of (rules_of words) dropped bytes parts) before.counts now.counts before.files now.files answer)
+    → IfSome told (λ bytes. IsSplit (new_files (rules_of words) words.base dropped bytes parts) (end_of (rules_of words) dropped bytes parts) before now answer)
     → IfSome told (λ bytes. Creates (length (new_files (rules_of words) words.base dropped bytes parts)) before.counts.created now.counts.created answer)
     → (answer ≡ end.Read → unread) → (answer ≡ end.Write → Rose before.counts.writing now.counts.writing)
     → MakesFiles unread (option_map (split_by words header) told) (status_of_end answer) before now
@@ -64,11 +64,11 @@ cut unread words header dropped parts told before now answer dropped_is parts_ar
 }
   where
     by_told : (known : Option (List ℕ)) (out : SinkSeen)
-        → IfSome known (λ bytes. IsSplit (new_files (rules_of words) words.base dropped bytes parts) (end_of (rules_of words) dropped bytes parts) before.counts now.counts before.files now.files answer)
+        → IfSome known (λ bytes. IsSplit (new_files (rules_of words) words.base dropped bytes parts) (end_of (rules_of words) dropped bytes parts) before now answer)
         → IfSome known (λ bytes. Creates (length (new_files (rules_of words) words.base dropped bytes parts)) before.counts.created now.counts.created answer)
         → IfSome (option_map (split_by words header) known) (λ m. Ends m (status_of_end answer) (beside before out) (beside now out))
     by_told None out told made = tt
     by_told (Some bytes) out told made =
         split_ends words header before now out bytes answer
-        (cut_told words header dropped parts bytes (λ news last. IsSplit news last before.counts now.counts before.files now.files answer) dropped_is parts_are told)
+        (cut_told words header dropped parts bytes (λ news last. IsSplit news last before now answer) dropped_is parts_are told)
         (cut_told words header dropped parts bytes (λ news last. Creates (length news) before.counts.created now.counts.created answer) dropped_is parts_are made)

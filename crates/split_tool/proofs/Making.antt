@@ -14,6 +14,7 @@ use Rattle.trace_base.specs.Layout.{IsLayout}
 use Rattle.trace_outside.specs.declared.counts.Counts.{Counts}
 use Rattle.trace_outside.specs.Causes.{raised}
 use Rattle.trace_outside.specs.Names.{NamedFiles, stored}
+use Rattle.trace_outside.specs.Seen.{FolderSeen}
 use Rattle.trace_outside.specs.Folders.{IsEmptySink, Stores}
 use Rattle.trace_outside.specs.Writing.{Gained}
 use Rattle.dat_header.specs.declared.header.Header.{Header}
@@ -186,19 +187,19 @@ module _ (header : Header) (base : List ℕ) (file : List ℕ) (rules : Rules) (
         few = omega (arith, p.few, fewer, long);
       }
 
-  pub progress_last : (ends : Ends) (result : End) (counts now_counts : Counts) → (ends.more && rules.repeat) ≡ false → result ≡ end_by ends.bad → Made (record { header = header; rules = rules; name = file_name base number }) file (record { lanes = now; files = mid }) (record { lanes = later; files = new }) ends
-      → Progress header base file rules news bad number now old mid → IsSplit news (end_by bad) counts now_counts old new result
-  progress_last ends result counts now_counts more is m p =
+  pub progress_last : (ends : Ends) (result : End) (counts now_counts : Counts) (asked asked_now : List (List ℕ)) → (ends.more && rules.repeat) ≡ false → result ≡ end_by ends.bad → Made (record { header = header; rules = rules; name = file_name base number }) file (record { lanes = now; files = mid }) (record { lanes = later; files = new }) ends
+      → Progress header base file rules news bad number now old mid → IsSplit news (end_by bad) (record { files = old; counts = counts; requested = asked }) (record { files = new; counts = now_counts; requested = asked_now }) result
+  progress_last ends result counts now_counts asked asked_now more is m p =
       let l = header.layout in
       let lists = lists_left l file rules now in
       let none : (is_some_left (joined_lists (behind_file rules.unit lists)) && rules.repeat) ≡ false =
       ap (λ (xss : List (List Keyed)). is_some_left (joined_lists xss) && rules.repeat) (sym m.left.left) ∙ ap (λ (b : Bool). b && rules.repeat) (sym m.left.more) ∙ more in
       let stored : Stages news [] old new = subst (λ (fs : List (List Keyed)). Stages news (files_from header base (number + 1) fs) old new) (no_files rules lists none) (stages_more news _ _ old mid new m.stored p.stage) in
-      ended_by ends.bad bad result is (m.left.bad_ends more ∙ p.bad_is) (all_stored news old new stored)
+      ended_by (record { files = old; counts = counts; requested = asked }) (record { files = new; counts = now_counts; requested = asked_now }) ends.bad bad result is (m.left.bad_ends more ∙ p.bad_is) (all_stored news old new stored)
     where
-      ended_by : (o b : Option (ℕ × ℕ)) (result : End) → result ≡ end_by o → o ≡ b → FilesStored news old new → IsSplit news (end_by b) counts now_counts old new result
-      ended_by None b result is same s = subst (λ (e : End). IsSplit news (end_by b) counts now_counts old new e) (sym is) (ap end_by same, s)
-      ended_by (Some place) b result is same s = subst (λ (e : End). IsSplit news (end_by b) counts now_counts old new e) (sym is) (ap end_by same, s)
+      ended_by : (before after : FolderSeen) (o b : Option (ℕ × ℕ)) (result : End) → result ≡ end_by o → o ≡ b → FilesStored news before.files after.files → IsSplit news (end_by b) before after result
+      ended_by before after None b result is same s = subst (λ (e : End). IsSplit news (end_by b) before after e) (sym is) (ap end_by same, s)
+      ended_by before after (Some place) b result is same s = subst (λ (e : End). IsSplit news (end_by b) before after e) (sym is) (ap end_by same, s)
 
   none_behind : (ends : Ends) → (ends.more && rules.repeat) ≡ false → Made (record { header = header; rules = rules; name = file_name base number }) file (record { lanes = now; files = mid }) (record { lanes = later; files = new }) ends
       → files_behind rules (lists_left header.layout file rules now) ≡ []
@@ -235,15 +236,15 @@ module _ (header : Header) (base : List ℕ) (file : List ℕ) (rules : Rules) (
   created_stops code.Read result first before after is m least so_far one p = subst (λ (r : End). Creates (length news) first after r) (sym is) (omega (arith, some_counted p, least, so_far, one))
   created_stops code.Write result first before after is m least so_far one p = subst (λ (r : End). Creates (length news) first after r) (sym is) (omega (arith, some_counted p, least, so_far, one))
 
-  pub progress_stops : (end result : End) (counts between now_counts : Counts) (asked asked_now : List (List ℕ)) → result ≡ end → counts.unfinished ≤ between.unfinished
+  pub progress_stops : (end result : End) (counts between now_counts : Counts) (first_asked asked asked_now : List (List ℕ)) → result ≡ end → counts.unfinished ≤ between.unfinished
       → IsMade (record { header = header; rules = rules; name = file_name base number }) file (record { lanes = now; files = mid }) (record { lanes = later; files = new }) (Err end)
       → LeavesFile (file_name base number) later (record { files = mid; counts = between; requested = asked }) (record { files = new; counts = now_counts; requested = asked_now }) (Err end)
-      → Progress header base file rules news bad number now old mid → IsSplit news (end_by bad) counts now_counts old new result
-  progress_stops code.Done result counts between now_counts asked asked_now is since m leaves p = absurd m
-  progress_stops (code.Malformed cpu page) result counts between now_counts asked asked_now is since m leaves p = absurd m
-  progress_stops code.Read result counts between now_counts asked asked_now is since m leaves p = subst (λ (e : End). IsSplit news (end_by bad) counts now_counts old new e) (sym is) (some_stored news _ old mid new leaves p.stage)
-  progress_stops code.Write result counts between now_counts asked asked_now is since m leaves p =
-      subst (λ (e : End). IsSplit news (end_by bad) counts now_counts old new e) (sym is)
+      → Progress header base file rules news bad number now old mid → IsSplit news (end_by bad) (record { files = old; counts = counts; requested = first_asked }) (record { files = new; counts = now_counts; requested = asked_now }) result
+  progress_stops code.Done result counts between now_counts first_asked asked asked_now is since m leaves p = absurd m
+  progress_stops (code.Malformed cpu page) result counts between now_counts first_asked asked asked_now is since m leaves p = absurd m
+  progress_stops code.Read result counts between now_counts first_asked asked asked_now is since m leaves p = subst (λ (e : End). IsSplit news (end_by bad) (record { files = old; counts = counts; requested = first_asked }) (record { files = new; counts = now_counts; requested = asked_now }) e) (sym is) (some_stored news _ old mid new leaves p.stage)
+  progress_stops code.Write result counts between now_counts first_asked asked asked_now is since m leaves p =
+      subst (λ (e : End). IsSplit news (end_by bad) (record { files = old; counts = counts; requested = first_asked }) (record { files = new; counts = now_counts; requested = asked_now }) e) (sym is)
       (first_stored news _ _ counts now_counts old mid new (unmade_since counts.unfinished between.unfinished now_counts.unfinished (file_name base number) mid new since leaves) p.stage)
 
 -- lanes of the same processors

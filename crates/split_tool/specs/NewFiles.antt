@@ -2,8 +2,7 @@
 -- Source: trace-cmd-split(1).
 use Rattle.std.specs.Prelude.{◌≡◌, ◌≤◌, ℕ, ◌+◌, List, [], ◌∷◌, take, Option, Some, None}
 use Rattle.trace_base.specs.declared.part.Part.{Part}
-use Rattle.trace_outside.specs.declared.counts.Counts.{Counts}
-use Rattle.trace_outside.specs.Names.{NamedFiles}
+use Rattle.trace_outside.specs.Seen.{FolderSeen}
 use Rattle.trace_outside.specs.Causes.{raised}
 use Rattle.dat_header.specs.declared.header.Header.{Header}
 use Rattle.subpage.specs.Arrangement.{Keyed}
@@ -35,11 +34,11 @@ end_by (Some bad) = code.Malformed bad.0 bad.1
 abbrev pub end_of : Rules → Header → List ℕ → List (ℕ × Part) → End
 end_of rules header bytes parts = end_by (bad_reached rules header.layout bytes parts)
 
--- what a split that was to make these files and end so did to a folder, by its answer
-abbrev pub IsSplit : List NewFile → End → Counts → Counts → Option NamedFiles → Option NamedFiles → End → Type 0
-IsSplit news end counts now_counts before now code.Read = (count : ℕ) × FilesStored (take count news) before now
-IsSplit news end counts now_counts before now code.Write = FirstFilesStored news counts now_counts before now
-IsSplit news end counts now_counts before now answer = (answer ≡ end) × FilesStored news before now
+-- what a split that was to make these files and end so did to a folder, by its answer: after a fault the first few files stand
+abbrev pub IsSplit : List NewFile → End → FolderSeen → FolderSeen → End → Type 0
+IsSplit news end before now code.Read = (count : ℕ) × FilesStored (take count news) before.files now.files
+IsSplit news end before now code.Write = FirstFilesStored news before.counts now.counts before.files now.files
+IsSplit news end before now answer = (answer ≡ end) × FilesStored news before.files now.files
 
 -- a file is created for each new one, after a fault for at most so many
 abbrev pub Creates : ℕ → ℕ → ℕ → End → Type 0

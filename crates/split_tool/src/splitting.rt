@@ -78,7 +78,7 @@ pub fn split<F: File, D: Folder>(
     ensures told { IfSome (F.bytes file.old) (λ bytes. IsSplit
         (new_files plan.now.rules plan.now.base.now plan.now.header.now bytes (parts_of lanes.old))
         (end_of plan.now.rules plan.now.header.now bytes (parts_of lanes.old))
-        (D.counts folder.old) (D.counts folder.new) (D.files folder.old) (D.files folder.new) result) }
+        (folder_seen D.Folder folder.old) (folder_seen D.Folder folder.new) result) }
     ensures created { IfSome (F.bytes file.old) (λ bytes. Creates
         (length (new_files plan.now.rules plan.now.base.now plan.now.header.now bytes (parts_of lanes.old)))
         (D.counts folder.old).created (D.counts folder.new).created result) }

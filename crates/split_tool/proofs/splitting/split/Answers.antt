@@ -69,7 +69,7 @@ returns-then-not-goes_on-clause-told g c =
     told_again _ _ _ (g.F.File.bytes c.args.file.now) (g.F.File.bytes c.loop-number.file) c.loop-number.invariant.keeps.bytes (λ file p m.
     let news = new_files rules base header file (parts_of c.args.lanes.now) in
     let bad = bad_reached rules header.layout file (parts_of c.args.lanes.now) in
-    progress_last header base file rules news bad c.loop-number.number c.loop-number.lanes c.make_file.new.lanes old mid new c.in-Ok-make_file.ends c.end_by.result (g.D.Folder.counts c.args.folder.now) (g.D.Folder.counts c.make_file.new.folder) (sym c.goes_on.ensures ∙ c.if-not-goes_on.true) c.end_by.ensures
+    progress_last header base file rules news bad c.loop-number.number c.loop-number.lanes c.make_file.new.lanes old mid new c.in-Ok-make_file.ends c.end_by.result (g.D.Folder.counts c.args.folder.now) (g.D.Folder.counts c.make_file.new.folder) (g.D.Folder.requested c.args.folder.now) (g.D.Folder.requested c.make_file.new.folder) (sym c.goes_on.ensures ∙ c.if-not-goes_on.true) c.end_by.ensures
     (m p.stands p.small) p)
     c.loop-number.invariant.progress c.in-Ok-make_file.ensures.told
 
@@ -113,7 +113,7 @@ returns-in-Err-clause-told g c =
     let news = new_files rules base header file (parts_of c.args.lanes.now) in
     let bad = bad_reached rules header.layout file (parts_of c.args.lanes.now) in
     progress_stops header base file rules news bad c.loop-number.number c.loop-number.lanes c.make_file.new.lanes old mid new c.in-Err.end c.in-Err.end (g.D.Folder.counts c.args.folder.now) (g.D.Folder.counts c.loop-number.folder) (g.D.Folder.counts c.make_file.new.folder)
-    (g.D.Folder.requested c.loop-number.folder) (g.D.Folder.requested c.make_file.new.folder) refl c.loop-number.invariant.counts.unfinished (m p.stands p.small) c.in-Err.ensures.leaves p)
+    (g.D.Folder.requested c.args.folder.now) (g.D.Folder.requested c.loop-number.folder) (g.D.Folder.requested c.make_file.new.folder) refl c.loop-number.invariant.counts.unfinished (m p.stands p.small) c.in-Err.ensures.leaves p)
     c.loop-number.invariant.progress c.in-Err.ensures.told
 
 pub returns-in-Err-clause-read : goal.returns-in-Err-clause-read
