@@ -16,9 +16,6 @@ use text_lines::first_line;
 /// Most lines have at least so many bytes: room for their names is taken at once.
 const LINE_BYTES: usize = 32;
 
-/// How many bytes are copied at once. The C library copies longer runs by one instruction that is counted for each byte.
-const COPIED: usize = 2048;
-
 /// The names that the lines of a text give, in their order.
 pub(crate) fn names_in(alloc: Global, form: Form, text: &[u8]) -> Result<Names, AllocError>
     ensures inside { IfOk result AreInside }
@@ -37,21 +34,11 @@ pub(crate) fn names_in(alloc: Global, form: Form, text: &[u8]) -> Result<Names, 
 fn first_block(alloc: Global, form: Form, text: &[u8]) -> Result<Vec<u8>, AllocError>
     ensures { IfOk result (λ block. form ≡ Form.Kallsyms → BeginsWith block.items text.now) }
 {
+    let mut block = Vec::new(alloc);
     match form {
-        Form::Kallsyms => copied(alloc, text),
-        Form::Printk => Ok(Vec::new(alloc)),
-        Form::Tasks => Ok(Vec::new(alloc)),
-    }
-}
-
-// The bytes of a long text.
-fn copied(alloc: Global, text: &[u8]) -> Result<Vec<u8>, AllocError>
-    ensures { IfOk result (λ block. block.items ≡ text.now) }
-{
-    let mut block = Vec::with_capacity(alloc, text.len())?;
-    while block.len() < text.len() {
-        let end = text.len().min(block.len() + COPIED);
-        block.extend_from_slice(&text[block.len()..end])?;
+        Form::Kallsyms => block.extend_from_slice(text)?,
+        Form::Printk => {}
+        Form::Tasks => {}
     }
     Ok(block)
 }

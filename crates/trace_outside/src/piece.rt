@@ -1,6 +1,6 @@
 // Pieces of a file, each read whole or refused before a byte is read.
 
-ghost use Rattle.std.specs.Prelude.{◌≡◌, ◌-◌, ◌^◌, ◌<◌, ◌≤◌, length, IfOk, OnOk, IsErrOf};
+ghost use Rattle.std.specs.Prelude.{◌≡◌, ◌-◌, ◌^◌, ◌<◌, ◌≤◌, length, OnOk, IsErrOf};
 ghost use Rattle.trace_outside.specs.Causes.{Rose, raised};
 ghost use Rattle.trace_outside.specs.Keeping.{KeepsFile};
 ghost use Rattle.trace_outside.specs.Piece.{FillsFrom, GivesPiece, KeptUnlessRead};
@@ -8,12 +8,9 @@ ghost use Rattle.trace_outside.specs.declared.piece.PieceFault.TheVariants.{Read
 
 use crate::outside::{Failed, File};
 use crate::whole::read_all;
-use std::alloc::{AllocError, Global};
+use std::alloc::Global;
 use thiserror::Error;
 use trace_base::ByteText;
-
-/// How many bytes are cleared at once. The C library clears longer runs by one instruction that is counted for each byte.
-const CLEARED: usize = 2048;
 
 /// Why a piece of a file was not read.
 #[derive(Clone, Copy, Debug, PartialEq, Eq, Error)]
@@ -86,21 +83,9 @@ pub fn read_bytes<F: File>(
         Some(end) if end <= len => {}
         _ => return Err(PieceFault::EndsEarly(len)),
     }
-    let Ok(mut bytes) = cleared(alloc, size as usize) else {
+    let Ok(mut bytes) = vec![in alloc; 0u8; size as usize] else {
         return Err(PieceFault::Memory);
     };
     read_piece(file, at, bytes.as_mut_slice())?;
     Ok(ByteText::from_vec(bytes))
-}
-
-// So many zeros.
-fn cleared(alloc: Global, size: usize) -> Result<Vec<u8>, AllocError>
-    ensures { IfOk result (λ bytes. length bytes.items ≡ size) }
-{
-    let mut bytes = Vec::with_capacity(alloc, size)?;
-    while bytes.len() < size {
-        let more = (size - bytes.len()).min(CLEARED);
-        bytes.resize(bytes.len() + more, 0)?;
-    }
-    Ok(bytes)
 }
