@@ -113,7 +113,7 @@ fn may_end(status: Status, folder: &MemFolder, out: &MemSink, told: &[u8], size:
                 && told.starts_with(out.bytes())
                 && folder.get("p.1").is_none()
         }
-        Status::Usage | Status::Refused(_) | Status::Malformed { .. } => false,
+        Status::Usage | Status::Refused(_) | Status::Malformed(_) => false,
     }
 }
 

@@ -4,6 +4,7 @@ use Rattle.std.proofs.lemmas.List.Concat.{flat_map-cons}
 use Rattle.std.specs.List.{flat_map}
 use Rattle.trace_base.specs.declared.part.Part.{Part}
 use Rattle.trace_outside.specs.Writing.{Gained, GainedPrefix}
+use Rattle.subpage.specs.declared.cut_place.CutPlace.{CutPlace}
 use Rattle.subpage.specs.Cut.{cut_of}
 use Rattle.report_print.specs.ContextData.{ContextData}
 use Rattle.dat_header.specs.declared.header.Header.{Header}
@@ -32,17 +33,17 @@ calls_text cpus given calls =
     ap (λ rest. cpus_line cpus ++ rest) (calls_lines given calls)
     ∙ sym (flat_map-cons (λ piece. piece) (cpus_line cpus) (map (call_line given) calls))
 
-writes_at : (m : Meaning) (cut : Option (ℕ × ℕ)) (old now : Option (List ℕ)) → status_of_cut cut ≡ m.status → Gained old now (text_of m.pieces) → Writes m (status_of_cut cut) old now
+writes_at : (m : Meaning) (cut : Option CutPlace) (old now : Option (List ℕ)) → status_of_cut cut ≡ m.status → Gained old now (text_of m.pieces) → Writes m (status_of_cut cut) old now
 writes_at m None old now is gained = (is, gained)
 writes_at m (Some place) old now is gained = (is, gained)
 
 -- where all was written, no fault shows
-pub cut_shows : (unread : Type 0) (cut : Option (ℕ × ℕ)) (before now : SinkSeen) → Shows unread (status_of_cut cut) before now
+pub cut_shows : (unread : Type 0) (cut : Option CutPlace) (before now : SinkSeen) → Shows unread (status_of_cut cut) before now
 cut_shows unread None before now = tt
 cut_shows unread (Some place) before now = tt
 
 -- nor was it a fault of reading
-pub cut_no_fault : (cut : Option (ℕ × ℕ)) → status_of_cut cut ≢ ReadFault
+pub cut_no_fault : (cut : Option CutPlace) → status_of_cut cut ≢ ReadFault
 cut_no_fault None = λ is. cc
 cut_no_fault (Some place) = λ is. cc
 
@@ -54,7 +55,7 @@ module _ (given : ContextData) (shown : List (ℕ × Part)) (header : Header) wh
   text_is : (list : List Call) (bytes : List ℕ) → list ≡ reached_calls given header.layout bytes shown → text_of (call_pieces header.cpus given list) ≡ text_of ((means bytes).pieces)
   text_is list bytes list_is = ap (λ (calls : List Call). text_of (call_pieces header.cpus given calls)) list_is
 
-  pub calls_written : (told : Option (List ℕ)) (list put : List Call) (cut : Option (ℕ × ℕ)) (old now : Option (List ℕ)) → put ≡ list
+  pub calls_written : (told : Option (List ℕ)) (list put : List Call) (cut : Option CutPlace) (old now : Option (List ℕ)) → put ≡ list
       → IfSome told (λ bytes. list ≡ reached_calls given header.layout bytes shown)
       → IfSome told (λ bytes. cut ≡ cut_place (cut_of header.layout bytes shown))
       → Gained old now (text_of (call_pieces header.cpus given put)) → WritesFor means told (status_of_cut cut) old now

@@ -53,7 +53,7 @@ module _ (cpus : ℕ) (given : ContextData) (layout : Layout) (bytes : List ℕ)
   report_written : (old mid now : Option (List ℕ)) (end : End) → Gained old mid (cpus_line cpus) → IsReport (item_line given) layout bytes parts mid now end
       → Writes (prints (report_pieces cpus given items) (ended (cut_of layout bytes parts))) (status_of_end end) old now
   report_written old mid now code.Done first report = (sym (ap ended report.1), whole old mid now first report.0)
-  report_written old mid now (code.Malformed cpu page) first report = (sym (ap ended report.1.1), whole old mid now first report.0)
+  report_written old mid now (code.Malformed cut) first report = (sym (ap ended report.1.1), whole old mid now first report.0)
   report_written old mid now code.Read first report = (
     suc report.0,
     gained_both old mid now (cpus_line cpus) (lines_text (item_line given) (take report.0 items)) first report.1

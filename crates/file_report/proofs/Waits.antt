@@ -63,7 +63,7 @@ module _ (given : ContextData) (shown : List (ℕ × Part)) (header : Header) wh
   -- the lines were not all written
   stopped_one : (bytes : List ℕ) (end : End) (old now : Option (List ℕ)) → is_whole end ≡ false → Writes (lines bytes) (status_of_end end) old now → Writes (both bytes) (status_of_end end) old now
   stopped_one bytes code.Done old now other writes = absurd cc
-  stopped_one bytes (code.Malformed cpu page) old now other writes = absurd cc
+  stopped_one bytes (code.Malformed cut) old now other writes = absurd cc
   stopped_one bytes code.Read old now other writes =
       let few = first_of_more (lines bytes).pieces (waits_section (events bytes) ∷ []) writes.0 in
       (few.0, writes.1 ∙ ap (λ (pieces : List (List ℕ)). append_known old (text_of pieces)) (sym few.1))
@@ -78,13 +78,13 @@ module _ (given : ContextData) (shown : List (ℕ × Part)) (header : Header) wh
   -- a fault of reading that shows later shows from the beginning on
   pub stopped_shows : (early late : Type 0) (end : End) (before now : SinkSeen) → (late → early) → Shows late (status_of_end end) before now → Shows early (status_of_end end) before now
   stopped_shows early late code.Done before now so shows = tt
-  stopped_shows early late (code.Malformed cpu page) before now so shows = tt
+  stopped_shows early late (code.Malformed cut) before now so shows = tt
   stopped_shows early late code.Read before now so shows = so shows
   stopped_shows early late code.Write before now so shows = shows
 
   whole_shows : (unread : Type 0) (end : End) (before now : SinkSeen) → is_whole end ≡ true → Shows unread (status_of_end end) before now
   whole_shows unread code.Done before now whole = tt
-  whole_shows unread (code.Malformed cpu page) before now whole = tt
+  whole_shows unread (code.Malformed cut) before now whole = tt
   whole_shows unread code.Read before now whole = absurd cc
   whole_shows unread code.Write before now whole = absurd cc
 
@@ -92,13 +92,13 @@ module _ (given : ContextData) (shown : List (ℕ × Part)) (header : Header) wh
   whole_lines : (bytes : List ℕ) (end : End) (old mid : Option (List ℕ)) → is_whole end ≡ true → Writes (lines bytes) (status_of_end end) old mid
       → (status_of_end end ≡ (lines bytes).status) × Gained old mid (text_of (lines bytes).pieces)
   whole_lines bytes code.Done old mid whole writes = writes
-  whole_lines bytes (code.Malformed cpu page) old mid whole writes = writes
+  whole_lines bytes (code.Malformed cut) old mid whole writes = writes
   whole_lines bytes code.Read old mid whole writes = absurd cc
   whole_lines bytes code.Write old mid whole writes = absurd cc
 
   whole_both : (bytes : List ℕ) (end : End) (old now : Option (List ℕ)) → is_whole end ≡ true → status_of_end end ≡ (both bytes).status → Gained old now (text_of (both bytes).pieces) → Writes (both bytes) (status_of_end end) old now
   whole_both bytes code.Done old now whole is gained = (is, gained)
-  whole_both bytes (code.Malformed cpu page) old now whole is gained = (is, gained)
+  whole_both bytes (code.Malformed cut) old now whole is gained = (is, gained)
   whole_both bytes code.Read old now whole is gained = absurd cc
   whole_both bytes code.Write old now whole is gained = absurd cc
 

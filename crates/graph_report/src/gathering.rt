@@ -16,6 +16,7 @@ use item_pass::{PassFault, pass};
 use page_pool::Lane;
 use report_print::Context;
 use std::alloc::Global;
+use subpage::CutPlace;
 use trace_base::Layout;
 use trace_outside::File;
 
@@ -26,7 +27,7 @@ pub struct Calls {
     pub list: Vec<Call>,
     /// The processor and the number of the first malformed sub-buffer in the order of the items; `None` exactly where there is
     /// none.
-    pub cut: Option<(u32, u64)>,
+    pub cut: Option<CutPlace>,
 }
 
 /// Gathers the calls of all reached items of the lanes' parts, whatever the filters of the context.

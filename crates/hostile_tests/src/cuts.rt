@@ -7,7 +7,7 @@ use std::process::Abort;
 use std::test::Fail;
 use std::thread::Threads;
 use trace_outside::MemFolder;
-use trace_run::Status;
+use trace_run::{CutPlace, Status};
 use trace_samples::{SWITCH_HEADER, SWITCH_REPORT, switch_file};
 
 const HEADER: usize = SWITCH_HEADER as usize;
@@ -35,9 +35,9 @@ fn is_early<R: Alloc<A = Global> + Abort + Threads + Sync>(
 /// How a report of the first so many bytes, with the whole header, ends.
 fn status_of(len: usize) -> Status {
     if len < 20_480 {
-        Status::Malformed { cpu: 0, page: 0 }
+        Status::Malformed(CutPlace { cpu: 0, page: 0 })
     } else if len < 24_576 {
-        Status::Malformed { cpu: 1, page: 0 }
+        Status::Malformed(CutPlace { cpu: 1, page: 0 })
     } else {
         Status::Done
     }
@@ -46,11 +46,11 @@ fn status_of(len: usize) -> Status {
 // Its output and message.
 fn told(status: Status) -> (&'static [u8], &'static [u8]) {
     match status {
-        Status::Malformed { cpu: 0, .. } => (
+        Status::Malformed(CutPlace { cpu: 0, .. }) => (
             b"cpus=2\n",
             b"trace-cmd: trace.dat: malformed sub-page 0 of processor 0\n",
         ),
-        Status::Malformed { .. } => (
+        Status::Malformed(_) => (
             b"cpus=2\n",
             b"trace-cmd: trace.dat: malformed sub-page 0 of processor 1\n",
         ),

@@ -7,8 +7,8 @@ use std::alloc::{Alloc, AllocError, Global};
 use std::process::Abort;
 use std::test::Fail;
 use std::thread::Threads;
-use trace_run::Status;
 use trace_run::Status::{Done, Malformed, Refused};
+use trace_run::{CutPlace, Status};
 use trace_samples::{ONE_EVENT, TraceFile};
 
 // A header of one processor without texts. Its sizes stand at 30 (header_page), 51 (header_event), 59 (ftrace formats), 63
@@ -50,20 +50,20 @@ type Answer = (Status, &'static [u8], &'static [u8]);
 
 /// No sub-buffer is whole.
 const CUT_FIRST: Answer = (
-    Malformed { cpu: 0, page: 0 },
+    Malformed(CutPlace { cpu: 0, page: 0 }),
     b"cpus=1\n",
     b"trace-cmd: trace.dat: malformed sub-page 0 of processor 0\n",
 );
 
 /// The first one is.
 const CUT_SECOND: Answer = (
-    Malformed { cpu: 0, page: 1 },
+    Malformed(CutPlace { cpu: 0, page: 1 }),
     b"cpus=1\n           <...>-1234  [000]     1.000000: [UNKNOWN EVENT 58]\n",
     b"trace-cmd: trace.dat: malformed sub-page 1 of processor 0\n",
 );
 
 const NOT_SPLIT: Answer = (
-    Malformed { cpu: 0, page: 1 },
+    Malformed(CutPlace { cpu: 0, page: 1 }),
     b"",
     b"trace-cmd: trace.dat: malformed sub-page 1 of processor 0\n",
 );

@@ -5,7 +5,7 @@ use std::alloc::{Alloc, AllocError, Global};
 use std::process::Abort;
 use std::test::Fail;
 use std::thread::Threads;
-use trace_run::Status;
+use trace_run::{CutPlace, Status};
 use trace_samples::TraceFile;
 
 /// Times, commit words and the bytes of the data: more than there is room for; half a word; a record longer than the data; a
@@ -43,7 +43,7 @@ fn is_malformed<R: Alloc<A = Global> + Abort + Threads + Sync>(
     bytes: &[u8],
 ) -> Result<(), AllocError> {
     let file = file_of(rt.alloc(), &[bytes])?;
-    let status = Status::Malformed { cpu: 0, page: 0 };
+    let status = Status::Malformed(CutPlace { cpu: 0, page: 0 });
     answers(rt, "report", &file, status, b"cpus=1\n", FIRST_IS)
 }
 

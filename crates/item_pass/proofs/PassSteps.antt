@@ -8,6 +8,8 @@ use Rattle.trace_base.specs.declared.layout.Layout.{Layout}
 use Rattle.subpage.specs.ItemData.{ItemData}
 use Rattle.subpage.specs.Arrangement.{Keyed, key_of, cpu_of}
 use Rattle.subpage.specs.Cut.{reached_of, cut_of}
+use Rattle.subpage.specs.CutPlaces.{cut_at}
+use Rattle.subpage.specs.declared.cut_place.CutPlace.{CutPlace}
 use Rattle.subpage.proofs.Filters.{filter-append}
 use Rattle.page_pool.specs.Fresh.{IsFresh}
 use Rattle.page_pool.specs.declared.lane.Lane.{Lane}
@@ -115,6 +117,6 @@ module _ (m : ℕ → ItemData → Bool) (l : Layout) where
 pub no_cut : (l : Layout) (file : List ℕ) (first now : List Lane) → parts_of now ≡ parts_of first → least_cut (rows_of l file now) ≡ None → None ≡ cut_place (cut_of l file (parts_of first))
 no_cut l file first now parts is = ap cut_place (sym is ∙ cut_of_rows l file now ∙ ap (cut_of l file) parts)
 
-pub one_cut : (l : Layout) (file : List ℕ) (first now : List Lane) (cpu page : ℕ) → parts_of now ≡ parts_of first
-    → (key : Option ℕ) × (least_cut (rows_of l file now) ≡ Some (record { key = key; cpu = cpu; page = page })) → Some (cpu, page) ≡ cut_place (cut_of l file (parts_of first))
-one_cut l file first now cpu page parts is = ap cut_place (sym is.1 ∙ cut_of_rows l file now ∙ ap (cut_of l file) parts)
+pub one_cut : (l : Layout) (file : List ℕ) (first now : List Lane) (place : CutPlace) → parts_of now ≡ parts_of first
+    → (key : Option ℕ) × (least_cut (rows_of l file now) ≡ Some (cut_at key place)) → Some place ≡ cut_place (cut_of l file (parts_of first))
+one_cut l file first now place parts is = ap cut_place (sym is.1 ∙ cut_of_rows l file now ∙ ap (cut_of l file) parts)

@@ -4,6 +4,8 @@ use Rattle.trace_base.specs.declared.layout.Layout.{Layout}
 use Rattle.subpage.specs.ItemData.{ItemData}
 use Rattle.subpage.specs.Arrangement.{Keyed}
 use Rattle.subpage.specs.Cut.{Cut}
+use Rattle.subpage.specs.CutPlaces.{place_of}
+use Rattle.subpage.specs.declared.cut_place.CutPlace.{CutPlace}
 use Rattle.page_pool.specs.declared.lane.Lane.{Lane}
 use Rattle.event_cursor.specs.Keys.{first_of}
 use Rattle.event_cursor.specs.Standing.{Stands, keyed_held}
@@ -19,8 +21,8 @@ abbrev pub and_item : (ℕ → ItemData → Bool) → List Keyed → Keyed → L
 and_item matters xs x = xs ++ filter (by_item matters) (x ∷ [])
 
 -- the processor and the sub-buffer of a cut
-abbrev pub cut_place : Option Cut → Option (ℕ × ℕ)
-cut_place cut = option_map (λ c. (c.cpu, c.page)) cut
+abbrev pub cut_place : Option Cut → Option CutPlace
+cut_place cut = option_map place_of cut
 
 -- the first item of a lane that is not used up does not matter
 abbrev pub IsOtherFirst : (ℕ → ItemData → Bool) → Layout → Lane → Type 0

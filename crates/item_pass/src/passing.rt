@@ -15,6 +15,7 @@ use crate::skipping::use_up;
 use crate::taking::take_head;
 use page_pool::Lane;
 use std::alloc::Global;
+use subpage::CutPlace;
 use thiserror::Error;
 use time_merge::{Next, next_lane_by};
 use tournament_tree::TournamentTree;
@@ -50,7 +51,7 @@ pub fn pass<G: Gatherer, F: File>(
     file: &mut F,
     lanes: &mut [Lane],
     gathered: &mut G::Gathered,
-) -> Result<Option<(u32, u64)>, PassFault>
+) -> Result<Option<CutPlace>, PassFault>
     requires fresh { All (λ lane. IsFresh lane.cursor) lanes.old }
     requires in_order { All (IsInOrder layout.now) lanes.old }
     requires rise { CpusRise (parts_of lanes.old) }
@@ -82,7 +83,7 @@ pub fn pass<G: Gatherer, F: File>(
                 Err(_) => return Err(PassFault::Memory),
             },
             Next::Done => return Ok(None),
-            Next::Malformed { cpu, page } => return Ok(Some((cpu, page))),
+            Next::Malformed(cut) => return Ok(Some(cut)),
         }
     }
 }

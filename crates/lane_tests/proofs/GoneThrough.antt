@@ -76,4 +76,4 @@ all_gone l (Some file) now_told first lanes lanes1 keys end e never p q gone row
         → least_cut (rows_of l file lanes1) ≡ cut_of l file (parts_of first) → IsThrough l file (parts_of first) keys end
     by_end (code.Lane i) never next all cut = never i refl
     by_end code.Done never next all cut = (all next.0, sym cut ∙ next.1)
-    by_end (code.Malformed cpu page) never next all cut = (all next.0, (next.1.0, sym cut ∙ next.1.1))
+    by_end (code.Malformed place) never next all cut = (all next.0, (next.1.0, sym cut ∙ next.1.1))

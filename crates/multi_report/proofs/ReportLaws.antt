@@ -67,7 +67,7 @@ read_first first now before written new waiting waiting_now source result fresh 
 -- a count that rose since a turn began rose since the report began
 pub read_from : (result : FilesEnd) (first before now : List SourceView) → AreSame first before → ReadRose result before now → ReadRose result first now
 read_from code.Done first before now same rose = tt
-read_from (code.Malformed source cpu page) first before now same rose = tt
+read_from (code.Malformed source cut) first before now same rose = tt
 read_from (code.Read source) first before now same rose =
     let inside : source < length first = omega (arith, same.count, rose.0) in
     (inside, λ d. omega (arith, (same.each source d inside).faults, rose.1 d))

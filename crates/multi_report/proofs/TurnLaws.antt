@@ -10,6 +10,8 @@ use Rattle.trace_outside.specs.Causes.{Rose}
 use Rattle.trace_outside.specs.Pending.{Holds, OnWay}
 use Rattle.trace_outside.specs.Writing.{GainedPrefix}
 use Rattle.subpage.specs.Arrangement.{Keyed, key_of, cpu_of}
+use Rattle.subpage.specs.declared.cut_place.CutPlace.{CutPlace}
+use Rattle.subpage.specs.CutPlaces.{cut_at}
 use Rattle.subpage.specs.Cut.{Cut}
 use Rattle.time_merge.specs.Rows.{bound_of}
 use Rattle.time_merge.specs.Nexts.{IsLeastOf, IsLeastAt}
@@ -44,7 +46,7 @@ told_write end result before now own told = elim told [
 
 pub rose_from : (result : FilesEnd) (first before now : ℕ) → first ≤ before → WriteRose result before now → WriteRose result first now
 rose_from code.Done first before now le rose = tt
-rose_from (code.Malformed source cpu page) first before now le rose = tt
+rose_from (code.Malformed source cut) first before now le rose = tt
 rose_from (code.Read source) first before now le rose = tt
 rose_from code.Write first before now le rose = omega (arith, le, rose)
 
@@ -173,19 +175,19 @@ module _ (before : Option (List ℕ)) (whole : List (List ℕ)) (sources : List 
       (subst (Going before whole way.written way.waiting) rest under.going)
 
   -- the cut of a file
-  pub turn_cut : (now : List SourceView) (here : Option ℕ) (cpu page : ℕ) (new : Option (List ℕ)) (result : FilesEnd) → IsLeastOf keys j here
-      → TakenFrom sources j way (took.Cut cpu page) now way_now
-      → ((b : Option (List ℕ)) (text : List ℕ) → Holds b way_now.written way_now.waiting text → EndsWith b new text (code.Malformed j cpu page) result)
+  pub turn_cut : (now : List SourceView) (here : Option ℕ) (place : CutPlace) (new : Option (List ℕ)) (result : FilesEnd) → IsLeastOf keys j here
+      → TakenFrom sources j way (took.Cut place) now way_now
+      → ((b : Option (List ℕ)) (text : List ℕ) → Holds b way_now.written way_now.waiting text → EndsWith b new text (code.Malformed j place) result)
       → IsUnderway before whole (state_of sources keys way.written way.waiting) → IsEnded whole (cut_of_files (map shown_of now)) before new result
-  turn_cut now here cpu page new result least from ends under =
+  turn_cut now here place new result least from ends under =
       let is = from.is d in
       let t = is.taken (one_known under) in
-      let cut : Cut = record { key = t.1.0; cpu = cpu; page = page } in
+      let cut : Cut = cut_at t.1.0 place in
       let law = file_cut sources j here d cut lt (least_here here least under) t.0.none t.1.1 in
       let found : cut_of_files (map shown_of sources) ≡ Some (cut_in j cut) = one_cut_is sources j d cut lt law.1 t.1.1 in
       let all_shown : map shown_of now ≡ map shown_of sources = ap (map shown_of) from.set ∙ same_givens from.one is.same.shown in
       subst (λ (gs : List ShownFile). IsEnded whole (cut_of_files gs) before new result) (sym all_shown)
-      (end_whole before whole (cut_of_files (map shown_of sources)) way_now.written new way_now.waiting (lines_left sources) (code.Malformed j cpu page) result ends
+      (end_whole before whole (cut_of_files (map shown_of sources)) way_now.written new way_now.waiting (lines_left sources) (code.Malformed j place) result ends
       (subst (λ (w : OnWay). Going before whole w.written w.waiting (lines_left sources)) (sym t.0.nothing_put) under.going) (none_left sources law.0) (λ gained. (gained, (t.1.0, found))))
 
   -- nothing is left of the file of which the least comes next: that is not so

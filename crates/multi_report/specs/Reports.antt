@@ -7,6 +7,7 @@ use Rattle.trace_outside.specs.Writing.{Gained, GainedPrefix}
 use Rattle.subpage.specs.Arrangement.{Keyed}
 use Rattle.multi_report.specs.declared.report.FilesEnd.{FilesEnd}
 use Rattle.multi_report.specs.declared.report.FilesEnd.TheVariants as code
+use Rattle.subpage.specs.CutPlaces.{cut_at}
 use Rattle.multi_report.specs.Order.{ShownFile, FileItem, FileCut, cut_of_files, reached}
 use Rattle.multi_report.specs.Pieces.{text_of}
 use Rattle.multi_report.specs.Sources.{SourceView, IsSame, ReadsItsParts}
@@ -43,9 +44,9 @@ pieces files = map head_line files ++ lines files (reached files)
 -- Write: a prefix of their text.
 abbrev pub IsEnded : List (List ℕ) → Option FileCut → Option (List ℕ) → Option (List ℕ) → FilesEnd → Type 0
 IsEnded whole cut old new code.Done = Gained old new (text_of whole) × (cut ≡ None)
-IsEnded whole cut old new (code.Malformed source cpu page) =
+IsEnded whole cut old new (code.Malformed source place) =
     Gained old new (text_of whole)
-    × ((key : Option ℕ) × (cut ≡ Some (record { file = source; cut = record { key = key; cpu = cpu; page = page } })))
+    × ((key : Option ℕ) × (cut ≡ Some (record { file = source; cut = cut_at key place })))
 IsEnded whole cut old new (code.Read source) = (count : ℕ) × Gained old new (text_of (take count whole))
 IsEnded whole cut old new code.Write = GainedPrefix old new (text_of whole)
 
@@ -66,7 +67,7 @@ AllReadTheirParts before now =
 -- a fault of reading is one of the file that is told
 abbrev pub ReadRose : FilesEnd → List SourceView → List SourceView → Type 0
 ReadRose code.Done before now = Unit {0}
-ReadRose (code.Malformed source cpu page) before now = Unit {0}
+ReadRose (code.Malformed source cut) before now = Unit {0}
 ReadRose (code.Read source) before now =
     (source < length before) × ((d : SourceView) → Rose (slice_index_or before source d).faults (slice_index_or now source d).faults)
 ReadRose code.Write before now = Unit {0}

@@ -10,6 +10,7 @@ use crate::source::Source;
 use crate::sources::make_sources_ready;
 use crate::taking::{Taken, take_from};
 use line_holes::LineFormat;
+use subpage::CutPlace;
 use tournament_tree::TournamentTree;
 use trace_outside::{Failed, File, Pending, Sink};
 
@@ -19,7 +20,7 @@ pub enum FilesEnd {
     /// All items were used up.
     Done,
     /// The items end before this malformed sub-buffer of this file.
-    Malformed { source: u32, cpu: u32, page: u64 },
+    Malformed { source: u32, cut: CutPlace },
     /// A read of this file failed.
     Read { source: u32 },
     /// A write failed.
@@ -110,8 +111,8 @@ fn turn<F: File, L: LineFormat, O: Sink>(
             nexts.set(j, key);
             None
         }
-        Taken::Cut { cpu, page } => {
-            let end = FilesEnd::Malformed { source, cpu, page };
+        Taken::Cut(cut) => {
+            let end = FilesEnd::Malformed { source, cut };
             Some(end_with(end, pending, out))
         }
         Taken::Done => Some(end_with(FilesEnd::Done, pending, out)),

@@ -7,6 +7,7 @@ ghost use Rattle.multi_report.specs.Taking.{TakenFrom, TakenOf, WriteCaused};
 use crate::printing::put_item;
 use crate::source::{LaneNext, Source, make_source_ready, next_of, use_item};
 use line_holes::LineFormat;
+use subpage::CutPlace;
 use trace_outside::{Failed, File, Pending, Sink};
 
 /// What was taken of a file.
@@ -15,7 +16,7 @@ pub(crate) enum Taken {
     /// Its first item, whose line was put. The key is that of what comes next.
     Item(Option<Option<u64>>),
     /// Nothing: its items end before this malformed sub-buffer.
-    Cut { cpu: u32, page: u64 },
+    Cut(CutPlace),
     /// Nothing: all were used up.
     Done,
     /// Its first item, whose line was put. Then a read failed.
@@ -53,10 +54,10 @@ fn take_next<F: File, L: LineFormat, O: Sink>(
         },
         LaneNext::Cut(i) => {
             let lanes = source.pool.all();
-            Taken::Cut {
+            Taken::Cut(CutPlace {
                 cpu: lanes[i].cpu,
                 page: lanes[i].cursor.next,
-            }
+            })
         }
         LaneNext::Done => Taken::Done,
     }

@@ -98,7 +98,7 @@ module _ (text : ℕ → ItemData → LineText) (l : Layout) (file : List ℕ) w
   -- whatever the end, the sink gained some text
   ending_gained : (before : RoundState) (new : Option (List ℕ)) (end : End) → IsEnding text l file before new end → (rest : List ℕ) × Gained before.written new rest
   ending_gained before new code.Done ending = (_, ending.0)
-  ending_gained before new (code.Malformed cpu page) ending = (_, ending.0)
+  ending_gained before new (code.Malformed cut) ending = (_, ending.0)
   ending_gained before new code.Read ending = ([], ending ∙ gained_nothing before.written)
   ending_gained before new code.Write ending = (_, ending.1)
 

@@ -5,6 +5,7 @@ use Rattle.std.specs.Option.{IfSome}
 use Rattle.std.proofs.lemmas.Bool.{cases_order}
 use Rattle.std.proofs.lemmas.List.{get_or_append_left, get_or-append-add, length-append}
 use Rattle.std.proofs.Math.Seq.{get_or-append_seam}
+use Rattle.subpage.specs.CutPlaces.{place_at}
 use Rattle.page_pool.specs.declared.lane.Lane.{Lane}
 use Rattle.time_merge.specs.declared.ending.End.{End}
 use Rattle.time_merge.specs.declared.ending.End.TheVariants as code
@@ -79,7 +80,7 @@ outcome_sound lanes (Some i) outcome inside stop = (λ e. absurd (cc (there code
     lane : Lane
     lane = get_or lanes i (some_lane lanes i inside)
 
-    there : (end : End) → outcome ≡ round.Ends end → end ≡ code.Malformed lane.cpu lane.cursor.next
+    there : (end : End) → outcome ≡ round.Ends end → end ≡ code.Malformed (place_at lane.cpu lane.cursor.next)
     there end e = let ends : EndsThere lane end = subst (IsStop lane) e (stop (some_lane lanes i inside)) in ends.told
 
 -- what follows a round, by the lane of its horizon

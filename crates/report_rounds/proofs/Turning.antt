@@ -11,6 +11,7 @@ use Rattle.trace_outside.proofs.PendingLemmas.{prefix_longer}
 use Rattle.subpage.specs.ItemData.{ItemData}
 use Rattle.subpage.specs.Arrangement.{Keyed, CpusRise}
 use Rattle.subpage.specs.Cut.{Cut, cut_of}
+use Rattle.subpage.specs.CutPlaces.{place_at}
 use Rattle.line_holes.specs.Holes.{LineText}
 use Rattle.page_pool.specs.Lines.{Lines}
 use Rattle.page_pool.specs.declared.cursor.Cursor.{Cursor}
@@ -263,9 +264,9 @@ module _ (text : ℕ → ItemData → LineText) (l : Layout) (file : List ℕ) w
             let p : IsPrinted h lane (get_or now i d) = print i d least.inside in
             let ends : EndsThere (get_or now i d) end = stop d in
             let state : lane.cursor.state ≡ Malformed = ap (λ (c : Cursor). c.state) (sym p.keeps.lane.cursor) ∙ ends.state in
-            let told : end ≡ ending.Malformed cpu lane.cursor.next =
-            ends.told ∙ ap (λ (n : ℕ). ending.Malformed n (get_or now i d).cursor.next) (p.keeps.lane.cpu ∙ there.own)
-            ∙ ap (λ (c : Cursor). ending.Malformed cpu c.next) p.keeps.lane.cursor in
+            let told : end ≡ ending.Malformed (place_at cpu lane.cursor.next) =
+            ends.told ∙ ap (λ (n : ℕ). ending.Malformed (place_at n (get_or now i d).cursor.next)) (p.keeps.lane.cpu ∙ there.own)
+            ∙ ap (λ (c : Cursor). ending.Malformed (place_at cpu c.next)) p.keeps.lane.cursor in
             let sorted : All IsSorted formed = All-weaker (IsBetween text l) IsSorted (λ a b. b.sorted) formed (formed_all text l (Some file) first loaded formed f all) in
             let law = stopped text l file h high cpu at formed i (take i formed) lane (drop (i + 1) formed) there rise_formed
             (subst (All (Stands l file)) there.split formed_stands) (subst (All IsSorted) there.split sorted) state in

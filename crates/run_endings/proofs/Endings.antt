@@ -76,7 +76,7 @@ if_no_memory claim NoMemory holds = holds
 if_no_memory claim Done holds = tt
 if_no_memory claim Usage holds = tt
 if_no_memory claim (Refused fault) holds = tt
-if_no_memory claim (Malformed cpu page) holds = tt
+if_no_memory claim (Malformed cut) holds = tt
 if_no_memory claim ReadFault holds = tt
 if_no_memory claim WriteFault holds = tt
 
@@ -86,7 +86,7 @@ no_memory_map NoMemory follows claim = follows claim
 no_memory_map Done follows claim = tt
 no_memory_map Usage follows claim = tt
 no_memory_map (Refused fault) follows claim = tt
-no_memory_map (Malformed cpu page) follows claim = tt
+no_memory_map (Malformed cut) follows claim = tt
 no_memory_map ReadFault follows claim = tt
 no_memory_map WriteFault follows claim = tt
 
@@ -95,7 +95,7 @@ both_no_memory NoMemory follows a b = follows a b
 both_no_memory Done follows a b = tt
 both_no_memory Usage follows a b = tt
 both_no_memory (Refused fault) follows a b = tt
-both_no_memory (Malformed cpu page) follows a b = tt
+both_no_memory (Malformed cut) follows a b = tt
 both_no_memory ReadFault follows a b = tt
 both_no_memory WriteFault follows a b = tt
 
@@ -115,7 +115,7 @@ pub caused_by : (target : Target) (unread other : Type 0) (status : Status) (bef
 caused_by target unread other Done before now so caused = tt
 caused_by target unread other Usage before now so caused = caused
 caused_by target unread other (Refused fault) before now so caused = caused
-caused_by target unread other (Malformed cpu page) before now so caused = tt
+caused_by target unread other (Malformed cut) before now so caused = tt
 caused_by target unread other ReadFault before now so caused = so caused
 caused_by target unread other WriteFault before now so caused = caused
 caused_by target unread other NoMemory before now so caused = tt
@@ -253,7 +253,7 @@ module _ (before opened worked now : Outside) (around : Around before opened wor
   ends_around m Done ends = finished_around m Done ends
   ends_around m Usage ends = finished_around m Usage ends
   ends_around m (Refused fault) ends = finished_around m (Refused fault) ends
-  ends_around m (Malformed cpu page) ends = finished_around m (Malformed cpu page) ends
+  ends_around m (Malformed cut) ends = finished_around m (Malformed cut) ends
 
   leaves_around : (status : Status) → LeavesAll status opened worked → LeavesAll status before now
   leaves_around NoMemory leaves = untouched_around leaves
@@ -262,14 +262,14 @@ module _ (before opened worked now : Outside) (around : Around before opened wor
   leaves_around Done leaves = tt
   leaves_around ReadFault leaves = tt
   leaves_around WriteFault leaves = tt
-  leaves_around (Malformed cpu page) leaves = tt
+  leaves_around (Malformed cut) leaves = tt
 
   caused_around : (target : Target) (unread other : Type 0) (status : Status) → (unread → other) → IsCaused target unread status opened worked
       → IsCaused target other status before now
   caused_around target unread other Done so caused = tt
   caused_around target unread other Usage so caused = caused
   caused_around target unread other (Refused fault) so caused = caused
-  caused_around target unread other (Malformed cpu page) so caused = tt
+  caused_around target unread other (Malformed cut) so caused = tt
   caused_around target unread other ReadFault so caused = so caused
   caused_around target unread other WriteFault so caused = unwritten_around target caused
   caused_around target unread other NoMemory so caused = tt
@@ -307,13 +307,13 @@ ended_complete target unread means status before now ended =
     complete m WriteFault caused ends = λ done read written. absurd (written caused)
     complete m Usage caused ends = λ done read written. inl (ends.answer ∙ done)
     complete m (Refused fault) caused ends = λ done read written. inl (ends.answer ∙ done)
-    complete m (Malformed cpu page) caused ends = λ done read written. inl (ends.answer ∙ done)
+    complete m (Malformed cut) caused ends = λ done read written. inl (ends.answer ∙ done)
 
 pub not_usage : (target : Target) (unread : Type 0) (status : Status) (before now : Outside) → (IsUnasked target → ⊥) → IsCaused target unread status before now → status ≢ Usage
 not_usage target unread Usage before now asked caused = λ is. asked caused
 not_usage target unread Done before now asked caused = λ is. cc
 not_usage target unread (Refused fault) before now asked caused = λ is. cc
-not_usage target unread (Malformed cpu page) before now asked caused = λ is. cc
+not_usage target unread (Malformed cut) before now asked caused = λ is. cc
 not_usage target unread ReadFault before now asked caused = λ is. cc
 not_usage target unread WriteFault before now asked caused = λ is. cc
 not_usage target unread NoMemory before now asked caused = λ is. cc

@@ -1,5 +1,6 @@
 -- Where there was no memory, no fault was counted: by how a pass, a report or a cut ended.
 use Rattle.std.proofs.Common.{◌≡◌, ℕ, Option, None, Some, IfNone}
+use Rattle.subpage.specs.declared.cut_place.CutPlace.{CutPlace}
 use Rattle.item_pass.specs.Faults.{KeptAt}
 use Rattle.item_pass.specs.declared.passing.PassFault.{PassFault}
 use Rattle.item_pass.specs.declared.passing.PassFault.TheVariants as pass
@@ -16,11 +17,11 @@ pass_kept before now pass.Memory kept = kept
 -- no end of lanes, and no cut, is want of memory
 pub end_kept : (claim : Type 0) (answer : End) → IfNoMemory (status_of_end answer) claim
 end_kept claim end.Done = tt
-end_kept claim (end.Malformed cpu page) = tt
+end_kept claim (end.Malformed cut) = tt
 end_kept claim end.Read = tt
 end_kept claim end.Write = tt
 
-pub cut_kept : (claim : Type 0) (cut : Option (ℕ × ℕ)) → IfNoMemory (status_of_cut cut) claim
+pub cut_kept : (claim : Type 0) (cut : Option CutPlace) → IfNoMemory (status_of_cut cut) claim
 cut_kept claim None = tt
 cut_kept claim (Some place) = tt
 

@@ -44,7 +44,7 @@ module _ (unread : Type 0) (folder : FolderSeen) (before now : SinkSeen) where
     files = subst (λ (news : List NewFile). FilesStored news folder.files folder.files) (sym none) (stored_none folder.files folder.files refl);
     created = let few : length m.files ≡ 0 = ap length none in omega arith;
   }
-  ends m (Malformed cpu page) none writes shows = record {
+  ends m (Malformed cut) none writes shows = record {
     answer = writes.0;
     output = writes.1;
     files = subst (λ (news : List NewFile). FilesStored news folder.files folder.files) (sym none) (stored_none folder.files folder.files refl);
@@ -56,7 +56,7 @@ module _ (unread : Type 0) (folder : FolderSeen) (before now : SinkSeen) where
 
   leaves : (status : Status) → Shows unread status before now → LeavesAll status was is
   leaves Done shows = tt
-  leaves (Malformed cpu page) shows = tt
+  leaves (Malformed cut) shows = tt
   leaves ReadFault shows = tt
   leaves WriteFault shows = tt
   leaves Usage shows = absurd shows
@@ -65,7 +65,7 @@ module _ (unread : Type 0) (folder : FolderSeen) (before now : SinkSeen) where
 
   caused : (status : Status) → Shows unread status before now → IsCaused on_out unread status was is
   caused Done shows = tt
-  caused (Malformed cpu page) shows = tt
+  caused (Malformed cut) shows = tt
   caused ReadFault shows = shows
   caused WriteFault shows = shows
   caused Usage shows = absurd shows
@@ -74,7 +74,7 @@ module _ (unread : Type 0) (folder : FolderSeen) (before now : SinkSeen) where
 
   kept : (status : Status) → Shows unread status before now → IfNoMemory status (CountsNoFault was is)
   kept Done shows = tt
-  kept (Malformed cpu page) shows = tt
+  kept (Malformed cut) shows = tt
   kept ReadFault shows = tt
   kept WriteFault shows = tt
   kept Usage shows = absurd shows
@@ -148,6 +148,6 @@ piece_unprinted unread piece put before now prefix rose is =
 pub end_shows : (unread : Type 0) (answer : End) (before now : SinkSeen) → (answer ≡ end.Read → unread) → (answer ≡ end.Write → Rose before.faults now.faults)
     → Shows unread (status_of_end answer) before now
 end_shows unread end.Done before now read write = tt
-end_shows unread (end.Malformed cpu page) before now read write = tt
+end_shows unread (end.Malformed cut) before now read write = tt
 end_shows unread end.Read before now read write = read refl
 end_shows unread end.Write before now read write = write refl

@@ -1,5 +1,6 @@
 -- The answer of a run for the end that its lanes come to, for a pass over them that ended early, and for a cut.
 use Rattle.std.specs.Prelude.{Option, None, Some, ℕ, Bool, true, false}
+use Rattle.subpage.specs.declared.cut_place.CutPlace.{CutPlace}
 use Rattle.time_merge.specs.declared.ending.End.{End}
 use Rattle.time_merge.specs.declared.ending.End.TheVariants as end
 use Rattle.item_pass.specs.declared.passing.PassFault.{PassFault}
@@ -9,7 +10,7 @@ use Rattle.run_endings.specs.declared.status.Status.TheVariants.{Done, Malformed
 
 abbrev pub status_of_end : End → Status
 status_of_end end.Done = Done
-status_of_end (end.Malformed cpu page) = Malformed cpu page
+status_of_end (end.Malformed cut) = Malformed cut
 status_of_end end.Read = ReadFault
 status_of_end end.Write = WriteFault
 
@@ -22,14 +23,14 @@ abbrev pub status_of_pass : PassFault → Status
 status_of_pass pass.Read = ReadFault
 status_of_pass pass.Memory = NoMemory
 
--- by the processor and the sub-buffer before which the items end, if there is one
-abbrev pub status_of_cut : Option (ℕ × ℕ) → Status
+-- by the malformed sub-buffer before which the items end, if there is one
+abbrev pub status_of_cut : Option CutPlace → Status
 status_of_cut None = Done
-status_of_cut (Some place) = Malformed place.0 place.1
+status_of_cut (Some place) = Malformed place
 
 -- all that the lanes have up to their cut was used up
 abbrev pub is_whole : End → Bool
 is_whole end.Done = true
-is_whole (end.Malformed cpu page) = true
+is_whole (end.Malformed cut) = true
 is_whole end.Read = false
 is_whole end.Write = false

@@ -30,7 +30,7 @@ GathersFirst gathers status before now = gathers ≡ true → status ≡ ReadFau
 -- why the answer is a fault, and that it is none that leaves all as it was
 abbrev pub Shows : Type 0 → Status → SinkSeen → SinkSeen → Type 0
 Shows unread Done before now = Unit {0}
-Shows unread (Malformed cpu page) before now = Unit {0}
+Shows unread (Malformed cut) before now = Unit {0}
 Shows unread ReadFault before now = unread
 Shows unread WriteFault before now = Rose before.faults now.faults
 Shows unread Usage before now = ⊥

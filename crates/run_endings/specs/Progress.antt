@@ -23,6 +23,6 @@ progress_at written reads = record { written = written; reads = reads }
 -- a claim for the answers after a header: the work is done, the file is malformed, or the output could not be written
 abbrev pub BehindHeader : Status → Type 0 → Type 0
 BehindHeader Done claim = claim
-BehindHeader (Malformed cpu page) claim = claim
+BehindHeader (Malformed cut) claim = claim
 BehindHeader WriteFault claim = claim
 BehindHeader status claim = Unit {0}

@@ -8,7 +8,7 @@ abbrev pub status_number : Status → ℕ
 status_number Done = 0
 status_number Usage = 1
 status_number (Refused fault) = 2
-status_number (Malformed cpu page) = 3
+status_number (Malformed cut) = 3
 status_number ReadFault = 4
 status_number WriteFault = 5
 status_number NoMemory = 6

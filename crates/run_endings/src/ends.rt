@@ -5,6 +5,7 @@ ghost use Rattle.run_endings.specs.Ends as spec;
 
 use crate::status::Status;
 use item_pass::PassFault;
+use subpage::CutPlace;
 use time_merge::End;
 
 /// The answer for this end.
@@ -13,7 +14,7 @@ pub fn status_of_end(end: End) -> Status
 {
     match end {
         End::Done => Status::Done,
-        End::Malformed { cpu, page } => Status::Malformed { cpu, page },
+        End::Malformed(cut) => Status::Malformed(cut),
         End::Read => Status::ReadFault,
         End::Write => Status::WriteFault,
     }
@@ -40,12 +41,12 @@ pub fn status_of_pass(fault: PassFault) -> Status
 }
 
 /// The answer of a report whose items end before this sub-buffer of this processor, or before none.
-pub fn status_of_cut(cut: Option<(u32, u64)>) -> Status
+pub fn status_of_cut(cut: Option<CutPlace>) -> Status
     ensures { result ≡ spec.status_of_cut cut }
 {
     match cut {
         None => Status::Done,
-        Some((cpu, page)) => Status::Malformed { cpu, page },
+        Some(cut) => Status::Malformed(cut),
     }
 }
 
@@ -54,7 +55,7 @@ pub fn is_whole(end: End) -> bool
     ensures { result ≡ spec.is_whole end }
 {
     match end {
-        End::Done | End::Malformed { .. } => true,
+        End::Done | End::Malformed(_) => true,
         End::Read | End::Write => false,
     }
 }

@@ -2,6 +2,7 @@ ghost use Rattle.std.specs.Prelude.{◌≡◌};
 ghost use Rattle.run_endings.specs.StatusNumber.{status_number};
 
 use dat_header::OpenFault;
+use subpage::CutPlace;
 
 /// How a run ended.
 #[derive(Clone, Copy, Debug, PartialEq, Eq)]
@@ -12,8 +13,8 @@ pub enum Status {
     Usage,
     /// The input is no trace that can be read. The fault is never `Read` and never `Memory`.
     Refused(OpenFault),
-    /// The output ends before this sub-buffer of this processor, both counted from 0.
-    Malformed { cpu: u32, page: u64 },
+    /// The output ends before this malformed sub-buffer.
+    Malformed(CutPlace),
     /// A file could not be opened or read.
     ReadFault,
     /// The output could not be written.
@@ -31,7 +32,7 @@ impl Status {
             Status::Done => 0,
             Status::Usage => 1,
             Status::Refused(_) => 2,
-            Status::Malformed { .. } => 3,
+            Status::Malformed(_) => 3,
             Status::ReadFault => 4,
             Status::WriteFault => 5,
             Status::NoMemory => 6,

@@ -29,7 +29,7 @@ use std::test::Fail;
 use std::thread::Threads;
 use trace_base::Words;
 use trace_outside::{Folder, MemFolder, NoGate};
-use trace_run::Status;
+use trace_run::{CutPlace, Status};
 
 struct Row {
     words: &'static [&'static str],
@@ -173,14 +173,14 @@ const ROWS: &[Row] = &[
     Row {
         words: &["report", "-t"],
         file: MALFORMED_LATER,
-        status: Status::Malformed { cpu: 1, page: 1 },
+        status: Status::Malformed(CutPlace { cpu: 1, page: 1 }),
         out: "cpus=2\n           <...>-1     [000]     0.000000010: [UNKNOWN EVENT 58]\n           <...>-2     [001]     0.000000020: [UNKNOWN EVENT 58]\n",
         err: "trace-cmd: trace.dat: malformed sub-page 1 of processor 1\n",
     },
     Row {
         words: &["report"],
         file: MALFORMED_FIRST,
-        status: Status::Malformed { cpu: 0, page: 0 },
+        status: Status::Malformed(CutPlace { cpu: 0, page: 0 }),
         out: "cpus=2\n",
         err: "trace-cmd: trace.dat: malformed sub-page 0 of processor 0\n",
     },
@@ -195,7 +195,7 @@ const ROWS: &[Row] = &[
     Row {
         words: &["report"],
         file: Input::PartAt(4096, 1 << 60),
-        status: Status::Malformed { cpu: 0, page: 0 },
+        status: Status::Malformed(CutPlace { cpu: 0, page: 0 }),
         out: "cpus=1\n",
         err: "trace-cmd: trace.dat: malformed sub-page 0 of processor 0\n",
     },
@@ -288,7 +288,7 @@ const NUMBERS: &[(Status, u8)] = &[
     (Status::Done, 0),
     (Status::Usage, 1),
     (Status::Refused(OpenFault::Truncated(20)), 2),
-    (Status::Malformed { cpu: 0, page: 1 }, 3),
+    (Status::Malformed(CutPlace { cpu: 0, page: 1 }), 3),
     (Status::ReadFault, 4),
     (Status::WriteFault, 5),
     (Status::NoMemory, 6),
@@ -397,7 +397,7 @@ fn is_absent<R: Alloc<A = Global> + Abort + Threads + Sync>(
 fn is_report(row: &Row) -> bool {
     !row.words.is_empty()
         && row.words[0] == "report"
-        && matches!(row.status, Status::Done | Status::Malformed { .. })
+        && matches!(row.status, Status::Done | Status::Malformed(_))
 }
 
 // Runs a row on one thread, on three and on sixty-four.

@@ -18,6 +18,8 @@ use Rattle.multi_report.specs.declared.source.Source.{Source}
 use Rattle.multi_report.specs.Sources.{HasRoom, SourceView, shown_of}
 use Rattle.trace_outside.specs.declared.outside.File as outside_file
 use Rattle.subpage.specs.Cut.{Cut, is_before}
+use Rattle.subpage.specs.CutPlaces.{cut_at}
+use Rattle.subpage.specs.declared.cut_place.CutPlace.{CutPlace}
 use Rattle.restore_tool.specs.Answers.{SomeFaulty}
 use Rattle.dat_header.specs.Seen.{FileSeen}
 use Rattle.trace_args.specs.Command.{ReportData}
@@ -100,7 +102,7 @@ faulty_at xs i lt each =
 -- a report that began did not end for want of memory
 begun : (claim : Type 0) (answer : FilesEnd) → IfNoMemory (status_of_files answer) claim
 begun claim end.Done = tt
-begun claim (end.Malformed source cpu page) = tt
+begun claim (end.Malformed source cut) = tt
 begun claim (end.Read source) = tt
 begun claim end.Write = tt
 
@@ -113,13 +115,13 @@ module _ (words : ReportData) (old new : List SourceView) (before now : FolderSe
 
   writes : (e : FilesEnd) → IsFilesReport all_shown out.written out_now.written e → Writes (files_report all_shown) (status_of_files e) out.written out_now.written
   writes end.Done report = (sym (ap ended_in report.1), report.0)
-  writes (end.Malformed source cpu page) report = (sym (ap ended_in report.1.1), report.0)
+  writes (end.Malformed source cut) report = (sym (ap ended_in report.1.1), report.0)
   writes (end.Read source) report = report
   writes end.Write report = report
 
   shows : (e : FilesEnd) → ReadRose e old new → WriteRose e out.faults out_now.faults → length new ≡ length old → Shows unread (status_of_files e) out out_now
   shows end.Done read write same = tt
-  shows (end.Malformed source cpu page) read write same = tt
+  shows (end.Malformed source cut) read write same = tt
   shows (end.Read source) read write same = inr (faulty_at new source (omega (arith, same, read.0)) (λ d. let rose = read.1 d in omega (arith, rose)))
   shows end.Write read write same = write
 
@@ -169,15 +171,15 @@ module _ (words : ReportData) (old new : List SourceView) (before now : FolderSe
         at (inl found) = found.2 ∙ ap Some (subst (λ (o : Option (List ℕ)). IfSome o (λ n. n ≡ name)) found.2 is)
         at (inr past) = absurd (omega (arith, past.0, lt))
 
-    cut_named : (files : NamedFiles) (source cpu page : ℕ) → AreInputs words files (names_in words) old
+    cut_named : (files : NamedFiles) (source : ℕ) (place : CutPlace) → AreInputs words files (names_in words) old
         → IfSome (slice_get (names_in words) source) (λ n. n ≡ name)
-        → (key : Option ℕ) × (cut_of_files all_shown ≡ Some (record { file = source; cut = record { key = key; cpu = cpu; page = page } }))
-        → IsInputOf words (inputs_in files (names_in words)) (Malformed cpu page) name
-    cut_named files source cpu page inputs is cut =
-        let whole : FileCut = record { file = source; cut = record { key = cut.0; cpu = cpu; page = page } } in
+        → (key : Option ℕ) × (cut_of_files all_shown ≡ Some (record { file = source; cut = cut_at key place }))
+        → IsInputOf words (inputs_in files (names_in words)) (Malformed place) name
+    cut_named files source place inputs is cut =
+        let whole : FileCut = record { file = source; cut = cut_at cut.0 place } in
         let inside : source < length all_shown = cut_below all_shown (Some whole) cut.1 in
         let lt : source < length (names_in words) = omega (arith, inside, length-map old shown_of, opened.count) in
-        subst (λ (r : Result (List NamedInput) WrongInput). IsInputOf words r (Malformed cpu page) name) (sym inputs.read)
+        subst (λ (r : Result (List NamedInput) WrongInput). IsInputOf words r (Malformed place) name) (sym inputs.read)
         (subst (λ (o : Option FileCut). IfSome o (λ c. slice_get (names_in words) c.file ≡ Some name)) (sym cut.1 ∙ ap cut_of_files inputs.shown ∙ cut_same (map (shown_in words) inputs.inputs)) (there source lt is))
 
     named_told : (told : Option NamedFiles) (e : FilesEnd) → IfSome told (λ files. AreInputs words files (names_in words) old)
@@ -186,14 +188,14 @@ module _ (words : ReportData) (old new : List SourceView) (before now : FolderSe
         → IfSome told (λ files. IsInputOf words (inputs_in files (names_in words)) (status_of_files e) name)
     named_told None e inputs is report = tt
     named_told (Some files) end.Done inputs is report = tt
-    named_told (Some files) (end.Malformed source cpu page) inputs is report = cut_named files source cpu page inputs is (report inputs.told).1
+    named_told (Some files) (end.Malformed source cut) inputs is report = cut_named files source cut inputs is (report inputs.told).1
     named_told (Some files) (end.Read source) inputs is report = tt
     named_told (Some files) end.Write inputs is report = tt
 
     unread_of : (e : FilesEnd) → ReadRose e old new → length new ≡ length old → IfSome (source_of e) (λ source. IfSome (slice_get (names_in words) source) (λ n. n ≡ name))
         → IsHeldNamed words (map file_in new) (status_of_files e) before now name
     unread_of end.Done read same is = tt
-    unread_of (end.Malformed source cpu page) read same is = tt
+    unread_of (end.Malformed source cut) read same is = tt
     unread_of end.Write read same is = tt
     unread_of (end.Read source) read same is =
         let lt : source < length (names_in words) = omega (arith, read.0, opened.count) in

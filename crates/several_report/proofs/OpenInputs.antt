@@ -249,7 +249,7 @@ module _ (words : ReportData) (names : List (List ℕ)) (name : List ℕ) (sourc
     }
     unopened_shown Done one = absurd one.reason
     unopened_shown Usage one = absurd one.reason
-    unopened_shown (Malformed cpu page) one = absurd one.reason
+    unopened_shown (Malformed cut) one = absurd one.reason
     unopened_shown WriteFault one = absurd one.reason
 
 -- the same of sources that are seen

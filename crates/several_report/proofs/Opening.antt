@@ -175,7 +175,7 @@ module _ {I E : Type 0} (name : List ℕ) (bytes : Option (List ℕ)) (faults fa
   reason_of NoMemory why = record { reading = closes.clean (why ∙ none) ∙ kept.reading; writing = closes.writing ∙ kept.writing }
   reason_of Done why = absurd why
   reason_of Usage why = absurd why
-  reason_of (Malformed cpu page) why = absurd why
+  reason_of (Malformed cut) why = absurd why
   reason_of WriteFault why = absurd why
 
   -- the folder opened a file that cannot be shown, and closed it

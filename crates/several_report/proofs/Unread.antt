@@ -100,7 +100,7 @@ pub unread_later : (words : ReportData) (held : List FileSeen) (status : Status)
 unread_later words held Done name before mid now same named = tt
 unread_later words held Usage name before mid now same named = tt
 unread_later words held (Refused fault) name before mid now same named = tt
-unread_later words held (Malformed cpu page) name before mid now same named = tt
+unread_later words held (Malformed cut) name before mid now same named = tt
 unread_later words held WriteFault name before mid now same named = tt
 unread_later words held NoMemory name before mid now same named = tt
 unread_later words held ReadFault name before mid now same named = record {

@@ -14,7 +14,7 @@ use Rattle.run_endings.specs.Outside.{FolderSeen}
 -- the input that the answer is of: the first that has no header, or the one whose malformed sub-buffer ends the report
 abbrev pub IsInputOf : ReportData → Result (List NamedInput) WrongInput → Status → List ℕ → Type 0
 IsInputOf words inputs (Refused fault) name = IfErr inputs (λ wrong. name ≡ wrong.name)
-IsInputOf words inputs (Malformed cpu page) name =
+IsInputOf words inputs (Malformed place) name =
     IfOk inputs (λ files. IfSome (cut_of_files (map (shown_in words) files)) (λ cut. slice_get (names_in words) cut.file ≡ Some name))
 IsInputOf words inputs status name = Unit {0}
 

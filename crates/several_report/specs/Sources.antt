@@ -203,14 +203,14 @@ OpensAll words sources before now (Err end) = (out : SinkSeen)
 -- the answer for an end of the report
 abbrev pub status_of_files : FilesEnd → Status
 status_of_files end.Done = Done
-status_of_files (end.Malformed source cpu page) = Malformed cpu page
+status_of_files (end.Malformed source cut) = Malformed cut
 status_of_files (end.Read source) = ReadFault
 status_of_files end.Write = WriteFault
 
 -- the file that it is of, if it is of one
 abbrev pub source_of : FilesEnd → Option ℕ
 source_of end.Done = None
-source_of (end.Malformed source cpu page) = Some source
+source_of (end.Malformed source cut) = Some source
 source_of (end.Read source) = Some source
 source_of end.Write = None
 

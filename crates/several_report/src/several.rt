@@ -103,8 +103,8 @@ fn job_end_of<'a>(words: &ReportWords<'a>, end: FilesEnd) -> JobEnd<'a>
             status: Status::Done,
             file: words.input,
         },
-        FilesEnd::Malformed { source, cpu, page } => JobEnd {
-            status: Status::Malformed { cpu, page },
+        FilesEnd::Malformed { source, cut } => JobEnd {
+            status: Status::Malformed(cut),
             file: input_at(words, source as usize),
         },
         FilesEnd::Read { source } => JobEnd {

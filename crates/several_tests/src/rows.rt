@@ -2,7 +2,7 @@
 
 use super::files::{File, Sub};
 use dat_header::OpenFault;
-use trace_run::Status;
+use trace_run::{CutPlace, Status};
 
 pub(super) struct Row {
     /// The words, with a blank between any two.
@@ -89,21 +89,21 @@ pub(super) const ROWS: &[Row] = &[
     Row {
         line: "report -i a.dat -i b.dat",
         files: &[("a.dat", ONE), ("b.dat", CUT)],
-        status: Status::Malformed { cpu: 0, page: 0 },
+        status: Status::Malformed(CutPlace { cpu: 0, page: 0 }),
         out: "a.dat: cpus=1\nb.dat: cpus=1\n",
         err: "trace-cmd: b.dat: malformed sub-page 0 of processor 0\n",
     },
     Row {
         line: "report -i a.dat -i b.dat",
         files: &[("a.dat", CUT), ("b.dat", TWO)],
-        status: Status::Malformed { cpu: 0, page: 0 },
+        status: Status::Malformed(CutPlace { cpu: 0, page: 0 }),
         out: "a.dat: cpus=1\nb.dat: cpus=1\n",
         err: "trace-cmd: a.dat: malformed sub-page 0 of processor 0\n",
     },
     Row {
         line: "report -i a.dat -i b.dat",
         files: &[("a.dat", CUT), ("b.dat", CUT)],
-        status: Status::Malformed { cpu: 0, page: 0 },
+        status: Status::Malformed(CutPlace { cpu: 0, page: 0 }),
         out: "a.dat: cpus=1\nb.dat: cpus=1\n",
         err: "trace-cmd: a.dat: malformed sub-page 0 of processor 0\n",
     },
@@ -111,7 +111,7 @@ pub(super) const ROWS: &[Row] = &[
     Row {
         line: "report -i a.dat -i l -i b.dat -t",
         files: &[("a.dat", CUT_LATE), ("l", File::Latency), ("b.dat", OTHERS)],
-        status: Status::Malformed { cpu: 1, page: 1 },
+        status: Status::Malformed(CutPlace { cpu: 1, page: 1 }),
         out: "a.dat: cpus=1\nl: cpus=1\nb.dat: cpus=2\na.dat:            <...>-1     [000]     0.000000010: [UNKNOWN EVENT 58]\nb.dat:            <...>-2     [000]     0.000000020: [UNKNOWN EVENT 58]\nb.dat:            <...>-3     [001]     0.000000025: [UNKNOWN EVENT 58]\n",
         err: "trace-cmd: b.dat: malformed sub-page 1 of processor 1\n",
     },
@@ -132,7 +132,7 @@ pub(super) const ROWS: &[Row] = &[
                 File::Trace(&[&[Sub::Of(30, &[(0, 58, 3), (10, 58, 3)])]]),
             ),
         ],
-        status: Status::Malformed { cpu: 0, page: 1 },
+        status: Status::Malformed(CutPlace { cpu: 0, page: 1 }),
         out: "a: cpus=1\nb: cpus=1\nc: cpus=1\na:            <...>-1     [000]     0.000000010: [UNKNOWN EVENT 58]\nb:            <...>-2     [000]     0.000000020: [UNKNOWN EVENT 58]\nc:            <...>-3     [000]     0.000000030: [UNKNOWN EVENT 58]\na:            <...>-1     [000]     0.000000040: [UNKNOWN EVENT 58]\nb:            <...>-2     [000]     0.000000040: [UNKNOWN EVENT 58]\n",
         err: "trace-cmd: b: malformed sub-page 1 of processor 0\n",
     },
@@ -140,14 +140,14 @@ pub(super) const ROWS: &[Row] = &[
     Row {
         line: "report -i a.dat -i b.dat --cpu 0 -t",
         files: &[("a.dat", CUT_LATE), ("b.dat", OTHERS)],
-        status: Status::Malformed { cpu: 0, page: 1 },
+        status: Status::Malformed(CutPlace { cpu: 0, page: 1 }),
         out: "a.dat: cpus=1\nb.dat: cpus=2\na.dat:            <...>-1     [000]     0.000000010: [UNKNOWN EVENT 58]\nb.dat:            <...>-2     [000]     0.000000020: [UNKNOWN EVENT 58]\na.dat:            <...>-1     [000]     0.000000030: [UNKNOWN EVENT 58]\n",
         err: "trace-cmd: a.dat: malformed sub-page 1 of processor 0\n",
     },
     Row {
         line: "report -i a.dat -i b.dat --cpu 1 -t",
         files: &[("a.dat", CUT_LATE), ("b.dat", OTHERS)],
-        status: Status::Malformed { cpu: 1, page: 1 },
+        status: Status::Malformed(CutPlace { cpu: 1, page: 1 }),
         out: "a.dat: cpus=1\nb.dat: cpus=2\nb.dat:            <...>-3     [001]     0.000000025: [UNKNOWN EVENT 58]\n",
         err: "trace-cmd: b.dat: malformed sub-page 1 of processor 1\n",
     },

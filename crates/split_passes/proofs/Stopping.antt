@@ -2,6 +2,8 @@
 use Rattle.std.proofs.Common.{◌≡◌, ℕ, ◌+◌, ◌-◌, ◌<◌, ◌≤◌, List, [], ◌∷◌, length, get_or, set, take, drop, sym, ap, ◌∙◌, arith}
 use Rattle.std.proofs.lemmas.List.{drop-set-lt, ext_get_or, get_or-drop, get_or-map, get_or_default, length-drop, length-map, length-set, take-map, take-set}
 use Rattle.trace_base.specs.declared.part.Part.{Part}
+use Rattle.subpage.specs.CutPlaces.{place_at}
+use Rattle.subpage.specs.declared.cut_place.CutPlace.{CutPlace}
 use Rattle.page_pool.specs.declared.lane.Lane.{Lane}
 use Rattle.page_pool.specs.declared.cursor.LaneState.{LaneState}
 use Rattle.time_merge.specs.declared.ending.End.{End}
@@ -34,22 +36,19 @@ stopped_at first lanes i now a b lt long still same =
       rest = drop-set-lt (i + 1) lanes i now (omega arith) ∙ rest_still first lanes (i + 1) now long (λ j d le. still j d (omega (arith, le)));
     }
 
-abbrev with_held : ℕ → ℕ → ℕ × ℕ
-with_held cpu page = (cpu, page)
-
-abbrev held_in : Lane → ℕ × ℕ
-held_in lane = with_held lane.cpu lane.cursor.held
+abbrev held_in : Lane → CutPlace
+held_in lane = place_at lane.cpu lane.cursor.held
 
 -- the one at which packing stopped is one that a lane holds
 pub tells_held : (before now : List Lane) (end : End) → TellsStop before now end → TellsHeld now end
 tells_held before now code.Done h = tt
-tells_held before [] (code.Malformed cpu page) h = absurd (omega (arith, h.inside))
-tells_held before (a ∷ lanes) (code.Malformed cpu page) h =
+tells_held before [] (code.Malformed cut) h = absurd (omega (arith, h.inside))
+tells_held before (a ∷ lanes) (code.Malformed cut) h =
     let now : List Lane = a ∷ lanes in
     let holds = h.holds a in (
       h.at,
       omega (arith, h.inside, length-map now held_in),
-      get_or-map held_in now h.at a (cpu, page) h.inside ∙ ap (λ (n : ℕ). with_held n (get_or now h.at a).cursor.held) holds.0 ∙ ap (with_held cpu) holds.1,
+      get_or-map held_in now h.at a cut h.inside ∙ ap (λ (n : ℕ). place_at n (get_or now h.at a).cursor.held) holds.0 ∙ ap (place_at cut.cpu) holds.1,
     )
 tells_held before now code.Read h = tt
 tells_held before now code.Write h = tt

@@ -12,6 +12,7 @@ use crate::tally::Tally;
 use event_cursor::step;
 use page_pool::Lane;
 use split_pieces::Gauge;
+use subpage::CutPlace;
 use time_merge::{Next, next_lane_by};
 use tournament_tree::TournamentTree;
 use trace_base::Layout;
@@ -28,7 +29,7 @@ pub enum PieceEnd {
     /// After the last item.
     Done,
     /// After the last item before a malformed sub-buffer.
-    Malformed { cpu: u32, page: u64 },
+    Malformed(CutPlace),
 }
 
 /// Goes through the items of a piece, in their order, and counts each lane's items and their sub-buffers.
@@ -72,7 +73,7 @@ pub fn measure<F: File>(
                 Choice::Full => return Ok(PieceEnd::Full),
             },
             Next::Done => return Ok(PieceEnd::Done),
-            Next::Malformed { cpu, page } => return Ok(PieceEnd::Malformed { cpu, page }),
+            Next::Malformed(cut) => return Ok(PieceEnd::Malformed(cut)),
         }
     }
 }

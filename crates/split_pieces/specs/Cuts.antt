@@ -7,6 +7,8 @@ use Rattle.subpage.specs.ItemData.{ItemData}
 use Rattle.subpage.specs.Processor.{list_of, bad_of}
 use Rattle.subpage.specs.Arrangement.{Keyed, keyed_from, with_key, cpu_of}
 use Rattle.subpage.specs.Cut.{cut_of, reached_of}
+use Rattle.subpage.specs.CutPlaces.{place_at, place_of}
+use Rattle.subpage.specs.declared.cut_place.CutPlace.{CutPlace}
 use Rattle.word_values.specs.declared.piece.PieceUnit.{PieceUnit}
 use Rattle.word_values.specs.declared.piece.PieceUnit.TheVariants.{All, Nanos, Events}
 use Rattle.split_pieces.specs.declared.rules.Rules.{Rules}
@@ -38,19 +40,19 @@ file_items rules layout file parts = files rules (lists_to_cut rules layout file
 abbrev pub items_of_cpu : ℕ → List Keyed → List ItemData
 items_of_cpu cpu xs = map (λ x. x.item) (with_key cpu_of cpu xs)
 
--- A processor and a malformed sub-buffer of it that a list leads to, since nothing closed the list before.
-abbrev pub unless_closed : Rules → List Keyed → Option (ℕ × ℕ) → Option (ℕ × ℕ)
+-- A malformed sub-buffer that a list leads to, since nothing closed the list before.
+abbrev pub unless_closed : Rules → List Keyed → Option CutPlace → Option CutPlace
 unless_closed rules xs bad = if is_closed rules xs then None else bad
 
-abbrev pub own_bad : Rules → Layout → List ℕ → ℕ × Part → Option (ℕ × ℕ)
+abbrev pub own_bad : Rules → Layout → List ℕ → ℕ × Part → Option CutPlace
 own_bad rules layout file part =
-    unless_closed rules (own_list layout file part) (option_map (λ page. (part.0, page)) (bad_of layout file part.1))
+    unless_closed rules (own_list layout file part) (option_map (place_at part.0) (bad_of layout file part.1))
 
-abbrev pub cut_bad : Rules → Layout → List ℕ → List (ℕ × Part) → Option (ℕ × ℕ)
+abbrev pub cut_bad : Rules → Layout → List ℕ → List (ℕ × Part) → Option CutPlace
 cut_bad rules layout file parts =
-    unless_closed rules (reached_of layout file parts) (option_map (λ cut. (cut.cpu, cut.page)) (cut_of layout file parts))
+    unless_closed rules (reached_of layout file parts) (option_map place_of (cut_of layout file parts))
 
 -- the one that the split answers: the lowest processor's, or that of the least cut
-abbrev pub bad_reached : Rules → Layout → List ℕ → List (ℕ × Part) → Option (ℕ × ℕ)
+abbrev pub bad_reached : Rules → Layout → List ℕ → List (ℕ × Part) → Option CutPlace
 bad_reached rules layout file parts =
     if is_apart rules then slice_get (filter_map (own_bad rules layout file) parts) 0 else cut_bad rules layout file parts

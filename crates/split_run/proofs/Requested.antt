@@ -32,8 +32,8 @@ unbegun base means before = asks_for (first_names base) means before before (λ 
 pub folder_left : (base : List ℕ) (lanes : List Lane) (before now : FolderSeen) (answer : End) → LeavesFiles base lanes before now answer
     → LeavesFolder base (status_of_end answer) before now
 folder_left base lanes before now end.Done leaves = leaves
-folder_left base lanes before now (end.Malformed cpu page) (inl finished) = inl finished
-folder_left base lanes before now (end.Malformed cpu page) (inr cut) = inr cut.0
+folder_left base lanes before now (end.Malformed cut) (inl finished) = inl finished
+folder_left base lanes before now (end.Malformed place) (inr cut) = inr cut.0
 folder_left base lanes before now end.Read leaves = leaves
 folder_left base lanes before now end.Write leaves = leaves
 
@@ -43,8 +43,8 @@ AskedSome base before now = (news : ℕ) × (now.requested ≡ before.requested 
 
 asked_some : (base : List ℕ) (lanes : List Lane) (before now : FolderSeen) (answer : End) → LeavesFiles base lanes before now answer → AskedSome base before now
 asked_some base lanes before now end.Done finished = (finished.0 + 0, finished.1.requested)
-asked_some base lanes before now (end.Malformed cpu page) (inl finished) = (finished.0 + 0, finished.1.requested)
-asked_some base lanes before now (end.Malformed cpu page) (inr cut) = (cut.0.0 + 1, cut.0.1.requested)
+asked_some base lanes before now (end.Malformed cut) (inl finished) = (finished.0 + 0, finished.1.requested)
+asked_some base lanes before now (end.Malformed place) (inr cut) = (cut.0.0 + 1, cut.0.1.requested)
 asked_some base lanes before now end.Read (inl finished) = (finished.0 + 0, finished.1.requested)
 asked_some base lanes before now end.Read (inr cut) = (cut.0 + 1, cut.1.requested)
 asked_some base lanes before now end.Write unmade = (unmade.count + 1, unmade.others.requested)
@@ -52,7 +52,7 @@ asked_some base lanes before now end.Write unmade = (unmade.count + 1, unmade.ot
 -- of files that are told, the first few or all
 asked_told : (news : List NewFile) (before now : List (List ℕ)) (answer : End) → new.AsksFor news before now answer → AskedFirst (names_of news) before now
 asked_told news before now end.Done asked = asked_few (names_of news) before now asked
-asked_told news before now (end.Malformed cpu page) asked = asked_few (names_of news) before now asked
+asked_told news before now (end.Malformed cut) asked = asked_few (names_of news) before now asked
 asked_told news before now end.Read asked = asked
 asked_told news before now end.Write asked = asked
 

@@ -24,21 +24,21 @@ module _ (words : SplitData) (header : Header) (before now : FolderSeen) (out : 
       → Creates (length (split_files words header bytes)) before.counts.created now.counts.created answer
       → Ends (split_by words header bytes) (status_of_end answer) (beside before out) (beside now out)
   split_ends bytes end.Done split creates = record { answer = ap status_of_end split.0; output = gained_nothing out.written; files = split.1; created = creates }
-  split_ends bytes (end.Malformed cpu page) split creates =
+  split_ends bytes (end.Malformed cut) split creates =
       record { answer = ap status_of_end split.0; output = gained_nothing out.written; files = split.1; created = creates }
   split_ends bytes end.Read split creates = record { output = (0, gained_nothing out.written); files = split; created = creates }
   split_ends bytes end.Write split creates = record { output = (0, gained_nothing out.written); files = split; created = creates }
 
   split_leaves : (answer : End) → LeavesAll (status_of_end answer) (beside before out) (beside now out)
   split_leaves end.Done = tt
-  split_leaves (end.Malformed cpu page) = tt
+  split_leaves (end.Malformed cut) = tt
   split_leaves end.Read = tt
   split_leaves end.Write = tt
 
   split_caused : (unread : Type 0) (answer : End) → (answer ≡ end.Read → unread) → (answer ≡ end.Write → Rose before.counts.writing now.counts.writing)
       → IsCaused on_folder unread (status_of_end answer) (beside before out) (beside now out)
   split_caused unread end.Done read write = tt
-  split_caused unread (end.Malformed cpu page) read write = tt
+  split_caused unread (end.Malformed cut) read write = tt
   split_caused unread end.Read read write = read refl
   split_caused unread end.Write read write = write refl
 

@@ -10,7 +10,7 @@ use Rattle.run_endings.specs.Outside.{FolderSeen}
 -- the split is done, no file is cut off, and where there was no memory, the folder is as it was.
 abbrev pub LeavesFolder : List ℕ → Status → FolderSeen → FolderSeen → Type 0
 LeavesFolder base Done before now = AllFinished base before now
-LeavesFolder base (Malformed cpu page) before now = AllFinished base before now ⊎ LastCutOff base before now
+LeavesFolder base (Malformed cut) before now = AllFinished base before now ⊎ LastCutOff base before now
 LeavesFolder base ReadFault before now = AllFinished base before now ⊎ LastCutOff base before now
 LeavesFolder base WriteFault before now = LastUnmade base before now
 LeavesFolder base NoMemory before now = now ≡ before

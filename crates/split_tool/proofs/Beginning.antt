@@ -9,6 +9,8 @@ use Rattle.subpage.specs.ItemData.{ItemData}
 use Rattle.subpage.specs.Processor.{list_of, bad_of}
 use Rattle.subpage.specs.Arrangement.{Keyed}
 use Rattle.subpage.specs.Cut.{Cut, own_cut, cut_of, last_key, reached_of}
+use Rattle.subpage.specs.CutPlaces.{cut_at, place_at, place_of}
+use Rattle.subpage.specs.declared.cut_place.CutPlace.{CutPlace}
 use Rattle.page_pool.specs.Fresh.{IsFresh}
 use Rattle.page_pool.specs.declared.lane.Lane.{Lane}
 use Rattle.event_cursor.specs.Keys.{keyed_behind}
@@ -76,28 +78,22 @@ started_lists l file rules first now f s =
 
 -- THE MALFORMED SUB-BUFFER
 
-abbrev pub place_of : Cut → ℕ × ℕ
-place_of cut = (cut.cpu, cut.page)
-
-abbrev page_of : ℕ → ℕ → ℕ × ℕ
-page_of cpu page = (cpu, page)
-
-abbrev cut_at : Option ℕ → ℕ → ℕ → Cut
-cut_at key cpu page = record { key = key; cpu = cpu; page = page }
+abbrev cut_with : Option ℕ → ℕ → ℕ → Cut
+cut_with key cpu page = cut_at key (place_at cpu page)
 
 -- of a list of items that are left, and a cut
-abbrev bad_with : Rules → List Keyed → Option (ℕ × ℕ) → Option (ℕ × ℕ)
+abbrev bad_with : Rules → List Keyed → Option CutPlace → Option CutPlace
 bad_with rules xs bad =
     if has_end rules.stop xs || (not rules.repeat && unit_closes rules.unit (up_to_end rules.stop xs)) then None else bad
 
-page_by : (cpu : ℕ) (key : Option ℕ) (o : Option ℕ) → option_map place_of (option_map (cut_at key cpu) o) ≡ option_map (page_of cpu) o
+page_by : (cpu : ℕ) (key : Option ℕ) (o : Option ℕ) → option_map place_of (option_map (cut_with key cpu) o) ≡ option_map (place_at cpu) o
 page_by cpu key None = refl
 page_by cpu key (Some page) = refl
 
-own_page : (l : Layout) (file : List ℕ) (p : ℕ × Part) → option_map place_of (own_cut l file p) ≡ option_map (page_of p.0) (bad_of l file p.1)
+own_page : (l : Layout) (file : List ℕ) (p : ℕ × Part) → option_map place_of (own_cut l file p) ≡ option_map (place_at p.0) (bad_of l file p.1)
 own_page l file p = page_by p.0 (last_key (list_of l file p.1)) (bad_of l file p.1)
 
-pub one_bad : (o : Option (ℕ × ℕ)) → slice_get (cons_option o []) 0 ≡ o
+pub one_bad : (o : Option CutPlace) → slice_get (cons_option o []) 0 ≡ o
 one_bad None = refl
 one_bad (Some bad) = refl
 
@@ -106,7 +102,7 @@ one_lane_bad : (l : Layout) (file : List ℕ) (rules : Rules) (a b : Lane) → I
 one_lane_bad l file rules a b fresh parts come =
     let all : come_of (row_of l file b ∷ []) ≡ from_start rules.start (own_list l file (a.cpu, a.part)) = come ∙ ap (from_start rules.start) (fresh_own l file a fresh) in
     let part : (b.cpu, b.part) ≡ (a.cpu, a.part) = ap (λ (ps : List (ℕ × Part)). first (a.cpu, a.part) ps) parts in
-    let cut : option_map place_of (least_cut (row_of l file b ∷ [])) ≡ option_map (page_of a.cpu) (bad_of l file a.part) =
+    let cut : option_map place_of (least_cut (row_of l file b ∷ [])) ≡ option_map (place_at a.cpu) (bad_of l file a.part) =
     ap (option_map place_of) (one_cut (own_cut l file (b.cpu, b.part)) (row_of l file b) refl ∙ ap (own_cut l file) part) ∙ own_page l file (a.cpu, a.part) in
     ap (λ (xs : List Keyed). bad_with rules xs (option_map place_of (least_cut (row_of l file b ∷ [])))) all
     ∙ ap (bad_with rules (from_start rules.start (own_list l file (a.cpu, a.part)))) cut
@@ -126,7 +122,7 @@ each_bad l file rules (a ∷ first) (b ∷ now) f parts come =
     let mine : parts_of (b ∷ []) ≡ parts_of (a ∷ []) = cc in
     let others : parts_of now ≡ parts_of first = cc in
     let comes : map come_of (map single (rows_of l file now)) ≡ map (λ rows. from_start rules.start (come_of rows)) (map single (rows_of l file first)) = cc in
-    ap (λ (o : Option (ℕ × ℕ)). cons_option o (filter_map (bad_in_rows rules) (map single (rows_of l file now))))
+    ap (λ (o : Option CutPlace). cons_option o (filter_map (bad_in_rows rules) (map single (rows_of l file now))))
     (one_lane_bad l file rules a b (All-head (λ (x : Lane). IsFresh x.cursor) a first f) mine here)
     ∙ ap (cons_option (own_bad rules l file (a.cpu, a.part))) (each_bad l file rules first now (All-tail (λ (x : Lane). IsFresh x.cursor) a first f) others comes)
 
@@ -137,7 +133,7 @@ started_bad l file rules first now f parts s = by_apart (is_apart rules) s.come
     by_apart : (b : Bool) → map come_of (if b then map single (rows_of l file now) else rows_of l file now ∷ []) ≡ map (λ rows. from_start rules.start (come_of rows)) (if b then map single (rows_of l file first) else rows_of l file first ∷ [])
         → slice_get (filter_map (bad_in_rows rules) (if b then map single (rows_of l file now) else rows_of l file now ∷ [])) 0
         ≡ (if b then slice_get (filter_map (own_bad rules l file) (parts_of first)) 0 else cut_bad rules l file (parts_of first))
-    by_apart true come = ap (λ (bads : List (ℕ × ℕ)). slice_get bads 0) (each_bad l file rules first now f parts come)
+    by_apart true come = ap (λ (bads : List CutPlace). slice_get bads 0) (each_bad l file rules first now f parts come)
     by_apart false come =
         let here : come_of (rows_of l file now) ≡ from_start rules.start (come_of (rows_of l file first)) = cc in
         let all : come_of (rows_of l file now) ≡ from_start rules.start (reached_of l file (parts_of first)) = here ∙ ap (from_start rules.start) (fresh_come l file first f) in

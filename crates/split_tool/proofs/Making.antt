@@ -22,6 +22,7 @@ use Rattle.dat_header.specs.Allowed.{IsHeader}
 use Rattle.trace_base.proofs.Layouts.{carried}
 use Rattle.subpage.specs.Arrangement.{Keyed, CpusRise, all_keyed}
 use Rattle.subpage.specs.Cut.{reached_of, lists_of as lists_in}
+use Rattle.subpage.specs.declared.cut_place.CutPlace.{CutPlace}
 use Rattle.page_pool.specs.Fresh.{IsFresh}
 use Rattle.page_pool.specs.declared.lane.Lane.{Lane}
 use Rattle.page_write.specs.Placed.{data_of}
@@ -132,7 +133,7 @@ few_lanes cpus lanes rise below =
 
 -- FILE AFTER FILE
 
-pub record Progress (header : Header) (base : List ℕ) (file : List ℕ) (rules : Rules) (news : List NewFile) (bad : Option (ℕ × ℕ)) (number : ℕ) (now : List Lane) (old new : Option NamedFiles) : Type 0 where
+pub record Progress (header : Header) (base : List ℕ) (file : List ℕ) (rules : Rules) (news : List NewFile) (bad : Option CutPlace) (number : ℕ) (now : List Lane) (old new : Option NamedFiles) : Type 0 where
   pub stands : All (Stands header.layout file) now
   pub stage : Stages news (files_from header base number (files_of rules (lists_left header.layout file rules now))) old new
   pub small : length file < 2 ^ 64
@@ -167,7 +168,7 @@ progress_none header base rules file first now old allowed rise cpus fresh parts
       few = omega (arith, few, most);
     }
 
-module _ (header : Header) (base : List ℕ) (file : List ℕ) (rules : Rules) (news : List NewFile) (bad : Option (ℕ × ℕ)) (number : ℕ) (now later : List Lane) (old mid new : Option NamedFiles) where
+module _ (header : Header) (base : List ℕ) (file : List ℕ) (rules : Rules) (news : List NewFile) (bad : Option CutPlace) (number : ℕ) (now later : List Lane) (old mid new : Option NamedFiles) where
   pub progress_more : (ends : Ends) → IsUnit rules.unit → (ends.more && rules.repeat) ≡ true → Made (record { header = header; rules = rules; name = file_name base number }) file (record { lanes = now; files = mid }) (record { lanes = later; files = new }) ends
       → Progress header base file rules news bad number now old mid → Progress header base file rules news bad (number + 1) later old new
   progress_more ends unit more m p =
@@ -197,7 +198,7 @@ module _ (header : Header) (base : List ℕ) (file : List ℕ) (rules : Rules) (
       let stored : Stages news [] old new = subst (λ (fs : List (List Keyed)). Stages news (files_from header base (number + 1) fs) old new) (no_files rules lists none) (stages_more news _ _ old mid new m.stored p.stage) in
       ended_by (record { files = old; counts = counts; requested = asked }) (record { files = new; counts = now_counts; requested = asked_now }) ends.bad bad result is (m.left.bad_ends more ∙ p.bad_is) (all_stored news old new stored)
     where
-      ended_by : (before after : FolderSeen) (o b : Option (ℕ × ℕ)) (result : End) → result ≡ end_by o → o ≡ b → FilesStored news before.files after.files → IsSplit news (end_by b) before after result
+      ended_by : (before after : FolderSeen) (o b : Option CutPlace) (result : End) → result ≡ end_by o → o ≡ b → FilesStored news before.files after.files → IsSplit news (end_by b) before after result
       ended_by before after None b result is same s = subst (λ (e : End). IsSplit news (end_by b) before after e) (sym is) (ap end_by same, s)
       ended_by before after (Some place) b result is same s = subst (λ (e : End). IsSplit news (end_by b) before after e) (sym is) (ap end_by same, s)
 
@@ -224,7 +225,7 @@ module _ (header : Header) (base : List ℕ) (file : List ℕ) (rules : Rules) (
       → Progress header base file rules news bad number now old mid → Creates (length news) first after result
   created_last ends result first before after more is m least so_far one p = by_bad ends.bad result is (omega (arith, last_counted ends more m p, least, so_far, one))
     where
-      by_bad : (o : Option (ℕ × ℕ)) (result : End) → result ≡ end_by o → after ≡ raised first (length news) → Creates (length news) first after result
+      by_bad : (o : Option CutPlace) (result : End) → result ≡ end_by o → after ≡ raised first (length news) → Creates (length news) first after result
       by_bad None result is e = subst (λ (r : End). Creates (length news) first after r) (sym is) e
       by_bad (Some place) result is e = subst (λ (r : End). Creates (length news) first after r) (sym is) e
 
@@ -232,7 +233,7 @@ module _ (header : Header) (base : List ℕ) (file : List ℕ) (rules : Rules) (
       → 1 ≤ number → before ≡ raised first (number - 1) → after ≤ raised before 1
       → Progress header base file rules news bad number now old mid → Creates (length news) first after result
   created_stops code.Done result first before after is m least so_far one p = absurd m
-  created_stops (code.Malformed cpu page) result first before after is m least so_far one p = absurd m
+  created_stops (code.Malformed cut) result first before after is m least so_far one p = absurd m
   created_stops code.Read result first before after is m least so_far one p = subst (λ (r : End). Creates (length news) first after r) (sym is) (omega (arith, some_counted p, least, so_far, one))
   created_stops code.Write result first before after is m least so_far one p = subst (λ (r : End). Creates (length news) first after r) (sym is) (omega (arith, some_counted p, least, so_far, one))
 
@@ -241,7 +242,7 @@ module _ (header : Header) (base : List ℕ) (file : List ℕ) (rules : Rules) (
       → LeavesFile (file_name base number) later (record { files = mid; counts = between; requested = asked }) (record { files = new; counts = now_counts; requested = asked_now }) (Err end)
       → Progress header base file rules news bad number now old mid → IsSplit news (end_by bad) (record { files = old; counts = counts; requested = first_asked }) (record { files = new; counts = now_counts; requested = asked_now }) result
   progress_stops code.Done result counts between now_counts first_asked asked asked_now is since m leaves p = absurd m
-  progress_stops (code.Malformed cpu page) result counts between now_counts first_asked asked asked_now is since m leaves p = absurd m
+  progress_stops (code.Malformed cut) result counts between now_counts first_asked asked asked_now is since m leaves p = absurd m
   progress_stops code.Read result counts between now_counts first_asked asked asked_now is since m leaves p = subst (λ (e : End). IsSplit news (end_by bad) (record { files = old; counts = counts; requested = first_asked }) (record { files = new; counts = now_counts; requested = asked_now }) e) (sym is) (some_stored news _ old mid new leaves p.stage)
   progress_stops code.Write result counts between now_counts first_asked asked asked_now is since m leaves p =
       subst (λ (e : End). IsSplit news (end_by bad) (record { files = old; counts = counts; requested = first_asked }) (record { files = new; counts = now_counts; requested = asked_now }) e) (sym is)

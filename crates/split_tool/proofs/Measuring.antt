@@ -9,6 +9,8 @@ use Rattle.trace_base.specs.declared.layout.Layout.{Layout}
 use Rattle.subpage.specs.ItemData.{ItemData}
 use Rattle.subpage.specs.Arrangement.{Keyed, CpusRise}
 use Rattle.subpage.specs.Cut.{Cut, cut_of}
+use Rattle.subpage.specs.CutPlaces.{place_of}
+use Rattle.subpage.specs.declared.cut_place.CutPlace.{CutPlace}
 use Rattle.page_pool.specs.declared.lane.Lane.{Lane}
 use Rattle.event_cursor.specs.Standing.{Stands, left_of}
 use Rattle.time_merge.specs.Rows.{Row, least_cut}
@@ -29,13 +31,13 @@ use Rattle.time_merge.proofs.Advancing.{same_length}
 use Rattle.split_tool.specs.declared.lists.Ends.{Ends}
 use Rattle.split_tool.specs.Lists.{come_of, left_in_rows, bad_in_rows, lists_left, bad_left}
 use Rattle.split_tool.specs.Measured.{is_full, bad_of_end, PieceTaken, ListMeasured, taken_of, FileMeasured}
-use Rattle.split_tool.proofs.Beginning.{single, place_of, one_bad}
+use Rattle.split_tool.proofs.Beginning.{single, one_bad}
 use Rattle.split_tool.proofs.Owning.{own_apart}
 use Rattle.split_tool.proofs.OneByOne.{all_mid, still_mid, one_of, one_in_mid, first_more, put_more, put_others, Trios, trios_push, trio_at, trio_some}
 
 -- ONE LIST
 
-bad_by : Bool → Bool → Bool → Option (ℕ × ℕ) → Option (ℕ × ℕ)
+bad_by : Bool → Bool → Bool → Option CutPlace → Option CutPlace
 bad_by has again closes bad = if has || (not again && closes) then None else bad
 
 module _ (l : Layout) (file : List ℕ) (rules : Rules) where
@@ -43,11 +45,11 @@ module _ (l : Layout) (file : List ℕ) (rules : Rules) where
   unfolding bad_by
   rows_bad rows = refl
 
-past_bad : (again closes : Bool) (bad : Option (ℕ × ℕ)) → bad_by true again closes bad ≡ None
+past_bad : (again closes : Bool) (bad : Option CutPlace) → bad_by true again closes bad ≡ None
 unfolding bad_by
 past_bad again closes bad = refl
 
-full_bad : (has : Bool) (bad : Option (ℕ × ℕ)) → bad_by has false true bad ≡ None
+full_bad : (has : Bool) (bad : Option CutPlace) → bad_by has false true bad ≡ None
 unfolding bad_by
 full_bad true bad = refl
 full_bad false bad = refl
@@ -59,16 +61,16 @@ no_bad false true closes = refl
 no_bad false false true = refl
 no_bad false false false = refl
 
-repeat_bad : (has : Bool) (closes other : Bool) (bad : Option (ℕ × ℕ)) → bad_by has true closes bad ≡ bad_by has true other bad
+repeat_bad : (has : Bool) (closes other : Bool) (bad : Option CutPlace) → bad_by has true closes bad ≡ bad_by has true other bad
 unfolding bad_by
 repeat_bad true closes other bad = refl
 repeat_bad false closes other bad = refl
 
-end_bad : (again closes : Bool) (cpu page : ℕ) → bad_by false again closes (Some (cpu, page)) ≡ bad_of_end (code.Malformed cpu page) (not again && closes)
+end_bad : (again closes : Bool) (cut : CutPlace) → bad_by false again closes (Some cut) ≡ bad_of_end (code.Malformed cut) (not again && closes)
 unfolding bad_by
-end_bad true closes cpu page = refl
-end_bad false true cpu page = refl
-end_bad false false cpu page = refl
+end_bad true closes cut = refl
+end_bad false true cut = refl
+end_bad false false cut = refl
 
 or_true : (b : Bool) → (b || true) ≡ true
 or_true true = refl
@@ -165,14 +167,14 @@ list_measured l file rules gauge after first now tallies before ends code.Done c
     (λ last. sym (first_bad l file rules gauge after first now tallies sp sc parts m.0
     ∙ ap (λ (c : Option Cut). bad_by (has_end rules.stop (come_of (rows_of l file now))) rules.repeat (closes_by gauge (list_left l file rules.stop first)) (option_map place_of c)) m.1.2
     ∙ no_bad _ _ _))
-list_measured l file rules gauge after first now tallies before ends (code.Malformed cpu page) closed sp sc parts close more bad m =
-    measured_by l file rules gauge after first now tallies sp sc parts m.0 before ends (code.Malformed cpu page) closed more bad (sym (ap is_some_left (nothing_now l file rules gauge after first now tallies sp sc parts m.0 m.1.0)))
+list_measured l file rules gauge after first now tallies before ends (code.Malformed cut) closed sp sc parts close more bad m =
+    measured_by l file rules gauge after first now tallies sp sc parts m.0 before ends (code.Malformed cut) closed more bad (sym (ap is_some_left (nothing_now l file rules gauge after first now tallies sp sc parts m.0 m.1.0)))
     (λ last. sym (first_bad l file rules gauge after first now tallies sp sc parts m.0
     ∙ ap (λ (h : Bool). bad_by h rules.repeat (closes_by gauge (list_left l file rules.stop first)) (option_map place_of (least_cut (rows_of l file now)))) (ap (has_end rules.stop) m.1.0 ∙ no_end rules.stop)
     ∙ ap (λ (u : Bool). bad_by false rules.repeat u (option_map place_of (least_cut (rows_of l file now)))) m.1.1
     ∙ ap (λ (c : Option Cut). bad_by false rules.repeat (closes_by after []) (option_map place_of c)) m.1.2.1
-    ∙ end_bad rules.repeat (closes_by after []) cpu page
-    ∙ ap (bad_of_end (code.Malformed cpu page)) (sym close)))
+    ∙ end_bad rules.repeat (closes_by after []) cut
+    ∙ ap (bad_of_end (code.Malformed cut)) (sym close)))
 
 -- GROUPS
 
@@ -213,7 +215,7 @@ whole_measured l file rules first now tallies before ends whole more bad m =
         left = nows ∙ ap (λ (xs : List Keyed). xs ∷ []) p.left ∙ ap (behind_file rules.unit) (sym firsts);
         more = m.more ∙ ap (λ (b : Bool). b || is_some_left (left_in_rows rules.stop (rows_of l file now))) more
             ∙ ap is_some_left (sym (append-nil (left_in_rows rules.stop (rows_of l file now)))) ∙ ap (λ (xss : List (List Keyed)). is_some_left (joined_lists xss)) (sym nows);
-        bad_ends = λ last. m.bad last ∙ ap (λ (o : Option (ℕ × ℕ)). option_or o (bad_in_rows rules (rows_of l file first))) bad ∙ sym (bad_whole l file rules first whole);
+        bad_ends = λ last. m.bad last ∙ ap (λ (o : Option CutPlace). option_or o (bad_in_rows rules (rows_of l file first))) bad ∙ sym (bad_whole l file rules first whole);
         bad = λ again. bad_whole l file rules now whole ∙ p.bad again ∙ sym (bad_whole l file rules first whole);
       };
       lefts = λ i d lt. subst (λ (ts : List Keyed). left_of l file (get_or first i d) ≡ items_of_cpu (get_or first i d).cpu ts ++ left_of l file (get_or now i d)) taken_is (p.passed.lefts i d lt);
@@ -228,7 +230,7 @@ LaneTaken l file rules a b t = PieceTaken l file rules (a ∷ []) (b ∷ []) (t 
 abbrev all_left : Layout → List ℕ → Rules → List Lane → List (List Keyed)
 all_left l file rules lanes = map (left_in_rows rules.stop) (map single (rows_of l file lanes))
 
-abbrev all_bad : Layout → List ℕ → Rules → List Lane → Option (ℕ × ℕ)
+abbrev all_bad : Layout → List ℕ → Rules → List Lane → Option CutPlace
 all_bad l file rules lanes = slice_get (filter_map (bad_in_rows rules) (map single (rows_of l file lanes))) 0
 
 -- the first n lists are measured
@@ -256,7 +258,7 @@ bads_push : (l : Layout) (file : List ℕ) (rules : Rules) (lanes : List Lane) (
 bads_push l file rules [] b = one_bad (bad_in_rows rules (row_of l file b ∷ []))
 bads_push l file rules (a ∷ lanes) b = by_first (bad_in_rows rules (row_of l file a ∷ [])) (filter_map (bad_in_rows rules) (map single (rows_of l file (lanes ++ b ∷ [])))) (filter_map (bad_in_rows rules) (map single (rows_of l file lanes))) (bads_push l file rules lanes b)
   where
-    by_first : (o : Option (ℕ × ℕ)) (more few : List (ℕ × ℕ)) → slice_get more 0 ≡ option_or (slice_get few 0) (bad_in_rows rules (row_of l file b ∷ []))
+    by_first : (o : Option CutPlace) (more few : List CutPlace) → slice_get more 0 ≡ option_or (slice_get few 0) (bad_in_rows rules (row_of l file b ∷ []))
         → slice_get (cons_option o more) 0 ≡ option_or (slice_get (cons_option o few) 0) (bad_in_rows rules (row_of l file b ∷ []))
     by_first None more few e = e
     by_first (Some bad) more few e = refl
@@ -293,7 +295,7 @@ measured_more l file rules i first now new tallies0 tallies fresh before ends lt
           ∙ ap is_some_left (sym (joined_push l file rules (take i now) b.item)) ∙ ap (λ (xs : List Lane). is_some_left (joined_lists (all_left l file rules xs))) (sym nows);
       bad = λ last.
           let sooner : (before.more && rules.repeat) ≡ false = earlier_last before.more (is_some_left (left_in_rows rules.stop (rows_of l file new))) rules.repeat (ap (λ (k : Bool). k && rules.repeat) (sym m.more) ∙ last) in
-          m.bad last ∙ ap (λ (o : Option (ℕ × ℕ)). option_or o (bad_in_rows rules (rows_of l file mid))) (s.bad sooner)
+          m.bad last ∙ ap (λ (o : Option CutPlace). option_or o (bad_in_rows rules (rows_of l file mid))) (s.bad sooner)
           ∙ ap (λ (xs : List Lane). option_or (all_bad l file rules (take i first)) (bad_in_rows rules (rows_of l file xs))) a.is
           ∙ sym (bads_push l file rules (take i first) a.item) ∙ ap (all_bad l file rules) (sym firsts);
     }
@@ -324,7 +326,7 @@ bads_same l file rules [] (b ∷ now) tallies again ps = absurd ps
 bads_same l file rules (a ∷ first) [] tallies again ps = absurd ps
 bads_same l file rules (a ∷ first) (b ∷ now) [] again ps = absurd ps
 bads_same l file rules (a ∷ first) (b ∷ now) (t ∷ tallies) again ps =
-    ap (λ (o : Option (ℕ × ℕ)). cons_option o (filter_map (bad_in_rows rules) (map single (rows_of l file now)))) (ps.0.bad again)
+    ap (λ (o : Option CutPlace). cons_option o (filter_map (bad_in_rows rules) (map single (rows_of l file now)))) (ps.0.bad again)
     ∙ ap (cons_option (bad_in_rows rules (row_of l file a ∷ []))) (bads_same l file rules first now tallies again ps.1)
 
 pub all_measured : (l : Layout) (file : List ℕ) (rules : Rules) (n : ℕ) (first now : List Lane) (tallies0 tallies : List Tally) (ends : Ends) → is_apart rules ≡ true → CpusRise (parts_of first) → length first ≤ n → length now ≤ n → length tallies ≤ n
@@ -343,7 +345,7 @@ all_measured l file rules n first now tallies0 tallies ends apart rise enough en
         left = lists_apart l file rules now apart ∙ lefts_behind l file rules first now tallies each ∙ ap (behind_file rules.unit) (sym lists);
         more = s.more ∙ ap (λ (xs : List Lane). is_some_left (joined_lists (all_left l file rules xs))) nows ∙ ap (λ (xss : List (List Keyed)). is_some_left (joined_lists xss)) (sym (lists_apart l file rules now apart));
         bad_ends = λ last. s.bad last ∙ ap (all_bad l file rules) firsts ∙ sym (bad_apart l file rules first apart);
-        bad = λ again. bad_apart l file rules now apart ∙ ap (λ (bads : List (ℕ × ℕ)). slice_get bads 0) (bads_same l file rules first now tallies again each) ∙ sym (bad_apart l file rules first apart);
+        bad = λ again. bad_apart l file rules now apart ∙ ap (λ (bads : List CutPlace). slice_get bads 0) (bads_same l file rules first now tallies again each) ∙ sym (bad_apart l file rules first apart);
       };
       lefts = λ i d lt.
           let a = get_or first i d in

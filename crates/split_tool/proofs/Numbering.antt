@@ -12,6 +12,7 @@ use Rattle.trace_outside.specs.Seen.{FolderSeen}
 use Rattle.dat_header.specs.declared.header.Header.{Header}
 use Rattle.subpage.specs.ItemData.{ItemData}
 use Rattle.subpage.specs.Arrangement.{Keyed}
+use Rattle.subpage.specs.declared.cut_place.CutPlace.{CutPlace}
 use Rattle.page_pool.specs.declared.lane.Lane.{Lane}
 use Rattle.time_merge.specs.declared.ending.End.{End}
 use Rattle.time_merge.specs.declared.ending.End.TheVariants as code
@@ -34,13 +35,13 @@ finished_is old old1 new w0 w name name1 e n empty gains stores = (gains.0, stor
 
 pub cut_off : (name : List ℕ) (lanes : List Lane) (before now : FolderSeen) (end : End) → (end ≡ code.Done → ⊥) → TellsHeld lanes end → now.files ≡ before.files → LeavesFile name lanes before now (Err end)
 cut_off name lanes before now code.Done some held same = absurd (some refl)
-cut_off name lanes before now (code.Malformed cpu page) some held same = (same, held)
+cut_off name lanes before now (code.Malformed cut) some held same = (same, held)
 cut_off name lanes before now code.Read some held same = same
 cut_off name lanes before now code.Write some held same = inl same
 
 pub asks_for_it : (name : List ℕ) (before now : List (List ℕ)) (end : End) → AskedAll (name ∷ []) before now → AsksForIt name before now (Err end)
 asks_for_it name before now code.Done asked = asked
-asks_for_it name before now (code.Malformed cpu page) asked = asked
+asks_for_it name before now (code.Malformed cut) asked = asked
 asks_for_it name before now code.Read asked = inr asked
 asks_for_it name before now code.Write asked = asked
 
@@ -51,7 +52,7 @@ asked_by name own old mid new named one same = same ∙ one ∙ ap (λ (n : List
 pub stopped_by : (plan : FilePlan) (header : Header) (file : List ℕ) (table : List Part) (lists : List (List ItemData)) (before after : LanesOutput) (old new : LanesFiles) (end : End) → (end ≡ code.Done → ⊥)
     → IsWritten header file table lists before after end → IsMade plan file old new (Err end)
 stopped_by plan header file table lists before after old new code.Done some written = absurd (some refl)
-stopped_by plan header file table lists before after old new (code.Malformed cpu page) some written = written
+stopped_by plan header file table lists before after old new (code.Malformed cut) some written = written
 stopped_by plan header file table lists before after old new code.Read some written = tt
 stopped_by plan header file table lists before after old new code.Write some written = tt
 
@@ -123,7 +124,7 @@ numbered_more base count number after before mid now next is finished asked so_f
 
 -- THE END OF A SPLIT
 
-pub finished_all : (base : List ℕ) (lanes : List Lane) (count : ℕ) (before now : FolderSeen) (bad : Option (ℕ × ℕ)) (result : End) → result ≡ end_by bad → Numbered base count 0 before now → LeavesFiles base lanes before now result
+pub finished_all : (base : List ℕ) (lanes : List Lane) (count : ℕ) (before now : FolderSeen) (bad : Option CutPlace) (result : End) → result ≡ end_by bad → Numbered base count 0 before now → LeavesFiles base lanes before now result
 finished_all base lanes count before now None result is all = subst (LeavesFiles base lanes before now) (sym is) (count, all)
 finished_all base lanes count before now (Some bad) result is all = subst (LeavesFiles base lanes before now) (sym is) (inl (count, all))
 
@@ -149,7 +150,7 @@ stops_there base lanes count number before mid now end next since so_far leaves 
 
     by_end : (e : End) → LeavesFile (file_name base number) lanes mid now (Err e) → AsksForIt (file_name base number) mid.requested now.requested (Err e) → LeavesFiles base lanes before now e
     by_end code.Done leaves asks = absurd leaves
-    by_end (code.Malformed cpu page) leaves asks = inr ((count, begun now leaves.0 asks), leaves.1)
+    by_end (code.Malformed cut) leaves asks = inr ((count, begun now leaves.0 asks), leaves.1)
     by_end code.Read leaves (inl none) = inl (count, still leaves none)
     by_end code.Read leaves (inr asked) = inr (count, begun now leaves asked)
     by_end code.Write leaves asks = record {
@@ -169,14 +170,14 @@ pub asked_few : (base : List ℕ) (news : List NewFile) (count : ℕ) (before no
 asked_few base news count before now names few asked =
     (count, asked ∙ ap (λ (ns : List (List ℕ)). before ++ ns) (sym (ap (take count) names ∙ take-map-range_with_len (file_name base) 1 (length news) count few)))
 
-pub asked_all : (base : List ℕ) (news : List NewFile) (count : ℕ) (before now : List (List ℕ)) (bad : Option (ℕ × ℕ)) (result : End) → result ≡ end_by bad → names_of news ≡ first_names base (length news) → length news ≡ count
+pub asked_all : (base : List ℕ) (news : List NewFile) (count : ℕ) (before now : List (List ℕ)) (bad : Option CutPlace) (result : End) → result ≡ end_by bad → names_of news ≡ first_names base (length news) → length news ≡ count
     → now ≡ before ++ first_names base count → AsksFor news before now result
 asked_all base news count before now bad result is names long asked = by_bad bad is
   where
     all : AskedAll (names_of news) before now
     all = asked ∙ ap (λ (n : ℕ). before ++ first_names base n) (sym long) ∙ ap (λ (ns : List (List ℕ)). before ++ ns) (sym names)
 
-    by_bad : (o : Option (ℕ × ℕ)) → result ≡ end_by o → AsksFor news before now result
+    by_bad : (o : Option CutPlace) → result ≡ end_by o → AsksFor news before now result
     by_bad None is = subst (AsksFor news before now) (sym is) all
     by_bad (Some place) is = subst (AsksFor news before now) (sym is) all
 
@@ -190,7 +191,7 @@ asked_stops plan file old new base news count number before mid now end made nam
 
     by_end : (e : End) → IsMade plan file old new (Err e) → AsksForIt (file_name base number) mid now (Err e) → AsksFor news before now e
     by_end code.Done made asks = absurd made
-    by_end (code.Malformed cpu page) made asks = absurd made
+    by_end (code.Malformed cut) made asks = absurd made
     by_end code.Read made (inl none) = asked_few base news (count + 0) before now names (omega (arith, next, few)) (none ∙ so_far)
     by_end code.Read made (inr asked) = begun asked
     by_end code.Write made asks = begun asks

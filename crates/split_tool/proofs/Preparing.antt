@@ -209,6 +209,6 @@ pub written_all : (header : Header) (file : List ℕ) (table : List Part) (lists
     → IsWritten header file table lists (record { lanes = before; written = old }) (record { lanes = now; written = new }) end
 written_all header file table lists before now old mid new code.Done front p =
     record { stands = p.stands; rows = p.rows; gained = gained_both old mid new (front_text header table) (data_of header.layout lists) front p.gained }
-written_all header file table lists before now old mid new (code.Malformed cpu page) front p = p
+written_all header file table lists before now old mid new (code.Malformed cut) front p = p
 written_all header file table lists before now old mid new code.Read front p = tt
 written_all header file table lists before now old mid new code.Write front p = tt

@@ -6,6 +6,7 @@ use Rattle.std.proofs.lemmas.List.{take_at}
 use Rattle.trace_outside.specs.Names.{NamedFiles, SameBut}
 use Rattle.trace_outside.specs.declared.counts.Counts.{Counts}
 use Rattle.trace_outside.specs.Causes.{Rose}
+use Rattle.subpage.specs.declared.cut_place.CutPlace.{CutPlace}
 use Rattle.time_merge.specs.declared.ending.End.{End}
 use Rattle.time_merge.specs.declared.ending.End.TheVariants as code
 use Rattle.split_tool.specs.NewFiles.{LeavesUnfinished, end_by}
@@ -116,7 +117,7 @@ kept_twice before mid now one two = record {
 
 -- HOW MANY FILES COULD NOT BE FINISHED
 
-pub leaves_none : (o : Option (ℕ × ℕ)) (result : End) (before now : ℕ) → result ≡ end_by o → now ≡ before → LeavesUnfinished before now result
+pub leaves_none : (o : Option CutPlace) (result : End) (before now : ℕ) → result ≡ end_by o → now ≡ before → LeavesUnfinished before now result
 leaves_none None result before now is same = subst (λ (end : End). LeavesUnfinished before now end) (sym is) same
 leaves_none (Some bad) result before now is same = subst (λ (end : End). LeavesUnfinished before now end) (sym is) same
 
@@ -126,6 +127,6 @@ leaves_since result first before now same leaves = subst (λ (n : ℕ). LeavesUn
 -- each file that was created is given up or finished
 pub leaves_same : (result : End) (before now : ℕ) → now ≡ before → LeavesUnfinished before now result
 leaves_same code.Done before now same = same
-leaves_same (code.Malformed cpu page) before now same = same
+leaves_same (code.Malformed cut) before now same = same
 leaves_same code.Read before now same = same
 leaves_same code.Write before now same = (omega (arith, same), omega (arith, same))

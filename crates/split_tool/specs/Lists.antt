@@ -2,6 +2,8 @@
 use Rattle.std.specs.Prelude.{ℕ, Bool, ◌&&◌, ◌||◌, not, if◌then◌else◌, List, [], ◌∷◌, map, filter_map, slice_get, Option, None, option_map}
 use Rattle.trace_base.specs.declared.layout.Layout.{Layout}
 use Rattle.subpage.specs.Arrangement.{Keyed, key_of, cpu_of}
+use Rattle.subpage.specs.CutPlaces.{place_of}
+use Rattle.subpage.specs.declared.cut_place.CutPlace.{CutPlace}
 use Rattle.page_pool.specs.declared.lane.Lane.{Lane}
 use Rattle.time_merge.specs.Rows.{Row, coming, least_cut}
 use Rattle.time_merge.specs.LaneRows.{rows_of}
@@ -38,14 +40,14 @@ abbrev pub closes_rows : Rules → List (Row Keyed) → Bool
 closes_rows rules rows =
     has_end rules.stop (come_of rows) || (not rules.repeat && unit_closes rules.unit (left_in_rows rules.stop rows))
 
-abbrev pub bad_in_rows : Rules → List (Row Keyed) → Option (ℕ × ℕ)
+abbrev pub bad_in_rows : Rules → List (Row Keyed) → Option CutPlace
 bad_in_rows rules rows =
-    if closes_rows rules rows then None else option_map (λ cut. (cut.cpu, cut.page)) (least_cut rows)
+    if closes_rows rules rows then None else option_map place_of (least_cut rows)
 
 -- what each list of lanes has left
 abbrev pub lists_left : Layout → List ℕ → Rules → List Lane → List (List Keyed)
 lists_left layout file rules lanes = map (left_in_rows rules.stop) (groups rules (rows_of layout file lanes))
 
 -- and the first malformed sub-buffer that one of them leads to
-abbrev pub bad_left : Layout → List ℕ → Rules → List Lane → Option (ℕ × ℕ)
+abbrev pub bad_left : Layout → List ℕ → Rules → List Lane → Option CutPlace
 bad_left layout file rules lanes = slice_get (filter_map (bad_in_rows rules) (groups rules (rows_of layout file lanes))) 0

@@ -56,7 +56,7 @@ pub record Written (header : Header) (file : List ℕ) (table : List Part) (list
 
 abbrev pub IsWritten : Header → List ℕ → List Part → List (List ItemData) → LanesOutput → LanesOutput → End → Type 0
 IsWritten header file table lists before now code.Done = Written header file table lists before now
-IsWritten header file table lists before now (code.Malformed cpu page) = ⊥
+IsWritten header file table lists before now (code.Malformed cut) = ⊥
 IsWritten header file table lists before now code.Read = Unit {0}
 IsWritten header file table lists before now code.Write = Unit {0}
 
@@ -80,7 +80,7 @@ pub record Made (plan : FilePlan) (file : List ℕ) (before now : LanesFiles) (e
 abbrev pub IsMade : FilePlan → List ℕ → LanesFiles → LanesFiles → Result Ends End → Type 0
 IsMade plan file before now (Ok ends) = Made plan file before now ends
 IsMade plan file before now (Err code.Done) = ⊥
-IsMade plan file before now (Err (code.Malformed cpu page)) = ⊥
+IsMade plan file before now (Err (code.Malformed cut)) = ⊥
 IsMade plan file before now (Err code.Read) = Unit {0}
 IsMade plan file before now (Err code.Write) = Unit {0}
 
@@ -93,8 +93,8 @@ IsFinished name old new = (content : List ℕ) × IfSome old (λ files. new ≡ 
 abbrev pub LeavesFile : List ℕ → List Lane → FolderSeen → FolderSeen → Result Ends End → Type 0
 LeavesFile name lanes before now (Ok ends) = IsFinished name before.files now.files
 LeavesFile name lanes before now (Err code.Done) = ⊥
-LeavesFile name lanes before now (Err (code.Malformed cpu page)) =
-    (now.files ≡ before.files) × TellsHeld lanes (code.Malformed cpu page)
+LeavesFile name lanes before now (Err (code.Malformed cut)) =
+    (now.files ≡ before.files) × TellsHeld lanes (code.Malformed cut)
 LeavesFile name lanes before now (Err code.Read) = now.files ≡ before.files
 LeavesFile name lanes before now (Err code.Write) =
     IsUnmade before.counts.unfinished now.counts.unfinished name before.files now.files

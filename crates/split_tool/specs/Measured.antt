@@ -4,6 +4,7 @@ use Rattle.std.specs.Option.{option_or}
 use Rattle.std.specs.List.{All}
 use Rattle.trace_base.specs.declared.layout.Layout.{Layout}
 use Rattle.subpage.specs.Arrangement.{Keyed}
+use Rattle.subpage.specs.declared.cut_place.CutPlace.{CutPlace}
 use Rattle.page_pool.specs.declared.lane.Lane.{Lane}
 use Rattle.event_cursor.specs.Standing.{Stands, left_of}
 use Rattle.time_merge.specs.LaneRows.{rows_of}
@@ -21,11 +22,11 @@ abbrev pub is_full : PieceEnd → Bool
 is_full code.Full = true
 is_full code.Past = false
 is_full code.Done = false
-is_full (code.Malformed cpu page) = false
+is_full (code.Malformed cut) = false
 
-abbrev pub bad_of_end : PieceEnd → Bool → Option (ℕ × ℕ)
-bad_of_end (code.Malformed cpu page) false = Some (cpu, page)
-bad_of_end (code.Malformed cpu page) true = None
+abbrev pub bad_of_end : PieceEnd → Bool → Option CutPlace
+bad_of_end (code.Malformed cut) false = Some cut
+bad_of_end (code.Malformed cut) true = None
 bad_of_end code.Full closed = None
 bad_of_end code.Past closed = None
 bad_of_end code.Done closed = None

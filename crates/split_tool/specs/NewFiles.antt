@@ -6,6 +6,7 @@ use Rattle.trace_outside.specs.Seen.{FolderSeen}
 use Rattle.trace_outside.specs.Causes.{raised}
 use Rattle.dat_header.specs.declared.header.Header.{Header}
 use Rattle.subpage.specs.Arrangement.{Keyed}
+use Rattle.subpage.specs.declared.cut_place.CutPlace.{CutPlace}
 use Rattle.time_merge.specs.declared.ending.End.{End}
 use Rattle.time_merge.specs.declared.ending.End.TheVariants as code
 use Rattle.split_pieces.specs.declared.rules.Rules.{Rules}
@@ -26,9 +27,9 @@ files_from header base n (xs ∷ more) =
 abbrev pub new_files : Rules → List ℕ → Header → List ℕ → List (ℕ × Part) → List NewFile
 new_files rules base header bytes parts = files_from header base 1 (file_items rules header.layout bytes parts)
 
-abbrev pub end_by : Option (ℕ × ℕ) → End
+abbrev pub end_by : Option CutPlace → End
 end_by None = code.Done
-end_by (Some bad) = code.Malformed bad.0 bad.1
+end_by (Some bad) = code.Malformed bad
 
 -- and how it ends
 abbrev pub end_of : Rules → Header → List ℕ → List (ℕ × Part) → End

@@ -47,7 +47,7 @@ pub record LastUnmade (base : List ℕ) (before now : FolderSeen) : Type 0 where
 -- lane holds where the last file is cut off before it.
 abbrev pub LeavesFiles : List ℕ → List Lane → FolderSeen → FolderSeen → End → Type 0
 LeavesFiles base lanes before now code.Done = AllFinished base before now
-LeavesFiles base lanes before now (code.Malformed cpu page) =
-    AllFinished base before now ⊎ (LastCutOff base before now × TellsHeld lanes (code.Malformed cpu page))
+LeavesFiles base lanes before now (code.Malformed cut) =
+    AllFinished base before now ⊎ (LastCutOff base before now × TellsHeld lanes (code.Malformed cut))
 LeavesFiles base lanes before now code.Read = AllFinished base before now ⊎ LastCutOff base before now
 LeavesFiles base lanes before now code.Write = LastUnmade base before now

@@ -16,6 +16,7 @@ ghost use Rattle.split_tool.specs.Measured.{FileMeasured, ListMeasured, bad_of_e
 use page_pool::Lane;
 use split_passes::{PieceEnd, Tally, measure};
 use split_pieces::{Gauge, Rules};
+use subpage::CutPlace;
 use tournament_tree::TournamentTree;
 use trace_base::Layout;
 use trace_outside::{Failed, File};
@@ -25,8 +26,8 @@ use trace_outside::{Failed, File};
 pub(crate) struct Ends {
     /// A list has an item left that its unit leaves to the next file.
     pub(crate) more: bool,
-    /// The first list that nothing closed ends before this malformed sub-buffer, told by its processor and number.
-    pub(crate) bad: Option<(u32, u64)>,
+    /// The first list that nothing closed ends before this malformed sub-buffer.
+    pub(crate) bad: Option<CutPlace>,
 }
 
 impl Ends {
@@ -60,20 +61,20 @@ fn is_full(end: PieceEnd) -> bool
         PieceEnd::Full => true,
         PieceEnd::Past => false,
         PieceEnd::Done => false,
-        PieceEnd::Malformed { .. } => false,
+        PieceEnd::Malformed(_) => false,
     }
 }
 
 // The malformed sub-buffer after a list, unless something closed it.
-fn bad_of_end(end: PieceEnd, closed: bool) -> Option<(u32, u64)>
+fn bad_of_end(end: PieceEnd, closed: bool) -> Option<CutPlace>
     ensures { result ≡ bad_of_end end closed }
 {
     match end {
-        PieceEnd::Malformed { cpu, page } => {
+        PieceEnd::Malformed(cut) => {
             if closed {
                 return None;
             }
-            Some((cpu, page))
+            Some(cut)
         }
         PieceEnd::Full => None,
         PieceEnd::Past => None,

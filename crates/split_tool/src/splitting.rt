@@ -47,7 +47,7 @@ fn end_by(ends: Ends) -> End
     ensures { result ≡ end_by ends.bad }
 {
     match ends.bad {
-        Some((cpu, page)) => End::Malformed { cpu, page },
+        Some(cut) => End::Malformed(cut),
         None => End::Done,
     }
 }

@@ -62,7 +62,7 @@ fn pass_list<F: File>(
                 used = Some(i);
             }
             Next::Done => return Ok(()),
-            Next::Malformed { .. } => return Ok(()),
+            Next::Malformed(_) => return Ok(()),
         }
     }
 }

@@ -3,6 +3,7 @@ use Rattle.std.specs.Prelude.{◌≡◌, ◌≢◌, ℕ, ◌<◌, All, List, [],
 pub use Rattle.tournament_tree.specs.Least.{IsLeastOf, IsLeastAt}
 use Rattle.trace_base.specs.declared.layout.Layout.{Layout}
 use Rattle.subpage.specs.Arrangement.{Keyed}
+use Rattle.subpage.specs.CutPlaces.{cut_at}
 use Rattle.page_pool.specs.declared.lane.Lane.{Lane}
 use Rattle.page_pool.specs.declared.cursor.LaneState.TheVariants.{Held}
 use Rattle.event_cursor.specs.Stepping.{IsStepped}
@@ -27,15 +28,15 @@ pub record IsNextLane (layout : Layout) (file : List ℕ) (lanes : List Lane) (i
 abbrev pub IsNext : Layout → List ℕ → List Lane → Next → Type 0
 IsNext layout file lanes (code.Lane i) = IsNextLane layout file lanes i
 IsNext layout file lanes code.Done = (to_come layout file lanes ≡ []) × (least_cut (rows_of layout file lanes) ≡ None)
-IsNext layout file lanes (code.Malformed cpu page) =
-    (to_come layout file lanes ≡ []) × ((key : Option ℕ) × (least_cut (rows_of layout file lanes) ≡ Some (record { key = key; cpu = cpu; page = page })))
+IsNext layout file lanes (code.Malformed cut) =
+    (to_come layout file lanes ≡ []) × ((key : Option ℕ) × (least_cut (rows_of layout file lanes) ≡ Some (cut_at key cut)))
 
 -- a lane that is next holds an item
 abbrev pub HoldsNext : Layout → List Lane → Next → Type 0
 HoldsNext layout lanes (code.Lane i) =
     (i < length lanes) × ((d : Lane) → ((slice_index_or lanes i d).cursor.state ≡ Held) × (0 < length (held_left layout (slice_index_or lanes i d))))
 HoldsNext layout lanes code.Done = Unit {0}
-HoldsNext layout lanes (code.Malformed cpu page) = Unit {0}
+HoldsNext layout lanes (code.Malformed cut) = Unit {0}
 
 -- All lanes are ready and keys tell what comes next of them, but for one lane, of which an item was used.
 pub record IsInStepBut (layout : Layout) (lanes : List Lane) (keys : List (Option (Option ℕ))) (i : ℕ) : Type 0 where

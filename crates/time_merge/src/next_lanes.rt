@@ -13,6 +13,7 @@ use crate::best::better;
 use crate::ready::make_all_ready;
 use event_cursor::head_key;
 use page_pool::{Lane, LaneState};
+use subpage::CutPlace;
 use trace_base::Layout;
 use trace_outside::{Failed, File};
 
@@ -24,7 +25,7 @@ pub enum Next {
     /// Nothing: all items were used up.
     Done,
     /// Nothing: the items end before this malformed sub-buffer.
-    Malformed { cpu: u32, page: u64 },
+    Malformed(CutPlace),
 }
 
 /// What comes next of a ready lane: the key of its head, or that of the last item before its malformed sub-buffer.
@@ -82,10 +83,10 @@ pub(crate) fn next_at(layout: &Layout, lanes: &[Lane], least: Option<usize>) -> 
         None => Next::Done,
         Some(i) => {
             if is_malformed(&lanes[i]) {
-                Next::Malformed {
+                Next::Malformed(CutPlace {
                     cpu: lanes[i].cpu,
                     page: lanes[i].cursor.next,
-                }
+                })
             } else {
                 Next::Lane(i)
             }

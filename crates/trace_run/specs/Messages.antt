@@ -5,6 +5,7 @@ use Rattle.dat_options.specs.declared.fault.OpenFault.{OpenFault}
 use Rattle.dat_options.specs.declared.fault.OpenFault.TheVariants.{NotTrace, Compressed, OtherVersion, BadEndian, BadLong, BadPageSize, BadHeaderPage, BadSection, Truncated, TooManyCpus, Read, Memory}
 use Rattle.trace_outside.specs.Causes.{Rose}
 use Rattle.trace_outside.specs.Writing.{Gained, GainedPrefix}
+use Rattle.subpage.specs.declared.cut_place.CutPlace.{CutPlace}
 use Rattle.run_endings.specs.declared.status.Status.{Status}
 use Rattle.run_endings.specs.declared.status.Status.TheVariants.{Done, Usage, Refused, Malformed, ReadFault, WriteFault, NoMemory}
 use Rattle.multi_report.specs.Pieces.{text_of}
@@ -53,15 +54,15 @@ usage_line (Filter word place) =
 abbrev pub refused_text : OpenFault → List ℕ
 refused_text fault = text_of (fault_text fault ∷ codes " at byte " ∷ decimal (fault_place fault) ∷ [])
 
-abbrev pub malformed_text : ℕ → ℕ → List ℕ
-malformed_text cpu page = text_of (codes "malformed sub-page " ∷ decimal page ∷ codes " of processor " ∷ decimal cpu ∷ [])
+abbrev pub malformed_text : CutPlace → List ℕ
+malformed_text cut = text_of (codes "malformed sub-page " ∷ decimal cut.page ∷ codes " of processor " ∷ decimal cut.cpu ∷ [])
 
 -- the line for another answer, of an input of this name; nothing for Done
 abbrev pub message : List ℕ → Status → List ℕ
 message input Done = []
 message input Usage = []
 message input (Refused fault) = text_of (codes "trace-cmd: " ∷ input ∷ codes ": " ∷ refused_text fault ∷ codes "\n" ∷ [])
-message input (Malformed cpu page) = text_of (codes "trace-cmd: " ∷ input ∷ codes ": " ∷ malformed_text cpu page ∷ codes "\n" ∷ [])
+message input (Malformed cut) = text_of (codes "trace-cmd: " ∷ input ∷ codes ": " ∷ malformed_text cut ∷ codes "\n" ∷ [])
 message input ReadFault = text_of (codes "trace-cmd: " ∷ input ∷ codes ": read failed\n" ∷ [])
 message input WriteFault = codes "trace-cmd: write failed\n"
 message input NoMemory = codes "trace-cmd: out of memory\n"

@@ -11,4 +11,5 @@ mod topic;
 
 pub use laws::{differences_by_places, selection_rises, split_files_read_back};
 pub use run_endings::Status;
+pub use subpage::CutPlace;
 pub use top::run;

@@ -10,6 +10,7 @@ use dat_header::OpenFault;
 use itoa::Buffer;
 use run_endings::Status;
 use run_words::UsageFault;
+use subpage::CutPlace;
 use trace_args::WordFault;
 use trace_outside::{Sink, write_parts};
 
@@ -22,9 +23,7 @@ pub(crate) fn say<E: Sink>(input: &str, status: Status, err: &mut E)
         // what is said of words is said by `say_usage`
         Status::Done | Status::Usage => {}
         Status::Refused(fault) => say_of(input, refused_text(fault).as_bytes(), err),
-        Status::Malformed { cpu, page } => {
-            say_of(input, malformed_text(cpu, page).as_bytes(), err)
-        }
+        Status::Malformed(cut) => say_of(input, malformed_text(cut).as_bytes(), err),
         Status::ReadFault => say_parts(&[b"trace-cmd: ", input, b": read failed\n"], err),
         Status::WriteFault => say_parts(&[b"trace-cmd: write failed\n"], err),
         Status::NoMemory => say_parts(&[b"trace-cmd: out of memory\n"], err),
@@ -100,16 +99,16 @@ fn refused_text(fault: OpenFault) -> ArrayString<LONGEST>
     what
 }
 
-fn malformed_text(cpu: u32, page: u64) -> ArrayString<LONGEST>
-    ensures { result.bytes ≡ spec.malformed_text cpu page }
+fn malformed_text(cut: CutPlace) -> ArrayString<LONGEST>
+    ensures { result.bytes ≡ spec.malformed_text cut }
 {
     let mut page_digits = Buffer::new();
     let mut cpu_digits = Buffer::new();
     let mut what = ArrayString::new();
     what.push_str("malformed sub-page ");
-    what.push_str(page_digits.format(page));
+    what.push_str(page_digits.format(cut.page));
     what.push_str(" of processor ");
-    what.push_str(cpu_digits.format(cpu));
+    what.push_str(cpu_digits.format(cut.cpu));
     what
 }
 

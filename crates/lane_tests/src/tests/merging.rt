@@ -14,6 +14,7 @@ use event_cursor::{head, step};
 use page_pool::{Lane, LaneState, Pool};
 use std::alloc::{AllocError, Global};
 use std::test::Fail;
+use subpage::CutPlace;
 use time_merge::{Next, next_lane, set_lanes};
 use trace_base::{ByteText, Layout, Part};
 use trace_outside::{Failed, File, MemFile};
@@ -60,9 +61,7 @@ fn all_keys<F: File>(
                 keys.push(key)?;
             }
             Ok(Next::Done) => return Ok((keys, Ok(Next::Done))),
-            Ok(Next::Malformed { cpu, page }) => {
-                return Ok((keys, Ok(Next::Malformed { cpu, page })));
-            }
+            Ok(Next::Malformed(cut)) => return Ok((keys, Ok(Next::Malformed(cut)))),
             Err(Failed) => return Ok((keys, Err(Failed))),
         }
     }
@@ -111,13 +110,13 @@ const ENDS: &[(Page<'static>, Page<'static>, usize, Next)] = &[
         Malformed,
         Of(&[44, 54]),
         3,
-        Next::Malformed { cpu: 3, page: 2 },
+        Next::Malformed(CutPlace { cpu: 3, page: 2 }),
     ),
     (
         Of(&[40, 45]),
         Malformed,
         4,
-        Next::Malformed { cpu: 7, page: 1 },
+        Next::Malformed(CutPlace { cpu: 7, page: 1 }),
     ),
 ];
 

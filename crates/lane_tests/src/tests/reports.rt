@@ -14,6 +14,7 @@ use report_rounds::{RoundWork, report_rounds};
 use std::alloc::{AllocError, Global};
 use std::test::Fail;
 use std::thread::Threads;
+use subpage::CutPlace;
 use time_merge::End;
 use tournament_tree::TournamentTree;
 use trace_base::ByteText;
@@ -124,10 +125,10 @@ fn end_of(word: &str) -> End {
     if word == "done" {
         Done
     } else {
-        Malformed {
+        Malformed(CutPlace {
             cpu,
             page: u64::from(page),
-        }
+        })
     }
 }
 

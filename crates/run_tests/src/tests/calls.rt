@@ -3,7 +3,7 @@
 use super::inputs::{Carried, Input, LATENCY, Page, Record};
 use super::{Row, run_all};
 use std::test::Fail;
-use trace_run::Status;
+use trace_run::{CutPlace, Status};
 
 const OUTER: u64 = 0x1000;
 
@@ -74,7 +74,7 @@ const ROWS: &[Row] = &[
     Row {
         words: &["report", "--calls"],
         file: BROKEN,
-        status: Status::Malformed { cpu: 1, page: 1 },
+        status: Status::Malformed(CutPlace { cpu: 1, page: 1 }),
         out: "cpus=2\n              sh-7     [000]     0.000001:              | outer() {\nCPU:1 [4 EVENTS DROPPED]\n              sh-7     [000]     0.000005:              | } /* outer */\n",
         err: "trace-cmd: trace.dat: malformed sub-page 1 of processor 1\n",
     },

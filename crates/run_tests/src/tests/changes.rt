@@ -9,7 +9,7 @@ use std::process::Abort;
 use std::test::Fail;
 use std::thread::Threads;
 use trace_outside::{Failed, File, Folder, MemFile, MemFolder, MemSink};
-use trace_run::Status;
+use trace_run::{CutPlace, Status};
 
 /// A file of which so many reads after the header are good. Zeros are read then.
 #[derive(Drop)]
@@ -115,19 +115,19 @@ const SIX: Input = Input::Processors(
 const ROWS: &[(u64, Status, &str, [bool; 3])] = &[
     (
         2,
-        Status::Malformed { cpu: 0, page: 1 },
+        Status::Malformed(CutPlace { cpu: 0, page: 1 }),
         "trace-cmd: trace.dat: malformed sub-page 1 of processor 0\n",
         [false, false, false],
     ),
     (
         5,
-        Status::Malformed { cpu: 0, page: 2 },
+        Status::Malformed(CutPlace { cpu: 0, page: 2 }),
         "trace-cmd: trace.dat: malformed sub-page 2 of processor 0\n",
         [true, false, false],
     ),
     (
         7,
-        Status::Malformed { cpu: 0, page: 2 },
+        Status::Malformed(CutPlace { cpu: 0, page: 2 }),
         "trace-cmd: trace.dat: malformed sub-page 2 of processor 0\n",
         [true, true, false],
     ),

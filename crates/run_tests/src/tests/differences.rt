@@ -6,7 +6,7 @@ use super::inputs::{
 };
 use super::{ONE_REPORT, Row, run_all};
 use std::test::Fail;
-use trace_run::Status;
+use trace_run::{CutPlace, Status};
 
 /// Two consecutive losses between two events.
 const LOSSES: Input = Input::Processors(
@@ -75,7 +75,7 @@ const ROWS: &[Row] = &[
     Row {
         words: &["report", "-t", "--ts-diff"],
         file: MALFORMED_LATER,
-        status: Status::Malformed { cpu: 1, page: 1 },
+        status: Status::Malformed(CutPlace { cpu: 1, page: 1 }),
         out: "cpus=2\n           <...>-1     [000]     0.000000010: [UNKNOWN EVENT 58]\n           <...>-2     [001]     0.000000020 (+10): [UNKNOWN EVENT 58]\n",
         err: "trace-cmd: trace.dat: malformed sub-page 1 of processor 1\n",
     },

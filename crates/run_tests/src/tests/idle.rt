@@ -4,7 +4,7 @@ use super::inputs::{Carried, Input, Page, Record};
 use super::known::{NEXT, WOKEN};
 use super::{Row, run_all};
 use std::test::Fail;
-use trace_run::Status;
+use trace_run::{CutPlace, Status};
 
 /// Of six processors the second has an event at the time 20, the fifth two at 10 and 30.
 const TWO_OF_SIX: Input = Input::Processors(
@@ -93,7 +93,7 @@ const ROWS: &[Row] = &[
     Row {
         words: &["report", "-t"],
         file: MALFORMED_OF_FIVE,
-        status: Status::Malformed { cpu: 3, page: 1 },
+        status: Status::Malformed(CutPlace { cpu: 3, page: 1 }),
         out: "cpus=5\n           <...>-3     [003]     0.000000010: [UNKNOWN EVENT 58]\n",
         err: "trace-cmd: trace.dat: malformed sub-page 1 of processor 3\n",
     },
@@ -123,21 +123,21 @@ const ROWS: &[Row] = &[
     Row {
         words: &["report"],
         file: Input::PartAt(200, 1),
-        status: Status::Malformed { cpu: 0, page: 0 },
+        status: Status::Malformed(CutPlace { cpu: 0, page: 0 }),
         out: "cpus=1\n",
         err: "trace-cmd: trace.dat: malformed sub-page 0 of processor 0\n",
     },
     Row {
         words: &["report", "-w"],
         file: Input::PartAt(200, 1),
-        status: Status::Malformed { cpu: 0, page: 0 },
+        status: Status::Malformed(CutPlace { cpu: 0, page: 0 }),
         out: "cpus=1\nwakeups=0\n",
         err: "trace-cmd: trace.dat: malformed sub-page 0 of processor 0\n",
     },
     Row {
         words: &["report", "--calls"],
         file: Input::PartAt(0, 4095),
-        status: Status::Malformed { cpu: 0, page: 0 },
+        status: Status::Malformed(CutPlace { cpu: 0, page: 0 }),
         out: "cpus=1\n",
         err: "trace-cmd: trace.dat: malformed sub-page 0 of processor 0\n",
     },

@@ -7,7 +7,7 @@ use std::alloc::{AllocError, Global};
 use std::process::Abort;
 use std::test::Fail;
 use std::thread::Threads;
-use trace_run::Status;
+use trace_run::{CutPlace, Status};
 
 struct Row {
     words: &'static [&'static str],
@@ -41,7 +41,7 @@ const ROWS: &[Row] = &[
         made: Some((
             8292,
             (
-                Status::Malformed { cpu: 1, page: 0 },
+                Status::Malformed(CutPlace { cpu: 1, page: 0 }),
                 "cpus=2\n",
                 "trace-cmd: out.dat: malformed sub-page 0 of processor 1\n",
             ),

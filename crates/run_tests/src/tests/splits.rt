@@ -11,7 +11,7 @@ use std::process::Abort;
 use std::test::Fail;
 use std::thread::Threads;
 use trace_outside::MemFolder;
-use trace_run::Status;
+use trace_run::{CutPlace, Status};
 
 struct Row {
     words: &'static [&'static str],
@@ -145,7 +145,7 @@ const ROWS: &[Row] = &[
     Row {
         words: &["split", "-o", "p"],
         file: MALFORMED_LATER,
-        status: Status::Malformed { cpu: 1, page: 1 },
+        status: Status::Malformed(CutPlace { cpu: 1, page: 1 }),
         err: "trace-cmd: trace.dat: malformed sub-page 1 of processor 1\n",
         files: &[(
             "p.1",

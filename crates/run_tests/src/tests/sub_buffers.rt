@@ -8,7 +8,7 @@ use std::process::Abort;
 use std::test::Fail;
 use std::thread::Threads;
 use trace_outside::MemFolder;
-use trace_run::Status;
+use trace_run::{CutPlace, Status};
 
 /// A file of pages of 4,096 bytes and one processor: how many bytes of data a sub-buffer has, as the header_page text says it
 /// (they stand after 16 bytes); how many sub-buffers stand in the file from its second page on; and how many bytes the table
@@ -59,14 +59,14 @@ const ROWS: &[Row] = &[
     Row {
         words: &["report"],
         trace: Trace(8_176, 1, 4_096),
-        status: Status::Malformed { cpu: 0, page: 0 },
+        status: Status::Malformed(CutPlace { cpu: 0, page: 0 }),
         out: "cpus=1\n",
         err: "trace-cmd: trace.dat: malformed sub-page 0 of processor 0\n",
     },
     Row {
         words: &["report", "--workers", "3"],
         trace: Trace(8_176, 2, 12_288),
-        status: Status::Malformed { cpu: 0, page: 1 },
+        status: Status::Malformed(CutPlace { cpu: 0, page: 1 }),
         out: "cpus=1\n           <...>-7     [000]     1.000000: [UNKNOWN EVENT 58]\n",
         err: "trace-cmd: trace.dat: malformed sub-page 1 of processor 0\n",
     },

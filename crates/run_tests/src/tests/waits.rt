@@ -4,7 +4,7 @@ use super::inputs::{Carried, Input, LATENCY, Page, Record};
 use super::known::{NEXT, WOKEN};
 use super::{Row, run_all};
 use std::test::Fail;
-use trace_run::Status;
+use trace_run::{CutPlace, Status};
 
 /// Two wake-ups of task 42, and two switches to it.
 pub(super) const WAITS: Input = Input::Processors(
@@ -88,7 +88,7 @@ const ROWS: &[Row] = &[
     Row {
         words: &["report", "-w", "-F", "none"],
         file: ACROSS,
-        status: Status::Malformed { cpu: 1, page: 1 },
+        status: Status::Malformed(CutPlace { cpu: 1, page: 1 }),
         out: "cpus=2\nwakeups=1\n           <...>-42    [001]     0.000003: latency 2.000 us\naverage 2.000 us\nmaximum 2.000 us at 0.000003\nminimum 2.000 us at 0.000003\n",
         err: "trace-cmd: trace.dat: malformed sub-page 1 of processor 1\n",
     },

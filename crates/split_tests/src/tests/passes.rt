@@ -17,6 +17,7 @@ use split_passes::{PieceEnd, Tally, clear, measure, note_fronts, pack_all};
 use split_pieces::Gauge;
 use std::alloc::Global;
 use std::test::Fail;
+use subpage::CutPlace;
 use time_merge::{End, make_all_ready};
 use tournament_tree::TournamentTree;
 use trace_base::{Layout, Part};
@@ -290,7 +291,7 @@ fn put_end(text: &mut String, end: PieceEnd) -> Result<(), Fail> {
         PieceEnd::Full => text.push_str(";full")?,
         PieceEnd::Past => text.push_str(";past")?,
         PieceEnd::Done => text.push_str(";done")?,
-        PieceEnd::Malformed { cpu, page } => write!(text, ";malformed {cpu} {page}")?,
+        PieceEnd::Malformed(cut) => write!(text, ";malformed {} {}", cut.cpu, cut.page)?,
     }
     Ok(())
 }
@@ -374,13 +375,13 @@ const FAULTS: &[(u64, Then, u64, Result<(PieceEnd, End), Failed>)] = &[
         3,
         Then::Zeros,
         8192,
-        Ok((Done, End::Malformed { cpu: 0, page: 1 })),
+        Ok((Done, End::Malformed(CutPlace { cpu: 0, page: 1 }))),
     ),
     (
         5,
         Then::Zeros,
         8192,
-        Ok((Done, End::Malformed { cpu: 1, page: 0 })),
+        Ok((Done, End::Malformed(CutPlace { cpu: 1, page: 0 }))),
     ),
     (6, Then::Fails, 0, Ok((Done, End::Write))),
     (6, Then::Fails, 4096, Ok((Done, End::Write))),

@@ -144,7 +144,7 @@ pub(super) fn split_into<D: Folder>(
 pub(super) fn put_end(text: &mut String, end: End) -> Result<(), Fail> {
     match end {
         End::Done => text.push_str("done")?,
-        End::Malformed { cpu, page } => write!(text, "malformed {cpu} {page}")?,
+        End::Malformed(cut) => write!(text, "malformed {} {}", cut.cpu, cut.page)?,
         End::Read => text.push_str("read")?,
         End::Write => text.push_str("write")?,
     }

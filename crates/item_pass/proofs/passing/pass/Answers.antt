@@ -77,7 +77,7 @@ returns-in-Malformed-clause-gathered g c =
     let l = c.args.layout.now in
     let m = g.G.Gatherer.matters c.args.gatherer.now in
     told_map _ _ (g.F.File.bytes c.args.file.now) (λ file p. all_passed m l _ file c.args.lanes.now c.next_lane_by.new.lanes c.requires.fresh p.1.0 p.0)
-    (loaded m l _ (g.F.File.bytes c.args.file.now) (g.F.File.bytes c.loop-nexts.file) c.args.lanes.now c.loop-nexts.lanes c.next_lane_by.new.lanes (code.Malformed c.in-Malformed.cpu c.in-Malformed.page)
+    (loaded m l _ (g.F.File.bytes c.args.file.now) (g.F.File.bytes c.loop-nexts.file) c.args.lanes.now c.loop-nexts.lanes c.next_lane_by.new.lanes (code.Malformed c.in-Malformed.cut)
     c.loop-nexts.invariant.keeps.bytes c.loop-nexts.invariant.passed c.next_lane_by.ensures.loads.rows c.next_lane_by.ensures.loads.stands (next_is l _ _ c.next_lane_by.new.lanes c.in-Malformed.is c.in_ok-i.ensures.next))
 
 pub returns-in-Done-clause-cut : goal.returns-in-Done-clause-cut
@@ -91,8 +91,8 @@ pub returns-in-Malformed-clause-cut : goal.returns-in-Malformed-clause-cut
 returns-in-Malformed-clause-cut g c =
     let l = c.args.layout.now in
     told_map _ _ (g.F.File.bytes c.args.file.now)
-    (λ file p. one_cut l file c.args.lanes.now c.next_lane_by.new.lanes c.in-Malformed.cpu c.in-Malformed.page (c.next_lane_by.ensures.loads.parts ∙ c.loop-nexts.invariant.parts) p.1.1)
-    (loaded (g.G.Gatherer.matters c.args.gatherer.now) l _ (g.F.File.bytes c.args.file.now) (g.F.File.bytes c.loop-nexts.file) c.args.lanes.now c.loop-nexts.lanes c.next_lane_by.new.lanes (code.Malformed c.in-Malformed.cpu c.in-Malformed.page)
+    (λ file p. one_cut l file c.args.lanes.now c.next_lane_by.new.lanes c.in-Malformed.cut (c.next_lane_by.ensures.loads.parts ∙ c.loop-nexts.invariant.parts) p.1.1)
+    (loaded (g.G.Gatherer.matters c.args.gatherer.now) l _ (g.F.File.bytes c.args.file.now) (g.F.File.bytes c.loop-nexts.file) c.args.lanes.now c.loop-nexts.lanes c.next_lane_by.new.lanes (code.Malformed c.in-Malformed.cut)
     c.loop-nexts.invariant.keeps.bytes c.loop-nexts.invariant.passed c.next_lane_by.ensures.loads.rows c.next_lane_by.ensures.loads.stands (next_is l _ _ c.next_lane_by.new.lanes c.in-Malformed.is c.in_ok-i.ensures.next))
 
 pub returns-in-Err-clause-reads : goal.returns-in-Err-clause-reads

@@ -75,7 +75,7 @@ pub returns-in-Cut-clause-turned : goal.returns-in-Cut-clause-turned
 returns-in-Cut-clause-turned g c = λ before whole under.
     let f = seen g.F.File g.L.LineFormat.text in
     let lt = slot_of f c.args.sources.now c.args.nexts.now c.in-Some.j c.in-Some.ensures.inside c.requires.slots in
-    turn_cut before whole (map f c.args.sources.now) c.args.nexts.now c.in-Some.j lt _ _ _ c.in-Some.ensures.least.0 c.in-Cut.cpu c.in-Cut.page _ c.end_with-in-Cut.result c.in-Some.ensures.least.1 c.in-Cut.ensures.taken
+    turn_cut before whole (map f c.args.sources.now) c.args.nexts.now c.in-Some.j lt _ _ _ c.in-Some.ensures.least.0 c.in-Cut.cut _ c.end_with-in-Cut.result c.in-Some.ensures.least.1 c.in-Cut.ensures.taken
     c.end_with-in-Cut.ensures.ended under
 
 pub returns-in-Cut-clause-read : goal.returns-in-Cut-clause-read

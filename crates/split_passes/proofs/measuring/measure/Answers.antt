@@ -176,7 +176,7 @@ returns-in-Malformed-clause-measured g c =
     let r = h s t in
     let m = all_measured l file c.args.stop c.args.gauge.now c.loop-i.gauge c.args.lanes.now c.next_lane_by.new.lanes c.loop-i.tallies r.1.0 r.0 in
     (m.0, (r.1.0, m.1, r.1.1)))
-    (loaded l (g.F.File.bytes c.args.file.now) (g.F.File.bytes c.loop-i.file) c.args.stop c.args.gauge.now c.loop-i.gauge c.args.lanes.now c.loop-i.lanes c.next_lane_by.new.lanes c.args.tallies.now c.loop-i.tallies (code.Malformed c.in-Malformed.cpu c.in-Malformed.page)
+    (loaded l (g.F.File.bytes c.args.file.now) (g.F.File.bytes c.loop-i.file) c.args.stop c.args.gauge.now c.loop-i.gauge c.args.lanes.now c.loop-i.lanes c.next_lane_by.new.lanes c.args.tallies.now c.loop-i.tallies (code.Malformed c.in-Malformed.cut)
     c.loop-i.invariant.keeps.bytes c.loop-i.invariant.parts c.next_lane_by.ensures.loads.parts c.loop-i.invariant.runs c.next_lane_by.ensures.loads.rows c.next_lane_by.ensures.loads.stands (next_is c.args.layout.now _ _ c.next_lane_by.new.lanes c.in-Malformed.is c.in_ok-i.ensures.next))
 
 pub returns-in-Past-clause-through : goal.returns-in-Past-clause-through

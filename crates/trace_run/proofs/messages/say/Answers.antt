@@ -10,7 +10,7 @@ returns-in-Refused g c =
 pub returns-in-Malformed : goal.returns-in-Malformed
 returns-in-Malformed g c =
     rw c.in-Malformed.is
-    (said_of c.args.input.now _ (malformed_text c.in-Malformed.cpu c.in-Malformed.page) _ _ _ c.as_bytes-input.ensures.value
+    (said_of c.args.input.now _ (malformed_text c.in-Malformed.cut) _ _ _ c.as_bytes-input.ensures.value
     (c.as_bytes-in-Malformed.ensures.value ∙ c.deref-in-Malformed.ensures.0 ∙ c.malformed_text.ensures) c.say_of-in-Malformed.ensures)
 
 pub returns-in-ReadFault : goal.returns-in-ReadFault

@@ -37,5 +37,5 @@ returns-in-Ok-Done-clause-through g c =
 
 pub returns-in-Ok-Malformed-clause-through : goal.returns-in-Ok-Malformed-clause-through
 returns-in-Ok-Malformed-clause-through g c =
-    all_gone c.args.layout.now (g.F.File.bytes c.args.file.now) (g.F.File.bytes c.loop-i.file) c.args.lanes.now c.loop-i.lanes c.next_lane.new.lanes c.loop-i.keys.items (code.Malformed c.in-Ok-Malformed.cpu c.in-Ok-Malformed.page)
-    c.loop-i.invariant.keeps.bytes (λ i e. let h : code.Malformed c.in-Ok-Malformed.cpu c.in-Ok-Malformed.page ≡ code.Lane i = e in cc) c.next_lane.ensures.loads.parts c.loop-i.invariant.parts c.loop-i.invariant.gone c.next_lane.ensures.loads.rows (next_is c.args.layout.now _ _ c.next_lane.new.lanes c.in-Ok-Malformed.field-0-is c.in-Ok-Malformed.ensures.next)
+    all_gone c.args.layout.now (g.F.File.bytes c.args.file.now) (g.F.File.bytes c.loop-i.file) c.args.lanes.now c.loop-i.lanes c.next_lane.new.lanes c.loop-i.keys.items (code.Malformed c.in-Ok-Malformed.cut)
+    c.loop-i.invariant.keeps.bytes (λ i e. let h : code.Malformed c.in-Ok-Malformed.cut ≡ code.Lane i = e in cc) c.next_lane.ensures.loads.parts c.loop-i.invariant.parts c.loop-i.invariant.gone c.next_lane.ensures.loads.rows (next_is c.args.layout.now _ _ c.next_lane.new.lanes c.in-Ok-Malformed.field-0-is c.in-Ok-Malformed.ensures.next)
