@@ -9,12 +9,13 @@ use Rattle.trace_base.specs.declared.order.Order.{Order}
 use Rattle.trace_base.specs.Number.{num}
 use Rattle.subpage.specs.declared.loss.Loss.{Loss}
 use Rattle.subpage.specs.declared.mark.Mark.{Mark}
+use Rattle.subpage.specs.declared.run.Reached.{Reached}
 use Rattle.subpage.specs.Element.{Event, type_len, time_delta}
 use Rattle.subpage.specs.ItemData.{ItemData, EventAt}
 use Rattle.subpage.specs.RunningTime.{in_64_bits}
 use Rattle.subpage.specs.NextEvent.{IsShort}
 use Rattle.subpage.specs.Marks.{bytes_from, item_by, items_from, IsMark}
-use Rattle.subpage.specs.PlainRecord.{IsPlainFront}
+use Rattle.subpage.specs.PlainRecord.{IsFurther, IsPlainFront, mark_at}
 use Rattle.subpage.specs.Run.{IsPlain, IsRun, nothing, begins_with, run_bytes, IsRunTo, NonePlain}
 use Rattle.subpage.proofs.Payloads.{piece_of, short_is, short_passed, short_told}
 use Rattle.subpage.proofs.Walking.{walk_late}
@@ -142,7 +143,7 @@ plain_in_time l page m delta payload front back here whole is late =
     absurd cc
 
 -- The one that was found is the only one: where its event is too late, there is none.
-same_delta : (order : Order) (time after len delta : ℕ) (payload front back bytes : List ℕ) → (f : IsPlainFront order time bytes (Some (after, len))) → bytes ≡ front ++ back
+pub same_delta : (order : Order) (time after len delta : ℕ) (payload front back bytes : List ℕ) → (f : IsPlainFront order time bytes (Some (after, len))) → bytes ≡ front ++ back
     → IsPlain order delta payload front → delta ≡ f.0
 same_delta order time after len delta payload front back bytes f whole is =
     let p = plain_at order delta payload front back bytes whole is in
@@ -249,3 +250,49 @@ none_timed false n e = refl
 
 pub no_time : (time : ℕ) → None ≡ in_64_bits time → 2 ^ 64 ≤ time
 no_time time e = ltb-false _ _ (none_timed (ltb time (2 ^ 64)) time e)
+
+-- ONE RECORD FURTHER
+
+-- a plain record at the front after a later running time
+plain_later : (order : Order) (time delta len : ℕ) (bytes : List ℕ) → time + delta < 2 ^ 64 → IsPlainFront order 0 bytes (Some (delta, len)) → IsPlainFront order time bytes (Some (time + delta, len))
+plain_later order time delta len bytes small plain =
+    let own : time + delta ≡ time + plain.0 = omega (arith, plain.1.1.0) in
+    (plain.0, (plain.1.0, (own, small)))
+
+pub further_passed : (l : Layout) (page bytes : List ℕ) (until to end : ℕ) (reached next : Reached) → until < 2 ^ 64 → IsMark l page (mark_at until to reached) → bytes ≡ take end page
+    → reached.from ≤ end → end ≤ to → reached.left ≤ until → IsFurther l.order bytes reached (Some next)
+    → IsRunTo l page (mark_at until to reached) (mark_at until to next) 1
+further_passed l page bytes until to end reached next small here are forward within left further =
+    let m = mark_at until to reached in
+    let f = subst (λ (b : List ℕ). IsFurther l.order b reached (Some next)) are further in
+    let delta = f.0 in
+    let len = next.from - (reached.from + 4) in
+    let past : reached.from + 4 ≤ next.from = f.1.1.0 in
+    let time : m.time + delta ≡ until - next.left = omega (arith, f.1.0, left) in
+    let in_time : m.time + delta < 2 ^ 64 = omega (arith, time, small) in
+    let place : m.from + 4 + len ≡ next.from = omega (arith, past) in
+    let room : 4 + len ≤ length (drop m.from (take end page)) = omega (arith, length-drop m.from (take end page), f.1.1.1.0, past) in
+    let plain = plain_later l.order m.time delta len (drop m.from (take end page)) in_time f.1.1.1.1 in
+    let found = found_before l page m (m.time + delta) len end (drop m.from (take end page)) forward within refl room plain in
+    let short = plain_is_short l.order m.time (m.time + delta) len (bytes_from page m) found.enough found.plain in
+    let run = plain_passed l page m (m.time + delta) len refl here short found.plain in
+    let timed = subst (λ (t : ℕ). IsRunTo l page m (record { loss = None; time = t; from = m.from + 4 + len; to = to }) 1) time run in
+    subst (λ (n : ℕ). IsRunTo l page m (record { loss = None; time = until - next.left; from = n; to = to }) 1) place timed
+
+pub further_none : (l : Layout) (page bytes : List ℕ) (until to end : ℕ) (reached : Reached) → bytes ≡ take end page
+    → reached.from ≤ end → end ≤ to → reached.left ≤ until → IsFurther l.order bytes reached None
+    → NonePlain l page (mark_at until to reached) (end - reached.from) until
+further_none l page bytes until to end reached are forward within left none = λ delta payload front back whole is fits due.
+    let size = end - reached.from in
+    let cut : drop reached.from bytes ≡ front ++ take (size - length front) back =
+    ap (drop reached.from) are ∙ cut_bytes page reached.from end to forward within ∙ ap (take size) whole ∙ front_taken front back size fits in
+    let late : reached.left < delta = none delta payload front (take (size - length front) back) cut is in
+    absurd (omega (arith, late, due, left))
+
+-- a place from which a run is gone over is where the run has come to
+pub first_reached : (l : Layout) (page : List ℕ) (mark first : Mark) (until count : ℕ) → IsRunTo l page mark first count → first.time ≤ until
+    → IsRunTo l page mark (mark_at until first.to (record { from = first.from; left = until - first.time })) count
+first_reached l page mark first until count run in_time =
+    let time : first.time ≡ until - (until - first.time) = omega (arith, in_time) in
+    subst (λ (t : ℕ). IsRunTo l page mark (record { loss = None; time = t; from = first.from; to = first.to }) count) time
+    (subst (λ (m : Mark). IsRunTo l page mark m count) (sym run.event) run)

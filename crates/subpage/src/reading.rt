@@ -4,7 +4,7 @@ ghost use Rattle.std.specs.Prelude.{◌≡◌, ◌-◌, ◌^◌, ◌<◌, ◌≤
 ghost use Rattle.subpage.specs.Element.{round4, type_len, time_delta};
 ghost use Rattle.subpage.specs.ElementView.{split_view};
 ghost use Rattle.subpage.specs.NextEvent.{IsShort};
-ghost use Rattle.subpage.specs.PlainRecord.{IsPlainFront};
+ghost use Rattle.subpage.specs.PlainRecord.{IsPlainFront, IsPlainFrom};
 ghost use Rattle.subpage.specs.Reading.{word_at, counted_at, short_event_at, long_event_at, discarded_at, extend_at, stamp_at, rest_at, element_at};
 
 use crate::element::Element;
@@ -172,4 +172,26 @@ pub fn short_event(order: Order, time: u64, bytes: &[u8]) -> Option<(u64, u32)>
         return None;
     };
     Some((after, len))
+}
+
+/// The delta of the event at a place and the place after it, where its first word tells the length of its payload.
+#[inline(always)]
+pub fn plain_event(order: Order, bytes: &[u8], from: usize) -> Option<(u32, usize)>
+    requires { from ≤ length bytes.now }
+    ensures { IsPlainFrom order bytes.now from result }
+{
+    if bytes.len() < from + 4 {
+        return None;
+    }
+    let (_, rest) = bytes.split_at(from);
+    let word = read_u32(order, rest);
+    let kind = type_len_of(order, word);
+    if kind == 0 || kind > 28 {
+        return None;
+    }
+    let behind = from + 4 + 4 * kind as usize;
+    if bytes.len() < behind {
+        return None;
+    }
+    Some((time_delta_of(order, word), behind))
 }

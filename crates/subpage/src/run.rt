@@ -1,13 +1,13 @@
 // Runs of plain records, which can be copied as they stand.
 
-ghost use Rattle.std.specs.Prelude.{◌≡◌, ◌+◌, ◌-◌, ◌<◌, ◌≤◌, min, IfSome, None};
+ghost use Rattle.std.specs.Prelude.{◌≡◌, ◌+◌, ◌-◌, ◌^◌, ◌<◌, ◌≤◌, length, min, IfSome, None};
 ghost use Rattle.subpage.specs.Marks.{IsMark};
-ghost use Rattle.subpage.specs.PlainRecord.{IsPlainPassed};
+ghost use Rattle.subpage.specs.PlainRecord.{IsFurther, IsPlainPassed, mark_at};
 ghost use Rattle.subpage.specs.Run.{run_bytes, time_at, IsBetween, IsRunFound, IsRunTo, NonePlain};
 
 use crate::mark::{Mark, bytes_behind};
-use crate::reading::short_event;
-use trace_base::Layout;
+use crate::reading::{plain_event, short_event};
+use trace_base::{Layout, Order};
 
 /// How far a run goes at most.
 #[derive(Clone, Copy, Debug)]
@@ -63,6 +63,52 @@ fn pass_plain(layout: &Layout, page: &[u8], mark: Mark, end: u32, until: u64) ->
     })
 }
 
+/// How far a run has come.
+#[derive(Clone, Copy, Debug)]
+struct Reached {
+    /// Where its bytes end.
+    from: usize,
+    /// How much later than its last event a further one may be.
+    left: u64,
+}
+
+impl Reached {
+    /// The position there, of a run whose events are no later than `until`.
+    #[inline(always)]
+    fn mark(&self, until: u64, to: u32) -> Mark
+        requires from { self.now.from < 2 ^ 32 }
+        requires left { self.now.left ≤ until }
+        ensures { result ≡ mark_at until to self.now }
+    {
+        Mark {
+            loss: None,
+            time: until - self.left,
+            from: self.from as u32,
+            to,
+        }
+    }
+}
+
+/// One plain record further, where it ends within the bytes and its event is not too late. What moves from record to record is
+/// only what the next one is tried against.
+#[inline(always)]
+fn pass_further(order: Order, bytes: &[u8], reached: Reached) -> Option<Reached>
+    requires { reached.from ≤ length bytes.now }
+    ensures { IsFurther order bytes.now reached result }
+{
+    let Some((delta, behind)) = plain_event(order, bytes, reached.from) else {
+        return None;
+    };
+    let delta = u64::from(delta);
+    if reached.left < delta {
+        return None;
+    }
+    Some(Reached {
+        from: behind,
+        left: reached.left - delta,
+    })
+}
+
 /// The position after a run that begins with one record, and how many records it has.
 fn longest_run(
     layout: &Layout,
@@ -70,32 +116,36 @@ fn longest_run(
     mark: Mark,
     first: Mark,
     end: u32,
-    limits: &RunLimits,
+    limits: RunLimits,
 ) -> (Mark, u32)
     requires first { IsRunTo layout.now page.now mark first 1 }
     requires end { first.from ≤ end }
     requires within { end ≤ first.to }
-    requires in_time { time_at first ≤ limits.now.until }
-    requires some { 0 < limits.now.events }
+    requires in_time { time_at first ≤ limits.until }
+    requires some { 0 < limits.events }
     ensures run { IsRunTo layout.now page.now mark result.0 result.1 }
     ensures some { 0 < result.1 }
-    ensures few { result.1 ≤ limits.now.events }
+    ensures few { result.1 ≤ limits.events }
     ensures end { result.0.from ≤ end }
     ensures same { result.0.to ≡ first.to }
-    ensures in_time { time_at result.0 ≤ limits.now.until }
-    ensures longest { result.1 < limits.now.events
-        → NonePlain layout.now page.now result.0 (end - result.0.from) limits.now.until }
+    ensures in_time { time_at result.0 ≤ limits.until }
+    ensures longest { result.1 < limits.events
+        → NonePlain layout.now page.now result.0 (end - result.0.from) limits.until }
 {
-    let mut next = first;
-    let mut count = 1;
-    while count < limits.events {
-        let Some(further) = pass_plain(layout, page, next, end, limits.until) else {
-            return (next, count);
+    let (bytes, _) = page.split_at(end as usize);
+    let mut reached = Reached {
+        from: first.from as usize,
+        left: limits.until - first.time,
+    };
+    let mut more = limits.events - 1;
+    while 0 < more {
+        let Some(further) = pass_further(layout.order, bytes, reached) else {
+            return (reached.mark(limits.until, first.to), limits.events - more);
         };
-        next = further;
-        count += 1;
+        reached = further;
+        more -= 1;
     }
-    (next, count)
+    (reached.mark(limits.until, first.to), limits.events)
 }
 
 /// The longest run of plain records from a position on within the limits: the position after it, and how many events it has.
@@ -122,7 +172,7 @@ pub fn plain_run(
     let Some(first) = pass_plain(layout, page, mark, end, limits.until) else {
         return None;
     };
-    Some(longest_run(layout, page, mark, first, end, limits))
+    Some(longest_run(layout, page, mark, first, end, *limits))
 }
 
 /// The bytes between two positions.

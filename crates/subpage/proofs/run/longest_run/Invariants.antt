@@ -1,17 +1,16 @@
-use Rattle.std.proofs.Common.{◌≡◌, ◌<◌, ◌≤◌, ◌-◌}
-use Rattle.subpage.specs.Run.{IsRunTo, time_at}
+use Rattle.std.proofs.Common.{◌<◌, ◌≤◌, ◌-◌}
+use Rattle.subpage.specs.PlainRecord.{mark_at}
+use Rattle.subpage.specs.Run.{IsRunTo}
 use Rattle.subpage.proofs.run.longest_run.Given as goal
 
 -- the records up to here
-abbrev pub invariant-loop-count : goal.invariant-loop-count
-invariant-loop-count l = record {
-  run : IsRunTo l.layout l.page l.fn.mark l.next l.count;
-  end : l.next.from ≤ l.end;
-  same : l.next.to ≡ l.fn.first.to;
-  in_time : time_at l.next ≤ l.limits.until;
-  some : 0 < l.count;
-  most : l.count ≤ l.limits.events;
+abbrev pub invariant-loop-more : goal.invariant-loop-more
+invariant-loop-more l = record {
+  run : IsRunTo l.layout l.page l.fn.mark (mark_at l.limits.until l.fn.first.to l.reached) (l.limits.events - l.more);
+  end : l.reached.from ≤ l.end;
+  left : l.reached.left ≤ l.limits.until;
+  some : l.more < l.limits.events;
 }
 
-abbrev pub decreases-loop-count : goal.decreases-loop-count
-decreases-loop-count l = l.limits.events - l.count
+abbrev pub decreases-loop-more : goal.decreases-loop-more
+decreases-loop-more l = l.more
