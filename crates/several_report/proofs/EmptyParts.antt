@@ -12,7 +12,7 @@ use Rattle.multi_report.specs.Order.{FileCut, FileItem, ShownFile, arranged, cut
 use Rattle.multi_report.specs.Reports.{head_line, line_in, line_of, lines, pieces}
 use Rattle.run_endings.specs.Meaning.{prints}
 use Rattle.several_report.specs.Meaning.{ended_in, files_report}
-use Rattle.several_report.specs.Sources.{without_empty}
+use Rattle.several_report.specs.Opened.{without_empty}
 
 cuts_same : (n : ℕ) (files : List ShownFile) → filter_map own_cut_in (numbered_from n (map without_empty files)) ≡ filter_map own_cut_in (numbered_from n files)
 cuts_same n [] = refl

@@ -19,7 +19,7 @@ use Rattle.run_endings.specs.Outside.{FolderSeen, Outside, SinkSeen, beside}
 use Rattle.run_endings.specs.Ran.{MissesNothingElse}
 use Rattle.run_endings.specs.Ran.{JobRan}
 use Rattle.several_report.specs.Ran.{FilesRan}
-use Rattle.several_report.specs.Sources.{FilesReported}
+use Rattle.several_report.specs.Reported.{FilesReported}
 use Rattle.run_endings.proofs.Endings.{Around, CleanAround, ended_around, ended_complete, no_memory_map, not_usage, unbegun}
 use Rattle.run_endings.proofs.Requesting.{asked_none, asked_still}
 use Rattle.run_endings.proofs.Reading.{both_behind}

@@ -32,7 +32,9 @@ use Rattle.several_report.specs.Naming.{IsInputOf, IsHeldNamed}
 use Rattle.run_endings.specs.Outside.{FolderSeen, SinkSeen, beside}
 use Rattle.run_endings.specs.Output.{Shows, Writes}
 use Rattle.run_endings.specs.Ran.{MissesNothingElse}
-use Rattle.several_report.specs.Sources.{AreInputs, AreOpened, FilesReported, file_in, reads_due, source_of, source_seen, status_of_files}
+use Rattle.several_report.specs.OpenInput.{file_in, source_seen}
+use Rattle.several_report.specs.Opened.{AreInputs, AreOpened, reads_due}
+use Rattle.several_report.specs.Reported.{FilesReported, source_of, status_of_files}
 use Rattle.report_context.specs.declared.lines.ItemLines.{ItemLines}
 use Rattle.report_context.proofs.LineLength.{line_short}
 use Rattle.run_endings.proofs.Endings.{Around, ended_around, known_so, if_known}

@@ -30,7 +30,9 @@ use Rattle.run_endings.specs.Meaning.{only}
 use Rattle.several_report.specs.Naming.{IsInputOf}
 use Rattle.run_endings.specs.Outside.{FolderSeen, SinkSeen, beside}
 use Rattle.run_endings.specs.Ran.{MissesNothingElse}
-use Rattle.several_report.specs.Sources.{AreInputs, AreOpened, IsFaultless, IsInput, IsOpened, IsUnopened, LeavesHeld, FilesReported, StandsAt, file_in, reads_due, without_empty}
+use Rattle.several_report.specs.OpenInput.{file_in}
+use Rattle.several_report.specs.Opened.{AreInputs, AreOpened, IsFaultless, IsInput, IsOpened, IsUnopened, LeavesHeld, reads_due, without_empty}
+use Rattle.several_report.specs.Reported.{FilesReported, StandsAt}
 use Rattle.run_endings.proofs.Endings.{if_known, stored_none, known_so}
 use Rattle.run_endings.proofs.Requesting.{asked_front, asked_more}
 use Rattle.run_words.proofs.Readings.{readings_fault, readings_more}
@@ -79,13 +81,13 @@ module _ (words : ReportData) (names : List (List ℕ)) (name : List ℕ) (sourc
     usable = All-push IsUsable sources source all.usable one.usable;
     fresh = All-push IsFreshSource sources source all.fresh one.fresh;
     count = omega (arith, length-append sources (source ∷ []), length-append names (name ∷ []), all.count);
-    files = one.files ∙ all.files;
+    files = one.asked.files ∙ all.files;
     counts = opens_more before.counts mid.counts now.counts (length sources) 1 (length (sources ++ source ∷ [])) all.counts one.counts (length-append sources (source ∷ []));
     faultless = All-push IsFaultless sources source all.faultless one.faultless;
     kept = record { reading = one.kept.reading ∙ all.kept.reading; writing = one.kept.writing ∙ all.kept.writing };
-    requested = asked_more names before.requested mid.requested now.requested name all.requested one.requested;
+    requested = asked_more names before.requested mid.requested now.requested name all.requested one.asked.requested;
     inputs = inputs_told before.files mid.files source all.files all.inputs one.input;
-    misses = misses_told before.files mid.files source before.counts.misses mid.counts.misses now.counts.misses all.files all.misses one.input one.misses;
+    misses = misses_told before.files mid.files source before.counts.misses mid.counts.misses now.counts.misses all.files all.misses one.input one.asked.misses;
   }
 
   module _ (rest : List (List ℕ)) (before mid now : FolderSeen) (out : SinkSeen) (are : names_in words ≡ names ++ name ∷ rest) (all : AreOpened words names sources before mid) where
@@ -129,12 +131,12 @@ module _ (words : ReportData) (names : List (List ℕ)) (name : List ℕ) (sourc
           }
 
       kept : now.files ≡ before.files
-      kept = one.files ∙ all.files
+      kept = one.asked.files ∙ all.files
 
       -- the names so far and this one, and none after it
       asked : AskedFirst (names_in words) before.requested now.requested
       asked =
-          let so_far = asked_more names before.requested mid.requested now.requested name all.requested one.requested in
+          let so_far = asked_more names before.requested mid.requested now.requested name all.requested one.asked.requested in
           subst (λ (ns : List (List ℕ)). AskedFirst ns before.requested now.requested) (append_assoc names (name ∷ []) rest ∙ sym are)
           (asked_front (names ++ name ∷ []) rest before.requested now.requested so_far)
 
@@ -145,7 +147,7 @@ module _ (words : ReportData) (names : List (List ℕ)) (name : List ℕ) (sourc
       nothing_done = record { output = refl; files = kept; created = created_kept }
 
       reads_kept : IfSome before.files (λ files. MissesNothingElse (files_meaning words files) before.counts now.counts)
-      reads_kept = missed before.files mid.files all.files all.inputs all.misses one.misses
+      reads_kept = missed before.files mid.files all.files all.inputs all.misses one.asked.misses
 
     refused_finished : (fault : OpenFault) → IsUnopened name (Refused fault) mid now → Finished (only (Refused fault)) (Refused fault) (beside before out) (beside now out)
     refused_finished fault one = record {
@@ -225,7 +227,7 @@ module _ (words : ReportData) (names : List (List ℕ)) (name : List ℕ) (sourc
           there = next_named (names_in words) names name rest are;
           unread = unread_next (names_in words) names name rest are before.files before.counts.misses mid.counts.misses now.counts.misses
               (known_so (λ files. AreInputs words files names sources) (λ files. WereRead files names) before.files (λ files inputs. (inputs.inputs, inputs.read)) all.inputs) all.misses
-              (subst (λ (t : Option NamedFiles). IfSome t (λ fs. now.counts.misses ≡ misses_after fs name mid.counts.misses)) all.files one.misses);
+              (subst (λ (t : Option NamedFiles). IfSome t (λ fs. now.counts.misses ≡ misses_after fs name mid.counts.misses)) all.files one.asked.misses);
         };
         own = inl (omega (arith, length-map sources file_in, all.count), omega (arith, all.counts.reading, one.reason));
       };

@@ -35,7 +35,8 @@ use Rattle.several_report.specs.Inputs.{shown_in, input_found, input_named, inpu
 use Rattle.run_endings.specs.Outside.{FolderSeen}
 use Rattle.report_context.specs.Lines.{item_line}
 use Rattle.run_endings.specs.Selection.{has, set_or_all}
-use Rattle.several_report.specs.Sources.{IsBasis, IsInput, IsOpened, IsRead, WhyUnopened, IsUnopened, WhyUnread, seen_with, without_empty}
+use Rattle.several_report.specs.OpenInput.{IsBasis, IsRead, WhyUnread, seen_with}
+use Rattle.several_report.specs.Opened.{IsInput, IsOpened, WhyUnopened, IsUnopened, without_empty}
 use Rattle.run_endings.proofs.Chosen.{chosen_rise}
 use Rattle.run_endings.proofs.Endings.{refused_by}
 use Rattle.time_merge.proofs.UnusedLanes.{unused_fresh, unused_in_order}
@@ -116,15 +117,13 @@ pub source_opened : (words : ReportData) (name : List ℕ) (file : FileSeen) (by
     → IfSome before.files (λ files. now.counts.misses ≡ misses_after files name before.counts.misses)
     → IsOpened words name (seen_with name file basis) before now
 source_opened words name file bytes reads basis before now files is kept none read counts faultless same requested misses = record {
+  asked = record { files = files; requested = requested; misses = misses };
+  counts = counts;
+  kept = same;
   usable = basis_usable words read.header basis read.stands name file;
   fresh = basis_fresh words read.header basis read.stands name file;
-  files = files;
-  counts = counts;
   faultless = faultless;
-  kept = same;
-  requested = requested;
   input = opened_input words before.files name bytes file reads basis is kept none read;
-  misses = misses;
 }
 
 pub opens_one : {I E : Type 0} (told : Option NamedFiles) (name : List ℕ) (before now : Counts) (result : Result I E) → Opens told name before now result → now.opened ≡ raised before.opened 1 → OpensMany before now 1
@@ -144,7 +143,7 @@ pub missing_unopened : {I E : Type 0} (name : List ℕ) (before now : FolderSeen
     → now.counts.opened ≡ before.counts.opened → Rose before.counts.reading now.counts.reading → AskedAll (name ∷ []) before.requested now.requested
     → IsUnopened name ReadFault before now
 missing_unopened name before now result files opens opened rose requested = record {
-  files = files;
+  asked = record { files = files; requested = requested; misses = opens.misses };
   counts = record {
     reading = opens.reading;
     created = opens.created;
@@ -153,9 +152,7 @@ missing_unopened name before now result files opens opened rose requested = reco
     opened = omega (arith, opened);
     closed = omega (arith, opens.closed);
   };
-  requested = requested;
   reason = rose;
-  misses = opens.misses;
 }
 
 module _ {I E : Type 0} (name : List ℕ) (bytes : Option (List ℕ)) (faults faults_now reads : ℕ) (before mid now : FolderSeen) (result : Result I E)
@@ -181,7 +178,7 @@ module _ {I E : Type 0} (name : List ℕ) (bytes : Option (List ℕ)) (faults fa
   -- the folder opened a file that cannot be shown, and closed it
   pub closed_unopened : (status : Status) → WhyUnread bytes faults faults_now status → IsUnopened name status before now
   closed_unopened status why = record {
-    files = then ∙ first;
+    asked = record { files = then ∙ first; requested = still ∙ asked; misses = missed_then before.files opens.misses };
     counts = record {
       reading = omega (arith, opens.reading, closes.reading);
       created = closes.created ∙ opens.created;
@@ -190,7 +187,5 @@ module _ {I E : Type 0} (name : List ℕ) (bytes : Option (List ℕ)) (faults fa
       opened = closes.opened ∙ opened;
       closed = closes.closed ∙ ap (λ (n : ℕ). raised n 1) opens.closed;
     };
-    requested = still ∙ asked;
     reason = reason_of status why;
-    misses = missed_then before.files opens.misses;
   }

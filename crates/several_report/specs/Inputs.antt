@@ -1,9 +1,10 @@
 -- The inputs of a report of several files, in the order of the words: all of them with their headers, or the first that
 -- cannot be shown.
 -- Source: trace-cmd-report(1), `-i`.
-use Rattle.std.specs.Prelude.{Option, None, Some, Result, Ok, Err, ℕ, Bool, List, [], ◌∷◌, ◌+◌}
+use Rattle.std.specs.Prelude.{Option, None, Some, Result, Ok, Err, ℕ, Bool, List, [], ◌∷◌, ◌+◌, ◌≤◌, sum_by, IfOk}
 use Rattle.std.specs.FinMap.{get}
 use Rattle.trace_base.specs.declared.part.Part.{Part}
+use Rattle.trace_outside.specs.Causes.{raised}
 use Rattle.trace_outside.specs.Names.{NamedFiles}
 use Rattle.dat_options.specs.declared.fault.OpenFault.{OpenFault}
 use Rattle.dat_header.specs.declared.header.Header.{Header}
@@ -69,3 +70,7 @@ shown_in words input = record {
 -- of one of several files in one report its header is needed, and the parts that are shown of it
 abbrev pub input_share : ReportData → NamedInput → ℕ
 input_share words input = input.header.end + parts_size (shown_parts words.cpus input.header.body)
+
+-- no more was read than is needed of each
+abbrev pub FilesRead : ReportData → NamedFiles → ℕ → ℕ → Type 0
+FilesRead words files before now = IfOk (inputs_in files (names_in words)) (λ inputs. now ≤ raised before (sum_by (input_share words) inputs))

@@ -1,5 +1,7 @@
 pub mod Inputs
 pub mod Meaning
 pub mod Naming
-pub mod Sources
+pub mod OpenInput
+pub mod Opened
+pub mod Reported
 pub mod Ran

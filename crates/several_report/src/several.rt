@@ -7,8 +7,10 @@ ghost use Rattle.several_report.specs.Inputs.{names_in};
 ghost use Rattle.several_report.specs.Naming.{IsNameIn, IsUnreadNamed};
 ghost use Rattle.run_endings.specs.Outside.{FolderSeen, beside, outside_seen, sink_seen, folder_seen};
 ghost use Rattle.several_report.specs.Ran.{FilesRan};
-ghost use Rattle.several_report.specs.Sources as spec;
-ghost use Rattle.several_report.specs.Sources.{AreOpened, IsNameOfEnd, FilesReported, file_in, source_seen};
+ghost use Rattle.several_report.specs.Reported as spec;
+ghost use Rattle.several_report.specs.OpenInput.{file_in, source_seen};
+ghost use Rattle.several_report.specs.Opened.{AreOpened};
+ghost use Rattle.several_report.specs.Reported.{IsNameOfEnd, FilesReported};
 
 use crate::sources::{close_sources, input_at, open_sources};
 use multi_report::{FilesEnd, Source, report_files};

@@ -12,7 +12,9 @@ ghost use Rattle.restore_tool.specs.Open.{ClosesMany};
 ghost use Rattle.several_report.specs.Inputs as spec;
 ghost use Rattle.time_merge.specs.Unused.{IsUnused};
 ghost use Rattle.run_endings.specs.Outside.{FolderSeen, folder_seen};
-ghost use Rattle.several_report.specs.Sources.{AreOpened, IsBasis, IsOpened, IsRead, IsUnopened, WhyUnread, OpensAll, OpensNext, StandsAt, file_in, seen_with, source_seen};
+ghost use Rattle.several_report.specs.OpenInput.{IsBasis, IsRead, WhyUnread, file_in, seen_with, source_seen};
+ghost use Rattle.several_report.specs.Opened.{AreOpened, IsOpened, IsUnopened};
+ghost use Rattle.several_report.specs.Reported.{OpensAll, OpensNext, StandsAt};
 
 use dat_header::{Body, Header, OpenFault, read_header};
 use multi_report::Source;

@@ -1,12 +1,12 @@
 -- What a job needs of its files, and that a run reads no more of them.
-use Rattle.std.specs.Prelude.{Option, None, Result, Ok, Err, ◌≡◌, ◌+◌, ◌≤◌, ℕ, List, length, sum_by, IfOk, IfSome, Bool, false}
+use Rattle.std.specs.Prelude.{Option, None, Result, Ok, Err, ◌≡◌, ◌+◌, ◌≤◌, ℕ, List, length, IfOk, IfSome, Bool, false}
 use Rattle.trace_outside.specs.Names.{NamedFiles}
 use Rattle.trace_outside.specs.Causes.{raised}
 use Rattle.dat_header.specs.declared.header.Header.{Header}
 use Rattle.run_endings.specs.declared.status.Status.{Status}
 use Rattle.run_words.specs.declared.usage.UsageFault.{UsageFault}
 use Rattle.run_words.specs.Job.{FileCommand, Report, Dump, Split, Job, OnFile, OnFiles, SelfTest, Restore, About}
-use Rattle.several_report.specs.Inputs.{NamedInput, input_named, inputs_in, names_in, input_share}
+use Rattle.several_report.specs.Inputs.{NamedInput, input_named, FilesRead}
 use Rattle.trace_run.specs.Meaning.{input_of}
 use Rattle.file_report.specs.Report.{Events, listed_events, listed_calls}
 use Rattle.file_report.specs.Due.{report_share, ReadsDue}
@@ -45,8 +45,7 @@ pub record ReadsNoMore (command : FileCommand) (input : NamedInput) (before now 
 abbrev pub ReadsNeeded : Result Job UsageFault → Option NamedFiles → Progress → Progress → Type 0
 ReadsNeeded (Ok (OnFile command)) told before now =
     IfSome told (λ files. IfOk (input_named files (input_of command)) (λ input. ReadsNoMore command input before now))
-ReadsNeeded (Ok (OnFiles words)) told before now =
-    IfSome told (λ files. IfOk (inputs_in files (names_in words)) (λ inputs. now.reads ≤ raised before.reads (sum_by (input_share words) inputs)))
+ReadsNeeded (Ok (OnFiles words)) told before now = IfSome told (λ files. FilesRead words files before.reads now.reads)
 ReadsNeeded (Ok (SelfTest words)) told before now = now.reads ≡ before.reads
 ReadsNeeded (Ok (Restore words)) told before now = IfSome told (λ files. RestoreReads words files before.reads now.reads)
 ReadsNeeded (Ok (About topic)) told before now = now.reads ≡ before.reads

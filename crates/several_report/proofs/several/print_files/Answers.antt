@@ -1,7 +1,7 @@
 use Rattle.std.proofs.Common.{map}
 use Rattle.trace_args.specs.Command.{report_view}
 use Rattle.run_endings.specs.declared.status.Status.TheVariants.{NoMemory}
-use Rattle.several_report.specs.Sources.{file_in, source_seen}
+use Rattle.several_report.specs.OpenInput.{file_in, source_seen}
 use Rattle.several_report.proofs.FilesRan.{files_unbegun, shown_ran}
 use Rattle.several_report.proofs.InputNames.{first_of, named_any}
 use Rattle.several_report.proofs.several.print_files.Goals as goal

@@ -7,7 +7,9 @@ use Rattle.trace_args.specs.Command.{report_view}
 use Rattle.report_context.specs.declared.lines.ItemLines.{ItemLines}
 use Rattle.several_report.specs.Inputs.{names_in}
 use Rattle.run_endings.specs.Outside.{beside, folder_seen, sink_seen}
-use Rattle.several_report.specs.Sources.{AreOpened, FilesReported, file_in, source_seen}
+use Rattle.several_report.specs.OpenInput.{file_in, source_seen}
+use Rattle.several_report.specs.Opened.{AreOpened}
+use Rattle.several_report.specs.Reported.{FilesReported}
 use Rattle.several_report.proofs.several.print_opened.Goals as goal
 
 pub print_sources-requires-clause-few : goal.print_sources-requires-clause-few

@@ -3,7 +3,8 @@ use Rattle.multi_report.specs.declared.report.FilesEnd.TheVariants as end
 use Rattle.trace_args.specs.Command.{report_view}
 use Rattle.run_endings.specs.declared.status.Status.{Status}
 use Rattle.run_endings.specs.Outside.{beside, sink_seen}
-use Rattle.several_report.specs.Sources.{FilesReported, file_in, source_seen}
+use Rattle.several_report.specs.OpenInput.{file_in, source_seen}
+use Rattle.several_report.specs.Reported.{FilesReported}
 use Rattle.several_report.proofs.FilesShown.{files_shown, files_unheld, lines_room}
 use Rattle.several_report.proofs.InputNames.{first_of}
 use Rattle.report_context.proofs.Shared.{lines_sync}

@@ -1,6 +1,6 @@
 use Rattle.std.proofs.Common.{map}
 use Rattle.trace_args.specs.Command.{report_view}
-use Rattle.several_report.specs.Sources.{source_seen}
+use Rattle.several_report.specs.OpenInput.{source_seen}
 use Rattle.several_report.proofs.OpenInputs.{opened_next, unopened_shown}
 use Rattle.several_report.proofs.sources.open_next.Goals as goal
 

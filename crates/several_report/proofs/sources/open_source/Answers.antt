@@ -3,7 +3,7 @@ use Rattle.multi_report.specs.Sources.{SourceView}
 use Rattle.dat_header.specs.Seen.{file_seen}
 use Rattle.trace_args.specs.Command.{report_view}
 use Rattle.run_endings.specs.Outside.{folder_seen}
-use Rattle.several_report.specs.Sources.{IsOpened}
+use Rattle.several_report.specs.Opened.{IsOpened}
 use Rattle.several_report.proofs.Opening.{closed_unopened, missing_unopened, opens_one, source_opened}
 use Rattle.several_report.proofs.sources.open_source.Goals as goal
 

@@ -3,7 +3,8 @@ use Rattle.std.proofs.lemmas.List.{length-map, take_all}
 use Rattle.trace_args.specs.Command.{report_view}
 use Rattle.several_report.specs.Inputs.{names_in}
 use Rattle.run_endings.specs.Outside.{folder_seen}
-use Rattle.several_report.specs.Sources.{AreOpened, source_seen}
+use Rattle.several_report.specs.OpenInput.{source_seen}
+use Rattle.several_report.specs.Opened.{AreOpened}
 use Rattle.several_report.proofs.OpenInputs.{names_more, names_split, none_opened}
 use Rattle.several_report.proofs.sources.open_sources.Goals as goal
 

@@ -2,7 +2,8 @@ use Rattle.std.proofs.Common.{◌≡◌, length, map, take, vec_capacity}
 use Rattle.trace_args.specs.Command.{report_view}
 use Rattle.several_report.specs.Inputs.{names_in}
 use Rattle.run_endings.specs.Outside.{folder_seen}
-use Rattle.several_report.specs.Sources.{AreOpened, source_seen}
+use Rattle.several_report.specs.OpenInput.{source_seen}
+use Rattle.several_report.specs.Opened.{AreOpened}
 use Rattle.several_report.proofs.sources.open_sources.Given as goal
 
 abbrev pub invariant-loop-place : goal.invariant-loop-place
