@@ -42,7 +42,8 @@ most_opened (Ok (Restore words)) = length words.files + 1
 most_opened (Ok (About topic)) = 0
 most_opened (Err fault) = 0
 
--- how it ended, and what it opened and closed; what it kept off; the names that it asked for; what it read; and that calls are gathered first
+-- How the run ended, and what it opened and closed; what it left alone; the names that it asked for; what it read; and that calls
+-- are gathered before the first byte.
 pub record Ran (read : Result Job UsageFault) (status : Status) (before now : Outside) : Type 0 where
   pub job : JobRan (target_read read) (Unread read before now) (meaning_read read before.folder.files) (most_opened read) status before now
   pub usage : KeepsOff read status before now
