@@ -1,5 +1,5 @@
 -- The answer of a run for the end that its lanes come to, for a pass over them that ended early, and for a cut.
-use Rattle.std.specs.Prelude.{Option, None, Some, ℕ, Bool, true, false}
+use Rattle.std.specs.Prelude.{Option, None, Some, Bool, true, false}
 use Rattle.subpage.specs.declared.cut_place.CutPlace.{CutPlace}
 use Rattle.time_merge.specs.declared.ending.End.{End}
 use Rattle.time_merge.specs.declared.ending.End.TheVariants as end
