@@ -4,7 +4,8 @@
 //! A line whose output fails is a row of `LINES` in `writes`, and one whose message fails a row of `MESSAGES`. A byte that
 //! cannot be read is in `reads`, where a line that needs no sub-buffer is a row of `HEADERS_ALONE`, and one after thousands of
 //! lines in `late`. A creation, a write or a finish of a split that fails is a row of `FAULTS` in `splits`. Want of memory is a
-//! test of its own in `memory` for each line, since the number of the allocation that fails is given from outside.
+//! test of its own in `memory` for each line, since the number of the allocation that fails is given from outside. `several` has
+//! the calls that fail in a report of two files.
 #![tactic(auto)]
 
 #[cfg(test)]
@@ -13,6 +14,8 @@ mod late;
 mod memory;
 #[cfg(test)]
 mod reads;
+#[cfg(test)]
+mod several;
 #[cfg(test)]
 mod splits;
 #[cfg(test)]

@@ -1,23 +1,33 @@
-// The words, the files, and what must come of them.
+// Several files at once.
 
 use super::files::{File, Sub};
 use dat_header::OpenFault;
+use sample_runs::{Ran, run_words};
+use std::alloc::{Alloc, AllocError, Global};
+use std::process::Abort;
+use std::test::Fail;
+use std::thread::Threads;
+use trace_outside::{MemFolder, NoGate};
 use trace_run::{CutPlace, Status};
+use trace_samples::{LATENCY_FILE, words_of_line};
 
-pub(super) struct Row {
+struct Row {
     /// The words, with a blank between any two.
-    pub(super) line: &'static str,
-    pub(super) files: &'static [(&'static str, File)],
-    pub(super) status: Status,
-    pub(super) out: &'static str,
-    pub(super) err: &'static str,
+    line: &'static str,
+    files: &'static [(&'static str, File)],
+    status: Status,
+    out: &'static str,
+    err: &'static str,
 }
 
 /// One event of pid 1 at time 5.
 const ONE: File = File::Trace(&[&[Sub::Of(5, &[(0, 58, 1)])]]);
 
 /// One of pid 2 at the same time.
-pub(super) const TWO: File = File::Trace(&[&[Sub::Of(5, &[(0, 58, 2)])]]);
+const TWO: File = File::Trace(&[&[Sub::Of(5, &[(0, 58, 2)])]]);
+
+/// A file of a latency tracer.
+const LATENCY: File = File::Bytes(LATENCY_FILE);
 
 /// A malformed sub-buffer alone.
 const CUT: File = File::Trace(&[&[Sub::Malformed]]);
@@ -31,7 +41,7 @@ const OTHERS: File = File::Trace(&[
     &[Sub::Of(25, &[(0, 58, 3)]), Sub::Malformed],
 ]);
 
-pub(super) const ROWS: &[Row] = &[
+const ROWS: &[Row] = &[
     Row {
         line: "report -i a.dat -i b.dat",
         files: &[("a.dat", ONE), ("b.dat", TWO)],
@@ -110,7 +120,7 @@ pub(super) const ROWS: &[Row] = &[
     // the least cut ends all files, and a latency file between them counts
     Row {
         line: "report -i a.dat -i l -i b.dat -t",
-        files: &[("a.dat", CUT_LATE), ("l", File::Latency), ("b.dat", OTHERS)],
+        files: &[("a.dat", CUT_LATE), ("l", LATENCY), ("b.dat", OTHERS)],
         status: Status::Malformed(CutPlace { cpu: 1, page: 1 }),
         out: "a.dat: cpus=1\nl: cpus=1\nb.dat: cpus=2\na.dat:            <...>-1     [000]     0.000000010: [UNKNOWN EVENT 58]\nb.dat:            <...>-2     [000]     0.000000020: [UNKNOWN EVENT 58]\nb.dat:            <...>-3     [001]     0.000000025: [UNKNOWN EVENT 58]\n",
         err: "trace-cmd: b.dat: malformed sub-page 1 of processor 1\n",
@@ -154,7 +164,7 @@ pub(super) const ROWS: &[Row] = &[
     // latency files alone
     Row {
         line: "report -i l -i m",
-        files: &[("l", File::Latency), ("m", File::Latency)],
+        files: &[("l", LATENCY), ("m", LATENCY)],
         status: Status::Done,
         out: "l: cpus=1\nm: cpus=1\n",
         err: "",
@@ -190,7 +200,7 @@ pub(super) const ROWS: &[Row] = &[
                 "a",
                 File::Named("one", &[&[Sub::Of(1000, &[(0, 58, 1), (2000, 58, 4)])]]),
             ),
-            ("b", File::Big(&[&[Sub::Of(2000, &[(0, 58, 2)])]])),
+            ("b", File::Big),
             (
                 "c",
                 File::Named("other", &[&[Sub::Of(2000, &[(0, 58, 3)])]]),
@@ -252,3 +262,137 @@ pub(super) const ROWS: &[Row] = &[
         err: "",
     },
 ];
+
+fn put_files(
+    alloc: Global,
+    folder: &mut MemFolder,
+    files: &[(&str, File)],
+) -> Result<(), AllocError> {
+    for (name, file) in files {
+        folder.put(name, &file.bytes(alloc)?)?;
+    }
+    Ok(())
+}
+
+// Runs the words of a line over a folder with these files. The folder comes back with what the run left.
+fn run_over_files<R: Alloc<A = Global> + Threads + Sync>(
+    rt: &R,
+    line: &str,
+    files: &[(&str, File)],
+) -> Result<(Ran, MemFolder), AllocError> {
+    let words = words_of_line(rt.alloc(), line)?;
+    let mut folder = MemFolder::new(rt.alloc());
+    put_files(rt.alloc(), &mut folder, files)?;
+    let ran = run_words(rt, &words, &mut folder, &NoGate);
+    Ok((ran, folder))
+}
+
+// How often the line names an input.
+fn inputs(line: &str) -> u64 {
+    let mut count: u64 = 0;
+    for word in line.split(' ') {
+        if word == "-i" {
+            count = count.saturating_add(1);
+        }
+    }
+    count
+}
+
+// Each file is opened once for each input at most, and closed; the first that is missing is asked for alone.
+fn calls_so(folder: &MemFolder, row: &Row) -> bool {
+    let counts = folder.counts();
+    let missed = u64::from(row.status == Status::ReadFault);
+    counts.opened == counts.closed
+        && counts.opened <= inputs(row.line)
+        && counts.misses == missed
+        && counts.reading == missed
+        && counts.created == 0
+        && counts.writing == 0
+}
+
+fn ends_so(ran: &Ran, row: &Row) -> bool {
+    ran.status == row.status
+        && ran.out.bytes() == row.out.as_bytes()
+        && ran.err.bytes() == row.err.as_bytes()
+}
+
+fn runs_so<R: Alloc<A = Global> + Abort + Threads + Sync>(
+    rt: &R,
+    row: &Row,
+) -> Result<(), AllocError> {
+    let (ran, folder) = run_over_files(rt, row.line, row.files)?;
+    assert!(rt;
+        ends_so(&ran, row) && calls_so(&folder, row),
+        "{}",
+        row.line
+    );
+    Ok(())
+}
+
+#[test]
+fn reports_of_several_files(rt: HostRuntime) -> Result<(), Fail> {
+    for row in ROWS {
+        runs_so(&rt, row)?;
+    }
+    Ok(())
+}
+
+/// A file with a long line, how many times `x` stands in it, and its end. A line of 65,537 bytes is whole, and of a longer one
+/// as many bytes stay as of one file alone: its limit does not count the name.
+const LONG: &[(&[(&str, File)], usize, &str)] = &[
+    (&[("a", File::Long(65_471)), ("b", TWO)], 65_471, ""),
+    (&[("a", File::Long(65_472)), ("b", TWO)], 65_468, "..."),
+];
+
+const LONG_FRONT: &[u8] =
+    b"a: cpus=1\nb: cpus=1\na:            <...>-1     [000]     0.000000: one:                  ";
+
+const AFTER_LONG: &[u8] = b"\nb:            <...>-2     [000]     0.000000: [UNKNOWN EVENT 58]\n";
+
+fn put_report(report: &mut Vec<u8>, count: usize, end: &str) -> Result<(), AllocError> {
+    report.extend_from_slice(LONG_FRONT)?;
+    report.resize(LONG_FRONT.len().saturating_add(count), b'x')?;
+    report.extend_from_slice(end.as_bytes())?;
+    report.extend_from_slice(AFTER_LONG)
+}
+
+fn is_limited<R: Alloc<A = Global> + Abort + Threads + Sync>(
+    rt: &R,
+    files: &[(&str, File)],
+    count: usize,
+    end: &str,
+) -> Result<(), AllocError> {
+    let mut report = Vec::new(rt.alloc());
+    put_report(&mut report, count, end)?;
+    let (ran, _) = run_over_files(rt, "report -i a -i b", files)?;
+    assert!(rt;
+        ran.status == Status::Done && ran.out.bytes() == report.as_slice(),
+        "{count}"
+    );
+    Ok(())
+}
+
+#[test]
+fn long_lines_of_several_files(rt: HostRuntime) -> Result<(), Fail> {
+    for (files, count, end) in LONG {
+        is_limited(&rt, files, *count, end)?;
+    }
+    Ok(())
+}
+
+/// Of the first file one sub-buffer, and of the second two.
+const LONGER: &[(&str, File)] = &[
+    ("a.dat", ONE),
+    (
+        "b.dat",
+        File::Trace(&[&[Sub::Of(5, &[(0, 58, 2)]), Sub::Of(6, &[(0, 58, 2)])]]),
+    ),
+];
+
+// No more is read than the headers, of 113 bytes each, and the sub-buffers.
+#[test]
+fn each_byte_is_read_once(rt: HostRuntime) -> Result<(), Fail> {
+    let (ran, folder) = run_over_files(&rt, "report -i a.dat -i b.dat", LONGER)?;
+    assert!(rt; ran.status == Status::Done && folder.counts().bytes == 113 + 4096 + 113 + 8192);
+    Ok(())
+}
