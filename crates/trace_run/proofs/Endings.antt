@@ -15,17 +15,17 @@ use Rattle.run_endings.specs.declared.status.Status.{Status}
 use Rattle.run_endings.specs.declared.status.Status.TheVariants.{Usage, Refused, ReadFault, NoMemory}
 use Rattle.run_words.specs.declared.usage.UsageFault.{UsageFault}
 use Rattle.run_endings.specs.Ending.{Ended, Ends, IfNoMemory, IsUnasked, Prints, KeepsOut}
-use Rattle.several_report.specs.Inputs.{input_named}
+use Rattle.several_report.specs.Inputs.{input_found, input_named, input_with}
 use Rattle.trace_run.specs.Input.{GathersCalls}
 use Rattle.run_words.specs.Job.{FileCommand, Report, Dump, Split, Job, OnFile, OnFiles, SelfTest, Restore, About}
 use Rattle.run_endings.specs.Meaning.{Meaning, Target, on_nothing, on_out, only}
-use Rattle.trace_run.specs.Meaning.{header_means, file_means, input_means, command_means, command_meaning, meaning_read, input_of, target_of, target_read}
+use Rattle.trace_run.specs.Meaning.{header_means, input_means, command_meaning, meaning_read, input_of, target_of, target_read}
 use Rattle.run_endings.specs.Outside.{FolderSeen, Outside, SinkSeen, beside}
 use Rattle.trace_run.specs.Ran.{KeepsOff, Ran, Unread, most_opened}
 use Rattle.run_endings.specs.Ran.{MissesNothingElse}
 use Rattle.run_endings.specs.Requested.{AsksFor}
 use Rattle.trace_run.specs.Requested.{Asks, names_of, new_names}
-use Rattle.trace_run.specs.Work.{Worked}
+use Rattle.trace_run.specs.Work.{Worked, bytes_mean}
 use Rattle.run_endings.proofs.Endings.{if_known, stored_none, unmoved, untouched, unheld, because, refused_by, finished_nothing, Around, CleanAround, ended_complete, ended_around, keeps_out, no_memory_map, unbegun}
 use Rattle.run_endings.proofs.Requesting.{asked_first, asked_none, asked_still, asks_for}
 use Rattle.trace_run.proofs.Reading.{gathers_nothing}
@@ -48,20 +48,20 @@ printed_worked command unread means status folder before now on prints = record 
 }
 
 header_meaning : (command : FileCommand) (header : Header) (told : Option (List ℕ)) → ReadsHeader told (Ok header)
-    → option_map (header_means command header) told ≡ option_map (input_means command) told
+    → option_map (header_means command header) told ≡ option_map (bytes_mean command) told
 header_meaning command header None found = refl
-header_meaning command header (Some bytes) found = ap (λ (read : Result Header OpenFault). Some (file_means command read bytes)) (sym found)
+header_meaning command header (Some bytes) found = ap (λ (read : Result Header OpenFault). Some (input_means command (input_with (input_of command) bytes read))) (sym found)
 
 -- what a command did after a header is what it means of the file
 pub behind_header : (command : FileCommand) (header : Header) (told same : Option (List ℕ)) (unread other : Type 0) (status : Status) (before now : Outside) → same ≡ told
     → ReadsHeader told (Ok header) → (unread → other) → Worked command unread (option_map (header_means command header) same) status before now
-    → Worked command other (option_map (input_means command) told) status before now
+    → Worked command other (option_map (bytes_mean command) told) status before now
 behind_header command header told same unread other status before now is found so worked =
-    let meant : option_map (header_means command header) same ≡ option_map (input_means command) told =
+    let meant : option_map (header_means command header) same ≡ option_map (bytes_mean command) told =
     ap (option_map (header_means command header)) is ∙ header_meaning command header told found in
     record {
       ended =
-          because (target_of command) unread other (option_map (input_means command) told) status before now so
+          because (target_of command) unread other (option_map (bytes_mean command) told) status before now so
           (subst (λ (means : Option Meaning). Ended (target_of command) unread means status before now) meant worked.ended);
       counts = worked.counts;
       requested = subst (λ (means : Option Meaning). AsksFor (new_names command) means before.folder.requested now.folder.requested) meant worked.requested;
@@ -97,40 +97,40 @@ header_unheld command means unread seen = record {
 
 -- the file has no header
 pub header_refused : (command : FileCommand) (fault : OpenFault) (told : Option (List ℕ)) (unread : Type 0) (seen : Outside) → IsRefusal fault
-    → ReadsHeader told (Err fault) → Worked command unread (option_map (input_means command) told) (Refused fault) seen seen
+    → ReadsHeader told (Err fault) → Worked command unread (option_map (bytes_mean command) told) (Refused fault) seen seen
 header_refused command fault told unread seen refusal found = record {
   ended = record { ends = refused told found; untouched = untouched seen; causes = refusal; kept = tt };
   counts = unmoved seen.folder.counts;
-  requested = unasked command (option_map (input_means command) told) seen;
+  requested = unasked command (option_map (bytes_mean command) told) seen;
   out = keeps_out (target_of command) seen.out;
 }
   where
     refused : (known : Option (List ℕ)) → ReadsHeader known (Err fault)
-        → IfSome (option_map (input_means command) known) (λ m. Ends m (Refused fault) seen seen)
+        → IfSome (option_map (bytes_mean command) known) (λ m. Ends m (Refused fault) seen seen)
     refused None found = tt
     refused (Some bytes) found =
-        subst (λ (read : Result Header OpenFault). Ends (file_means command read bytes) (Refused fault) seen seen) (sym (refused_by fault (header_of bytes) refusal found))
+        subst (λ (read : Result Header OpenFault). Ends (input_means command (input_with (input_of command) bytes read)) (Refused fault) seen seen) (sym (refused_by fault (header_of bytes) refusal found))
         (finished_nothing (Refused fault) seen)
 
 module _ (before opened worked now : Outside) (around : Around before opened worked now) where
   -- what a command did with an opened file is what it means of the file's name
   pub command_ended : (command : FileCommand) (told : Option NamedFiles) (bytes : Option (List ℕ)) (unread other : Type 0) (status : Status)
       → IsFileOf told (input_of command) bytes → (unread → other) → IfNoMemory status (CleanAround before opened worked now)
-      → Ended (target_of command) unread (option_map (input_means command) bytes) status opened worked
+      → Ended (target_of command) unread (option_map (bytes_mean command) bytes) status opened worked
       → Ended (target_of command) other (option_map (command_meaning command) told) status before now
   command_ended command told bytes unread other status file so clean ended =
-      let here = ended_around before opened worked now around (target_of command) unread other (option_map (input_means command) bytes) status so clean ended in
+      let here = ended_around before opened worked now around (target_of command) unread other (option_map (bytes_mean command) bytes) status so clean ended in
       record { ends = by_told told file here.ends; untouched = here.untouched; causes = here.causes; kept = here.kept }
     where
       by_found : (found : Option (List ℕ)) → IsSome found → bytes ≡ found
-          → IfSome (option_map (input_means command) bytes) (λ m. Ends m status before now)
-          → Ends (command_means command found) status before now
+          → IfSome (option_map (bytes_mean command) bytes) (λ m. Ends m status before now)
+          → Ends (input_means command (input_found (input_of command) found)) status before now
       by_found None there is ends = absurd (let bad : ⊥ = cc in bad)
       by_found (Some known) there is ends =
-          subst (λ (b : Option (List ℕ)). IfSome (option_map (input_means command) b) (λ m. Ends m status before now)) is ends
+          subst (λ (b : Option (List ℕ)). IfSome (option_map (bytes_mean command) b) (λ m. Ends m status before now)) is ends
 
       by_told : (known : Option NamedFiles) → IsFileOf known (input_of command) bytes
-          → IfSome (option_map (input_means command) bytes) (λ m. Ends m status before now)
+          → IfSome (option_map (bytes_mean command) bytes) (λ m. Ends m status before now)
           → IfSome (option_map (command_meaning command) known) (λ m. Ends m status before now)
       by_told None is ends = tt
       by_told (Some files) is ends = by_found (get files (input_of command)) is.0 is.1 ends
@@ -209,7 +209,7 @@ unopened_ended command told unread before now rose output files created = record
 }
 
 misses_unless_found : (command : FileCommand) (found : Option (List ℕ)) (before now : Counts) → now.misses ≡ (if is_none found then raised before.misses 1 else before.misses)
-    → MissesNothingElse (command_means command found) before now
+    → MissesNothingElse (input_means command (input_found (input_of command) found)) before now
 misses_unless_found command None before now is = λ other. absurd (other refl)
 misses_unless_found command (Some bytes) before now is = λ other. is
 
@@ -238,7 +238,7 @@ clean_around status faults faults_now reads before opened worked now reading wri
 
 -- the input's name was asked for, and after it those of new files
 pub command_asks : (command : FileCommand) (told : Option NamedFiles) (bytes : Option (List ℕ)) (name : List ℕ) (before opened worked now : List (List ℕ)) → name ≡ input_of command
-    → IsFileOf told (input_of command) bytes → opened ≡ before ++ name ∷ [] → AsksFor (new_names command) (option_map (input_means command) bytes) opened worked → now ≡ worked
+    → IsFileOf told (input_of command) bytes → opened ≡ before ++ name ∷ [] → AsksFor (new_names command) (option_map (bytes_mean command) bytes) opened worked → now ≡ worked
     → AsksFor (names_of (OnFile command)) (option_map (command_meaning command) told) before now
 command_asks command told bytes name before opened worked now is file one did still = record {
   news = did.news;
@@ -247,10 +247,10 @@ command_asks command told bytes name before opened worked now is file one did st
       (asked_first (new_names command did.news) before opened worked (input_of command) (one ∙ ap (λ (n : List ℕ). before ++ n ∷ []) is) did.asked);
 }
   where
-    by_found : (found : Option (List ℕ)) → IsSome found → bytes ≡ found → did.news ≡ length (command_means command found).files
+    by_found : (found : Option (List ℕ)) → IsSome found → bytes ≡ found → did.news ≡ length (input_means command (input_found (input_of command) found)).files
     by_found None there is = absurd (let bad : ⊥ = cc in bad)
     by_found (Some known) there is =
-        subst (λ (b : Option (List ℕ)). IfSome (option_map (input_means command) b) (λ m. did.news ≡ length m.files)) is did.meant
+        subst (λ (b : Option (List ℕ)). IfSome (option_map (bytes_mean command) b) (λ m. did.news ≡ length m.files)) is did.meant
 
     by_told : (known : Option NamedFiles) → IsFileOf known (input_of command) bytes → IfSome (option_map (command_meaning command) known) (λ m. did.news ≡ length m.files)
     by_told None is = tt

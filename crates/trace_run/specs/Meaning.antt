@@ -1,12 +1,9 @@
 -- What a run means, from its words and the files alone.
-use Rattle.std.specs.Prelude.{Option, Result, Ok, Err, None, Some, ℕ, List, [], ◌∷◌}
-use Rattle.std.specs.FinMap.{get}
+use Rattle.std.specs.Prelude.{Option, Result, Ok, Err, Some, ℕ, List, [], ◌∷◌}
 use Rattle.std.specs.Option.{option_map}
 use Rattle.trace_outside.specs.Names.{NamedFiles}
-use Rattle.dat_options.specs.declared.fault.OpenFault.{OpenFault}
 use Rattle.dat_header.specs.declared.header.Header.{Header}
-use Rattle.dat_header.specs.Header.{header_of}
-use Rattle.run_endings.specs.declared.status.Status.TheVariants.{Done, Usage, Refused, ReadFault}
+use Rattle.run_endings.specs.declared.status.Status.TheVariants.{Done, Usage}
 use Rattle.run_words.specs.declared.usage.UsageFault.{UsageFault}
 use Rattle.trace_args.specs.declared.topic.Topic.{Topic}
 use Rattle.trace_args.specs.Topics.{topic_text}
@@ -18,6 +15,7 @@ use Rattle.run_endings.specs.Meaning.{Target, Meaning, prints, only, on_nothing,
 use Rattle.file_report.specs.Meaning.{report_by}
 use Rattle.split_run.specs.Split.{split_by}
 use Rattle.restore_run.specs.Restore.{restore_meaning}
+use Rattle.several_report.specs.Inputs.{NamedInput, WrongInput, input_named}
 use Rattle.several_report.specs.Meaning.{files_meaning}
 
 -- the header's sections
@@ -38,25 +36,16 @@ target_of (Report words) = on_out
 target_of (Dump words) = on_out
 target_of (Split words) = on_folder
 
--- a command, of a file's bytes with the header that they begin with
+-- a command on a file with this header and these bytes
 abbrev pub header_means : FileCommand → Header → List ℕ → Meaning
 header_means (Report words) header bytes = report_by words.list words header bytes
 header_means (Dump words) header bytes = dump_of words header
 header_means (Split words) header bytes = split_by words header bytes
 
--- the same, or why they begin with none
-abbrev pub file_means : FileCommand → Result Header OpenFault → List ℕ → Meaning
-file_means command (Ok header) bytes = header_means command header bytes
-file_means command (Err fault) bytes = only (Refused fault)
-
--- a command, of its input's bytes
-abbrev pub input_means : FileCommand → List ℕ → Meaning
-input_means command bytes = file_means command (header_of bytes) bytes
-
--- a command, of what the folder has under the input's name
-abbrev pub command_means : FileCommand → Option (List ℕ) → Meaning
-command_means command None = only ReadFault
-command_means command (Some bytes) = input_means command bytes
+-- the same, or the answer for an input that is missing or has no header
+abbrev pub input_means : FileCommand → Result NamedInput WrongInput → Meaning
+input_means command (Ok input) = header_means command input.header input.bytes
+input_means command (Err wrong) = only wrong.status
 
 -- the name of the input
 abbrev pub input_of : FileCommand → List ℕ
@@ -64,8 +53,9 @@ input_of (Report words) = words.input
 input_of (Dump words) = words.input
 input_of (Split words) = words.input
 
+-- a command, of the files of the folder
 abbrev pub command_meaning : FileCommand → NamedFiles → Meaning
-command_meaning command files = command_means command (get files (input_of command))
+command_meaning command files = input_means command (input_named files (input_of command))
 
 abbrev pub job_target : Job → Target
 job_target (OnFile command) = target_of command

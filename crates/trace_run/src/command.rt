@@ -13,12 +13,12 @@ ghost use Rattle.trace_run.specs.Input.{ReadsNoMore, events_of, share, shows_cal
 ghost use Rattle.run_endings.specs.Progress.{BehindHeader, progress_at};
 ghost use Rattle.run_words.specs.Job.{OnFile, command_view, job_view};
 ghost use Rattle.trace_run.specs.Meaning as spec;
-ghost use Rattle.trace_run.specs.Meaning.{header_means, input_means};
+ghost use Rattle.trace_run.specs.Meaning.{header_means};
 ghost use Rattle.trace_run.specs.Naming.{IsNamed};
 ghost use Rattle.run_endings.specs.Outside.{folder_seen, outside_seen, sink_seen};
 ghost use Rattle.trace_run.specs.Ran.{Ran};
 ghost use Rattle.run_words.specs.Usage.{command_filters, job_filters, uses_in};
-ghost use Rattle.trace_run.specs.Work.{Worked};
+ghost use Rattle.trace_run.specs.Work.{Worked, bytes_mean};
 ghost use Rattle.filter_truth.specs.SelectionView.{use_of};
 ghost use Rattle.run_endings.specs.Output.{GathersFirst};
 ghost use Rattle.run_endings.specs.Ending.{IfNoMemory};
@@ -117,7 +117,7 @@ fn run_on_file<R: Threads + Sync, F: Folder, O: Sink, G: Gate>(
     requires allowed { IsAllowed (command_view command.now) }
     requires filters { uses_in (command_filters (command_view command.now)) ≡ map use_of filters.items }
     ensures worked { Worked (command_view command.now) (Rose (F.In.faults file.old) (F.In.faults file.new))
-        (option_map (input_means (command_view command.now)) (F.In.bytes file.old)) result
+        (option_map (bytes_mean (command_view command.now)) (F.In.bytes file.old)) result
         (outside_seen F.Folder O.Sink folder.old out.old) (outside_seen F.Folder O.Sink folder.new out.new) }
     ensures kept { IfNoMemory result (F.In.faults file.new ≡ F.In.faults file.old) }
     ensures gathers { IfOk (input_found (spec.input_of (command_view command.now)) (F.In.bytes file.old))

@@ -13,7 +13,7 @@ ghost use Rattle.report_print.specs.ContextData.{ContextData};
 ghost use Rattle.trace_args.specs.Command.{SplitData};
 ghost use Rattle.split_tool.specs.NewFiles.{ReadBack};
 ghost use Rattle.run_words.specs.Job.{Split};
-ghost use Rattle.trace_run.specs.Meaning.{input_means};
+ghost use Rattle.trace_run.specs.Meaning.{header_means};
 ghost use Rattle.report_context.specs.Lines.{cpus_line};
 ghost use Rattle.file_report.specs.Report.{entry_line, report_pieces};
 ghost use Rattle.run_endings.specs.Selection.{Selection, chosen};
@@ -32,7 +32,7 @@ pub fn selection_rises()
 pub fn split_files_read_back()
     ensures { (words : SplitData) (header : Header) (bytes : List ℕ)
         → AreBytes bytes → header_of bytes ≡ Ok header → length bytes ≤ 2 ^ 39
-        → ReadBack (without_instances header) (split_items words header bytes) (input_means (Split words) bytes).files }
+        → ReadBack (without_instances header) (split_items words header bytes) (header_means (Split words) header bytes).files }
 {}
 
 /// The pieces of a report are its first line and the lines of its items, each filled by the time of the last item before it whose

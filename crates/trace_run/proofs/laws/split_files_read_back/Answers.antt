@@ -1,13 +1,7 @@
-use Rattle.std.proofs.Common.{Result, subst, sym, arith}
-use Rattle.dat_options.specs.declared.fault.OpenFault.{OpenFault}
-use Rattle.dat_header.specs.declared.header.Header.{Header}
-use Rattle.dat_header.specs.Written.{without_instances}
+use Rattle.std.proofs.Common.{arith}
 use Rattle.dat_header.proofs.HeaderLaws.{computes_header}
-use Rattle.split_tool.specs.NewFiles.{ReadBack}
 use Rattle.split_tool.proofs.FewBytes.{files_back}
-use Rattle.run_words.specs.Job.{Split}
-use Rattle.trace_run.specs.Meaning.{file_means}
-use Rattle.split_run.specs.Split.{rules_of, split_items, taken_of}
+use Rattle.split_run.specs.Split.{rules_of, taken_of}
 use Rattle.split_run.proofs.Taken.{taken_within}
 use Rattle.trace_run.proofs.laws.split_files_read_back.Goals as goal
 
@@ -15,5 +9,4 @@ pub returns : goal.returns
 returns c = λ words header bytes are read short.
     let has = (computes_header bytes header are).0 read in
     let few = taken_within words.cpu header.cpus header.body has.1.allowed.body in
-    subst (λ (found : Result Header OpenFault). ReadBack (without_instances header) (split_items words header bytes) (file_means (Split words) found bytes).files) (sym read)
-    (files_back (rules_of words) words.base header bytes (taken_of words.cpu header.body) are read has.1.allowed short (omega (arith, few, has.1.allowed.cpus)))
+    files_back (rules_of words) words.base header bytes (taken_of words.cpu header.body) are read has.1.allowed short (omega (arith, few, has.1.allowed.cpus))
