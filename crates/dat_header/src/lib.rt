@@ -22,7 +22,6 @@ mod pieces;
 mod put;
 mod read;
 mod sections;
-mod text_sink;
 mod write;
 
 pub use dat_options::{OpenFault, Opt};

@@ -13,11 +13,10 @@ ghost use Rattle.dat_header.specs.Written.{Writes, header_text, text_before_tabl
 use crate::header::Header;
 use crate::lengths::{header_len, len_with_table};
 use crate::put::{write_front, write_sections, write_texts};
-use crate::text_sink::TextSink;
 use dat_options::write_table;
 use std::alloc::{AllocError, Global};
 use trace_base::{ByteText, Part};
-use trace_outside::{Failed, Sink, write_all};
+use trace_outside::{Failed, MemSink, Sink, write_all};
 
 /// Writes the header with a table of these parts, and answers how many bytes that are, modulo 2^64 (trace-cmd.dat.v6(5)).
 ///
@@ -66,7 +65,7 @@ pub fn text_before_table(alloc: Global, header: &Header) -> Result<ByteText, All
     ensures text { IfOk result (λ before. before ≡ text_before_table header.now) }
     ensures whole { (parts : List Part) → header_text header.now parts ≡ text_before_table header.now ++ table_text header.now.order parts }
 {
-    let mut out = TextSink::with_capacity(alloc, header_len(header) as usize)?;
+    let mut out = MemSink::with_capacity(alloc, header_len(header) as usize)?;
     let Ok(()) = write_before_table(header, &mut out) else {
         return Err(AllocError);
     };

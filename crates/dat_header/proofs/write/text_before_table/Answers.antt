@@ -5,8 +5,8 @@ use Rattle.dat_header.proofs.write.text_before_table.Goals as goal
 
 pub returns-clause-text : goal.returns-clause-text
 returns-clause-text c =
-    text_gained c.in_ok-out.out.bytes.items c.write_before_table.new.out.bytes.items c.into_text.result (text_before_table c.args.header.now)
-    c.in_ok-out.ensures c.in-Ok.ensures.gained c.into_text.ensures
+    text_gained c.in_ok-out.out.kept.items c.write_before_table.new.out.kept.items c.into_text.result (text_before_table c.args.header.now)
+    c.in_ok-out.ensures.empty c.in-Ok.ensures.gained c.into_text.ensures
 
 pub returns-clause-whole : goal.returns-clause-whole
 returns-clause-whole c = λ parts. sym (table_behind c.args.header.now parts)
