@@ -1,7 +1,8 @@
-//! Lines of a report.
+// Lines of a report.
 
 ghost use Rattle.std.specs.Prelude.{◌≡◌, IfOk};
 
+use crate::formats::{many, with_texts};
 use filter_lang::{FilterFault, parse_filter};
 use filter_truth::FilterUse;
 use format_parse::FormatTable;
@@ -83,26 +84,6 @@ fn context_of(
     let symbols = names_of(alloc, task)?;
     let show = shown(alloc, letters.as_bytes())?;
     Context::build(alloc, formats, symbols, filters, show)
-}
-
-/// Texts of formats, with a `#` before all but the first.
-fn push_texts(alloc: Global, texts: &mut Vec<ByteText>, formats: &str) -> Result<(), AllocError> {
-    for text in formats.split('#') {
-        texts.push(ByteText::copy(alloc, text.as_bytes())?)?;
-    }
-    Ok(())
-}
-
-/// The table with the formats of these texts after its own.
-fn with_texts(
-    alloc: Global,
-    table: FormatTable,
-    system: &[u8],
-    formats: &str,
-) -> Result<FormatTable, AllocError> {
-    let mut texts = Vec::new(alloc);
-    push_texts(alloc, &mut texts, formats)?;
-    table.with_texts(alloc, system, &texts)
 }
 
 fn five_formats(alloc: Global) -> Result<FormatTable, AllocError> {
@@ -389,30 +370,15 @@ fn filters_choose_the_events(rt: HostRuntime) -> Result<(), Fail> {
     Ok(())
 }
 
-/// Formats whose names are their numbers.
-fn push_many(alloc: Global, texts: &mut Vec<ByteText>) -> Result<(), AllocError> {
-    for id in 0..3_000u16 {
-        let text = format!(in alloc; "name: n{id}\nID: {id}\nprint fmt: \"a text\"\n")?;
-        texts.push(ByteText::copy(alloc, text.as_bytes())?)?;
-    }
-    Ok(())
-}
-
-fn many_formats(alloc: Global) -> Result<FormatTable, AllocError> {
-    let mut texts = Vec::new(alloc);
-    push_many(alloc, &mut texts)?;
-    FormatTable::new(alloc).with_texts(alloc, b"many", &texts)
-}
-
 /// The payloads of the first and of the last, and their lines.
 const FIRST_AND_LAST: [(&str, &str); 2] = [
     (
         "0000",
-        "          <idle>-0     [001]     0.000000: n0:                   a text",
+        "          <idle>-0     [001]     0.000000: e0:                   a text",
     ),
     (
         "b70b",
-        "          <idle>-0     [001]     0.000000: n2999:                a text",
+        "          <idle>-0     [001]     0.000000: e2999:                a text",
     ),
 ];
 
@@ -425,7 +391,7 @@ fn shows_both(rt: &impl Abort, alloc: Global, context: &Context) -> Result<(), F
 
 #[test]
 fn many_formats_are_known(rt: HostRuntime) -> Result<(), Fail> {
-    let formats = many_formats(rt.alloc())?;
+    let formats = many(rt.alloc())?;
     let context = context_of(rt.alloc(), formats, "", Vec::new(rt.alloc()), "")?;
     shows_both(&rt, rt.alloc(), &context)
 }

@@ -1,4 +1,4 @@
-//! Printed texts.
+// Printed texts.
 
 use fmt_expr::{PrintFmt, parse_args};
 use fmt_lexer::tokens;

@@ -1,3 +1,5 @@
+// Event formats, and tables of them.
+
 use format_parse::{EventFormat, FormatTable, parse_format};
 use std::alloc::{AllocError, Global};
 use std::process::Abort;
@@ -153,22 +155,23 @@ fn a_format_text_needs_a_name_and_a_number(rt: HostRuntime) -> Result<(), Fail> 
     Ok(())
 }
 
-fn push_texts(alloc: Global, texts: &mut Vec<ByteText>, all: &[&[u8]]) -> Result<(), AllocError> {
-    for text in all {
-        texts.push(ByteText::copy(alloc, text)?)?;
+/// Texts of formats, with a `#` before all but the first.
+fn push_texts(alloc: Global, texts: &mut Vec<ByteText>, formats: &str) -> Result<(), AllocError> {
+    for text in formats.split('#') {
+        texts.push(ByteText::copy(alloc, text.as_bytes())?)?;
     }
     Ok(())
 }
 
 /// The table with the formats of these texts after its own.
-fn with_texts(
+pub(crate) fn with_texts(
     alloc: Global,
     table: FormatTable,
     system: &[u8],
-    all: &[&[u8]],
+    formats: &str,
 ) -> Result<FormatTable, AllocError> {
     let mut texts = Vec::new(alloc);
-    push_texts(alloc, &mut texts, all)?;
+    push_texts(alloc, &mut texts, formats)?;
     table.with_texts(alloc, system, &texts)
 }
 
@@ -189,14 +192,9 @@ fn put_listed(alloc: Global, list: &mut Vec<u8>, table: &FormatTable) -> Result<
     Ok(())
 }
 
-const FTRACE: [&[u8]; 1] = [b"name: function\nID: 1"];
+const FTRACE: &str = "name: function\nID: 1";
 
-const SCHED: [&[u8]; 4] = [
-    b"name: a\nID: 9",
-    b"unread",
-    b"name: b\nID: 1",
-    b"name: a\nID: 2",
-];
+const SCHED: &str = "name: a\nID: 9#unread#name: b\nID: 1#name: a\nID: 2";
 
 const LISTED: &[u8] = b"ftrace/function 1\nsched/a 9\nsched/a 2\nlate/c 3\n";
 
@@ -233,8 +231,8 @@ fn has_places(table: &FormatTable) -> bool {
 
 #[test]
 fn a_table_keeps_the_first_format_of_a_number(rt: HostRuntime) -> Result<(), Fail> {
-    let table = with_texts(rt.alloc(), FormatTable::new(rt.alloc()), b"ftrace", &FTRACE)?;
-    let mut table = with_texts(rt.alloc(), table, b"sched", &SCHED)?;
+    let table = with_texts(rt.alloc(), FormatTable::new(rt.alloc()), b"ftrace", FTRACE)?;
+    let mut table = with_texts(rt.alloc(), table, b"sched", SCHED)?;
     let second = adds(rt.alloc(), &mut table, b"name: c\nID: 2")?;
     let third = adds(rt.alloc(), &mut table, b"name: c\nID: 3")?;
     assert!(rt; !second && third && has_places(&table));
@@ -242,19 +240,19 @@ fn a_table_keeps_the_first_format_of_a_number(rt: HostRuntime) -> Result<(), Fai
     Ok(())
 }
 
-/// So many format texts, numbered from 0.
-fn push_many(alloc: Global, texts: &mut Vec<ByteText>, count: u32) -> Result<(), AllocError> {
-    for id in 0..count {
-        let text = format!(in alloc; "name: e{id}\nID: {id}")?;
+fn push_many(alloc: Global, texts: &mut Vec<ByteText>) -> Result<(), AllocError> {
+    for id in 0..3_000_u32 {
+        let text = format!(in alloc; "name: e{id}\nID: {id}\nprint fmt: \"a text\"\n")?;
         texts.push(ByteText::copy(alloc, text.as_bytes())?)?;
     }
     Ok(())
 }
 
-fn many(alloc: Global, count: u32) -> Result<FormatTable, AllocError> {
+/// Three thousand formats, numbered from 0.
+pub(crate) fn many(alloc: Global) -> Result<FormatTable, AllocError> {
     let mut texts = Vec::new(alloc);
-    push_many(alloc, &mut texts, count)?;
-    FormatTable::new(alloc).with_texts(alloc, b"s", &texts)
+    push_many(alloc, &mut texts)?;
+    FormatTable::new(alloc).with_texts(alloc, b"many", &texts)
 }
 
 /// A format text with so many fields.
@@ -281,7 +279,7 @@ fn is_wide(format: Option<&EventFormat>, count: u32) -> bool {
 
 #[test]
 fn many_formats_are_read(rt: HostRuntime) -> Result<(), Fail> {
-    let table = many(rt.alloc(), 3_000)?;
+    let table = many(rt.alloc())?;
     assert!(rt;
         table.len() == 3_000
             && table.by_id(2_999) == Some(2_999)

@@ -1,3 +1,5 @@
+// The names of symbols, of printk formats and of tasks.
+
 use std::alloc::{AllocError, Global};
 use std::process::Abort;
 use std::test::Fail;

@@ -1,11 +1,11 @@
 // The lists of a report.
 
+use crate::formats::with_texts;
 use format_parse::FormatTable;
 use report_lists::{put_event_formats, put_event_names, put_printk_formats, put_symbols};
 use std::alloc::{AllocError, Global};
 use std::test::Fail;
 use symbols::Symbols;
-use trace_base::ByteText;
 use trace_outside::{Failed, MemSink, Pending};
 
 const KALLSYMS: &[u8] = b"ffffffff81000100 t do_idle\nffffffff81000000 T schedule\n";
@@ -19,10 +19,9 @@ const NAMES: &[u8] =
     b"ffffffff81000000 schedule\nffffffff81000100 do_idle\n0x000000000000001f : Rescheduling\\n\n";
 
 fn formats(alloc: Global) -> Result<FormatTable, AllocError> {
-    let ftrace = [ByteText::copy(alloc, b"name: function\nID: 1\n")?];
-    let formats = FormatTable::new(alloc).with_texts(alloc, b"ftrace", &ftrace)?;
-    let sched = [ByteText::copy(alloc, b"name: sched_switch\nID: 316")?];
-    formats.with_texts(alloc, b"sched", &sched)
+    let formats = FormatTable::new(alloc);
+    let formats = with_texts(alloc, formats, b"ftrace", "name: function\nID: 1\n")?;
+    with_texts(alloc, formats, b"sched", "name: sched_switch\nID: 316")
 }
 
 fn put_events(
