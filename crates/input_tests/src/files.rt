@@ -46,12 +46,16 @@ const FIELDS: &str = "\nID: 58\nformat:
 
 print fmt: \"";
 
-// Events of eight bytes, each after a word of its delta and its length in words.
+// An event of eight bytes, after a word of its delta and its length in words.
+fn put_event(file: &mut Vec<u8>, delta: u32, id: u16, pid: u32) -> Result<(), AllocError> {
+    file.extend_from_slice(&(delta.wrapping_mul(32) | 2).to_le_bytes())?;
+    file.extend_from_slice(&u32::from(id).to_le_bytes())?;
+    file.extend_from_slice(&pid.to_le_bytes())
+}
+
 fn put_events(file: &mut Vec<u8>, events: &[(u32, u16, u32)]) -> Result<(), AllocError> {
     for (delta, id, pid) in events {
-        for word in [delta.wrapping_mul(32) | 2, u32::from(*id), *pid] {
-            file.extend_from_slice(&word.to_le_bytes())?;
-        }
+        put_event(file, *delta, *id, *pid)?;
     }
     Ok(())
 }

@@ -44,7 +44,7 @@ fn put_event(alloc: Global, data: &mut Vec<u8>, delta: u64, event: &str) -> Resu
     put_payload(&mut payload, event)?;
     // The low five bits are the payload's length in words, of which they have room for 28.
     let words = (payload.len() / 4).min(28) as u64;
-    let head = (delta % 134_217_728) * 32 + words;
+    let head = (delta % 134_217_728) * 32 | words;
     data.extend_from_slice(&head.to_le_bytes()[..4])?;
     data.extend_from_slice(&payload)
 }
