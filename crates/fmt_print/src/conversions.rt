@@ -8,6 +8,7 @@ ghost use Rattle.fmt_expr.specs.TreeView.{tree_of};
 ghost use Rattle.fmt_eval.specs.Texts.{text_of};
 ghost use Rattle.fmt_eval.specs.Values.{given};
 ghost use Rattle.fmt_eval.specs.Pieces.{hexadecimal};
+ghost use Rattle.fmt_forms.specs.Shows.{Shows};
 ghost use Rattle.fmt_forms.specs.Texts.{cut_to, padded};
 ghost use Rattle.fmt_print.specs.Addresses.{number_address, bytes_address, pointer_text};
 ghost use Rattle.fmt_print.specs.ArgumentView.{argument_tree};
@@ -66,6 +67,19 @@ fn text_at_once<'a>(expr: &'a Expr, rec: &Rec<'a>) -> Option<&'a [u8]>
     }
 }
 
+/// Shows a name in its width. Most have none, and are put without a call.
+#[inline(always)]
+#[tactic(auto, using(fmt_forms::proofs::Gathering::put_shown, fmt_forms::proofs::PlainLemmas::padded_bare))]
+fn show_name(form: &Form, name: &[u8], into: &mut Tail<'_>)
+    ensures { Shows into.old into.new (padded form.now.left form.now.width name.now) }
+{
+    if form.width == 0 {
+        into.put_piece(name);
+    } else {
+        show_text(form, name, into);
+    }
+}
+
 /// What is printed from.
 #[derive(Clone, Copy)]
 pub struct Printer<'a> {
@@ -76,7 +90,6 @@ pub struct Printer<'a> {
 
 impl<'a> Printer<'a> {
     ghost use Rattle.fmt_print.specs.Contents.{content_text};
-    ghost use Rattle.fmt_forms.specs.Shows.{Shows};
     ghost use Rattle.fmt_print.specs.Sources.{source};
 
     /// Shows a number of any length.
@@ -169,7 +182,7 @@ impl<'a> Printer<'a> {
     {
         match show {
             PointerForm::Name => match self.symbols.name_at(n) {
-                Some((name, _)) => show_text(form, name, into),
+                Some((name, _)) => show_name(form, name, into),
                 None => show_address(form, None, n, into),
             },
             PointerForm::NameOffset => match self.symbols.name_at(n) {

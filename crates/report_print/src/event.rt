@@ -22,6 +22,7 @@ use subpage::Item;
 use trace_base::{Common, Rec, Tail};
 
 /// Puts the text of an item. Gives where an event's time ends.
+#[inline(always)]
 pub(crate) fn put_item(context: &Context, cpu: u32, item: &Item<'_>, into: &mut Tail<'_>) -> usize
     ensures same_slice { lent into.new ≡ lent into.old }
     ensures value { held into.new ≡ put_held (held into.old) (spec.item_text context.now cpu (item_view item.now)) }
@@ -36,6 +37,7 @@ pub(crate) fn put_item(context: &Context, cpu: u32, item: &Item<'_>, into: &mut 
     }
 }
 
+#[inline(always)]
 #[tactic(auto, using(crate::proofs::FrontLemmas::known_commons))]
 fn put_event(context: &Context, cpu: u32, time: u64, payload: &[u8], into: &mut Tail<'_>) -> usize
     ensures same_slice { lent into.new ≡ lent into.old }
@@ -43,19 +45,20 @@ fn put_event(context: &Context, cpu: u32, time: u64, payload: &[u8], into: &mut 
     ensures until { result ≡ spec.time_end context.now cpu time payload.now }
 {
     let id = context.id(payload);
-    let common = context.shown_common(payload);
     match context.known(id) {
         Some(known) => {
+            let common = context.shown_common(payload);
             let label = known.head.label.as_bytes();
             let until = put_start(context, cpu, time, &common, label, into);
             put_body(context, &known, payload, into);
             until
         }
-        None => put_unknown(context, cpu, time, &common, id, into),
+        None => { put_unknown(context, cpu, time, &context.shown_common(payload), id, into) }
     }
 }
 
 /// Puts the columns before the event's name, and the name in its column. Gives where the time ends.
+#[inline(always)]
 #[tactic(auto, using(trace_base::proofs::TailJoins::put_held_twice))]
 fn put_start(
     context: &Context,
@@ -79,6 +82,7 @@ fn put_start(
 }
 
 /// Puts the event's fields, or the text of its print fmt.
+#[inline(always)]
 fn put_body(context: &Context, known: &Known<'_>, payload: &[u8], into: &mut Tail<'_>)
     requires { known.now.head.now.commons ≡ prefix_len is_common known.now.format.now.fields }
     ensures same_slice { lent into.new ≡ lent into.old }
@@ -101,6 +105,7 @@ fn put_body(context: &Context, known: &Known<'_>, payload: &[u8], into: &mut Tai
 }
 
 /// Puts the text of the event's print fmt, or its fields where that is unread.
+#[inline(always)]
 fn put_print(context: &Context, known: &Known<'_>, rec: &Rec<'_>, into: &mut Tail<'_>)
     requires { rec.now.order ≡ context.now.show.order }
     ensures same_slice { lent into.new ≡ lent into.old }

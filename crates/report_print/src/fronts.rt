@@ -97,7 +97,7 @@ pub fn prefix(context: &Context, cpu: u32, time: u64, common: &Common, into: &mu
     ensures same_slice { lent into.new ≡ lent into.old }
     ensures value { held into.new ≡ put_held (held into.old) (line.prefix_text context.now cpu time common.now) }
 {
-    put_any(context, cpu, time, common, b"", into);
+    put_any(context, cpu, time, *common, b"", into);
 }
 
 /// Puts the columns of a line, and a short text after them. Gives where the time ends: a colon and a space follow it.
@@ -138,7 +138,7 @@ fn put_columns(
     if behind.len() == USUAL_LABEL && are_usual(context.show(), cpu, time) {
         return put_usual(context, cpu, time, common, behind, into);
     }
-    put_any(context, cpu, time, common, behind, into)
+    put_any(context, cpu, time, *common, behind, into)
 }
 
 /// Whether the columns of the time and the processor have their usual widths.
@@ -262,18 +262,18 @@ fn put_any(
     context: &Context,
     cpu: u32,
     time: u64,
-    common: &Common,
+    common: Common,
     behind: &[u8],
     into: &mut Tail<'_>,
 ) -> usize
     requires short { length behind.now ≤ LONGEST_BEHIND }
     ensures same_slice { lent into.new ≡ lent into.old }
-    ensures value { held into.new ≡ put_held (held into.old) (columns context.now cpu time common.now behind.now) }
-    ensures len { result ≡ length (columns context.now cpu time common.now behind.now) }
+    ensures value { held into.new ≡ put_held (held into.old) (columns context.now cpu time common behind.now) }
+    ensures len { result ≡ length (columns context.now cpu time common behind.now) }
 {
     let mut front = Front::new();
     front.start(behind);
-    put_when(context.show(), cpu, time, common, &mut front);
+    put_when(context.show(), cpu, time, &common, &mut front);
     put_with_task(context, common.pid, &mut front, into)
 }
 

@@ -21,12 +21,12 @@ returns-in-Some-clause-until c =
 
 pub returns-in-None-clause-value : goal.returns-in-None-clause-value
 returns-in-None-clause-value c =
-    unknown_put c.args.context.now c.args.cpu c.args.time c.args.payload.now (prefix_text c.args.context.now c.args.cpu c.args.time c.shown_common-common.result) c.id-id.result
-    (c.shown_common-common.ensures c.args.cpu c.args.time) c.id-id.ensures
+    unknown_put c.args.context.now c.args.cpu c.args.time c.args.payload.now (prefix_text c.args.context.now c.args.cpu c.args.time c.shown_common.result) c.id-id.result
+    (c.shown_common.ensures c.args.cpu c.args.time) c.id-id.ensures
     (held c.args.into.now) (held c.put_unknown.new.into) (unknown_text c.id-id.result) refl
     (ap (option_map known_view) (sym c.in-None.is) ∙ c.known.ensures) c.put_unknown.ensures.value
 
 pub returns-in-None-clause-until : goal.returns-in-None-clause-until
 returns-in-None-clause-until c =
-    end_is c.args.context.now c.args.cpu c.args.time c.args.payload.now (prefix_text c.args.context.now c.args.cpu c.args.time c.shown_common-common.result) c.put_unknown.result
-    (c.shown_common-common.ensures c.args.cpu c.args.time) c.put_unknown.ensures.until
+    end_is c.args.context.now c.args.cpu c.args.time c.args.payload.now (prefix_text c.args.context.now c.args.cpu c.args.time c.shown_common.result) c.put_unknown.result
+    (c.shown_common.ensures c.args.cpu c.args.time) c.put_unknown.ensures.until
