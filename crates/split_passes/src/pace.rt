@@ -33,11 +33,11 @@ pub(crate) struct Pace {
 }
 
 impl Pace {
-    /// Before the first item.
+    /// Before the first item. A round is tried right after it.
     pub(crate) fn new() -> Pace {
         Pace {
             last: None,
-            wait: SHORT_TURNS,
+            wait: 0,
         }
     }
 
