@@ -7,7 +7,7 @@ use Rattle.trace_outside.specs.Writing.{Gained, GainedPrefix}
 use Rattle.subpage.specs.declared.cut_place.CutPlace.{CutPlace}
 use Rattle.subpage.specs.Cut.{cut_of}
 use Rattle.report_print.specs.ContextData.{ContextData}
-use Rattle.dat_header.specs.declared.header.Header.{Header}
+use Rattle.file_report.specs.declared.report.Recording.{Recording}
 use Rattle.call_pairs.specs.declared.call.Call.{Call}
 use Rattle.graph_report.specs.CallText.{call_line}
 use Rattle.graph_report.specs.Gathered.{cut_place, reached_calls}
@@ -47,26 +47,26 @@ pub cut_no_fault : (cut : Option CutPlace) → status_of_cut cut ≢ ReadFault
 cut_no_fault None = λ is. cc
 cut_no_fault (Some place) = λ is. cc
 
-module _ (given : ContextData) (shown : List (ℕ × Part)) (header : Header) where
+module _ (given : ContextData) (shown : List (ℕ × Part)) (recording : Recording) where
   abbrev means : List ℕ → Meaning
-  means bytes = calls_report (events_on given shown header bytes)
+  means bytes = calls_report (events_on given shown recording bytes)
 
   -- the text that was put is that of the meaning
-  text_is : (list : List Call) (bytes : List ℕ) → list ≡ reached_calls given header.layout bytes shown → text_of (call_pieces header.cpus given list) ≡ text_of ((means bytes).pieces)
-  text_is list bytes list_is = ap (λ (calls : List Call). text_of (call_pieces header.cpus given calls)) list_is
+  text_is : (list : List Call) (bytes : List ℕ) → list ≡ reached_calls given recording.layout bytes shown → text_of (call_pieces recording.cpus given list) ≡ text_of ((means bytes).pieces)
+  text_is list bytes list_is = ap (λ (calls : List Call). text_of (call_pieces recording.cpus given calls)) list_is
 
   pub calls_written : (told : Option (List ℕ)) (list put : List Call) (cut : Option CutPlace) (old now : Option (List ℕ)) → put ≡ list
-      → IfSome told (λ bytes. list ≡ reached_calls given header.layout bytes shown)
-      → IfSome told (λ bytes. cut ≡ cut_place (cut_of header.layout bytes shown))
-      → Gained old now (text_of (call_pieces header.cpus given put)) → WritesFor means told (status_of_cut cut) old now
+      → IfSome told (λ bytes. list ≡ reached_calls given recording.layout bytes shown)
+      → IfSome told (λ bytes. cut ≡ cut_place (cut_of recording.layout bytes shown))
+      → Gained old now (text_of (call_pieces recording.cpus given put)) → WritesFor means told (status_of_cut cut) old now
   calls_written None list put cut old now put_is list_is cut_is gained = tt
   calls_written (Some bytes) list put cut old now put_is list_is cut_is gained =
       writes_at (means bytes) cut old now (ap status_of_cut cut_is)
       (subst (λ (t : List ℕ). Gained old now t) (text_is put bytes (put_is ∙ list_is)) gained)
 
   pub calls_unwritten : (told : Option (List ℕ)) (list put : List Call) (old now : Option (List ℕ)) → put ≡ list
-      → IfSome told (λ bytes. list ≡ reached_calls given header.layout bytes shown)
-      → GainedPrefix old now (text_of (call_pieces header.cpus given put)) → WritesFor means told WriteFault old now
+      → IfSome told (λ bytes. list ≡ reached_calls given recording.layout bytes shown)
+      → GainedPrefix old now (text_of (call_pieces recording.cpus given put)) → WritesFor means told WriteFault old now
   calls_unwritten None list put old now put_is list_is prefix = tt
   calls_unwritten (Some bytes) list put old now put_is list_is prefix =
       subst (λ (t : List ℕ). GainedPrefix old now t) (text_is put bytes (put_is ∙ list_is)) prefix

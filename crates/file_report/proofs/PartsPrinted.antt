@@ -16,7 +16,7 @@ use Rattle.time_merge.specs.declared.ending.End.{End}
 use Rattle.time_merge.specs.declared.ending.End.TheVariants as code
 use Rattle.report_rounds.specs.Reports.{IsReport, lines_text}
 use Rattle.report_print.specs.ContextData.{ContextData}
-use Rattle.dat_header.specs.declared.header.Header.{Header}
+use Rattle.file_report.specs.declared.report.Recording.{Recording}
 use Rattle.run_endings.specs.declared.status.Status.TheVariants.{WriteFault}
 use Rattle.run_endings.specs.Meaning.{Meaning, ended, prints}
 use Rattle.file_report.specs.Meaning.{events_report}
@@ -64,18 +64,18 @@ module _ (cpus : ℕ) (given : ContextData) (layout : Layout) (bytes : List ℕ)
       (sym (report_text cpus given items) ∙ ap (λ rest. cpus_line cpus ++ rest) (sym (append-nil (lines_text (item_line given) items))))
       first report
 
-module _ (given : ContextData) (shown : List (ℕ × Part)) (header : Header) where
+module _ (given : ContextData) (shown : List (ℕ × Part)) (recording : Recording) where
   abbrev means : List ℕ → Meaning
-  means bytes = events_report (events_on given shown header bytes)
+  means bytes = events_report (events_on given shown recording bytes)
 
-  pub parts_written : (told : Option (List ℕ)) (old mid now : Option (List ℕ)) (end : End) → Gained old mid (cpus_line header.cpus)
-      → IfSome told (λ bytes. IsReport (item_line given) header.layout bytes shown mid now end) → WritesFor means told (status_of_end end) old now
+  pub parts_written : (told : Option (List ℕ)) (old mid now : Option (List ℕ)) (end : End) → Gained old mid (cpus_line recording.cpus)
+      → IfSome told (λ bytes. IsReport (item_line given) recording.layout bytes shown mid now end) → WritesFor means told (status_of_end end) old now
   parts_written None old mid now end first report = tt
-  parts_written (Some bytes) old mid now end first report = report_written header.cpus given header.layout bytes shown old mid now end first report
+  parts_written (Some bytes) old mid now end first report = report_written recording.cpus given recording.layout bytes shown old mid now end first report
 
-  pub parts_unbegun : (told : Option (List ℕ)) (old now : Option (List ℕ)) → GainedPrefix old now (cpus_line header.cpus) → WritesFor means told WriteFault old now
+  pub parts_unbegun : (told : Option (List ℕ)) (old now : Option (List ℕ)) → GainedPrefix old now (cpus_line recording.cpus) → WritesFor means told WriteFault old now
   parts_unbegun None old now first = tt
   parts_unbegun (Some bytes) old now first =
-      let items = reached_of header.layout bytes shown in
-      subst (λ (all : List ℕ). GainedPrefix old now all) (report_text header.cpus given items)
-      (prefix_longer old now (cpus_line header.cpus) (lines_text (item_line given) items) first)
+      let items = reached_of recording.layout bytes shown in
+      subst (λ (all : List ℕ). GainedPrefix old now all) (report_text recording.cpus given items)
+      (prefix_longer old now (cpus_line recording.cpus) (lines_text (item_line given) items) first)

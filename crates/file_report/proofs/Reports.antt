@@ -5,6 +5,7 @@ use Rattle.trace_base.specs.declared.part.Part.{Part}
 use Rattle.trace_outside.specs.Causes.{Rose, raised}
 use Rattle.trace_outside.proofs.Gains.{gained_nothing}
 use Rattle.dat_header.specs.declared.header.Header.{Header}
+use Rattle.file_report.specs.declared.report.Recording.{Recording}
 use Rattle.dat_header.specs.declared.header.Body.{Body}
 use Rattle.dat_header.specs.declared.header.Body.TheVariants.{Fly, Latency}
 use Rattle.subpage.specs.WithBytes.{with_bytes}
@@ -19,7 +20,7 @@ use Rattle.file_report.specs.Due.{ReadsDue, parts_share, report_share}
 use Rattle.run_endings.specs.Progress.{parts_size}
 use Rattle.file_report.specs.Meaning.{calls_report, events_report, latency_report, list_report, report_by, shown_report}
 use Rattle.run_endings.specs.Outside.{SinkSeen}
-use Rattle.file_report.specs.Report.{events_on, listed_events, listed_calls}
+use Rattle.file_report.specs.Report.{events_on, recording_of, listed_events, listed_calls}
 use Rattle.file_report.specs.Reported.{AtWork, Reported, Task, body_task, chosen_task, file_task, parts_task, progress_of}
 use Rattle.run_endings.specs.Selection.{chosen, set_or_all}
 use Rattle.run_endings.proofs.Endings.{if_known, if_no_memory, prints_always, unprinted}
@@ -82,46 +83,46 @@ module _ (words : ReportData) (header : Header) (told : Option (List ℕ)) (stat
 
   -- what is shown is what the words choose, without the parts that have no bytes
   pub chosen_reported : (parts : List Part) (given : ContextData) (shown : List (ℕ × Part)) (before now : AtWork) → given ≡ context_of words header → shown ≡ with_bytes (chosen (set_or_all words.cpus) parts)
-      → Reported (parts_task words.calls words.wakeups given shown header) told status before now → Reported (chosen_task words header parts) told status before now
+      → Reported (parts_task words.calls words.wakeups given shown (recording_of header)) told status before now → Reported (chosen_task words header parts) told status before now
   chosen_reported parts given shown before now given_is shown_is did =
-      subst (λ (by : ContextData). Reported (parts_task words.calls words.wakeups by (chosen (set_or_all words.cpus) parts) header) told status before now) given_is
-      (with_empty_parts given (chosen (set_or_all words.cpus) parts) header words.calls words.wakeups told status before now
-      (subst (λ (ps : List (ℕ × Part)). Reported (parts_task words.calls words.wakeups given ps header) told status before now) shown_is did))
+      subst (λ (by : ContextData). Reported (parts_task words.calls words.wakeups by (chosen (set_or_all words.cpus) parts) (recording_of header)) told status before now) given_is
+      (with_empty_parts given (chosen (set_or_all words.cpus) parts) (recording_of header) words.calls words.wakeups told status before now
+      (subst (λ (ps : List (ℕ × Part)). Reported (parts_task words.calls words.wakeups given ps (recording_of header)) told status before now) shown_is did))
 
-module _ (given : ContextData) (shown : List (ℕ × Part)) (header : Header) (told : Option (List ℕ)) (before now : AtWork) where
+module _ (given : ContextData) (shown : List (ℕ × Part)) (recording : Recording) (told : Option (List ℕ)) (before now : AtWork) where
   -- calls are gathered in one pass
   calls_share : (wakeups : Bool) → now.reads ≤ raised before.reads (parts_size shown) → now.reads ≤ raised before.reads (parts_share wakeups shown)
   calls_share false reads = reads
   calls_share true reads = omega (arith, reads)
 
   pub calls_reported : (calls wakeups : Bool) (status : Status) → calls ≡ true
-      → Prints (Rose before.faults now.faults) (option_map (λ bytes. calls_report (events_on given shown header bytes)) told) status before.out now.out
+      → Prints (Rose before.faults now.faults) (option_map (λ bytes. calls_report (events_on given shown recording bytes)) told) status before.out now.out
       → now.reads ≤ raised before.reads (parts_size shown)
       → (status ≡ ReadFault → now.out ≡ before.out) → IfNoMemory status (now.faults ≡ before.faults)
-      → Reported (parts_task calls wakeups given shown header) told status before now
+      → Reported (parts_task calls wakeups given shown recording) told status before now
   calls_reported calls wakeups status is prints reads gathers kept =
-      subst (λ (asked : Bool). Reported (parts_task asked wakeups given shown header) told status before now) (sym is)
+      subst (λ (asked : Bool). Reported (parts_task asked wakeups given shown recording) told status before now) (sym is)
       (record { prints = prints; reads = calls_share wakeups reads; due = if_known _ told (λ bytes. tt); gathers = λ calls. gathers; kept = kept })
 
   -- of lines, with or without the latencies after them
-  by_words : (calls wakeups asked : Bool) (status : Status) → calls ≡ false → wakeups ≡ asked → Reported (parts_task false asked given shown header) told status before now
-      → Reported (parts_task calls wakeups given shown header) told status before now
+  by_words : (calls wakeups asked : Bool) (status : Status) → calls ≡ false → wakeups ≡ asked → Reported (parts_task false asked given shown recording) told status before now
+      → Reported (parts_task calls wakeups given shown recording) told status before now
   by_words calls wakeups asked status is behind did =
-      subst (λ (b : Bool). Reported (parts_task b wakeups given shown header) told status before now) (sym is)
-      (subst (λ (b : Bool). Reported (parts_task false b given shown header) told status before now) (sym behind) did)
+      subst (λ (b : Bool). Reported (parts_task b wakeups given shown recording) told status before now) (sym is)
+      (subst (λ (b : Bool). Reported (parts_task false b given shown recording) told status before now) (sym behind) did)
 
   pub waits_reported : (calls wakeups : Bool) (status : Status) → calls ≡ false → wakeups ≡ true
-      → Prints (Rose before.faults now.faults) (option_map (λ bytes. shown_report true (events_on given shown header bytes)) told) status before.out now.out
+      → Prints (Rose before.faults now.faults) (option_map (λ bytes. shown_report true (events_on given shown recording bytes)) told) status before.out now.out
       → now.reads ≤ raised before.reads (2 * parts_size shown) → IfNoMemory status (now.faults ≡ before.faults)
-      → Reported (parts_task calls wakeups given shown header) told status before now
+      → Reported (parts_task calls wakeups given shown recording) told status before now
   waits_reported calls wakeups status is behind prints reads kept =
       by_words calls wakeups true status is behind (record { prints = prints; reads = reads; due = if_known _ told (λ bytes. tt); gathers = λ calls unread. absurd cc; kept = kept })
 
   pub lines_reported : (calls wakeups : Bool) (status : Status) → calls ≡ false → wakeups ≡ false
-      → Prints (Rose before.faults now.faults) (option_map (λ bytes. events_report (events_on given shown header bytes)) told) status before.out now.out
+      → Prints (Rose before.faults now.faults) (option_map (λ bytes. events_report (events_on given shown recording bytes)) told) status before.out now.out
       → now.reads ≤ raised before.reads (parts_size shown)
-      → IfSome told (λ bytes. ReadsDue (events_on given shown header bytes) 0 (progress_of before) (progress_of now))
+      → IfSome told (λ bytes. ReadsDue (events_on given shown recording bytes) 0 (progress_of before) (progress_of now))
       → IfNoMemory status (now.faults ≡ before.faults)
-      → Reported (parts_task calls wakeups given shown header) told status before now
+      → Reported (parts_task calls wakeups given shown recording) told status before now
   lines_reported calls wakeups status is behind prints reads due kept =
       by_words calls wakeups false status is behind (record { prints = prints; reads = reads; due = due; gathers = λ calls unread. absurd cc; kept = kept })

@@ -20,7 +20,7 @@ use Rattle.wakeup_pairs.proofs.Passing.{pass_pairs}
 use Rattle.wakeup_pairs.proofs.Partners.{one_list}
 use Rattle.wakeup_lat.specs.Roles.{all_seen}
 use Rattle.wakeup_lat.specs.Section.{section}
-use Rattle.dat_header.specs.declared.header.Header.{Header}
+use Rattle.file_report.specs.declared.report.Recording.{Recording}
 use Rattle.run_endings.specs.declared.status.Status.TheVariants.{NoMemory, WriteFault}
 use Rattle.run_endings.specs.Ending.{Prints}
 use Rattle.run_endings.specs.Meaning.{Meaning}
@@ -50,9 +50,9 @@ waits_are events pairs are =
     ap (λ (ps : List Pair). section events.given ps)
     (one_list (all_seen events.given (reached_items events)) pairs (gathered (all_seen events.given (reached_items events))).pairs are (pass_pairs (all_seen events.given (reached_items events))))
 
-module _ (given : ContextData) (shown : List (ℕ × Part)) (header : Header) where
+module _ (given : ContextData) (shown : List (ℕ × Part)) (recording : Recording) where
   abbrev pub events : List ℕ → Events
-  events bytes = events_on given shown header bytes
+  events bytes = events_on given shown recording bytes
 
   abbrev pub lines : List ℕ → Meaning
   lines bytes = events_report (events bytes)
@@ -104,7 +104,7 @@ module _ (given : ContextData) (shown : List (ℕ × Part)) (header : Header) wh
 
   -- that these pairs are those of the reached items
   abbrev pub HasPairs : List Pair → List ℕ → Type 0
-  HasPairs pairs bytes = ArePairs (all_seen given (reached_of header.layout bytes shown)) pairs
+  HasPairs pairs bytes = ArePairs (all_seen given (reached_of recording.layout bytes shown)) pairs
 
   both_text : (bytes : List ℕ) (pairs : List Pair) → HasPairs pairs bytes → text_of (lines bytes).pieces ++ section given pairs ≡ text_of (both bytes).pieces
   both_text bytes pairs are =

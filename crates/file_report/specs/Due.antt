@@ -39,7 +39,7 @@ behind_first cpus written =
 -- the bytes of the sub-buffers that are due once a report of events wrote this
 abbrev pub due_of : Events → List ℕ → ℕ
 due_of events written =
-    due_bytes (item_line events.given) events.header.layout events.bytes events.parts (behind_first events.header.cpus written)
+    due_bytes (item_line events.given) events.recording.layout events.bytes events.parts (behind_first events.recording.cpus written)
 
 -- a text was written, and no more than so many bytes and those that are due by it were read
 abbrev pub ReadsDue : Events → ℕ → Progress → Progress → Type 0

@@ -17,8 +17,8 @@ use Rattle.run_endings.specs.Meaning.{Meaning, prints, ended}
 -- the report of events: the lines of the reached items, in the order in which these happened
 abbrev pub events_report : Events → Meaning
 events_report events =
-    prints (report_pieces events.header.cpus events.given (reached_of events.header.layout events.bytes events.parts))
-    (ended (cut_of events.header.layout events.bytes events.parts))
+    prints (report_pieces events.recording.cpus events.given (reached_of events.recording.layout events.bytes events.parts))
+    (ended (cut_of events.recording.layout events.bytes events.parts))
 
 -- the same and a piece after it
 abbrev pub with_piece : Meaning → List ℕ → Meaning
@@ -32,8 +32,8 @@ shown_report true events = with_piece (events_report events) (waits_section even
 -- the report of calls: the lines of those of the reached items
 abbrev pub calls_report : Events → Meaning
 calls_report events =
-    prints (call_pieces events.header.cpus events.given (reached_calls events.given events.header.layout events.bytes events.parts))
-    (ended (cut_of events.header.layout events.bytes events.parts))
+    prints (call_pieces events.recording.cpus events.given (reached_calls events.given events.recording.layout events.bytes events.parts))
+    (ended (cut_of events.recording.layout events.bytes events.parts))
 
 -- calls in place of the events, where they are asked for
 abbrev pub report_as : Bool → Bool → Events → Meaning

@@ -10,6 +10,7 @@ use Rattle.subpage.specs.Arrangement.{Keyed}
 use Rattle.subpage.specs.Cut.{reached_of}
 use Rattle.report_print.specs.ContextData.{ContextData}
 use Rattle.call_pairs.specs.declared.call.Call.{Call}
+use Rattle.file_report.specs.declared.report.Recording.{Recording}
 use Rattle.graph_report.specs.CallText.{call_line}
 use Rattle.trace_args.specs.Command.{ReportData}
 use Rattle.wakeup_pairs.specs.Gathered.{gathered}
@@ -33,24 +34,28 @@ entry_line given keyed = item_line given keyed.cpu keyed.item
 abbrev pub report_pieces : ℕ → ContextData → List Keyed → List (List ℕ)
 report_pieces cpus given items = cpus_line cpus ∷ filled_lines None (map (entry_line given) items)
 
--- A report of events: what its lines stand on, the parts that it shows with their processors, and the file's header and
--- bytes.
+-- A report of events: what its lines stand on, the parts that it shows with their processors, how the file was recorded, and
+-- its bytes.
 pub record Events : Type 0 where
   pub given : ContextData
   pub parts : List (ℕ × Part)
-  pub header : Header
+  pub recording : Recording
   pub bytes : List ℕ
 
-abbrev pub events_on : ContextData → List (ℕ × Part) → Header → List ℕ → Events
-events_on given parts header bytes = record { given = given; parts = parts; header = header; bytes = bytes }
+abbrev pub events_on : ContextData → List (ℕ × Part) → Recording → List ℕ → Events
+events_on given parts recording bytes = record { given = given; parts = parts; recording = recording; bytes = bytes }
+
+-- how a file with this header was recorded
+abbrev pub recording_of : Header → Recording
+recording_of header = record { cpus = header.cpus; layout = header.layout }
 
 abbrev pub parts_events : ReportData → Header → List Part → List ℕ → Events
 parts_events words header parts bytes =
-    events_on (context_of words header) (chosen (set_or_all words.cpus) parts) header bytes
+    events_on (context_of words header) (chosen (set_or_all words.cpus) parts) (recording_of header) bytes
 
 -- the items that it shows lines of
 abbrev pub reached_items : Events → List Keyed
-reached_items events = reached_of events.header.layout events.bytes events.parts
+reached_items events = reached_of events.recording.layout events.bytes events.parts
 
 -- how long woken tasks waited, by what is seen of these items, shown or not
 abbrev pub waits_section : Events → List ℕ

@@ -10,7 +10,7 @@ use Rattle.dat_header.specs.declared.header.Body.{Body}
 use Rattle.subpage.specs.Arrangement.{CpusRise}
 use Rattle.report_print.specs.ContextData.{ContextData}
 use Rattle.trace_args.specs.Command.{ReportData}
-use Rattle.file_report.specs.declared.report.ReportPlan.{ReportPlan}
+use Rattle.file_report.specs.declared.report.Recording.{Recording}
 use Rattle.file_report.specs.declared.report.Shown.{Shown}
 use Rattle.run_endings.specs.declared.status.Status.{Status}
 use Rattle.report_context.specs.Context.{context_of}
@@ -20,7 +20,7 @@ use Rattle.file_report.specs.Due.{ReadsDue, body_share, parts_share, report_shar
 use Rattle.run_endings.specs.Meaning.{Meaning}
 use Rattle.file_report.specs.Meaning.{body_report, report_as, report_by}
 use Rattle.run_endings.specs.Outside.{SinkSeen, sink_seen}
-use Rattle.file_report.specs.Report.{Events, body_events, events_on, listed_events, unless_calls, body_calls, listed_calls}
+use Rattle.file_report.specs.Report.{Events, body_events, events_on, recording_of, listed_events, unless_calls, body_calls, listed_calls}
 use Rattle.run_endings.specs.Selection.{chosen, set_or_all}
 use Rattle.run_endings.specs.Output.{GathersFirst}
 
@@ -51,26 +51,25 @@ body_task words header body size = record {
 }
 
 -- of these parts with their processors, by whether calls are shown in place of the events, and the latencies after them
-abbrev pub parts_task : Bool → Bool → ContextData → List (ℕ × Part) → Header → Task
-parts_task calls wakeups given parts header = record {
-  means = λ bytes. report_as calls wakeups (events_on given parts header bytes);
+abbrev pub parts_task : Bool → Bool → ContextData → List (ℕ × Part) → Recording → Task
+parts_task calls wakeups given parts recording = record {
+  means = λ bytes. report_as calls wakeups (events_on given parts recording bytes);
   share = parts_share wakeups parts;
-  events = λ bytes. unless_calls calls wakeups (events_on given parts header bytes);
+  events = λ bytes. unless_calls calls wakeups (events_on given parts recording bytes);
   calls = calls;
 }
 
 -- of the parts of the processors that the words choose
 abbrev pub chosen_task : ReportData → Header → List Part → Task
 chosen_task words header parts =
-    parts_task words.calls words.wakeups (context_of words header) (chosen (set_or_all words.cpus) parts) header
+    parts_task words.calls words.wakeups (context_of words header) (chosen (set_or_all words.cpus) parts) (recording_of header)
 
 -- the events of what is shown of a file with these bytes
-abbrev pub events_shown : ReportPlan → Shown → List ℕ → Events
-events_shown plan shown bytes = events_on shown.form.now.context shown.parts.now plan.header.now bytes
+abbrev pub events_shown : Shown → List ℕ → Events
+events_shown shown bytes = events_on shown.form.now.context shown.parts.now shown.recording bytes
 
-abbrev pub shown_task : ReportPlan → Shown → Task
-shown_task plan shown =
-    parts_task plan.words.now.calls plan.words.now.wakeups shown.form.now.context shown.parts.now plan.header.now
+abbrev pub shown_task : ReportData → Shown → Task
+shown_task words shown = parts_task words.calls words.wakeups shown.form.now.context shown.parts.now shown.recording
 
 -- parts that are shown are those of processors in order
 pub record IsShown (shown : Shown) : Type 0 where

@@ -17,7 +17,7 @@ ghost use Rattle.run_endings.specs.Output.{WritesText};
 ghost use Rattle.file_report.specs.Report.{call_pieces};
 ghost use Rattle.file_report.specs.Reported.{IsShown, events_shown};
 
-use crate::report::{ReportPlan, Shown};
+use crate::report::{Recording, Shown};
 use call_pairs::Call;
 use graph_report::{Calls, gather_calls, put_calls};
 use item_pass::PassFault;
@@ -34,30 +34,29 @@ use trace_outside::{Failed, File, Pending, Sink};
 /// taken and all calls are gathered before the first byte.
 pub(crate) fn print_calls<I: File, O: Sink>(
     alloc: Global,
-    plan: &ReportPlan<'_, '_>,
     shown: &Shown<'_>,
     file: &mut I,
     out: &mut O,
 ) -> Status
     requires { IsShown shown.now }
     ensures prints { Prints (Rose (I.faults file.old) (I.faults file.new))
-        (option_map (λ bytes. calls_report (events_shown plan.now shown.now bytes)) (I.bytes file.old)) result
+        (option_map (λ bytes. calls_report (events_shown shown.now bytes)) (I.bytes file.old)) result
         (sink_seen O.Sink out.old) (sink_seen O.Sink out.new) }
     ensures gathers { result ≡ Status.ReadFault → sink_seen O.Sink out.new ≡ sink_seen O.Sink out.old }
     ensures kept { IfNoMemory result (I.faults file.new ≡ I.faults file.old) }
     ensures reads { I.reads file.new ≤ raised (I.reads file.old) (parts_size shown.now.parts.now) }
 {
-    let header = plan.header;
+    let Recording { cpus, layout } = shown.recording;
     let context = &shown.form.context;
     let (Ok(mut buffer), Ok(mut pending)) = (line_buffer(alloc), Pending::new(alloc)) else {
         return Status::NoMemory;
     };
-    let calls = match gathered(alloc, context, &header.layout, shown.parts, file) {
+    let calls = match gathered(alloc, context, &layout, shown.parts, file) {
         Ok(calls) => calls,
         Err(fault) => return status_of_pass(fault),
     };
     let list = calls.list.as_slice();
-    match put_whole(context, header.cpus, list, &mut buffer, &mut pending, out) {
+    match put_whole(context, cpus, list, &mut buffer, &mut pending, out) {
         Ok(()) => status_of_cut(calls.cut),
         Err(Failed) => Status::WriteFault,
     }

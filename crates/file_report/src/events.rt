@@ -14,7 +14,7 @@ ghost use Rattle.run_endings.specs.Output.{Shows, WritesFor, WritesText};
 ghost use Rattle.report_context.specs.Lines.{cpus_line};
 ghost use Rattle.file_report.specs.Reported.{IsShown, events_shown};
 
-use crate::report::{ReportPlan, Shown};
+use crate::report::{Recording, Shown};
 use cpu_workers::{SHARED_FROM, Workers};
 use page_pool::Pool;
 use report_context::{LINES_ROOM, line_buffer, put_cpus};
@@ -32,13 +32,13 @@ use wakeup_pairs::Wakeups;
 /// is taken before; `None`: there was none, and nothing was done.
 pub(crate) fn print_lines<R: Threads + Sync, I: File, O: Sink, G: Gate>(
     resources: &Resources<'_, R, G>,
-    plan: &ReportPlan<'_, '_>,
+    workers: u32,
     shown: &Shown<'_>,
     file: &mut I,
     out: &mut O,
 ) -> Option<End>
     requires { IsShown shown.now }
-    ensures writes { IfSome result (λ end. WritesFor (λ bytes. events_report (events_shown plan.now shown.now bytes))
+    ensures writes { IfSome result (λ end. WritesFor (λ bytes. events_report (events_shown shown.now bytes))
         (I.bytes file.old) (status_of_end end) (O.written out.old) (O.written out.new)) }
     ensures shows { IfSome result (λ end. Shows (Rose (I.faults file.old) (I.faults file.new)) (status_of_end end)
         (sink_seen O.Sink out.old) (sink_seen O.Sink out.new)) }
@@ -46,14 +46,14 @@ pub(crate) fn print_lines<R: Threads + Sync, I: File, O: Sink, G: Gate>(
     ensures kept { IfNone result (I.faults file.new ≡ I.faults file.old) }
     ensures out_later { O.faults out.old ≤ O.faults out.new }
     ensures reads { I.reads file.new ≤ raised (I.reads file.old) (parts_size shown.now.parts.now) }
-    ensures due { IfSome (I.bytes file.old) (λ bytes. ReadsDue (events_shown plan.now shown.now bytes) 0
+    ensures due { IfSome (I.bytes file.old) (λ bytes. ReadsDue (events_shown shown.now bytes) 0
         (progress_at (O.written out.old) (I.reads file.old)) (progress_at (O.written out.new) (I.reads file.new))) }
 {
     let alloc = resources.alloc;
-    let header = plan.header;
+    let Recording { cpus, layout } = shown.recording;
     let count = shown.parts.len() as u32;
     let (Ok(mut pool), Ok(heads), Ok(highs), Ok(moved), Ok(mut pending)) = (
-        Pool::new(alloc, count, header.layout.page, LINES_ROOM),
+        Pool::new(alloc, count, layout.page, LINES_ROOM),
         TournamentTree::new(alloc, count),
         TournamentTree::new(alloc, count),
         vec![in alloc; true; shown.parts.len()],
@@ -63,14 +63,13 @@ pub(crate) fn print_lines<R: Threads + Sync, I: File, O: Sink, G: Gate>(
     };
     let lanes = pool.lanes();
     set_lanes(lanes, shown.parts);
-    match print_cpus(header.cpus, &mut pending, out) {
+    match print_cpus(cpus, &mut pending, out) {
         Ok(()) => {}
         Err(Failed) => return Some(End::Write),
     }
-    let layout = &header.layout;
     let workers = Workers {
         rt: resources.rt,
-        count: plan.words.workers,
+        count: workers,
         shared_from: SHARED_FROM,
         gate: resources.gate,
     };
@@ -80,7 +79,7 @@ pub(crate) fn print_lines<R: Threads + Sync, I: File, O: Sink, G: Gate>(
         moved,
         pending,
     };
-    Some(report_rounds(&workers, shown.form, layout, file, lanes, &mut work, out))
+    Some(report_rounds(&workers, shown.form, &layout, file, lanes, &mut work, out))
 }
 
 /// Prints the same, and after it how long woken tasks waited. This is gathered before, in a pass of its own over the file,
@@ -90,28 +89,28 @@ pub(crate) fn print_lines<R: Threads + Sync, I: File, O: Sink, G: Gate>(
 /// a second pass: a read that fails there ends the output after the lines that were printed by then.
 pub(crate) fn print_waits<R: Threads + Sync, I: File, O: Sink, G: Gate>(
     resources: &Resources<'_, R, G>,
-    plan: &ReportPlan<'_, '_>,
+    workers: u32,
     shown: &Shown<'_>,
     file: &mut I,
     out: &mut O,
 ) -> Status
     requires { IsShown shown.now }
     ensures prints { Prints (Rose (I.faults file.old) (I.faults file.new))
-        (option_map (λ bytes. shown_report true (events_shown plan.now shown.now bytes)) (I.bytes file.old)) result
+        (option_map (λ bytes. shown_report true (events_shown shown.now bytes)) (I.bytes file.old)) result
         (sink_seen O.Sink out.old) (sink_seen O.Sink out.new) }
     ensures kept { IfNoMemory result (I.faults file.new ≡ I.faults file.old) }
     ensures reads { I.reads file.new ≤ raised (I.reads file.old) (2 * parts_size shown.now.parts.now) }
 {
     let alloc = resources.alloc;
     let context = &shown.form.context;
-    let wakeups = match gather(alloc, context, &plan.header.layout, file, shown.parts) {
+    let wakeups = match gather(alloc, context, &shown.recording.layout, file, shown.parts) {
         Ok(wakeups) => wakeups,
         Err(fault) => return status_of_pass(fault),
     };
     let (Ok(mut buffer), Ok(mut pending)) = (line_buffer(alloc), Pending::new(alloc)) else {
         return Status::NoMemory;
     };
-    let Some(end) = print_lines(resources, plan, shown, file, out) else {
+    let Some(end) = print_lines(resources, workers, shown, file, out) else {
         return Status::NoMemory;
     };
     if !is_whole(end) {

@@ -22,12 +22,12 @@ use word_values::Listing;
 pub(crate) fn print_list<O: Sink>(
     alloc: Global,
     list: Listing,
-    header: &Header,
+    header: Header,
     out: &mut O,
 ) -> Status
-    ensures { Prints ⊥ (Some (list_report header.now list)) result (sink_seen O.Sink out.old) (sink_seen O.Sink out.new) }
+    ensures { Prints ⊥ (Some (list_report header list)) result (sink_seen O.Sink out.old) (sink_seen O.Sink out.new) }
 {
-    let Ok(formats) = read_formats(alloc, header) else {
+    let Ok(formats) = read_formats(alloc, &header) else {
         return Status::NoMemory;
     };
     let Ok(symbols) = read_symbols(alloc, header) else {

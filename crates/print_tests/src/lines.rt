@@ -70,7 +70,12 @@ fn shown(alloc: Global, letters: &[u8]) -> Result<Show, AllocError>
 fn names_of(alloc: Global, task: &str) -> Result<Symbols, AllocError> {
     let others = "100042 wide\n1000042 wider\n2147483646 abcdefghijklmnop\n";
     let names = format!(in alloc; "42 {task}\n{others}")?;
-    Symbols::read(alloc, b"", b"", names.as_bytes())
+    Symbols::read(
+        alloc,
+        ByteText::copy(alloc, b"")?,
+        ByteText::copy(alloc, b"")?,
+        ByteText::copy(alloc, names.as_bytes())?,
+    )
 }
 
 /// A context of these formats in which the task 42 has this name.

@@ -52,7 +52,12 @@ fn the_events_of_a_file(rt: HostRuntime) -> Result<(), Fail> {
 
 #[test]
 fn the_names_of_a_file(rt: HostRuntime) -> Result<(), Fail> {
-    let symbols = Symbols::read(rt.alloc(), KALLSYMS, PRINTK, b"")?;
+    let symbols = Symbols::read(
+        rt.alloc(),
+        ByteText::copy(rt.alloc(), KALLSYMS)?,
+        ByteText::copy(rt.alloc(), PRINTK)?,
+        ByteText::copy(rt.alloc(), b"")?,
+    )?;
     let mut pending = Pending::new(rt.alloc())?;
     let mut out = MemSink::new(rt.alloc());
     let is_put = put_names(&mut pending, &mut out, &symbols).is_ok();

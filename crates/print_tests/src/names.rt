@@ -4,6 +4,7 @@ use std::alloc::{AllocError, Global};
 use std::process::Abort;
 use std::test::Fail;
 use symbols::Symbols;
+use trace_base::ByteText;
 
 // Lines of kallsyms.
 const KALLSYMS: &[u8] = b"ffffffffc0a1b2c3 t open\t[ext4]
@@ -120,9 +121,24 @@ fn names_are(rt: &impl Abort, alloc: Global, symbols: &Symbols) -> Result<(), Al
     Ok(())
 }
 
+/// The names that these texts give.
+fn symbols_of(
+    alloc: Global,
+    kallsyms: &[u8],
+    printk: &[u8],
+    cmdlines: &[u8],
+) -> Result<Symbols, AllocError> {
+    Symbols::read(
+        alloc,
+        ByteText::copy(alloc, kallsyms)?,
+        ByteText::copy(alloc, printk)?,
+        ByteText::copy(alloc, cmdlines)?,
+    )
+}
+
 #[test]
 fn a_line_gives_a_name_only_in_its_form(rt: HostRuntime) -> Result<(), Fail> {
-    let symbols = Symbols::read(rt.alloc(), KALLSYMS, PRINTK, CMDLINES)?;
+    let symbols = symbols_of(rt.alloc(), KALLSYMS, PRINTK, CMDLINES)?;
     names_are(&rt, rt.alloc(), &symbols)?;
     Ok(())
 }
@@ -151,7 +167,7 @@ const EQUAL_PIDS: &[u8] = b"7 old\n0 swapper\n7 one\n\n1031 two\n2055 three";
 
 #[test]
 fn of_equal_numbers_one_counts(rt: HostRuntime) -> Result<(), Fail> {
-    let symbols = Symbols::read(rt.alloc(), EQUAL_SYMBOLS, EQUAL_PRINTK, EQUAL_PIDS)?;
+    let symbols = symbols_of(rt.alloc(), EQUAL_SYMBOLS, EQUAL_PRINTK, EQUAL_PIDS)?;
     finds(
         &rt,
         rt.alloc(),
@@ -198,7 +214,7 @@ fn many(rt: &impl Abort, alloc: Global) -> Result<Symbols, AllocError> {
     put_cmdlines(&mut cmdlines, 9_000)?;
     let least = kallsyms.len().min(printk.len()).min(cmdlines.len());
     assert!(rt; least > 100_000);
-    Symbols::read(
+    symbols_of(
         alloc,
         kallsyms.as_bytes(),
         printk.as_bytes(),

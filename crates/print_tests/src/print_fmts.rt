@@ -8,7 +8,7 @@ use std::alloc::{AllocError, Global};
 use std::process::Abort;
 use std::test::Fail;
 use symbols::Symbols;
-use trace_base::{Field, Order, Rec, Tail};
+use trace_base::{ByteText, Field, Order, Rec, Tail};
 
 /// A format, and the texts of 42, of -42 and of 0. These and those below were printed by snprintf of glibc, compiled by gcc on
 /// x86-64, with the number as an int, or as a long long where the length is `l` or more.
@@ -187,7 +187,12 @@ fn format(alloc: Global) -> Result<EventFormat, Fail> {
 fn symbols(alloc: Global, before: &str) -> Result<Symbols, AllocError> {
     let mut names = Vec::from_slice(alloc, before.as_bytes())?;
     names.extend_from_slice(b"1000 T schedule\n2000 t do_idle\n")?;
-    Symbols::read(alloc, &names, b"0xc000 : \"fault %d\"\n", b"")
+    Symbols::read(
+        alloc,
+        ByteText::from_vec(names),
+        ByteText::copy(alloc, b"0xc000 : \"fault %d\"\n")?,
+        ByteText::copy(alloc, b"")?,
+    )
 }
 
 fn read(alloc: Global, fields: &[Field], text: &[u8]) -> Result<Option<PrintFmt>, AllocError> {

@@ -22,14 +22,14 @@ pub fn context_of(
     alloc: Global,
     words: &ReportWords<'_>,
     filters: Vec<FilterUse>,
-    header: &Header,
+    header: Header,
 ) -> Result<Context, AllocError>
     requires filters { uses_in (report_view words.now).filters ≡ map use_of filters.items }
-    ensures { IfOk result (λ context. context ≡ spec.context_of (report_view words.now) header.now) }
+    ensures { IfOk result (λ context. context ≡ spec.context_of (report_view words.now) header) }
 {
-    let formats = read_formats(alloc, header)?;
-    let symbols = read_symbols(alloc, header)?;
+    let formats = read_formats(alloc, &header)?;
     let show = show_by(alloc, words, &header.layout)?;
+    let symbols = read_symbols(alloc, header)?;
     Context::build(alloc, formats, symbols, filters, show)
 }
 
@@ -59,16 +59,11 @@ fn with_system(
     table.with_texts(alloc, system.name.as_bytes(), system.formats.as_slice())
 }
 
-/// The names that a file carries.
-pub fn read_symbols(alloc: Global, header: &Header) -> Result<Symbols, AllocError>
-    ensures { IfOk result (λ symbols. symbols ≡ spec.symbols_of header.now) }
+/// The names that a file carries. They stay where they stand in the header's texts.
+pub fn read_symbols(alloc: Global, header: Header) -> Result<Symbols, AllocError>
+    ensures { IfOk result (λ symbols. symbols ≡ spec.symbols_of header) }
 {
-    Symbols::read(
-        alloc,
-        header.kallsyms.as_bytes(),
-        header.printk.as_bytes(),
-        header.cmdlines.as_bytes(),
-    )
+    Symbols::read(alloc, header.kallsyms, header.printk, header.cmdlines)
 }
 
 fn show_by(alloc: Global, words: &ReportWords<'_>, layout: &Layout) -> Result<Show, AllocError>

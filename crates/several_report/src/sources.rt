@@ -70,21 +70,23 @@ fn lanes_over(alloc: Global, page: u32, parts: &[(u32, Part)]) -> Result<Pool, A
 
 // What the lines of a file with this header stand on. The filters of the words are read for each file.
 #[tactic(auto, using(run_words::proofs::Usages::uses_known))]
-fn basis_of(alloc: Global, words: &ReportWords<'_>, header: &Header) -> Result<Basis, AllocError>
-    requires few { header.now.cpus ≤ 1024 }
-    requires parts { IsBody header.now.cpus header.now.body }
-    ensures { IfOk result (λ basis. IsBasis (report_view words.now) header.now basis) }
+fn basis_of(alloc: Global, words: &ReportWords<'_>, header: Header) -> Result<Basis, AllocError>
+    requires few { header.cpus ≤ 1024 }
+    requires parts { IsBody header.cpus header.body }
+    ensures { IfOk result (λ basis. IsBasis (report_view words.now) header basis) }
 {
     let Ok(filters) = read_filters(alloc, words.filters.as_slice()) else {
         return Err(AllocError);
     };
+    let cpus = header.cpus;
+    let layout = header.layout;
+    let shown = shown_parts(alloc, &words.cpus, &header)?;
     let context = context_of(alloc, words, filters, header)?;
-    let shown = shown_parts(alloc, &words.cpus, header)?;
-    let pool = lanes_over(alloc, header.layout.page, shown.as_slice())?;
+    let pool = lanes_over(alloc, layout.page, shown.as_slice())?;
     let nexts = TournamentTree::new(alloc, shown.len() as u32)?;
     Ok(Basis {
-        layout: header.layout,
-        cpus: header.cpus,
+        layout,
+        cpus,
         form: ItemLines { context },
         pool,
         nexts,
@@ -103,7 +105,7 @@ fn read_basis<I: File>(
     ensures keeps { KeepsFile I.File file.old file.new }
 {
     match read_header(alloc, file) {
-        Ok(header) => match basis_of(alloc, words, &header) {
+        Ok(header) => match basis_of(alloc, words, header) {
             Ok(basis) => Ok(basis),
             Err(AllocError) => Err(Status::NoMemory),
         },

@@ -14,6 +14,7 @@ use Rattle.trace_base.proofs.FieldEntries.{after_is}
 use Rattle.trace_base.proofs.FieldRuns as runs
 use Rattle.symbols.specs.LineForms.{is_hexadecimal, in_name}
 use Rattle.symbols.specs.Forms.{address_at, after_letter}
+use Rattle.symbols.specs.Names.{EndsWith}
 use Rattle.symbols.specs.FirstLine.{stays, IsNameLen, IsFirstSymbol}
 use Rattle.symbols.proofs.Forms.{address_is, letter_is, outside_is, symbol_again}
 
@@ -129,6 +130,16 @@ name_len_is text old new (Some len) is takes =
     default : (xs : List ℕ) (k d : ℕ) → k < length xs → get_or xs k d ≡ get_or xs k 0
     default xs k d less = grind (arith, get_or_default_zero)
 
+-- a text ends with what follows the letter
+pub symbol_ends : (text rest spaced from : List ℕ) (key : ℕ) → Some (key, rest) ≡ address_at text → Some spaced ≡ after_word (codes " ") rest → Some from ≡ after_letter spaced → EndsWith text from
+symbol_ends text rest spaced from key address space letter =
+    let taken = address_is text rest key (sym address) in
+    let lettered = letter_is spaced from (sym letter) in (
+      taken.digits ++ (codes " " ++ (lettered.0 ∷ codes " ")),
+      taken.whole ∙ ap (λ (l : List ℕ). taken.digits ++ l) (after_is (codes " ") rest spaced (sym space) ∙ ap (λ (l : List ℕ). codes " " ++ l) lettered.1)
+          ∙ sym (append_assoc taken.digits (codes " " ++ (lettered.0 ∷ codes " ")) from),
+    )
+
 -- the whole
 pub first_is : (text rest spaced from back : List ℕ) (key len : ℕ) (others : List (List ℕ)) → Some (key, rest) ≡ address_at text → Some spaced ≡ after_word (codes " ") rest → Some from ≡ after_letter spaced
     → IsNameLen from len → lines_of (drop len from) ≡ back ∷ others → IsFirstSymbol text key from len others
@@ -164,5 +175,5 @@ first_is text rest spaced from back key len others address space letter named sp
         name_ends = outside_is in_name back outside;
       });
       inside = named.inside;
-      ends = (taken.digits ++ (codes " " ++ (lettered.0 ∷ codes " ")), whole ∙ sym (append_assoc taken.digits (codes " " ++ (lettered.0 ∷ codes " ")) from));
+      ends = symbol_ends text rest spaced from key address space letter;
     }

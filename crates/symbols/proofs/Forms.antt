@@ -232,7 +232,7 @@ number_by : (text rest : List ℕ) (count number : ℕ) (o : Option ℕ) → dec
 number_by text rest count number None e is = absurd cc
 number_by text rest count number (Some n) e is = subst (λ (p : Pair). Numbered text p.1 p.0) (some_is (n, drop count text) (number, rest) is) (take count text, sym (take-append-drop count text), e)
 
-number_is : (text rest : List ℕ) (number : ℕ) → leading_number text ≡ Some (number, rest) → Numbered text rest number
+pub number_is : (text rest : List ℕ) (number : ℕ) → leading_number text ≡ Some (number, rest) → Numbered text rest number
 unfolding leading_number
 number_is text rest number is = number_by text rest (prefix_len is_decimal_digit text) number (decimal (take (prefix_len is_decimal_digit text) text)) refl is
 

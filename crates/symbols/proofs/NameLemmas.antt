@@ -1,55 +1,37 @@
--- Names in a block that grows.
-use Rattle.std.proofs.Common.{◌≡◌, ℕ, suc, ◌-◌, ◌<◌, ◌≤◌, List, [], ◌∷◌, ◌++◌, reverse, length, take, drop, All, sym, ap, subst, refl, ◌∙◌, arith}
-use Rattle.std.proofs.lemmas.List.{map-append, length-append, take_all, drop_at, length-drop, drop-append-le, take-append-le, reverse-append, get_or-reverse, length-reverse}
-use Rattle.symbols.specs.declared.names.Names.{Names}
-use Rattle.symbols.specs.declared.names.Span.{Span}
+-- Names in a text.
+use Rattle.std.proofs.Common.{◌≡◌, ℕ, ◌+◌, ◌-◌, ◌<◌, ◌≤◌, List, [], ◌∷◌, ◌++◌, reverse, length, take, drop, All, sym, ap, subst, refl, ◌∙◌, arith}
+use Rattle.std.proofs.lemmas.List.{map-append, length-append, drop_at, reverse-append, get_or-reverse, length-reverse}
 use Rattle.symbols.specs.declared.names.Spot.{Spot}
 use Rattle.symbols.specs.NameMap.{Pair}
-use Rattle.symbols.specs.Names.{text_in, spot_view, spots_view, names_view, AreInside}
+use Rattle.symbols.specs.Names.{text_in, spot_view, spots_view, AreWithin, EndsWith}
 
--- names that are there stay when the block grows
-kept : (block more : List ℕ) (spots : List Spot) → All (λ (s : Spot). s.span.start ≤ s.span.end) spots → All (λ (s : Spot). s.span.end ≤ length block) spots → spots_view (block ++ more) spots ≡ spots_view block spots
-kept block more [] ordered inside = refl
-kept block more (s ∷ spots) ordered inside =
-    let before : s.span.start ≤ s.span.end = ordered 0 s (omega arith) in
-    let within : s.span.end ≤ length block = inside 0 s (omega arith) in
-    let here : text_in (block ++ more) s.span ≡ text_in block s.span =
-    ap (λ (l : List ℕ). take (s.span.end - s.span.start) l) (drop-append-le s.span.start block more (omega (arith, before, within)))
-    ∙ take-append-le (s.span.end - s.span.start) (drop s.span.start block) more (omega (arith, before, within, length-drop s.span.start block)) in
-    ap (λ (l : List ℕ). (s.key, l) ∷ spots_view (block ++ more) spots) here
-    ∙ ap (λ (l : List Pair). spot_view block s ∷ l) (kept block more spots (λ k d less. ordered (suc k) d (omega (arith, less))) (λ k d less. inside (suc k) d (omega (arith, less))))
+-- one more name
+pub one_more : (text : List ℕ) (spots now : List Spot) (s : Spot) (name : List ℕ) → now ≡ spots ++ s ∷ [] → text_in text s.span ≡ name → spots_view text now ≡ spots_view text spots ++ (s.key, name) ∷ []
+one_more text spots now s name is named =
+    ap (spots_view text) is ∙ map-append (spot_view text) spots (s ∷ []) ∙ ap (λ (l : List ℕ). spots_view text spots ++ (s.key, l) ∷ []) named
 
-newest : (block text : List ℕ) (s : Span) → s.start ≡ length block → s.end ≡ length (block ++ text) → text_in (block ++ text) s ≡ text
-newest block text s is_start is_end =
-    ap (λ (n : ℕ). take (s.end - s.start) (drop n (block ++ text))) is_start
-    ∙ ap (λ (l : List ℕ). take (s.end - s.start) l) (drop_at block text (length block) refl)
-    ∙ take_all (s.end - s.start) text (omega (arith, is_start, is_end, length-append block text))
+-- where the name stands in the text
+pub span_inside : (text from : List ℕ) (len : ℕ) → EndsWith text from → len ≤ length from → (length from ≤ length text) × (length text - length from + len ≤ length text)
+span_inside text from len ends inside =
+    let long : length text ≡ length ends.0 + length from = ap length ends.1 ∙ length-append ends.0 from in
+    (omega (arith, long), omega (arith, long, inside))
 
-pub pointed : (block : List ℕ) (spots now : List Spot) (s : Spot) → now ≡ spots ++ s ∷ [] → spots_view block now ≡ spots_view block spots ++ spot_view block s ∷ []
-pointed block spots now s is = ap (spots_view block) is ∙ map-append (spot_view block) spots (s ∷ [])
+pub span_named : (text from : List ℕ) (len : ℕ) → EndsWith text from → take len (drop (length text - length from) text) ≡ take len from
+span_named text from len ends =
+    let at : length ends.0 ≡ length text - length from = omega (arith, ap length ends.1 ∙ length-append ends.0 from) in
+    ap (λ (l : List ℕ). take len (drop (length text - length from) l)) ends.1 ∙ ap (take len) (drop_at ends.0 from (length text - length from) at)
 
-pub copied : (names : Names) (block : List ℕ) (now : List Spot) (text : List ℕ) (s : Spot) → AreInside names → s.span.start ≡ length names.block.items → s.span.end ≡ length block → block ≡ names.block.items ++ text
-    → now ≡ names.spots.items ++ s ∷ [] → spots_view block now ≡ names_view names ++ (s.key, text) ∷ []
-copied names block now text s inside is_start is_end grown is =
-    let b = names.block.items in
-    rw grown (pointed (b ++ text) names.spots.items now s is
-    ∙ ap (λ (l : List Pair). l ++ spot_view (b ++ text) s ∷ []) (kept b text names.spots.items inside.ordered inside.inside)
-    ∙ ap (λ (l : List ℕ). names_view names ++ (s.key, l) ∷ []) (newest b text s.span is_start (is_end ∙ ap length grown)))
-
-pub turned : (block : List ℕ) (spots now : List Spot) → now ≡ reverse spots → spots_view block now ≡ reverse (spots_view block spots)
-turned block spots now is = ap (spots_view block) is ∙ by spots
+pub turned : (text : List ℕ) (spots now : List Spot) → now ≡ reverse spots → spots_view text now ≡ reverse (spots_view text spots)
+turned text spots now is = ap (spots_view text) is ∙ by spots
   where
-    by : (xs : List Spot) → spots_view block (reverse xs) ≡ reverse (spots_view block xs)
+    by : (xs : List Spot) → spots_view text (reverse xs) ≡ reverse (spots_view text xs)
     by [] = refl
-    by (x ∷ xs) = ap (spots_view block) (reverse-append (x ∷ []) xs) ∙ map-append (spot_view block) (reverse xs) (x ∷ []) ∙ ap (λ (l : List Pair). l ++ spot_view block x ∷ []) (by xs) ∙ sym (reverse-append (spot_view block x ∷ []) (spots_view block xs))
+    by (x ∷ xs) = ap (spots_view text) (reverse-append (x ∷ []) xs) ∙ map-append (spot_view text) (reverse xs) (x ∷ []) ∙ ap (λ (l : List Pair). l ++ spot_view text x ∷ []) (by xs) ∙ sym (reverse-append (spot_view text x ∷ []) (spots_view text xs))
 
 all_turned : (P : Spot → Type 0) (xs : List Spot) → All P xs → All P (reverse xs)
 all_turned P xs each = λ k d less.
     let inside : k < length xs = omega (arith, less, length-reverse xs) in
     subst P (sym (get_or-reverse xs k d inside)) (each (length xs - 1 - k) d (omega (arith, inside)))
 
-pub inside_turned : (names now : Names) → AreInside names → now.spots.items ≡ reverse names.spots.items → now.block.items ≡ names.block.items → AreInside now
-inside_turned names now inside is same = record {
-  ordered = subst (All (λ (s : Spot). s.span.start ≤ s.span.end)) (sym is) (all_turned (λ (s : Spot). s.span.start ≤ s.span.end) names.spots.items inside.ordered);
-  inside = subst (λ (xs : List Spot). All (λ (s : Spot). s.span.end ≤ length now.block.items) xs) (sym is) (subst (λ (b : List ℕ). All (λ (s : Spot). s.span.end ≤ length b) (reverse names.spots.items)) (sym same) (all_turned (λ (s : Spot). s.span.end ≤ length names.block.items) names.spots.items inside.inside));
-}
+pub within_turned : (text : List ℕ) (spots now : List Spot) → AreWithin text spots → now ≡ reverse spots → AreWithin text now
+within_turned text spots now within is = subst (AreWithin text) (sym is) (all_turned (λ (s : Spot). s.span.start + s.span.len ≤ length text) spots within)

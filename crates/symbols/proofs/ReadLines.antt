@@ -1,7 +1,9 @@
 -- A loop over lines that names are read from.
-use Rattle.std.proofs.Common.{◌≡◌, ℕ, suc, ◌+◌, ◌-◌, ◌<◌, ◌≤◌, Bool, List, [], ◌∷◌, ◌++◌, length, take, drop, get_or, codes, Option, Some, None, IfSome, refl, sym, ap, ◌∙◌, append_assoc, arith}
+use Rattle.std.proofs.Common.{◌≡◌, ℕ, suc, ◌+◌, ◌-◌, ◌<◌, ◌≤◌, ◌^◌, Bool, ltb, true, List, [], ◌∷◌, ◌++◌, length, take, drop, get_or, codes, Option, Some, None, IfSome, refl, sym, ap, ◌∙◌, append_assoc, arith}
 use Rattle.std.specs.List.{cons_option, prefix_len, join_with_byte}
-use Rattle.std.proofs.lemmas.List.{append-nil, length-append, drop_at, take-append-le}
+use Rattle.std.specs.Option.{unwrap_or}
+use Rattle.std.proofs.lemmas.List.{append-nil, length-append, take_all}
+use Rattle.std.proofs.lemmas.Bool.{lt-ltb}
 use Rattle.std.proofs.lemmas.List.Splits.{join_with_byte-slice_split}
 use Rattle.std.proofs.lemmas.List.Sums.{prefix_len-le-length}
 use Rattle.trace_base.specs.FieldReading.{after_word}
@@ -12,9 +14,12 @@ use denote.Ref.{Bor}
 use Rattle.symbols.specs.NameMap.{Pair}
 use Rattle.symbols.specs.declared.lines.Form.{Form}
 use Rattle.symbols.specs.declared.lines.Form.TheVariants.{Kallsyms}
-use Rattle.symbols.specs.Forms.{line_in, pairs_in}
+use Rattle.symbols.specs.Forms.{address_at, leading_number, without_prefix, task_line, line_in, pairs_in}
+use Rattle.symbols.specs.declared.found.Found.{Found}
+use Rattle.symbols.specs.Found.{StandsIn}
 use Rattle.symbols.specs.Names.{BeginsWith, EndsWith}
 use Rattle.symbols.specs.FirstLine.{IsFirstSymbol, PutsFirst}
+use Rattle.symbols.proofs.Forms.{address_is, number_is}
 
 pub prefix_within : (p : ℕ → Bool) (xs : List ℕ) → prefix_len p xs ≤ length xs
 prefix_within p xs = prefix_len-le-length p xs
@@ -41,47 +46,47 @@ one_put o front now name is next = next ∙ ap (λ (o : Option Pair). front ++ c
 pub none_put : (o : Option Pair) (front : List Pair) → None ≡ o → front ≡ front ++ cons_option o []
 none_put o front is = sym (append-nil front) ∙ ap (λ (o : Option Pair). front ++ cons_option o []) is
 
--- blocks that grow
-pub block_same : (block : List ℕ) → BeginsWith block block
-block_same block = ([], sym (append-nil block))
-
-pub block_more : (block before text : List ℕ) → block ≡ before ++ text → BeginsWith block before
-block_more block before text is = (text, is)
-
-pub block_behind : (block before text : List ℕ) → BeginsWith block before → BeginsWith before text → BeginsWith block text
-block_behind block before text grown begins = (begins.0 ++ grown.0, grown.1 ∙ ap (λ (l : List ℕ). l ++ grown.0) begins.1 ∙ append_assoc text begins.0 grown.0)
-
+-- texts that end with one
 pub ends_itself : (text : List ℕ) → EndsWith text text
 ends_itself text = ([], refl)
 
 pub ends_behind : (text lines end : List ℕ) → EndsWith text lines → EndsWith lines end → EndsWith text end
 ends_behind text lines end outer inner = (outer.0 ++ inner.0, outer.1 ∙ ap (λ (l : List ℕ). outer.0 ++ l) inner.1 ∙ sym (append_assoc outer.0 inner.0 end))
 
--- where a name that a text ends with stands in a block that begins with the text
-pub record IsPlace (block text from : List ℕ) (len : ℕ) : Type 0 where
-  pub room : length from ≤ length text
-  pub inside : length text - length from + len ≤ length block
-  pub text_is : take (length text - length from + len - (length text - length from)) (drop (length text - length from) block) ≡ take len from
+-- what stands in the end of a text stands in the text
+pub stands_behind : (text lines : List ℕ) (found : Found) → EndsWith text lines → StandsIn lines found → StandsIn text found
+stands_behind text lines found ends stands = record { ends = ends_behind text lines found.from.now ends stands.ends; inside = stands.inside }
 
-pub place_of : (block text from : List ℕ) (len : ℕ) → BeginsWith block text → EndsWith text from → len < length from → IsPlace block text from len
-place_of block text from len begins ends inside =
-    let front = ends.0 in
-    let more = begins.0 in
-    let long : length text ≡ length front + length from = ap length ends.1 ∙ length-append front from in
-    let whole : length block ≡ length text + length more = ap length begins.1 ∙ length-append text more in
-    let at : length text - length from ≡ length front = omega (arith, long) in
-    let parted : block ≡ front ++ (from ++ more) = begins.1 ∙ ap (λ (l : List ℕ). l ++ more) ends.1 ∙ append_assoc front from more in
-    let count : length text - length from + len - (length text - length from) ≡ len = omega arith in
-    record {
-      room = omega (arith, long);
-      inside = omega (arith, long, whole, inside);
-      text_is =
-          ap (λ (n : ℕ). take n (drop (length text - length from) block)) count
-          ∙ ap (λ (n : ℕ). take len (drop n block)) at
-          ∙ ap (λ (l : List ℕ). take len (drop (length front) l)) parted
-          ∙ ap (λ (l : List ℕ). take len l) (drop_at front (from ++ more) (length front) refl)
-          ∙ take-append-le len from more (omega (arith, inside));
-    }
+-- a line ends with what stands from its name on
+bare_by : (o : Option (List ℕ)) (line bare : List ℕ) → after_word (codes "0x") line ≡ o → bare ≡ unwrap_or o line → EndsWith line bare
+bare_by None line bare e is = ([], sym is)
+bare_by (Some rest) line bare e is = (codes "0x", after_is (codes "0x") line rest e ∙ ap (λ (l : List ℕ). codes "0x" ++ l) (sym is))
+
+bare_ends : (line bare : List ℕ) → bare ≡ without_prefix line → EndsWith line bare
+unfolding without_prefix
+bare_ends line bare is = bare_by (after_word (codes "0x") line) line bare refl is
+
+pub printk_ends : (line bare rest from : List ℕ) (key : ℕ) → bare ≡ without_prefix line → Some (key, rest) ≡ address_at bare → Some from ≡ after_word (codes " : \"") rest → EndsWith line from
+printk_ends line bare rest from key is address word =
+    let taken = address_is bare rest key (sym address) in
+    let front = bare_ends line bare is in (
+      front.0 ++ (taken.digits ++ codes " : \""),
+      front.1 ∙ ap (λ (l : List ℕ). front.0 ++ l) (taken.whole ∙ ap (λ (l : List ℕ). taken.digits ++ l) (after_is (codes " : \"") rest from (sym word)) ∙ sym (append_assoc taken.digits (codes " : \"") from))
+          ∙ sym (append_assoc front.0 (taken.digits ++ codes " : \"") from),
+    )
+
+pub task_ends : (line rest from : List ℕ) (pid : ℕ) → Some (pid, rest) ≡ leading_number line → Some from ≡ after_word (codes " ") rest → EndsWith line from
+task_ends line rest from pid number space =
+    let taken = number_is line rest pid (sym number) in
+    (taken.0 ++ codes " ", taken.1 ∙ ap (λ (l : List ℕ). taken.0 ++ l) (after_is (codes " ") rest from (sym space)) ∙ sym (append_assoc taken.0 (codes " ") from))
+
+-- the name of a task is the whole rest of its line
+pub task_read : (line rest from : List ℕ) (pid : ℕ) → Some (pid, rest) ≡ leading_number line → Some from ≡ after_word (codes " ") rest → pid < 2 ^ 31 → 0 < length from → Some (pid, take (length from) from) ≡ task_line line
+unfolding task_line
+task_read line rest from pid number space fits some =
+    let low : ltb pid (2 ^ 31) ≡ true = lt-ltb _ _ fits in
+    let named : ltb 0 (length from) ≡ true = lt-ltb _ _ some in
+    rw (sym number, sym space, low, named) (ap (λ (l : List ℕ). Some (pid, l)) (take_all (length from) from (omega arith)))
 
 -- what follows the first line
 line_and : (line rest : List ℕ) (others : List (List ℕ)) → lines_of rest ≡ others → join_with_byte 10 (line ∷ others) ≡ line ++ (10 ∷ rest)
@@ -98,6 +103,10 @@ pub ends_left : (text lines line : List ℕ) (behind : Option (Bor (List ℕ))) 
 ends_left text lines line None ends split = tt
 ends_left text lines line (Some rest) ends split =
     ends_behind text lines rest.now ends (line ++ 10 ∷ [], first_of lines line rest.now split ∙ sym (append_assoc line (10 ∷ []) rest.now))
+
+pub line_begins : (lines line : List ℕ) (behind : Option (Bor (List ℕ))) → lines_of lines ≡ line ∷ lines_left behind → BeginsWith lines line
+line_begins lines line None split = ([], sym (join_with_byte-slice_split 10 lines) ∙ ap (join_with_byte 10) split ∙ sym (append-nil line))
+line_begins lines line (Some rest) split = (10 ∷ rest.now, first_of lines line rest.now split)
 
 pub shorter_left : (lines line : List ℕ) (behind : Option (Bor (List ℕ))) → lines_of lines ≡ line ∷ lines_left behind → lines_long behind < suc (length lines)
 shorter_left lines line None split = omega arith
@@ -119,13 +128,12 @@ pub all_read : (form : Form) (front whole : List Pair) → front ++ pairs_in for
 all_read form front whole before = sym (append-nil front) ∙ before
 
 -- a symbol that was read in one pass is what its line gives
-pub symbol_put : (form : Form) (text : List ℕ) (key : ℕ) (from name : List ℕ) (len : ℕ) (others : List (List ℕ)) (front now : List Pair) → form ≡ Kallsyms → IsFirstSymbol text key from len others
-    → name ≡ take len from → now ≡ front ++ (key, name) ∷ [] → PutsFirst form text front now others
-symbol_put form text key from name len others front now is first named next = record {
+pub symbol_put : (form : Form) (text : List ℕ) (key : ℕ) (from : List ℕ) (len : ℕ) (others : List (List ℕ)) (front now : List Pair) → form ≡ Kallsyms → IsFirstSymbol text key from len others
+    → now ≡ front ++ (key, take len from) ∷ [] → PutsFirst form text front now others
+symbol_put form text key from len others front now is first next = record {
   line = first.line;
   split = first.split;
   put = next
-      ∙ ap (λ (l : List ℕ). front ++ (key, l) ∷ []) named
       ∙ ap (λ (o : Option Pair). front ++ cons_option o []) (sym first.is)
       ∙ ap (λ (f : Form). front ++ cons_option (line_in f first.line) []) (sym is);
 }

@@ -19,18 +19,18 @@ view_past block [] i le = refl
 view_past block (x ∷ xs) zero le = absurd (omega (arith, le))
 view_past block (x ∷ xs) (suc i) le = view_past block xs i (omega (arith, le))
 
-pub row_at : (names : Names) (i : ℕ) (spot : Spot) (name : List ℕ) → i < length names.spots.items → spot ≡ get_or names.spots.items i spot → name ≡ text_in names.block.items spot.span
+pub row_at : (names : Names) (i : ℕ) (spot : Spot) (name : List ℕ) → i < length names.spots.items → spot ≡ get_or names.spots.items i spot → name ≡ text_in names.text spot.span
     → slice_get (names_view names) i ≡ Some (spot.key, name)
 row_at names i spot name less is_spot is_name =
-    view_get names.block.items names.spots.items i spot less
-    ∙ ap (λ (s : Spot). Some (spot_view names.block.items s)) (sym is_spot)
+    view_get names.text names.spots.items i spot less
+    ∙ ap (λ (s : Spot). Some (spot_view names.text s)) (sym is_spot)
     ∙ ap (λ (n : List ℕ). Some (spot.key, n)) (sym is_name)
 
 pub row_past : (names : Names) (i : ℕ) → length names.spots.items ≤ i → None ≡ slice_get (names_view names) i
-row_past names i le = sym (view_past names.block.items names.spots.items i le)
+row_past names i le = sym (view_past names.text names.spots.items i le)
 
 pub rows_long : (names : Names) → length names.spots.items ≡ length (names_view names)
-rows_long names = sym (length-map names.spots.items (spot_view names.block.items))
+rows_long names = sym (length-map names.spots.items (spot_view names.text))
 
 -- the numbers
 keys_view : (block : List ℕ) (xs : List Spot) → keys_of (spots_view block xs) ≡ keys_in xs
@@ -41,12 +41,12 @@ pub keys_more : (xs : List Spot) (i : ℕ) (d : Spot) (keys : List ℕ) → i < 
 keys_more xs i d keys less is = is ∙ sym (ap keys_in (take_more xs i d less) ∙ map-append (λ (s : Spot). s.key) (take i xs) (get_or xs i d ∷ []))
 
 pub all_keys : (names : Names) (i : ℕ) (keys : List ℕ) → length names.spots.items ≤ i → keys ≡ keys_in (take i names.spots.items) → keys ≡ keys_of (names_view names)
-all_keys names i keys le is = is ∙ ap keys_in (take_all i names.spots.items le) ∙ sym (keys_view names.block.items names.spots.items)
+all_keys names i keys le is = is ∙ ap keys_in (take_all i names.spots.items le) ∙ sym (keys_view names.text names.spots.items)
 
 -- a search in the numbers
 module _ (names : Names) (spots : List Spot) (same : spots ≡ names.spots.items) (rises : RisesFrom 0 (names_view names)) where
   keys_are : keys_of (names_view names) ≡ keys_in spots
-  keys_are = keys_view names.block.items names.spots.items ∙ ap keys_in (sym same)
+  keys_are = keys_view names.text names.spots.items ∙ ap keys_in (sym same)
 
   pub rises_rows : RisesKeys (keys_in spots)
   rises_rows = subst RisesKeys keys_are (rises_keys 0 (names_view names) rises)

@@ -1,30 +1,32 @@
--- Names as they stand in a block of bytes, as plain data.
-use Rattle.std.specs.Prelude.{◌≡◌, ⊤, ℕ, ◌-◌, ◌≤◌, List, [], ◌∷◌, ◌++◌, length, take, drop, map, All}
+-- Names as they stand in a text, as plain data.
+use Rattle.std.specs.Prelude.{◌≡◌, ⊤, ℕ, ◌+◌, ◌≤◌, List, [], ◌∷◌, ◌++◌, length, take, drop, map, All}
 use Rattle.symbols.specs.declared.names.Names.{Names}
 use Rattle.symbols.specs.declared.names.Span.{Span}
 use Rattle.symbols.specs.declared.names.Spot.{Spot}
 use Rattle.symbols.specs.NameMap.{Pair}
 
 abbrev pub text_in : List ℕ → Span → List ℕ
-text_in block span = take (span.end - span.start) (drop span.start block)
+text_in text span = take span.len (drop span.start text)
 
 abbrev pub spot_view : List ℕ → Spot → Pair
-spot_view block spot = (spot.key, text_in block spot.span)
+spot_view text spot = (spot.key, text_in text spot.span)
 
 abbrev pub spots_view : List ℕ → List Spot → List Pair
-spots_view block spots = map (spot_view block) spots
+spots_view text spots = map (spot_view text) spots
 
 abbrev pub names_view : Names → List Pair
-names_view names = spots_view names.block.items names.spots.items
+names_view names = spots_view names.text names.spots.items
 
--- each name stands in the block
-pub record AreInside (names : Names) : Type 0 where
-  pub ordered : All (λ (s : Spot). s.span.start ≤ s.span.end) names.spots.items
-  pub inside : All (λ (s : Spot). s.span.end ≤ length names.block.items) names.spots.items
+-- each name stands in the text
+abbrev pub AreWithin : List ℕ → List Spot → Type 0
+AreWithin text spots = All (λ (s : Spot). s.span.start + s.span.len ≤ length text) spots
 
--- a block begins with this text
+abbrev pub AreInside : Names → Type 0
+AreInside names = AreWithin names.text names.spots.items
+
+-- a text begins with this one
 abbrev pub BeginsWith : List ℕ → List ℕ → Type 0
-BeginsWith block text = (more : List ℕ) × (block ≡ text ++ more)
+BeginsWith text front = (more : List ℕ) × (text ≡ front ++ more)
 
 -- a text ends with this one
 abbrev pub EndsWith : List ℕ → List ℕ → Type 0

@@ -5,6 +5,7 @@ ghost use Rattle.text_lines.specs.Lines.{lines_of, lines_left};
 ghost use Rattle.symbols.specs.FirstLine.{IsFirstSymbol, IsNameLen};
 
 use crate::digits::address_at;
+use crate::found::Found;
 use crate::lines::{after_letter, after_space};
 use memchr::memchr3_iter;
 use text_lines::first_line;
@@ -12,12 +13,8 @@ use text_lines::first_line;
 /// A symbol, and what follows its line.
 #[derive(Clone, Copy, Debug)]
 pub(crate) struct FirstSymbol<'a> {
-    /// The address.
-    pub key: u64,
-    /// The text from the name on.
-    pub from: &'a [u8],
-    /// How long the name is, in bytes.
-    pub len: usize,
+    /// Its address and its name.
+    pub found: Found<'a>,
     /// The lines after this one, if there are any.
     pub behind: Option<&'a [u8]>,
 }
@@ -25,7 +22,7 @@ pub(crate) struct FirstSymbol<'a> {
 /// The symbol of the first line of kallsyms. None tells nothing: the line may be of another form, or end with the text.
 #[tactic(auto, using(crate::proofs::FirstSymbols::first_is))]
 pub(crate) fn first_symbol(text: &[u8]) -> Option<FirstSymbol<'_>>
-    ensures { IfSome result (λ symbol. IsFirstSymbol text.now symbol.key symbol.from.now symbol.len (lines_left symbol.behind)) }
+    ensures { IfSome result (λ symbol. IsFirstSymbol text.now symbol.found.key symbol.found.from.now symbol.found.len (lines_left symbol.behind)) }
 {
     let (key, rest) = address_at(text)?;
     let spaced = after_space(rest)?;
@@ -33,12 +30,8 @@ pub(crate) fn first_symbol(text: &[u8]) -> Option<FirstSymbol<'_>>
     let len = name_len(from)?;
     let (_, left) = from.split_at(len);
     let (_, behind) = rest_of_line(left);
-    Some(FirstSymbol {
-        key,
-        from,
-        len,
-        behind,
-    })
+    let found = Found { key, from, len };
+    Some(FirstSymbol { found, behind })
 }
 
 // How long the name at the front is, where a tab, a space or a newline ends it. The iterator looks at the next 32 bytes first,

@@ -1,8 +1,10 @@
-/// A number and the name beside it, which is a part of the text that it was read from.
-#[derive(Clone, Copy, Debug, PartialEq, Eq)]
+/// A number and the name beside it, by where the name stands in the text that it was read from.
+#[derive(Clone, Copy, Debug)]
 pub(crate) struct Found<'a> {
     /// The address or the pid.
     pub key: u64,
-    /// The name.
-    pub text: &'a [u8],
+    /// The text from the name on.
+    pub from: &'a [u8],
+    /// How long the name is, in bytes.
+    pub len: usize,
 }

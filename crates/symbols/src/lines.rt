@@ -1,11 +1,11 @@
 // The lines of kallsyms, printk formats and saved command lines, one at a time.
 
-ghost use Rattle.std.specs.Prelude.{◌≡◌, IfSome, IfNone, codes};
+ghost use Rattle.std.specs.Prelude.{◌≡◌, ◌≤◌, IfSome, IfNone, codes, length, take};
 ghost use Rattle.std.specs.List.{prefix_len};
 ghost use Rattle.std.specs.Option.{option_map};
 ghost use Rattle.trace_base.specs.FieldReading.{after_word};
 ghost use Rattle.symbols.specs.NameMap.{Pair};
-ghost use Rattle.symbols.specs.Found.{found_view};
+ghost use Rattle.symbols.specs.Found.{StandsIn, found_view};
 ghost use Rattle.symbols.specs.LineForms.{in_name, IsSymbolLine, IsPrintkLine, IsTaskLine};
 ghost use Rattle.symbols.specs.Forms.{is_decimal_digit, leading_number, after_letter, symbol_line, unquoted, without_prefix, printk_line, task_line, line_in};
 
@@ -27,6 +27,7 @@ pub(crate) enum Form {
 /// The symbol that a line of kallsyms gives: 1 to 16 hexadecimal digits, a space, one letter, a space, and a name up to a tab,
 /// a space or the end. None exactly where the line is of another form (proc_kallsyms(5)).
 pub(crate) fn symbol_line(line: &[u8]) -> Option<Found<'_>>
+    ensures stands { IfSome result (StandsIn line.now) }
     ensures found { IfSome result (λ symbol. IsSymbolLine line.now (found_view symbol)) }
     ensures none { IfNone result ((symbol : Pair) → IsSymbolLine line.now symbol → ⊥) }
     ensures exact { option_map found_view result ≡ symbol_line line.now }
@@ -37,6 +38,7 @@ pub(crate) fn symbol_line(line: &[u8]) -> Option<Found<'_>>
 /// The text that a line of printk formats gives: an address as in kallsyms, with `0x` or without, ` : `, and a text in
 /// quotation marks that ends the line. None exactly where the line is of another form.
 pub(crate) fn printk_line(line: &[u8]) -> Option<Found<'_>>
+    ensures stands { IfSome result (StandsIn line.now) }
     ensures found { IfSome result (λ format. IsPrintkLine line.now (found_view format)) }
     ensures none { IfNone result ((format : Pair) → IsPrintkLine line.now format → ⊥) }
     ensures exact { option_map found_view result ≡ printk_line line.now }
@@ -47,6 +49,7 @@ pub(crate) fn printk_line(line: &[u8]) -> Option<Found<'_>>
 /// The task that a saved command line gives: a decimal pid up to 2,147,483,647, a space, and a name of at least one byte.
 /// None exactly where the line is of another form.
 pub(crate) fn task_line(line: &[u8]) -> Option<Found<'_>>
+    ensures stands { IfSome result (StandsIn line.now) }
     ensures found { IfSome result (λ task. IsTaskLine line.now (found_view task)) }
     ensures none { IfNone result ((task : Pair) → IsTaskLine line.now task → ⊥) }
     ensures exact { option_map found_view result ≡ task_line line.now }
@@ -121,12 +124,14 @@ pub(crate) fn after_letter(text: &[u8]) -> Option<&[u8]>
     }
 }
 
+/// How long the text is without the quotation mark that ends it.
 #[tactic(auto, unfolding(crate::specs::Forms::unquoted))]
-fn unquoted(text: &[u8]) -> Option<&[u8]>
-    ensures { option_map (λ r. r.now) result ≡ unquoted text.now }
+fn unquoted_len(text: &[u8]) -> Option<usize>
+    ensures inside { IfSome result (λ len. len ≤ length text.now) }
+    ensures exact { option_map (λ len. take len text.now) result ≡ unquoted text.now }
 {
     if !text.is_empty() && text[text.len() - 1] == b'"' {
-        Some(&text[..text.len() - 1])
+        Some(text.len() - 1)
     } else {
         None
     }
@@ -142,37 +147,41 @@ fn without_prefix(text: &[u8]) -> &[u8]
     }
 }
 
-#[tactic(auto, unfolding(crate::specs::Forms::symbol_line), using(crate::proofs::ReadLines::prefix_within))]
+#[tactic(auto, unfolding(crate::specs::Forms::symbol_line), using(crate::proofs::ReadLines::prefix_within, crate::proofs::FirstSymbols::symbol_ends))]
 fn read_symbol(line: &[u8]) -> Option<Found<'_>>
-    ensures { option_map found_view result ≡ symbol_line line.now }
+    ensures stands { IfSome result (StandsIn line.now) }
+    ensures exact { option_map found_view result ≡ symbol_line line.now }
 {
     let (key, rest) = other_address(line)?;
-    let rest = after_space(rest)?;
-    let name = after_letter(rest)?;
-    let (text, _) = name.split_at(name_len(name));
-    Some(Found { key, text })
+    let spaced = after_space(rest)?;
+    let from = after_letter(spaced)?;
+    let len = name_len(from);
+    Some(Found { key, from, len })
 }
 
-#[tactic(auto, unfolding(crate::specs::Forms::printk_line))]
+#[tactic(auto, unfolding(crate::specs::Forms::printk_line), using(crate::proofs::ReadLines::printk_ends))]
 fn read_printk(line: &[u8]) -> Option<Found<'_>>
-    ensures { option_map found_view result ≡ printk_line line.now }
+    ensures stands { IfSome result (StandsIn line.now) }
+    ensures exact { option_map found_view result ≡ printk_line line.now }
 {
     let (key, rest) = other_address(without_prefix(line))?;
-    let rest = after_word(b" : \"", rest)?;
-    let text = unquoted(rest)?;
-    Some(Found { key, text })
+    let from = after_word(b" : \"", rest)?;
+    let len = unquoted_len(from)?;
+    Some(Found { key, from, len })
 }
 
-#[tactic(auto, unfolding(crate::specs::Forms::task_line))]
+#[tactic(auto, unfolding(crate::specs::Forms::task_line), using(crate::proofs::ReadLines::task_ends, crate::proofs::ReadLines::task_read))]
 fn read_task(line: &[u8]) -> Option<Found<'_>>
-    ensures { option_map found_view result ≡ task_line line.now }
+    ensures stands { IfSome result (StandsIn line.now) }
+    ensures exact { option_map found_view result ≡ task_line line.now }
 {
     let (pid, rest) = leading_number(line)?;
-    let text = after_space(rest)?;
-    if pid < 0x8000_0000 && !text.is_empty() {
+    let from = after_space(rest)?;
+    if pid < 0x8000_0000 && !from.is_empty() {
         Some(Found {
             key: pid as u64,
-            text,
+            from,
+            len: from.len(),
         })
     } else {
         None
@@ -180,7 +189,8 @@ fn read_task(line: &[u8]) -> Option<Found<'_>>
 }
 
 pub(crate) fn line_in(form: Form, line: &[u8]) -> Option<Found<'_>>
-    ensures { option_map found_view result ≡ line_in form line.now }
+    ensures stands { IfSome result (StandsIn line.now) }
+    ensures exact { option_map found_view result ≡ line_in form line.now }
 {
     match form {
         Form::Kallsyms => symbol_line(line),

@@ -10,6 +10,7 @@ use crate::table::NameTable;
 use noted_places::Places;
 use std::alloc::{AllocError, Global};
 use std::marker::Model;
+use trace_base::ByteText;
 
 /// The names of addresses, printk formats and tasks. Contracts see three finite maps.
 #[derive(Drop)]
@@ -37,16 +38,17 @@ impl Model for Symbols {
 impl Symbols {
     /// Reads the texts of kallsyms, of printk formats and of saved command lines, as a trace file carries them.
     ///
-    /// Lines of another form are passed over. Of equal addresses the first line counts, of equal pids the last.
+    /// Lines of another form are passed over. Of equal addresses the first line counts, of equal pids the last. The names stay
+    /// where they stand in the texts: none is copied.
     #[tactic(auto, unfolding(crate::specs::Maps::maps_of))]
     pub fn read(
         alloc: Global,
-        kallsyms: &[u8],
-        printk: &[u8],
-        cmdlines: &[u8],
+        kallsyms: ByteText,
+        printk: ByteText,
+        cmdlines: ByteText,
     ) -> Result<Symbols, AllocError>
-        ensures maps { IfOk result (AreMapsOf kallsyms.now printk.now cmdlines.now) }
-        ensures exact { IfOk result (λ symbols. symbols ≡ maps_of kallsyms.now printk.now cmdlines.now) }
+        ensures maps { IfOk result (AreMapsOf kallsyms printk cmdlines) }
+        ensures exact { IfOk result (λ symbols. symbols ≡ maps_of kallsyms printk cmdlines) }
     {
         let symbols = NameTable::build(alloc, names_in(alloc, Form::Kallsyms, kallsyms)?)?;
         let symbol_guide = symbols.guide(alloc)?;

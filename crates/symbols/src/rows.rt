@@ -7,7 +7,7 @@ ghost use Rattle.symbols.specs.NameMap.{RisesFrom, IsNearest, NoneUpTo, last_up_
 ghost use Rattle.symbols.specs.Names.{names_view, AreInside};
 
 use crate::guide::Near;
-use crate::names::Names;
+use crate::names::{Names, Span};
 use crate::search::place_up_to;
 use std::alloc::{AllocError, Global};
 
@@ -20,7 +20,8 @@ impl Names {
         ensures { slice_get (names_view self.now) i ≡ Some (result.0, result.1.now) }
     {
         let spot = self.spots[i];
-        (spot.key, &self.block[spot.span.start..spot.span.end])
+        let Span { start, len } = spot.span;
+        (spot.key, &self.text.as_bytes()[start..start + len])
     }
 
     /// The name at a place.

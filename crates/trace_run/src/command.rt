@@ -34,7 +34,6 @@ use run_endings::{JobEnd, Resources, Status};
 use run_words::{FileCommand, Job};
 use several_report::print_files;
 use split_run::cut_file;
-use std::mem;
 use std::thread::Threads;
 use trace_outside::{Failed, Folder, Gate, Sink};
 
@@ -161,14 +160,8 @@ fn run_on_header<R: Threads + Sync, F: Folder, O: Sink, G: Gate>(
 {
     match command {
         FileCommand::Report(words) => {
-            let plan = ReportPlan {
-                words,
-                header: &header,
-            };
-            let status = print_report(resources, &plan, filters, file, out);
-            // It lives until the program ends, which gives all memory back at once.
-            mem::forget(header);
-            status
+            let plan = ReportPlan { words, header };
+            print_report(resources, plan, filters, file, out)
         }
         FileCommand::Dump(words) => print_dump(resources.alloc, words, &header, out),
         FileCommand::Split(words) => cut_file(resources.alloc, words, header, file, folder),

@@ -65,9 +65,9 @@ fn report_generated<R: Threads + Sync, G: Gate>(
     let filters = Vec::new(alloc);
     let plan = ReportPlan {
         words: &plain,
-        header: &header,
+        header,
     };
-    match print_report(resources, &plan, filters, &mut file, report) {
+    match print_report(resources, plan, filters, &mut file, report) {
         Status::Done => Ok(()),
         // The file is sound, and its reads and the sink's writes fail only for want of memory.
         _ => Err(AllocError),

@@ -4,7 +4,7 @@ use format_parse::FormatTable;
 use report_print::{Context, Show};
 use std::alloc::{AllocError, Global};
 use symbols::Symbols;
-use trace_base::{ListOf, Order};
+use trace_base::{ByteText, ListOf, Order};
 
 /// A context with these formats and symbols, and the task `sh` of pid 7. With `all` the columns of latencies and all digits of
 /// times are shown.
@@ -14,7 +14,12 @@ pub(crate) fn context_of(
     kallsyms: &[u8],
     all: bool,
 ) -> Result<Context, AllocError> {
-    let symbols = Symbols::read(alloc, kallsyms, b"", b"7 sh\n")?;
+    let symbols = Symbols::read(
+        alloc,
+        ByteText::copy(alloc, kallsyms)?,
+        ByteText::copy(alloc, b"")?,
+        ByteText::copy(alloc, b"7 sh\n")?,
+    )?;
     let show = Show {
         order: Order::Little,
         long: 8,

@@ -10,7 +10,7 @@ use Rattle.file_report.proofs.calls.print_calls.Goals as goal
 pub returns-in-Err-clause-prints : goal.returns-in-Err-clause-prints
 returns-in-Err-clause-prints g c =
     rw c.status_of_pass.ensures
-    (pass_printed _ (λ bytes. calls_report (events_on c.args.shown.now.form.now.context c.args.shown.now.parts.now c.args.plan.now.header.now bytes)) _ c.in-Err.fault _ (λ bytes. refl)
+    (pass_printed _ (λ bytes. calls_report (events_on c.args.shown.now.form.now.context c.args.shown.now.parts.now c.args.shown.now.recording bytes)) _ c.in-Err.fault _ (λ bytes. refl)
     (λ is. c.in-Err.ensures.read (ap Err is)))
 
 pub returns-in-Err-clause-kept : goal.returns-in-Err-clause-kept
@@ -22,14 +22,14 @@ returns-in-Ok-put_whole-clause-kept g c = rw c.status_of_cut.ensures (cut_kept _
 pub returns-in-Ok-put_whole-clause-prints : goal.returns-in-Ok-put_whole-clause-prints
 returns-in-Ok-put_whole-clause-prints g c =
     rw c.status_of_cut.ensures
-    (printed_of _ (λ bytes. calls_report (events_on c.args.shown.now.form.now.context c.args.shown.now.parts.now c.args.plan.now.header.now bytes)) _ _ _ _ (λ bytes. refl)
-    (calls_written c.args.shown.now.form.now.context c.args.shown.now.parts.now c.args.plan.now.header.now _ _ _ c.in-Ok.calls.cut _ _ c.as_slice-list.ensures.value c.in-Ok.ensures.list c.in-Ok.ensures.cut c.in-Ok-put_whole.ensures.gained)
+    (printed_of _ (λ bytes. calls_report (events_on c.args.shown.now.form.now.context c.args.shown.now.parts.now c.args.shown.now.recording bytes)) _ _ _ _ (λ bytes. refl)
+    (calls_written c.args.shown.now.form.now.context c.args.shown.now.parts.now c.args.shown.now.recording _ _ _ c.in-Ok.calls.cut _ _ c.as_slice-list.ensures.value c.in-Ok.ensures.list c.in-Ok.ensures.cut c.in-Ok-put_whole.ensures.gained)
     (cut_shows _ c.in-Ok.calls.cut _ _))
 
 pub returns-clause-prints : goal.returns-clause-prints
 returns-clause-prints g c =
-    printed_of _ (λ bytes. calls_report (events_on c.args.shown.now.form.now.context c.args.shown.now.parts.now c.args.plan.now.header.now bytes)) _ WriteFault _ _ (λ bytes. refl)
-    (calls_unwritten c.args.shown.now.form.now.context c.args.shown.now.parts.now c.args.plan.now.header.now _ _ _ _ _ c.as_slice-list.ensures.value c.in-Ok.ensures.list c.in-Err-put_whole.ensures.prefix)
+    printed_of _ (λ bytes. calls_report (events_on c.args.shown.now.form.now.context c.args.shown.now.parts.now c.args.shown.now.recording bytes)) _ WriteFault _ _ (λ bytes. refl)
+    (calls_unwritten c.args.shown.now.form.now.context c.args.shown.now.parts.now c.args.shown.now.recording _ _ _ _ _ c.as_slice-list.ensures.value c.in-Ok.ensures.list c.in-Err-put_whole.ensures.prefix)
     c.in-Err-put_whole.ensures.cause.failed
 
 pub returns-in-Ok-put_whole-clause-gathers : goal.returns-in-Ok-put_whole-clause-gathers

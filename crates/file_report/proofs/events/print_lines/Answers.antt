@@ -21,7 +21,7 @@ report_rounds-requires-sync-L g c κs live = record { shared = lines_sync.shared
 
 pub report_rounds-requires-clause-start : goal.report_rounds-requires-clause-start
 report_rounds-requires-clause-start g c κs live =
-    unused_start c.args.plan.now.header.now.layout _ _ (c.set_lanes.ensures.unused _ _ (new_unused _ _ _ _ c.lanes-lanes.ensures.value c.in-Ok-Ok-Ok-Ok-Ok.ensures.lanes))
+    unused_start c.args.shown.now.recording.layout _ _ (c.set_lanes.ensures.unused _ _ (new_unused _ _ _ _ c.lanes-lanes.ensures.value c.in-Ok-Ok-Ok-Ok-Ok.ensures.lanes))
 
 pub report_rounds-requires-clause-room : goal.report_rounds-requires-clause-room
 report_rounds-requires-clause-room g c κs live =
@@ -35,12 +35,12 @@ report_rounds-requires-clause-rise g c κs live =
     subst (λ (ps : List (ℕ × Part)). CpusRise ps) (sym c.set_lanes.ensures.parts) c.requires.rise
 
 pub returns-in-Err-clause-writes : goal.returns-in-Err-clause-writes
-returns-in-Err-clause-writes g c = parts_unbegun c.args.shown.now.form.now.context c.args.shown.now.parts.now c.args.plan.now.header.now _ _ _ c.in-Err.ensures.writes.prefix
+returns-in-Err-clause-writes g c = parts_unbegun c.args.shown.now.form.now.context c.args.shown.now.parts.now c.args.shown.now.recording _ _ _ c.in-Err.ensures.writes.prefix
 
 pub returns-clause-writes : goal.returns-clause-writes
 returns-clause-writes g c =
-    parts_written c.args.shown.now.form.now.context c.args.shown.now.parts.now c.args.plan.now.header.now _ _ _ _ c.report_rounds.result c.in-Ok.ensures.writes.gained
-    (subst (λ (ps : List (ℕ × Part)). IfSome (g.I.File.bytes c.args.file.now) (λ bytes. IsReport (item_line c.args.shown.now.form.now.context) c.args.plan.now.header.now.layout bytes ps
+    parts_written c.args.shown.now.form.now.context c.args.shown.now.parts.now c.args.shown.now.recording _ _ _ _ c.report_rounds.result c.in-Ok.ensures.writes.gained
+    (subst (λ (ps : List (ℕ × Part)). IfSome (g.I.File.bytes c.args.file.now) (λ bytes. IsReport (item_line c.args.shown.now.form.now.context) c.args.shown.now.recording.layout bytes ps
     (g.O.Sink.written c.print_cpus.new.out) (g.O.Sink.written c.report_rounds.new.out) c.report_rounds.result)) c.set_lanes.ensures.parts c.report_rounds.ensures.report)
 
 pub returns-clause-shows : goal.returns-clause-shows
@@ -54,13 +54,13 @@ returns-clause-reads g c =
     subst (λ (ps : List (ℕ × Part)). g.I.File.reads c.report_rounds.new.file ≤ raised (g.I.File.reads c.args.file.now) (sum_by (λ part. part.1.size) ps)) c.set_lanes.ensures.parts c.report_rounds.ensures.reads
 
 pub returns-in-Err-clause-due : goal.returns-in-Err-clause-due
-returns-in-Err-clause-due g c = parts_unbegun_unread c.args.shown.now.form.now.context c.args.shown.now.parts.now c.args.plan.now.header.now _ _ _ _ c.in-Err.ensures.writes.prefix
+returns-in-Err-clause-due g c = parts_unbegun_unread c.args.shown.now.form.now.context c.args.shown.now.parts.now c.args.shown.now.recording _ _ _ _ c.in-Err.ensures.writes.prefix
 
 pub returns-clause-due : goal.returns-clause-due
 returns-clause-due g c =
-    parts_read c.args.shown.now.form.now.context c.args.shown.now.parts.now c.args.plan.now.header.now _ _ _ _ _ _ c.in-Ok.ensures.writes.gained
-    (subst (λ (ps : List (ℕ × Part)). IfSome (g.I.File.bytes c.args.file.now) (λ bytes. rounds.ReadsDue (item_line c.args.shown.now.form.now.context) c.args.plan.now.header.now.layout bytes ps
+    parts_read c.args.shown.now.form.now.context c.args.shown.now.parts.now c.args.shown.now.recording _ _ _ _ _ _ c.in-Ok.ensures.writes.gained
+    (subst (λ (ps : List (ℕ × Part)). IfSome (g.I.File.bytes c.args.file.now) (λ bytes. rounds.ReadsDue (item_line c.args.shown.now.form.now.context) c.args.shown.now.recording.layout bytes ps
     (g.O.Sink.written c.print_cpus.new.out) (g.O.Sink.written c.report_rounds.new.out) (g.I.File.reads c.args.file.now) (g.I.File.reads c.report_rounds.new.file))) c.set_lanes.ensures.parts c.report_rounds.ensures.due)
 
 pub returns-in_default-clause-due : goal.returns-in_default-clause-due
-returns-in_default-clause-due g c = parts_unread c.args.shown.now.form.now.context c.args.shown.now.parts.now c.args.plan.now.header.now _ _ _
+returns-in_default-clause-due g c = parts_unread c.args.shown.now.form.now.context c.args.shown.now.parts.now c.args.shown.now.recording _ _ _

@@ -8,6 +8,6 @@ use Rattle.file_report.proofs.list.print_list.Goals as goal
 
 pub returns : goal.returns
 returns g c =
-    piece_unprinted _ (list_text (formats_of c.args.header.now) (symbols_of c.args.header.now) c.args.list) _ _ _ c.in-Err.ensures.prefix c.in-Err.ensures.cause.failed
+    piece_unprinted _ (list_text (formats_of c.args.header) (symbols_of c.args.header) c.args.list) _ _ _ c.in-Err.ensures.prefix c.in-Err.ensures.cause.failed
     (ap (λ (formats : List EventFormat). list_text formats c.in-Ok-read_symbols.symbols c.args.list) c.in-Ok.ensures
-    ∙ ap (λ (symbols : Maps). list_text (formats_of c.args.header.now) symbols c.args.list) c.in-Ok-read_symbols.ensures)
+    ∙ ap (λ (symbols : Maps). list_text (formats_of c.args.header) symbols c.args.list) c.in-Ok-read_symbols.ensures)

@@ -4,7 +4,7 @@ use Rattle.symbols.specs.Forms.{task_line}
 use Rattle.symbols.proofs.lines.task_line.Goals as goal
 
 pub returns-clause-found : goal.returns-clause-found
-returns-clause-found c = when_found IsTaskLine task_line task_is c.args.line.now c.read_task.result c.read_task.ensures
+returns-clause-found c = when_found IsTaskLine task_line task_is c.args.line.now c.read_task.result c.read_task.ensures.exact
 
 pub returns-clause-none : goal.returns-clause-none
-returns-clause-none c = when_none IsTaskLine task_line task_again c.args.line.now c.read_task.result c.read_task.ensures
+returns-clause-none c = when_none IsTaskLine task_line task_again c.args.line.now c.read_task.result c.read_task.ensures.exact

@@ -6,7 +6,7 @@ use Rattle.trace_run.proofs.command.run_on_header.Goals as goal
 
 pub returns-in-Report-clause-worked : goal.returns-in-Report-clause-worked
 returns-in-Report-clause-worked g c =
-    rw c.in-Report.is (printed_worked (Report _) _ _ c.print_report-status.result _ _ _ refl c.print_report-status.ensures.prints)
+    rw c.in-Report.is (printed_worked (Report _) _ _ c.print_report.result _ _ _ refl c.print_report.ensures.prints)
 
 pub returns-in-Dump-clause-worked : goal.returns-in-Dump-clause-worked
 returns-in-Dump-clause-worked g c =
@@ -20,7 +20,7 @@ pub returns-in-Dump-clause-kept : goal.returns-in-Dump-clause-kept
 returns-in-Dump-clause-kept g c = if_no_memory (g.F.In.File.faults c.args.file.now ≡ g.F.In.File.faults c.args.file.now) c.print_dump.result refl
 
 pub returns-in-Report-clause-gathers : goal.returns-in-Report-clause-gathers
-returns-in-Report-clause-gathers g c = rw c.in-Report.is c.print_report-status.ensures.gathers
+returns-in-Report-clause-gathers g c = rw c.in-Report.is c.print_report.ensures.gathers
 
 pub returns-in-Dump-clause-gathers : goal.returns-in-Dump-clause-gathers
 returns-in-Dump-clause-gathers g c = rw c.in-Dump.is (λ calls unread. absurd cc)

@@ -5,10 +5,10 @@ use Rattle.symbols.proofs.maps.Symbols.read.Goals as goal
 
 pub returns-clause-maps : goal.returns-clause-maps
 returns-clause-maps c = record {
-  symbols_are = map_here Kallsyms c.args.kallsyms.now (names_view c.in_ok-names_in.field-0) _ c.in_ok-names_in.ensures.value c.in_ok-symbols.ensures;
-  printk_are = map_here Printk c.args.printk.now (names_view c.in_ok-names_in-2.field-0) _ c.in_ok-names_in-2.ensures.value c.in_ok-printk.ensures;
+  symbols_are = map_here Kallsyms c.args.kallsyms (names_view c.in_ok-names_in.field-0) _ c.in_ok-names_in.ensures.value c.in_ok-symbols.ensures;
+  printk_are = map_here Printk c.args.printk (names_view c.in_ok-names_in-2.field-0) _ c.in_ok-names_in-2.ensures.value c.in_ok-printk.ensures;
   tasks_are = map_behind (names_view c.in_ok-found.found) (names_view c.reverse.new.self) _ _ c.reverse.ensures.value c.in_ok-found.ensures.value c.in_ok-tasks.ensures;
 }
 
 pub returns-clause-exact : goal.returns-clause-exact
-returns-clause-exact c = maps_are c.args.kallsyms.now c.args.printk.now c.args.cmdlines.now _ (returns-clause-maps c)
+returns-clause-exact c = maps_are c.args.kallsyms c.args.printk c.args.cmdlines _ (returns-clause-maps c)
