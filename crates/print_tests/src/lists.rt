@@ -6,6 +6,7 @@ use report_lists::{put_event_formats, put_event_names, put_printk_formats, put_s
 use std::alloc::{AllocError, Global};
 use std::test::Fail;
 use symbols::Symbols;
+use trace_base::ByteText;
 use trace_outside::{Failed, MemSink, Pending};
 
 const KALLSYMS: &[u8] = b"ffffffff81000100 t do_idle\nffffffff81000000 T schedule\n";
