@@ -15,7 +15,7 @@ ghost use Rattle.split_tool.specs.Made.{AsksForIt, CountsOne, IsMade, IsWritten,
 ghost use Rattle.split_tool.specs.Reads.{Spends, to_read};
 ghost use Rattle.split_tool.specs.Work.{CanCut, IsWorkFor};
 
-use crate::front::{data_place, write_front};
+use crate::front::write_front;
 use crate::lists::{Ends, measure_lists};
 use crate::names::{FileName, put_name};
 use crate::splitting::SplitPlan;
@@ -62,10 +62,9 @@ fn measure_file<F: File>(
         &mut work.nexts,
         &mut work.next,
     )?;
-    let at = data_place(plan.header);
     fill_table(
         layout,
-        at,
+        work.at,
         lanes,
         work.tallies.as_slice(),
         work.table.as_mut_slice(),

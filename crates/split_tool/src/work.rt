@@ -2,6 +2,7 @@ ghost use Rattle.std.specs.Prelude.{◌≡◌, length, IfOk};
 ghost use Rattle.dat_header.specs.Allowed.{IsHeader};
 ghost use Rattle.split_tool.specs.Work.{IsWorkFor};
 
+use crate::front::data_place;
 use dat_header::{Header, text_before_table};
 use event_cursor::Place;
 use split_passes::Tally;
@@ -9,8 +10,9 @@ use std::alloc::{AllocError, Global};
 use tournament_tree::TournamentTree;
 use trace_base::{ByteText, Part};
 
-/// What a split is lent: the places and numbers of its lanes, trees of what comes next of all and of one, a table, one
-/// sub-buffer, and the text of the header in front of its table, which all new files have alike.
+/// What a split is lent: the places and numbers of its lanes, trees of what comes next of all and of one, a table, and one
+/// sub-buffer; and what all new files have alike, the text of the header in front of its table and the place of the first
+/// sub-buffer.
 #[derive(Drop)]
 pub struct SplitWork {
     pub(crate) fronts: Vec<Place>,
@@ -20,6 +22,7 @@ pub struct SplitWork {
     pub(crate) table: Vec<Part>,
     pub(crate) page: Vec<u8>,
     pub(crate) before: ByteText,
+    pub(crate) at: u64,
 }
 
 impl SplitWork {
@@ -46,6 +49,7 @@ impl SplitWork {
             table: vec![in alloc; Part { offset: 0, size: 0 }; header.cpus as usize]?,
             page: vec![in alloc; 0; header.layout.page as usize]?,
             before: text_before_table(alloc, header)?,
+            at: data_place(header),
         })
     }
 }

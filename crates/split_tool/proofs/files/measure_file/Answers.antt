@@ -30,9 +30,9 @@ returns-clause-told g c =
     prepared_back header c.args.plan.now.rules c.args.lanes.now c.measure_lists.new.lanes c.note_fronts.new.fronts _ c.measure_lists.new.tallies _ c.fill_table.new.table _ c.in_ok-ends.ends (g.F.File.bytes c.args.file.now)
     (take_at c.note_fronts.new.fronts _ work.fronts.len fronts_long) (take_at c.measure_lists.new.tallies _ work.tallies.len tallies_long) (take_at c.fill_table.new.table _ work.table.len table_long)
     (prepared_told header c.args.plan.now.rules c.args.lanes.now c.make_all_ready.new.lanes c.measure_lists.new.lanes c.note_fronts.new.fronts c.as_mut_slice-3.result.now c.measure_lists.new.tallies c.as_mut_slice-4.result.now c.fill_table.new.table
-    c.data_place-at.result c.in_ok-ends.ends (g.F.File.bytes c.args.file.now) (g.F.File.bytes c.make_all_ready.new.file) c.make_all_ready.ensures.loads.keeps.bytes
+    c.args.work.now.at c.in_ok-ends.ends (g.F.File.bytes c.args.file.now) (g.F.File.bytes c.make_all_ready.new.file) c.make_all_ready.ensures.loads.keeps.bytes
     c.requires.allowed c.requires.rise c.requires.cpus c.make_all_ready.ensures.loads.parts c.measure_lists.ensures.through.parts c.make_all_ready.ensures.loads.in_order c.in_ok-make_all_ready.ensures.ready
-    c.note_fronts.ensures.noted c.data_place-at.ensures (ap length table_is ∙ c.requires.lent.table)
+    c.note_fronts.ensures.noted c.requires.lent.at (ap length table_is ∙ c.requires.lent.table)
     (λ xs place at are. c.fill_table.ensures xs place at (subst (λ (ts : List Tally). AreCounted l c.measure_lists.new.lanes ts xs) (sym counted) are))
     (λ i t lt. subst (λ (ts : List Tally). IsTally l (get_or ts i t) []) (sym cleared) (c.clear.ensures.none l i t (omega (arith, lt, ap length cleared, c.clear.ensures.long))))
     c.make_all_ready.ensures.loads.rows c.make_all_ready.ensures.loads.stands c.in_ok-ends.ensures.told)

@@ -41,6 +41,7 @@ loop-number-init g c =
           table = c.requires.work.table;
           page = c.requires.work.page;
           before = c.requires.work.before;
+          at = c.requires.work.at;
         };
       };
       parts = c.pass_start.ensures.through.parts;
