@@ -16,6 +16,7 @@ use page_pool::{Lane, Pool};
 use report_print::Context;
 use std::alloc::{AllocError, Global};
 use std::test::Fail;
+use subpage::CutPlace;
 use time_merge::set_lanes;
 use trace_base::{ByteText, Layout, Part};
 use trace_outside::{File, MemFile, MemSink, Pending, Sink};
@@ -253,7 +254,7 @@ fn is_unread(alloc: Global, context: &Context, told: &str) -> Result<bool, Fail>
 // Whether the items end where the title says.
 fn are_cut(title: &str, calls: &Calls) -> bool {
     if title == "a cut" {
-        return calls.cut == Some((1, 1));
+        return calls.cut == Some(CutPlace { cpu: 1, page: 1 });
     }
     calls.cut.is_none()
 }
