@@ -80,7 +80,7 @@ returns-in-Malformed-clause-told g c =
     told_map _ _ (g.F.File.bytes c.args.file.now) (λ file h s.
     let r = h s in
     passed_out l file _ c.args.lanes.now c.next_lane_by.new.lanes r.1.0 r.0)
-    (passing_loaded l (g.F.File.bytes c.args.file.now) (g.F.File.bytes c.loop-i.file) _ c.args.lanes.now c.loop-i.lanes c.next_lane_by.new.lanes (code.Malformed c.in-Malformed.cut)
+    (passing_loaded l (g.F.File.bytes c.args.file.now) (g.F.File.bytes c.loop-i.file) _ c.args.lanes.now c.loop-i.lanes c.next_lane_by.new.lanes (code.Malformed c.in-Malformed.field-0)
     c.loop-i.invariant.keeps.bytes c.loop-i.invariant.passing c.next_lane_by.ensures.loads.rows c.next_lane_by.ensures.loads.stands (next_is c.args.layout.now _ _ c.next_lane_by.new.lanes c.in-Malformed.is c.in_ok-i.ensures.next))
 
 pub returns-then-not-stands_before-clause-through : goal.returns-then-not-stands_before-clause-through
