@@ -81,6 +81,13 @@ module _ (words : ReportData) (header : Header) (told : Option (List ℕ)) (stat
       subst (λ (body : Body). Reported (body_task words header body size) told status before now) (sym is)
       (record { prints = there.prints; reads = there.reads; due = there.due; gathers = there.gathers; kept = there.kept })
 
+  -- the context was made of the words and the header
+  pub context_reported : (given : ContextData) (shown : List (ℕ × Part)) (before now : AtWork) → given ≡ context_of words header
+      → Reported (parts_task words.calls words.wakeups given shown (recording_of header)) told status before now
+      → Reported (parts_task words.calls words.wakeups (context_of words header) shown (recording_of header)) told status before now
+  context_reported given shown before now given_is did =
+      subst (λ (by : ContextData). Reported (parts_task words.calls words.wakeups by shown (recording_of header)) told status before now) given_is did
+
   -- what is shown is what the words choose, without the parts that have no bytes
   pub chosen_reported : (parts : List Part) (given : ContextData) (shown : List (ℕ × Part)) (before now : AtWork) → given ≡ context_of words header → shown ≡ with_bytes (chosen (set_or_all words.cpus) parts)
       → Reported (parts_task words.calls words.wakeups given shown (recording_of header)) told status before now → Reported (chosen_task words header parts) told status before now

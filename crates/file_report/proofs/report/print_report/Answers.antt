@@ -30,7 +30,7 @@ returns-in-Latency g c =
 pub print_parts-requires-clause-rise : goal.print_parts-requires-clause-rise
 print_parts-requires-clause-rise g c κs live =
     let words = report_view c.args.plan.words.now in
-    subst (λ (ps : List (ℕ × Part)). CpusRise ps) (sym (c.as_slice-2.ensures.value ∙ c.in-Ok.ensures.shown))
+    subst (λ (ps : List (ℕ × Part)). CpusRise ps) (sym (c.as_slice-in-Ok.ensures.value ∙ c.in-Ok.ensures.shown))
     (rise_same (chosen (set_or_all words.cpus) c.as_slice.result.now) (chosen_rise (λ part. has (set_or_all words.cpus) part.0) 0 c.as_slice.result.now).1)
 
 pub returns-in-Ok : goal.returns-in-Ok
@@ -40,7 +40,7 @@ returns-in-Ok g c =
     let status = c.print_parts.result in
     events_reported words header _ status _ _ _ c.in-None.is
     (fly_reported words header _ status _ c.as_slice.result.now _ _ _ c.in-Fly.is c.as_slice.ensures
-    (chosen_reported words header _ status c.as_slice.result.now (context_of words header) c.as_slice-2.result.now _ _ refl (c.as_slice-2.ensures.value ∙ c.in-Ok.ensures.shown) c.print_parts.ensures))
+    (chosen_reported words header _ status c.as_slice.result.now (context_of words header) c.as_slice-in-Ok.result.now _ _ refl (c.as_slice-in-Ok.ensures.value ∙ c.in-Ok.ensures.shown) c.print_parts.ensures))
 
 pub returns-in-Err : goal.returns-in-Err
 returns-in-Err g c = not_begun _ _ _
