@@ -174,6 +174,23 @@ impl<'a> Printer<'a> {
         }
     }
 
+    /// Shows the symbol that stands at a number and how far after its address that is, or else the address. It is a call, so
+    /// that what is shown most stays small enough to be shown in place.
+    #[inline(never)]
+    #[tactic(auto, using(fmt_forms::proofs::Gathering::kept_shown, fmt_forms::proofs::LaidLemmas::padded_alone))]
+    fn name_and_offset(&self, form: &Form, n: u64, into: &mut Tail<'_>)
+        ensures { Shows into.old into.new (padded form.now.left form.now.width (number_address PointerForm.NameOffset n self.now.symbols.now)) }
+    {
+        match self.symbols.name_at(n) {
+            Some((name, behind)) => {
+                let mut buffer = [0; 64];
+                let digits = written(behind, false, false, &mut buffer);
+                put_padded(form, name, b"+0x", digits, into);
+            }
+            None => show_address(form, None, n, into),
+        }
+    }
+
     /// Shows what `p` shows of a number: the address, or the symbol that stands there.
     #[inline(always)]
     #[tactic(auto, using(fmt_forms::proofs::Gathering::kept_shown, fmt_forms::proofs::LaidLemmas::padded_alone))]
@@ -185,14 +202,7 @@ impl<'a> Printer<'a> {
                 Some((name, _)) => show_name(form, name, into),
                 None => show_address(form, None, n, into),
             },
-            PointerForm::NameOffset => match self.symbols.name_at(n) {
-                Some((name, behind)) => {
-                    let mut buffer = [0; 64];
-                    let digits = written(behind, false, false, &mut buffer);
-                    put_padded(form, name, b"+0x", digits, into);
-                }
-                None => show_address(form, None, n, into),
-            },
+            PointerForm::NameOffset => self.name_and_offset(form, n, into),
             PointerForm::Plain | PointerForm::Ip4 | PointerForm::Mac => {
                 show_address(form, None, n, into);
             }
