@@ -17,7 +17,7 @@ use Rattle.time_merge.proofs.PartReads.{all_inside}
 use Rattle.time_merge.proofs.Starting.{cut_of_rows as one_cut, fresh_come, fresh_stands}
 use Rattle.multi_report.specs.Order.{ShownFile, FileItem, FileCut, cut_in, key_in, file_in, numbered, numbered_from, own_cut, cut_of_files, reached}
 use Rattle.multi_report.specs.Merge.{row_cut, row_with, file_row}
-use Rattle.multi_report.specs.Sources.{SourceView, HasRoom, IsSame, IsUsable, IsKnown, IsFreshSource, Keeps, bytes_of, due, shown_of, left_row, to_come_of}
+use Rattle.multi_report.specs.Sources.{SourceView, HasRoom, IsSame, IsKnown, IsFreshSource, Keeps, bytes_of, due, shown_of, left_row, to_come_of}
 use Rattle.multi_report.specs.Reports.{AllReadTheirParts, AreSame}
 use Rattle.multi_report.proofs.Merging.{Fits, FitsFile, fits_of, mark, cut_of_rows, reached_merged}
 use Rattle.multi_report.proofs.FileRows.{rows_from}
@@ -71,9 +71,6 @@ tied_all : (R : SourceView → SourceView → Type 0) (P Q : SourceView → Type
 tied_all R P Q f xs [] long tied all = λ i d lt. absurd (omega (arith, lt))
 tied_all R P Q f xs (y ∷ ys) long tied all =
     All-from_get_or Q (y ∷ ys) y (λ i lt. f (get_or xs i y) (get_or (y ∷ ys) i y) (tied i y (omega (arith, long, lt))) (All-get_or P xs i y (omega (arith, long, lt)) all))
-
-pub usable_all : (xs ys : List SourceView) → length ys ≡ length xs → Tied Keeps xs ys → All IsUsable xs → All IsUsable ys
-usable_all = tied_all Keeps IsUsable IsUsable (λ a b k usable. k.usable)
 
 pub known_all : (xs ys : List SourceView) → length ys ≡ length xs → Tied Keeps xs ys → All IsKnown xs → All IsKnown ys
 known_all = tied_all Keeps IsKnown IsKnown (λ a b k known. k.known known)

@@ -2,7 +2,6 @@ pub mod Merging
 pub mod OneOrder
 pub mod LeastCut
 pub mod OneSource
-pub mod LaneNexts
 pub mod FileRows
 pub mod Files
 pub mod Loops

@@ -5,15 +5,15 @@ use Rattle.std.proofs.lemmas.Bool.{cases_eq, cases_lt}
 use Rattle.std.proofs.lemmas.List.{ext_get_or, get_or-map, length-map, map-set}
 use Rattle.std.proofs.lemmas.List.Elements.{All-from_get_or, All-get_or}
 use Rattle.trace_outside.specs.Causes.{Rose}
-use Rattle.multi_report.specs.Sources.{SourceView, IsKnown, IsPrepared, IsReadied, IsUsable, Keeps, next_key}
+use Rattle.multi_report.specs.Sources.{SourceView, IsKnown, IsPrepared, IsReadied, Keeps, next_key}
 use Rattle.multi_report.specs.Turns.{AreReadied}
-use Rattle.multi_report.proofs.Files.{Tied, same_one, usable_all}
+use Rattle.multi_report.proofs.Files.{Tied, same_one}
 
-pub keeps_self : (s : SourceView) → IsUsable s → Keeps s s
-keeps_self s usable = record { same = same_one s; usable = usable; most = omega arith; rows = λ known. refl; known = λ known. known }
+pub keeps_self : (s : SourceView) → Keeps s s
+keeps_self s = record { same = same_one s; most = omega arith; rows = λ known. refl; known = λ known. known }
 
-pub tied_self : (first : List SourceView) → All IsUsable first → Tied Keeps first first
-tied_self first usable i d lt = keeps_self (get_or first i d) (All-get_or IsUsable first i d lt usable)
+pub tied_self : (first : List SourceView) → Tied Keeps first first
+tied_self first i d lt = keeps_self (get_or first i d)
 
 pub as_long : {S : Type 0} (f : S → SourceView) (xs ys : List S) → length xs ≡ length ys → length (map f xs) ≡ length (map f ys)
 as_long f xs ys e = length-map xs f ∙ e ∙ sym (length-map ys f)
@@ -83,16 +83,10 @@ module _ {S : Type 0} (f : S → SourceView) (first xs : List S) (j : ℕ) (d ne
         (subst (λ (s : SourceView). Rose s.faults (f new).faults) (was e still) rose),
   )
 
-  pub usable_here : AreStill (map f first) (map f xs) j → All IsUsable (map f first) → IsUsable (f (get_or xs j d))
-  usable_here still usable =
-      let e = f (get_or xs j d) in
-      subst IsUsable (sym (was e still)) (All-get_or IsUsable (map f first) j e (omega (arith, length-map first f, long, lt)) usable)
-
 -- all were made ready
 module _ (first now : List SourceView) (keys : List (Option (Option ℕ))) (j : ℕ) (long : length now ≡ length first) (end : length first ≤ j) (begun : AreBegun first now keys j) where
-  pub all_readied : Tied Keeps first now → All IsUsable first → AreReadied first now
-  all_readied tied usable = record {
-    usable = usable_all first now long tied usable;
+  pub all_readied : AreReadied first now
+  all_readied = record {
     prepared = prepared now (λ i d lt. (begun i d (omega (arith, lt, long, end))).readied.prepared);
     due = λ i d lt. (begun i d (omega (arith, lt, end))).readied.due;
   }

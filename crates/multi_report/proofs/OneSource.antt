@@ -1,136 +1,91 @@
 -- One file of several, made ready or with an item used up.
-use Rattle.std.proofs.Common.{◌≡◌, ℕ, ◌+◌, ◌-◌, ◌<◌, ◌≤◌, List, ◌++◌, length, take, drop, get_or, set, map, Option, Some, None, refl, sym, ap, subst, ◌∙◌, arith, sum_by}
+use Rattle.std.proofs.Common.{◌≡◌, ℕ, ◌+◌, ◌<◌, ◌≤◌, List, length, get_or, set, Option, Some, None, refl, sym, ap, subst, ◌∙◌, arith, sum_by}
 use Rattle.std.specs.Option.{IfSome}
 use Rattle.std.specs.List.{All}
-use Rattle.std.proofs.lemmas.List.{take_all, drop_all, append-nil, get_or_default, length-set}
-use Rattle.std.proofs.lemmas.List.Elements.{All-set}
 use Rattle.std.proofs.lemmas.List.Sums.{sum_by-set}
 use Rattle.trace_base.specs.declared.layout.Layout.{Layout}
 use Rattle.trace_base.proofs.Layouts.{carried}
 use Rattle.trace_base.specs.declared.part.Part.{Part}
-use Rattle.trace_outside.specs.Causes.{raised}
+use Rattle.trace_outside.specs.declared.outside.File as file
 use Rattle.line_holes.specs.Holes.{LineText}
 use Rattle.subpage.specs.ItemData.{ItemData}
-use Rattle.subpage.specs.Arrangement.{CpusRise}
 use Rattle.page_pool.specs.declared.lane.Lane.{Lane}
-use Rattle.event_cursor.specs.Standing.{IsInOrder, Stands, most_left}
+use Rattle.event_cursor.specs.Standing.{Stands, most_left}
 use Rattle.event_cursor.specs.Stepping.{IsStepped}
-use Rattle.time_merge.specs.LaneRows.{IsReady, next_of, parts_of, rows_of}
-use Rattle.time_merge.specs.Reads.{all_unread, all_reading}
-use Rattle.time_merge.proofs.Advancing.{same_length}
-use Rattle.time_merge.proofs.Going.{still_parts}
-use Rattle.time_merge.proofs.OneLane.{in_step_but}
+use Rattle.time_merge.specs.LaneRows.{IsReady, parts_of, rows_of}
+use Rattle.time_merge.specs.LaneSteps.{IsLaneStep}
+use Rattle.time_merge.specs.Loading.{LoadsLanes}
+use Rattle.time_merge.specs.Reads.{all_unread}
+use Rattle.time_merge.specs.declared.readiness.Readiness.{Readiness}
+use Rattle.time_merge.specs.declared.readiness.Readiness.TheVariants.{Ready}
 use Rattle.time_merge.proofs.PartReads.{all_reading_in, none_reading, stepping_unread}
 use Rattle.multi_report.specs.Order.{ShownFile}
-use Rattle.multi_report.specs.Sources.{SourceView, IsUsable, IsKnown, IsPrepared, IsReadied, Keeps, bytes_of}
+use Rattle.multi_report.specs.Sources.{SourceView, IsKnown, IsReadied, Keeps, bytes_of}
 use Rattle.multi_report.specs.Nexts.{IsLaneStepped}
 
-written_all : {X : Type 0} (xs w : List X) → length w ≡ length xs → take (length xs) (w ++ drop (length w) xs) ≡ w
-written_all xs w e =
-    ap (λ l. take (length xs) (w ++ l)) (drop_all (length w) xs (omega (arith, e))) ∙ ap (take (length xs)) (append-nil w) ∙ take_all (length xs) w (omega (arith, e))
+module _ (name : List ℕ) (cpus : ℕ) (text : ℕ → ItemData → LineText) where
+  abbrev pub made : Layout → Option (List ℕ) → ℕ → ℕ → ℕ → List Lane → Readiness → SourceView
+  made layout told size faults reads lanes readiness =
+      record { name = name; cpus = cpus; layout = layout; text = text; told = told; size = size; faults = faults; reads = reads; lanes = lanes; readiness = readiness }
 
-module _ (name : List ℕ) (cpus : ℕ) (layout : Layout) (text : ℕ → ItemData → LineText) where
-  abbrev pub made : Option (List ℕ) → ℕ → ℕ → ℕ → List Lane → List (Option (Option ℕ)) → SourceView
-  made told size faults reads lanes nexts =
-      record { name = name; cpus = cpus; layout = layout; text = text; told = told; size = size; faults = faults; reads = reads; lanes = lanes; nexts = nexts }
+  abbrev shown_with : Layout → List ℕ → List (ℕ × Part) → ShownFile
+  shown_with layout bytes parts = record { name = name; cpus = cpus; layout = layout; bytes = bytes; parts = parts; text = text }
 
-  abbrev shown_with : List ℕ → List (ℕ × Part) → ShownFile
-  shown_with bytes parts = record { name = name; cpus = cpus; layout = layout; bytes = bytes; parts = parts; text = text }
-
-  -- what is so of a file with these lanes is so where they were lent and given back
-  given_back : (P : SourceView → Type 0) (told told_now : Option (List ℕ)) (size size_now faults reads : ℕ) (lanes now : List Lane) (keys : List (Option (Option ℕ)))
-      → told_now ≡ told → size_now ≡ size → length now ≡ length lanes → P (made told size faults reads now keys)
-      → P (made told_now size_now faults reads (take (length lanes) (now ++ drop (length now) lanes)) keys)
-  given_back P told told_now size size_now faults reads lanes now keys same_told same_size long h =
-      subst (λ (w : List Lane). P (made told_now size_now faults reads w keys)) (sym (written_all lanes now long))
-      (subst (λ (n : ℕ). P (made told_now n faults reads now keys)) (sym same_size)
-      (subst (λ (t : Option (List ℕ)). P (made t size faults reads now keys)) (sym same_told) h))
-
-  module _ (told : Option (List ℕ)) (size f g r q : ℕ) (lanes now : List Lane) (keys keys_now : List (Option (Option ℕ))) where
-    abbrev before : SourceView
-    before = made told size f r lanes keys
-
-    abbrev after : SourceView
-    after = made told size g q now keys_now
-
+  module _ (layout : Layout) (size f g r q : ℕ) (lanes now : List Lane) (a b : Readiness) where
     same_rows : (t : Option (List ℕ)) → IfSome t (λ bytes. rows_of layout bytes now ≡ rows_of layout bytes lanes)
-        → IsKnown (made t size f r lanes keys) → rows_of layout (bytes_of (made t size g q now keys_now)) now ≡ rows_of layout (bytes_of (made t size f r lanes keys)) lanes
+        → IsKnown (made layout t size f r lanes a) → rows_of layout (bytes_of (made layout t size g q now b)) now ≡ rows_of layout (bytes_of (made layout t size f r lanes a)) lanes
     same_rows None h known = let never = known.told in absurd cc
     same_rows (Some bytes) h known = h
 
     still_known : (t : Option (List ℕ)) → IfSome t (λ bytes. All (Stands layout bytes) lanes → All (Stands layout bytes) now)
-        → IsKnown (made t size f r lanes keys) → IsKnown (made t size g q now keys_now)
+        → IsKnown (made layout t size f r lanes a) → IsKnown (made layout t size g q now b)
     still_known None h known = let never = known.told in absurd cc
     still_known (Some bytes) h known = record { told = refl; stands = h known.stands }
 
+  module _ {F : Type 0} (o : file.Ghosts F) (layout layout_now : Layout) (first last : F) (lanes now : List Lane) (a b : Readiness) (same : layout_now ≡ layout)
+      (loads : LoadsLanes o layout first last lanes now) where
+    abbrev at_first : SourceView
+    at_first = made layout (o.bytes first) (o.size first) (o.faults first) (o.reads first) lanes a
+
+    abbrev at_last : SourceView
+    at_last = made layout_now (o.bytes last) (o.size last) (o.faults last) (o.reads last) now b
+
+    -- what is so of a file at its first bytes and length is so where these are the same
+    given_back : (P : SourceView → Type 0) → P (made layout (o.bytes first) (o.size first) (o.faults last) (o.reads last) now b) → P at_last
+    given_back P h =
+        subst (λ (l : Layout). P (made l (o.bytes last) (o.size last) (o.faults last) (o.reads last) now b)) (sym same)
+        (subst (λ (n : ℕ). P (made layout (o.bytes last) n (o.faults last) (o.reads last) now b)) (sym loads.keeps.size)
+        (subst (λ (t : Option (List ℕ)). P (made layout t (o.size first) (o.faults last) (o.reads last) now b)) (sym loads.keeps.bytes) h))
+
     -- nothing was used up while lanes were made ready
-    keeps_with : IsUsable before → f ≤ g → All (IsInOrder layout) now → parts_of now ≡ parts_of lanes → length keys_now ≡ length keys
-        → sum_by (most_left layout) now ≤ sum_by (most_left layout) lanes
-        → IfSome told (λ bytes. rows_of layout bytes now ≡ rows_of layout bytes lanes)
-        → IfSome told (λ bytes. All (Stands layout bytes) lanes → All (Stands layout bytes) now)
-        → q ≤ raised r (all_unread layout size lanes - all_unread layout size now + all_reading layout size now)
-        → all_unread layout size now ≤ all_unread layout size lanes
-        → Keeps before after
-    keeps_with usable le in_order parts slots most rows stands reads less = record {
+    pub keeps_made : Keeps at_first at_last
+    keeps_made = given_back (Keeps at_first) (record {
       same = record {
-        shown = ap (shown_with (bytes_of before)) parts;
+        shown = ap (shown_with layout (bytes_of at_first)) loads.parts;
         told = refl;
         size = refl;
-        faults = le;
-        reads = omega (arith, reads, less, all_reading_in layout size now (omega (arith, (carried layout).page_least)));
+        faults = loads.keeps.later;
+        reads = omega (arith, loads.reads, loads.unread, all_reading_in layout (o.size first) now (omega (arith, (carried layout).page_least)));
       };
-      usable = record {
-        in_order = in_order;
-        rise = subst (λ (ps : List (ℕ × Part)). CpusRise ps) (sym parts) usable.rise;
-        slots = slots ∙ usable.slots ∙ sym (same_length now lanes parts);
-      };
-      most = most;
-      rows = same_rows told rows;
-      known = still_known told stands;
-    }
+      most = loads.most;
+      rows = same_rows layout (o.size first) (o.faults first) (o.faults last) (o.reads first) (o.reads last) lanes now a b (o.bytes first) loads.rows;
+      known = still_known layout (o.size first) (o.faults first) (o.faults last) (o.reads first) (o.reads last) lanes now a b (o.bytes first) loads.stands;
+    })
 
     -- and they are ready
-    readied_with : All (IsReady layout) now → keys_now ≡ map (next_of layout) now
-        → q ≤ raised r (all_unread layout size lanes - all_unread layout size now + all_reading layout size now)
-        → all_unread layout size now ≤ all_unread layout size lanes
-        → IsReadied before after
-    readied_with ready in_step reads less = record {
-      prepared = record { ready = ready; nexts = in_step };
-      due = omega (arith, reads, less, none_reading layout size now ready);
-    }
+    pub readied_made : b ≡ Ready → All (IsReady layout) now → IsReadied at_first at_last
+    readied_made is ready = given_back (IsReadied at_first) (record {
+      prepared = is;
+      due = omega (arith, loads.reads, loads.unread, none_reading layout (o.size first) now ready);
+    })
 
-  -- the same where the lanes were lent
-  pub keeps_lent : (told told_now : Option (List ℕ)) (size size_now f g r q : ℕ) (lanes given now : List Lane) (keys keys_now : List (Option (Option ℕ))) → given ≡ lanes
-      → told_now ≡ told → size_now ≡ size → IsUsable (made told size f r lanes keys) → f ≤ g → All (IsInOrder layout) now → parts_of now ≡ parts_of given → length keys_now ≡ length keys
-      → sum_by (most_left layout) now ≤ sum_by (most_left layout) given
-      → IfSome told (λ bytes. rows_of layout bytes now ≡ rows_of layout bytes given)
-      → IfSome told (λ bytes. All (Stands layout bytes) given → All (Stands layout bytes) now)
-      → q ≤ raised r (all_unread layout size given - all_unread layout size now + all_reading layout size now)
-      → all_unread layout size now ≤ all_unread layout size given
-      → Keeps (made told size f r lanes keys) (made told_now size_now g q (take (length lanes) (now ++ drop (length now) lanes)) keys_now)
-  keeps_lent told told_now size size_now f g r q lanes given now keys keys_now is same_told same_size usable le in_order parts slots most rows stands reads less =
-      subst (λ (ls : List Lane). IsUsable (made told size f r ls keys) → Keeps (made told size f r ls keys) (made told_now size_now g q (take (length ls) (now ++ drop (length now) ls)) keys_now)) is
-      (λ u. given_back (Keeps (made told size f r given keys)) told told_now size size_now g q given now keys_now same_told same_size (same_length now given parts)
-      (keeps_with told size f g r q given now keys keys_now u le in_order parts slots most rows stands reads less)) usable
-
-  pub readied_lent : (told told_now : Option (List ℕ)) (size size_now f g r q : ℕ) (lanes given now : List Lane) (keys keys_now : List (Option (Option ℕ))) → given ≡ lanes
-      → told_now ≡ told → size_now ≡ size → parts_of now ≡ parts_of given → All (IsReady layout) now → keys_now ≡ map (next_of layout) now
-      → q ≤ raised r (all_unread layout size given - all_unread layout size now + all_reading layout size now)
-      → all_unread layout size now ≤ all_unread layout size given
-      → IsReadied (made told size f r lanes keys) (made told_now size_now g q (take (length lanes) (now ++ drop (length now) lanes)) keys_now)
-  readied_lent told told_now size size_now f g r q lanes given now keys keys_now is same_told same_size parts ready in_step reads less =
-      subst (λ (ls : List Lane). IsReadied (made told size f r ls keys) (made told_now size_now g q (take (length ls) (now ++ drop (length now) ls)) keys_now)) is
-      (given_back (IsReadied (made told size f r given keys)) told told_now size size_now g q given now keys_now same_told same_size (same_length now given parts)
-      (readied_with told size f g r q given now keys keys_now ready in_step reads less))
-
-  stepped_with : (told : Option (List ℕ)) (size f r : ℕ) (lanes : List Lane) (keys : List (Option (Option ℕ))) (i : ℕ) (d lane : Lane) → i < length lanes
-      → IsUsable (made told size f r lanes keys) → IsPrepared (made told size f r lanes keys) → IsInOrder layout lane
-      → IsStepped layout (get_or lanes i d) lane → most_left layout lane + 1 ≡ most_left layout (get_or lanes i d)
-      → IsLaneStepped (made told size f r lanes keys) i (made told size f r (set lanes i lane) keys)
-  stepped_with told size f r lanes keys i d lane lt usable prepared in_order stepped most = record {
+  stepped_with : (layout : Layout) (told : Option (List ℕ)) (size f r : ℕ) (lanes : List Lane) (i : ℕ) (d lane : Lane) (a b : Readiness) → i < length lanes
+      → ((x : Lane) → IsStepped layout (get_or lanes i x) lane) → most_left layout lane + 1 ≡ most_left layout (get_or lanes i d)
+      → IsLaneStepped (made layout told size f r lanes a) i (made layout told size f r (set lanes i lane) b)
+  stepped_with layout told size f r lanes i d lane a b lt stepped most = record {
     lane = lane;
     lanes = refl;
-    stepped = λ e. subst (λ (x : Lane). IsStepped layout x lane) (get_or_default lanes i d e lt) stepped;
+    stepped = stepped;
     name = refl;
     cpus = refl;
     layout = refl;
@@ -139,22 +94,14 @@ module _ (name : List ℕ) (cpus : ℕ) (layout : Layout) (text : ℕ → ItemDa
     size = refl;
     faults = refl;
     reads = refl;
-    unread = stepping_unread layout size lanes i d lane lt stepped;
-    usable = record {
-      in_order = All-set (IsInOrder layout) lanes i lane in_order usable.in_order;
-      rise = subst (λ (ps : List (ℕ × Part)). CpusRise ps) (sym (still_parts layout lanes i d lane lt stepped)) usable.rise;
-      slots = usable.slots ∙ sym (length-set lanes i lane);
-    };
-    in_step = in_step_but layout lanes keys i lane lt prepared.ready prepared.nexts;
+    unread = stepping_unread layout size lanes i d lane lt (stepped d);
     less = omega (arith, sum_by-set (most_left layout) lanes i lane d lt, most);
   }
 
-  pub stepped_lane : (told : Option (List ℕ)) (size f r : ℕ) (lanes given : List Lane) (keys : List (Option (Option ℕ))) (i : ℕ) (d lane : Lane) → given ≡ lanes → i < length lanes
-      → IsUsable (made told size f r lanes keys) → IsPrepared (made told size f r lanes keys) → IsInOrder layout lane
-      → IsStepped layout (get_or given i d) lane → most_left layout lane + 1 ≡ most_left layout (get_or given i d)
-      → IsLaneStepped (made told size f r lanes keys) i (made told size f r (take (length lanes) (set given i lane ++ drop (length (set given i lane)) lanes)) keys)
-  stepped_lane told size f r lanes given keys i d lane same lt usable prepared in_order stepped most =
-      let one = stepped_with told size f r lanes keys i d lane lt usable prepared in_order (subst (λ (xs : List Lane). IsStepped layout (get_or xs i d) lane) same stepped)
-      (subst (λ (xs : List Lane). most_left layout lane + 1 ≡ most_left layout (get_or xs i d)) same most) in
-      let all = written_all lanes (set given i lane) (length-set given i lane ∙ ap length same) ∙ ap (λ (xs : List Lane). set xs i lane) same in
-      subst (λ (w : List Lane). IsLaneStepped (made told size f r lanes keys) i (made told size f r w keys)) (sym all) one
+  -- a lane used up the item that it held
+  pub stepped_lane : (layout layout_now : Layout) (told : Option (List ℕ)) (size f r : ℕ) (lanes now : List Lane) (i : ℕ) (a b : Readiness) → layout_now ≡ layout → i < length lanes
+      → IsLaneStep layout lanes i now → IsLaneStepped (made layout told size f r lanes a) i (made layout_now told size f r now b)
+  stepped_lane layout layout_now told size f r lanes now i a b same lt s =
+      subst (λ (l : Layout). IsLaneStepped (made layout told size f r lanes a) i (made l told size f r now b)) (sym same)
+      (subst (λ (ls : List Lane). IsLaneStepped (made layout told size f r lanes a) i (made layout told size f r ls b)) (sym s.set)
+      (stepped_with layout told size f r lanes i s.lane s.lane a b lt s.stepped (s.most s.lane)))

@@ -14,6 +14,7 @@ use Rattle.page_pool.specs.declared.lane.Lane.{Lane}
 use Rattle.event_cursor.specs.Keys.{first_of}
 use Rattle.event_cursor.specs.Standing.{Stands, keyed_held}
 use Rattle.event_cursor.proofs.Standing.{stands_stepped}
+use Rattle.time_merge.specs.LaneNexts.{cut_at}
 use Rattle.time_merge.specs.LaneRows.{parts_of, to_come}
 use Rattle.time_merge.specs.Rows.{coming, least_cut}
 use Rattle.time_merge.specs.Nexts.{IsNextLane}
@@ -23,7 +24,7 @@ use Rattle.multi_report.specs.declared.taking.Taken.{Taken}
 use Rattle.multi_report.specs.declared.taking.Taken.TheVariants as took
 use Rattle.multi_report.specs.Order.{ShownFile, own_cut}
 use Rattle.multi_report.specs.Sources.{SourceView, IsKnown, IsReadied, IsSame, Keeps, bytes_of, due, shown_of, next_key, cut_left, left_in}
-use Rattle.multi_report.specs.Nexts.{IsLaneStepped, cut_at}
+use Rattle.multi_report.specs.Nexts.{IsLaneStepped}
 use Rattle.multi_report.specs.Reports.{line_of}
 use Rattle.multi_report.specs.Taking.{IsGoing, IsStill, ItemTaken, LineStopped, TakenFrom, TakenOf}
 use Rattle.multi_report.proofs.Files.{same_one}
@@ -77,7 +78,6 @@ same_used a b c i lt s keeps =
 
 pub going_used : (a b c : SourceView) (i : ℕ) → IsLaneStepped a i b → Keeps b c → IsReadied b c → IsGoing a c
 going_used a b c i s keeps readied = record {
-  usable = keeps.usable;
   readied = record { prepared = readied.prepared; due = omega (arith, readied.due, due_stepped a b i s) };
   less = omega (arith, s.less, keeps.most);
 }

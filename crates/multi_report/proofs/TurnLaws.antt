@@ -20,7 +20,7 @@ use Rattle.multi_report.specs.declared.report.FilesEnd.TheVariants as code
 use Rattle.multi_report.specs.declared.taking.Taken.{Taken}
 use Rattle.multi_report.specs.declared.taking.Taken.TheVariants as took
 use Rattle.multi_report.specs.Order.{ShownFile, cut_in, in_file, cut_of_files}
-use Rattle.multi_report.specs.Sources.{SourceView, IsKnown, IsPrepared, IsSame, IsUsable, due, shown_of, next_key, to_come_of, work, cut_left}
+use Rattle.multi_report.specs.Sources.{SourceView, IsKnown, IsPrepared, IsSame, due, shown_of, next_key, to_come_of, work, cut_left}
 use Rattle.multi_report.specs.Pieces.{text_of}
 use Rattle.multi_report.specs.Reports.{AreSame, IsEnded, ReadRose, WriteRose, line_in, line_of, lines}
 use Rattle.multi_report.specs.Taking.{ItemTaken, TakenFrom}
@@ -85,11 +85,10 @@ module _ (sources : List SourceView) (j : ℕ) (lt : j < length sources) (way wa
     each = λ i e inside. one_or_same IsSame from.one (λ x. (from.is x).same) same_one i e;
   })
 
-  pub readied_taken : (now : List SourceView) (key : Option (Option ℕ)) → All IsUsable sources → All IsPrepared sources → TakenFrom sources j way (took.Item key) now way_now → AreReadied sources now
-  readied_taken now key usable prepared from =
+  pub readied_taken : (now : List SourceView) (key : Option (Option ℕ)) → All IsPrepared sources → TakenFrom sources j way (took.Item key) now way_now → AreReadied sources now
+  readied_taken now key prepared from =
       let goes = (from.is (some_seen sources j lt)).goes in
       subst (AreReadied sources) (sym from.set) (record {
-        usable = All-set IsUsable sources j from.one goes.usable usable;
         prepared = All-set IsPrepared sources j from.one goes.readied.prepared prepared;
         due = λ i e inside. one_or_same (λ a b. due b ≤ due a) from.one (λ x. (from.is x).goes.readied.due) (λ s. omega arith) i e;
       })

@@ -1,19 +1,21 @@
 -- Several files that are gone through at once, each with its lanes.
-use Rattle.std.specs.Prelude.{◌≡◌, ◌<◌, ◌≤◌, ℕ, List, [], length, map, slice_index_or, Option, IsSome, unwrap_or, sum_by}
+use Rattle.std.specs.Prelude.{◌≡◌, ◌<◌, ◌≤◌, ℕ, List, [], length, slice_index_or, Option, IsSome, unwrap_or, sum_by}
 use Rattle.std.specs.List.{All}
 use Rattle.trace_base.specs.declared.layout.Layout.{Layout}
 use Rattle.trace_outside.specs.Causes.{raised}
 use Rattle.trace_outside.specs.declared.outside.File as file
 use Rattle.line_holes.specs.Holes.{LineText}
 use Rattle.subpage.specs.ItemData.{ItemData}
-use Rattle.subpage.specs.Arrangement.{CpusRise, Keyed, key_of, cpu_of}
+use Rattle.subpage.specs.Arrangement.{Keyed, key_of, cpu_of}
 use Rattle.subpage.specs.Cut.{Cut}
 use Rattle.page_pool.specs.declared.lane.Lane.{Lane}
 use Rattle.page_pool.specs.Fresh.{IsFresh}
-use Rattle.event_cursor.specs.Standing.{IsInOrder, Stands, most_left}
+use Rattle.event_cursor.specs.Standing.{Stands, most_left}
 use Rattle.time_merge.specs.Rows.{Row, bound_of, coming, least_cut}
-use Rattle.time_merge.specs.LaneRows.{IsReady, next_of, parts_of, rows_of, to_come}
+use Rattle.time_merge.specs.LaneRows.{parts_of, rows_of, to_come}
 use Rattle.time_merge.specs.Reads.{all_unread}
+use Rattle.time_merge.specs.declared.readiness.Readiness.{Readiness}
+use Rattle.time_merge.specs.declared.readiness.Readiness.TheVariants.{Ready}
 use Rattle.multi_report.specs.declared.source.Source.{Source}
 use Rattle.multi_report.specs.Order.{ShownFile, FileItem, key_in, file_in, numbered}
 use Rattle.multi_report.specs.Merge.{row_with}
@@ -29,27 +31,21 @@ pub record SourceView : Type 0 where
   pub faults : ℕ
   pub reads : ℕ
   pub lanes : List Lane
-  pub nexts : List (Option (Option ℕ))
+  pub readiness : Readiness
 
 abbrev pub seen : {F L : Type 0} → file.Ghosts F → (L → ℕ → ItemData → LineText) → Source F L → SourceView
 seen f text source = record {
   name = source.name.now;
   cpus = source.cpus;
-  layout = source.layout;
+  layout = source.lanes.layout;
   text = text source.form;
   told = f.bytes source.file;
   size = f.size source.file;
   faults = f.faults source.file;
   reads = f.reads source.file;
-  lanes = source.pool;
-  nexts = source.nexts;
+  lanes = source.lanes.all;
+  readiness = source.lanes.readiness;
 }
-
--- The lanes are those of processors whose numbers rise, what their cursors say is so, and the tree has a slot for each.
-pub record IsUsable (source : SourceView) : Type 0 where
-  pub in_order : All (IsInOrder source.layout) source.lanes
-  pub rise : CpusRise (parts_of source.lanes)
-  pub slots : length source.nexts ≡ length source.lanes
 
 -- its lanes stand before their first items
 abbrev pub IsFreshSource : SourceView → Type 0
@@ -123,15 +119,13 @@ to_come_of sources = coming key_in file_in (map left_row (numbered sources))
 abbrev pub work : SourceView → ℕ
 work source = sum_by (most_left source.layout) source.lanes
 
--- All lanes are ready, and the tree has what comes next of each.
-pub record IsPrepared (source : SourceView) : Type 0 where
-  pub ready : All (IsReady source.layout) source.lanes
-  pub nexts : source.nexts ≡ map (next_of source.layout) source.lanes
+-- all its lanes are ready
+abbrev pub IsPrepared : SourceView → Type 0
+IsPrepared source = source.readiness ≡ Ready
 
 -- Nothing of the file was used up, whether its lanes are ready now or a read failed.
 pub record Keeps (before now : SourceView) : Type 0 where
   pub same : IsSame before now
-  pub usable : IsUsable now
   pub most : work now ≤ work before
   pub rows : IsKnown before
       → rows_of now.layout (bytes_of now) now.lanes ≡ rows_of before.layout (bytes_of before) before.lanes

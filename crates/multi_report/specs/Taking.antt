@@ -7,7 +7,7 @@ use Rattle.subpage.specs.Arrangement.{Keyed}
 use Rattle.subpage.specs.CutPlaces.{cut_at}
 use Rattle.multi_report.specs.declared.taking.Taken.{Taken}
 use Rattle.multi_report.specs.declared.taking.Taken.TheVariants as code
-use Rattle.multi_report.specs.Sources.{SourceView, IsKnown, IsReadied, IsSame, IsUsable, shown_of, left_in, cut_left, next_key, work}
+use Rattle.multi_report.specs.Sources.{SourceView, IsKnown, IsReadied, IsSame, shown_of, left_in, cut_left, next_key, work}
 use Rattle.multi_report.specs.Reports.{line_of}
 
 -- a piece was put after what is on its way
@@ -51,7 +51,6 @@ IsTaken before way code.Write now way_now = LineStopped before way way_now
 
 -- The file goes on, with less left.
 pub record IsGoing (before now : SourceView) : Type 0 where
-  pub usable : IsUsable now
   pub readied : IsReadied before now
   pub less : work now < work before
 

@@ -7,7 +7,7 @@ use Rattle.trace_outside.specs.Writing.{Gained, GainedPrefix}
 use Rattle.multi_report.specs.declared.report.FilesEnd.{FilesEnd}
 use Rattle.multi_report.specs.declared.report.FilesEnd.TheVariants as code
 use Rattle.multi_report.specs.Order.{cut_of_files}
-use Rattle.multi_report.specs.Sources.{SourceView, IsKnown, IsPrepared, IsUsable, due, shown_of, next_key, to_come_of}
+use Rattle.multi_report.specs.Sources.{SourceView, IsKnown, IsPrepared, due, shown_of, next_key, to_come_of}
 use Rattle.multi_report.specs.Pieces.{text_of}
 use Rattle.multi_report.specs.Reports.{IsEnded, lines}
 
@@ -45,7 +45,6 @@ IsTurned before whole state None = IsUnderway before whole state
 
 -- The files are ready to be gone on with, and what was read of them is not to be read again.
 pub record AreReadied (before now : List SourceView) : Type 0 where
-  pub usable : All IsUsable now
   pub prepared : All IsPrepared now
   pub due : (i : ℕ) (d : SourceView) → i < length before → due (slice_index_or now i d) ≤ due (slice_index_or before i d)
 

@@ -8,10 +8,9 @@ ghost use Rattle.event_cursor.specs.Keys.{first_of};
 ghost use Rattle.event_cursor.specs.Standing.{keyed_held};
 ghost use Rattle.page_pool.specs.declared.lane.Lane.{Lane};
 ghost use Rattle.multi_report.specs.Reports.{head_line, label, labelled, line_of};
-ghost use Rattle.multi_report.specs.Sources.{HasRoom, IsUsable, shown_of, seen};
+ghost use Rattle.multi_report.specs.Sources.{HasRoom, shown_of, seen};
 
 use crate::source::Source;
-use event_cursor::head;
 use itoa::Buffer;
 use line_holes::LineFormat;
 use subpage::Item;
@@ -152,22 +151,21 @@ pub(crate) fn put_item<F: File, L: LineFormat, O: Sink>(
     pending: &mut Pending,
     out: &mut O,
 ) -> Result<(), Failed>
-    requires usable { IsUsable (seen F.File L.text source.now) }
-    requires inside { i < length source.now.pool }
+    requires inside { i < length source.now.lanes.all }
     requires room { HasRoom (length buffer.old) (seen F.File L.text source.now) }
     ensures long { length buffer.new ≡ length buffer.old }
     ensures cause { HasCause (O.faults out.old) (O.faults out.new) result }
     ensures keeps_out { KeepsSink O.Sink out.old out.new }
     ensures puts { (d : Lane) → PutsText (unwrap_or (option_map (line_of (shown_of (seen F.File L.text source.now)))
-        (first_of (keyed_held source.now.layout (slice_index_or source.now.pool i d)))) [])
+        (first_of (keyed_held source.now.lanes.layout (slice_index_or source.now.lanes.all i d)))) [])
         (on_way O.written O.name O.faults out.old pending.old)
         (on_way O.written O.name O.faults out.new pending.new) result }
 {
-    let lane = &source.pool.all()[i];
-    match head(&source.layout, lane) {
+    let cpu = source.lanes.all()[i].cpu;
+    match source.lanes.head(i) {
         Some((_, item)) => {
             let name = source.name.as_bytes();
-            put_line(name, &source.form, lane.cpu, &item, buffer, pending, out)
+            put_line(name, &source.form, cpu, &item, buffer, pending, out)
         }
         None => Ok(()),
     }

@@ -2,7 +2,7 @@ ghost use Rattle.std.specs.Prelude.{◌≡◌, ◌≤◌, ◌<◌, [], List, ℕ
 ghost use Rattle.trace_outside.specs.Keeping.{KeepsSink};
 ghost use Rattle.trace_outside.specs.Pending.{Holds};
 ghost use Rattle.multi_report.specs.Reports.{AllReadTheirParts, AreSame, IsFilesReport, ReadRose, WriteRose, pieces};
-ghost use Rattle.multi_report.specs.Sources.{HasRoom, IsFreshSource, IsPrepared, IsUsable, shown_of, seen, work};
+ghost use Rattle.multi_report.specs.Sources.{HasRoom, IsFreshSource, IsPrepared, shown_of, seen, work};
 ghost use Rattle.multi_report.specs.Turns.{AreReadied, EndsWith, IsTold, IsTurned, IsUnderway, state_of};
 
 use crate::printing::put_heads;
@@ -48,7 +48,6 @@ fn begin<F: File, L: LineFormat, O: Sink>(
     out: &mut O,
 ) -> Option<FilesEnd>
     requires few { length sources.old ≤ 8 }
-    requires usable { All IsUsable (map (seen F.File L.text) sources.old) }
     requires fresh { All IsFreshSource (map (seen F.File L.text) sources.old) }
     requires slots { length nexts.old ≡ length sources.old }
     requires empty { pending.old ≡ [] }
@@ -83,7 +82,6 @@ fn turn<F: File, L: LineFormat, O: Sink>(
     out: &mut O,
 ) -> Option<FilesEnd>
     requires few { length sources.old ≤ 8 }
-    requires usable { All IsUsable (map (seen F.File L.text) sources.old) }
     requires prepared { All IsPrepared (map (seen F.File L.text) sources.old) }
     requires room { All (HasRoom (length buffer.old)) (map (seen F.File L.text) sources.old) }
     requires slots { length nexts.old ≡ length sources.old }
@@ -137,7 +135,6 @@ pub fn report_files<F: File, L: LineFormat, O: Sink>(
     out: &mut O,
 ) -> FilesEnd
     requires few { length sources.old ≤ 8 }
-    requires usable { All IsUsable (map (seen F.File L.text) sources.old) }
     requires fresh { All IsFreshSource (map (seen F.File L.text) sources.old) }
     requires room { All (HasRoom (length buffer.old)) (map (seen F.File L.text) sources.old) }
     requires slots { length nexts.old ≡ length sources.old }

@@ -1,6 +1,6 @@
 ghost use Rattle.std.specs.Prelude.{◌≡◌, ◌<◌, All, length, map, IfSome, IfNone, slice_index_or};
 ghost use Rattle.trace_outside.specs.Causes.{Rose};
-ghost use Rattle.multi_report.specs.Sources.{AllKeep, IsKnown, IsUsable, SourceView, next_key, seen};
+ghost use Rattle.multi_report.specs.Sources.{AllKeep, IsKnown, SourceView, next_key, seen};
 ghost use Rattle.multi_report.specs.Turns.{AreReadied};
 
 use crate::source::{Source, make_source_ready};
@@ -14,8 +14,7 @@ pub(crate) fn make_sources_ready<F: File, L: LineFormat>(
     sources: &mut [Source<'_, F, L>],
     nexts: &mut TournamentTree,
 ) -> Option<usize>
-    requires usable { All IsUsable (map (seen F.File L.text) sources.old) }
-    requires slots { length nexts.old ≡ length sources.old }
+    requires { length nexts.old ≡ length sources.old }
     ensures keeps { AllKeep (map (seen F.File L.text) sources.old) (map (seen F.File L.text) sources.new) }
     ensures count { length sources.new ≡ length sources.old }
     ensures slots { length nexts.new ≡ length nexts.old }
@@ -28,7 +27,7 @@ pub(crate) fn make_sources_ready<F: File, L: LineFormat>(
         (slice_index_or (map (seen F.File L.text) sources.new) j d).faults)) }
 {
     for j in 0..sources.len() {
-        match make_source_ready(&mut sources[j], None) {
+        match make_source_ready(&mut sources[j]) {
             Ok(key) => nexts.set(j, key),
             Err(Failed) => return Some(j),
         }

@@ -1,13 +1,14 @@
 ghost use Rattle.std.specs.Prelude.{◌≡◌, ◌≤◌, ◌<◌, All, length, map};
 ghost use Rattle.trace_outside.specs.Keeping.{KeepsSink};
 ghost use Rattle.trace_outside.specs.Pending.{on_way};
-ghost use Rattle.multi_report.specs.Sources.{HasRoom, IsPrepared, IsUsable, seen};
+ghost use Rattle.multi_report.specs.Sources.{HasRoom, IsPrepared, seen};
 ghost use Rattle.multi_report.specs.Taking.{TakenFrom, TakenOf, WriteCaused};
 
 use crate::printing::put_item;
-use crate::source::{LaneNext, Source, make_source_ready, next_of, use_item};
+use crate::source::{Source, make_source_ready, use_item};
 use line_holes::LineFormat;
 use subpage::CutPlace;
+use time_merge::LaneNext;
 use trace_outside::{Failed, File, Pending, Sink};
 
 /// What was taken of a file.
@@ -32,7 +33,6 @@ fn take_next<F: File, L: LineFormat, O: Sink>(
     pending: &mut Pending,
     out: &mut O,
 ) -> Taken
-    requires usable { IsUsable (seen F.File L.text source.old) }
     requires prepared { IsPrepared (seen F.File L.text source.old) }
     requires room { HasRoom (length buffer.old) (seen F.File L.text source.old) }
     ensures long { length buffer.new ≡ length buffer.old }
@@ -41,11 +41,11 @@ fn take_next<F: File, L: LineFormat, O: Sink>(
     ensures write { WriteCaused result (O.faults out.old) (O.faults out.new) }
     ensures keeps_out { KeepsSink O.Sink out.old out.new }
 {
-    match next_of(source) {
+    match source.lanes.next() {
         LaneNext::Item(i) => match put_item(source, i, buffer, pending, out) {
             Ok(()) => {
                 use_item(source, i);
-                match make_source_ready(source, Some(i)) {
+                match make_source_ready(source) {
                     Ok(key) => Taken::Item(key),
                     Err(Failed) => Taken::Read,
                 }
@@ -53,7 +53,7 @@ fn take_next<F: File, L: LineFormat, O: Sink>(
             Err(Failed) => Taken::Write,
         },
         LaneNext::Cut(i) => {
-            let lanes = source.pool.all();
+            let lanes = source.lanes.all();
             Taken::Cut(CutPlace {
                 cpu: lanes[i].cpu,
                 page: lanes[i].cursor.next,
@@ -72,7 +72,6 @@ pub(crate) fn take_from<F: File, L: LineFormat, O: Sink>(
     out: &mut O,
 ) -> Taken
     requires inside { j < length sources.old }
-    requires usable { All IsUsable (map (seen F.File L.text) sources.old) }
     requires prepared { All IsPrepared (map (seen F.File L.text) sources.old) }
     requires room { All (HasRoom (length buffer.old)) (map (seen F.File L.text) sources.old) }
     ensures long { length buffer.new ≡ length buffer.old }

@@ -3,6 +3,5 @@ pub mod Opening
 pub mod OpenInputs
 pub mod FilesShown
 pub mod FilesRan
-pub mod LentLanes
 pub mod Unread
 pub mod EmptyParts

@@ -14,7 +14,7 @@ use Rattle.trace_outside.specs.Memory.{KeepsFaults}
 use Rattle.trace_outside.specs.Names.{NamedFiles}
 use Rattle.trace_outside.proofs.Gains.{gained_nothing}
 use Rattle.dat_options.specs.declared.fault.OpenFault.{OpenFault}
-use Rattle.multi_report.specs.Sources.{IsFreshSource, IsUsable, SourceView, shown_of}
+use Rattle.multi_report.specs.Sources.{IsFreshSource, SourceView, shown_of}
 use Rattle.new_files.specs.Requested.{AskedFirst}
 use Rattle.dat_header.specs.Seen.{FileSeen}
 use Rattle.restore_tool.specs.Open.{ClosesMany}
@@ -78,7 +78,6 @@ module _ (words : ReportData) (names : List (List ℕ)) (name : List ℕ) (sourc
   pub opened_more : (source : SourceView) (before mid now : FolderSeen) → AreOpened words names sources before mid → IsOpened words name source mid now
       → AreOpened words (names ++ name ∷ []) (sources ++ source ∷ []) before now
   opened_more source before mid now all one = record {
-    usable = All-push IsUsable sources source all.usable one.usable;
     fresh = All-push IsFreshSource sources source all.fresh one.fresh;
     count = omega (arith, length-append sources (source ∷ []), length-append names (name ∷ []), all.count);
     files = one.asked.files ∙ all.files;
@@ -264,7 +263,6 @@ opened_next f words names name old all source before mid now opened pushed one =
 -- none is open
 pub none_opened : (words : ReportData) (folder : FolderSeen) → AreOpened words [] [] folder folder
 none_opened words folder = record {
-  usable = All-nil IsUsable;
   fresh = All-nil IsFreshSource;
   count = refl;
   files = refl;

@@ -2,7 +2,6 @@
 use Rattle.std.proofs.Common.{◌≡◌, ◌≤◌, ℕ, List, [], ◌∷◌, Option, Some, None, Result, Ok, Err, IfSome, refl, sym, ap, ◌∙◌, subst, arith}
 use Rattle.std.specs.Prelude.{Bool, IsSome, unwrap_or}
 use Rattle.std.specs.FinMap.{get}
-use Rattle.std.specs.List.{All}
 use Rattle.trace_base.specs.declared.layout.Layout.{Layout}
 use Rattle.trace_base.specs.declared.part.Part.{Part}
 use Rattle.trace_outside.specs.Causes.{Rose, raised}
@@ -15,14 +14,13 @@ use Rattle.dat_header.specs.declared.header.Header.{Header}
 use Rattle.dat_header.specs.declared.header.Body.{Body}
 use Rattle.dat_header.specs.declared.header.Body.TheVariants.{Latency, Fly}
 use Rattle.dat_header.specs.Header.{header_of, IsRefusal, ReadsHeader}
-use Rattle.event_cursor.specs.Standing.{IsInOrder}
 use Rattle.line_holes.specs.Holes.{LineText}
 use Rattle.subpage.specs.ItemData.{ItemData}
 use Rattle.subpage.specs.Arrangement.{CpusRise}
 use Rattle.subpage.specs.WithBytes.{with_bytes}
 use Rattle.subpage.proofs.EmptyParts.{rise_same, sum_same}
 use Rattle.multi_report.specs.Order as several
-use Rattle.multi_report.specs.Sources.{IsFreshSource, IsUsable, shown_of}
+use Rattle.multi_report.specs.Sources.{IsFreshSource, shown_of}
 use Rattle.dat_header.specs.Seen.{FileSeen}
 use Rattle.restore_tool.specs.Open.{OpensMany}
 use Rattle.new_files.specs.Requested.{AskedAll}
@@ -39,25 +37,22 @@ use Rattle.several_report.specs.OpenInput.{IsBasis, IsRead, WhyUnread, seen_with
 use Rattle.several_report.specs.Opened.{IsInput, IsOpened, WhyUnopened, IsUnopened, without_empty}
 use Rattle.run_endings.proofs.Chosen.{chosen_rise}
 use Rattle.run_endings.proofs.Endings.{refused_by}
-use Rattle.time_merge.proofs.UnusedLanes.{unused_fresh, unused_in_order}
+use Rattle.time_merge.proofs.UnusedLanes.{unused_fresh}
 
+-- the numbers of the processors that are shown rise
 shown_rise : (cpus : Option (List Bool)) (body : Body) → CpusRise (shown_parts cpus body)
 shown_rise cpus Latency = tt
 shown_rise cpus (Fly parts) = (chosen_rise (λ part. has (set_or_all cpus) part.0) 0 parts).1
+
+pub with_bytes_rise : (cpus : Option (List Bool)) (body : Body) → CpusRise (with_bytes (shown_parts cpus body))
+with_bytes_rise cpus body = rise_same (shown_parts cpus body) (shown_rise cpus body)
 
 size_same : (parts : List (ℕ × Part)) → parts_size (with_bytes parts) ≡ parts_size parts
 size_same parts = sum_same (λ (part : ℕ × Part). part.1.size) parts (λ part none. none)
 
 module _ (words : ReportData) (header : Header) (basis : Basis) (is : IsBasis words header basis) where
-  pub basis_usable : (name : List ℕ) (file : FileSeen) → IsUsable (seen_with name file basis)
-  basis_usable name file = record {
-    in_order = subst (λ (l : Layout). All (IsInOrder l) basis.pool) (sym is.layout) (unused_in_order header.layout 0 basis.pool is.unused);
-    rise = subst (λ (ps : List (ℕ × Part)). CpusRise ps) (sym is.parts) (rise_same (shown_parts words.cpus header.body) (shown_rise words.cpus header.body));
-    slots = is.slots;
-  }
-
   pub basis_fresh : (name : List ℕ) (file : FileSeen) → IsFreshSource (seen_with name file basis)
-  basis_fresh name file = unused_fresh header.layout.page 0 basis.pool is.unused
+  basis_fresh name file = unused_fresh header.layout.page 0 basis.lanes.all is.unused
 
   basis_shown : (name bytes : List ℕ) (file : FileSeen) → file.bytes ≡ Some bytes
       → shown_of (seen_with name file basis) ≡ without_empty (shown_in words (record { name = name; header = header; bytes = bytes }))
@@ -120,7 +115,6 @@ source_opened words name file bytes reads basis before now files is kept none re
   asked = record { files = files; requested = requested; misses = misses };
   counts = counts;
   kept = same;
-  usable = basis_usable words read.header basis read.stands name file;
   fresh = basis_fresh words read.header basis read.stands name file;
   faultless = faultless;
   input = opened_input words before.files name bytes file reads basis is kept none read;

@@ -1,5 +1,5 @@
 -- An input that is open: its file, and what its lines stand on.
-use Rattle.std.specs.Prelude.{Option, Ok, Err, ◌≡◌, ◌≤◌, ℕ, List, length}
+use Rattle.std.specs.Prelude.{Option, Ok, Err, ◌≡◌, ◌≤◌, ℕ, List}
 use Rattle.std.specs.List.{All}
 use Rattle.trace_outside.specs.Causes.{Rose, raised}
 use Rattle.trace_outside.specs.declared.outside.File as outside_file
@@ -29,14 +29,14 @@ abbrev pub seen_with : List ℕ → FileSeen → Basis → SourceView
 seen_with name opened basis = record {
   name = name;
   cpus = basis.cpus;
-  layout = basis.layout;
+  layout = basis.lanes.layout;
   text = item_line basis.form.context;
   told = opened.bytes;
   size = opened.size;
   faults = opened.faults;
   reads = opened.reads;
-  lanes = basis.pool;
-  nexts = basis.nexts;
+  lanes = basis.lanes.all;
+  readiness = basis.lanes.readiness;
 }
 
 -- the file of a source
@@ -46,12 +46,11 @@ file_in source = record { bytes = source.told; size = source.size; faults = sour
 -- what the lines of a file with this header stand on, and lanes over the parts with bytes that are shown of it, of which nothing
 -- was used up
 pub record IsBasis (words : ReportData) (header : Header) (basis : Basis) : Type 0 where
-  pub layout : basis.layout ≡ header.layout
+  pub layout : basis.lanes.layout ≡ header.layout
   pub cpus : basis.cpus ≡ header.cpus
   pub context : basis.form.context ≡ context_of words header
-  pub parts : parts_of basis.pool ≡ with_bytes (shown_parts words.cpus header.body)
-  pub unused : All (IsUnused header.layout.page 0) basis.pool
-  pub slots : length basis.nexts ≡ length basis.pool
+  pub parts : parts_of basis.lanes.all ≡ with_bytes (shown_parts words.cpus header.body)
+  pub unused : All (IsUnused header.layout.page 0) basis.lanes.all
 
 -- the header of a file was read, and this is what its lines stand on
 pub record IsRead (words : ReportData) (told : Option (List ℕ)) (before now : ℕ) (basis : Basis) : Type 0 where

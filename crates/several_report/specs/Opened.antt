@@ -10,7 +10,7 @@ use Rattle.dat_header.specs.Header.{IsRefusal}
 use Rattle.subpage.specs.WithBytes.{with_bytes}
 use Rattle.time_merge.specs.LaneRows.{parts_of}
 use Rattle.multi_report.specs.Order.{ShownFile}
-use Rattle.multi_report.specs.Sources.{SourceView, shown_of, IsFreshSource, IsUsable}
+use Rattle.multi_report.specs.Sources.{SourceView, shown_of, IsFreshSource}
 use Rattle.restore_tool.specs.Open.{OpensMany}
 use Rattle.new_files.specs.Requested.{AskedAll}
 use Rattle.trace_args.specs.Command.{ReportData}
@@ -68,7 +68,6 @@ pub record IsOpened (words : ReportData) (name : List ℕ) (source : SourceView)
   pub asked : AskedFor name before now
   pub counts : OpensMany before.counts now.counts 1
   pub kept : KeepsFaults before.counts now.counts
-  pub usable : IsUsable source
   pub fresh : IsFreshSource source
   pub faultless : IsFaultless source
   pub input : IfSome before.files (λ files. IsInput words files name source)
@@ -89,7 +88,6 @@ pub record IsUnopened (name : List ℕ) (status : Status) (before now : FolderSe
 
 -- The inputs of these names were opened in their order, and all stand before their first items. No fault was counted.
 pub record AreOpened (words : ReportData) (names : List (List ℕ)) (sources : List SourceView) (before now : FolderSeen) : Type 0 where
-  pub usable : All IsUsable sources
   pub fresh : All IsFreshSource sources
   pub count : length sources ≡ length names
   pub files : now.files ≡ before.files

@@ -1,7 +1,7 @@
 // A report of several files: all are opened, gone through together, and closed.
 
 ghost use Rattle.std.specs.Prelude.{◌≡◌, ◌≤◌, ◌<◌, Ok, [], All, Contains, length, map, vec_capacity};
-ghost use Rattle.multi_report.specs.Sources.{IsFreshSource, IsUsable};
+ghost use Rattle.multi_report.specs.Sources.{IsFreshSource};
 ghost use Rattle.trace_args.specs.Command.{report_view};
 ghost use Rattle.several_report.specs.Inputs.{names_in};
 ghost use Rattle.several_report.specs.Naming.{IsNameIn, IsUnreadNamed};
@@ -74,7 +74,6 @@ fn print_sources<'a, I: File, O: Sink>(
     out: &mut O,
 ) -> JobEnd<'a>
     requires few { length sources.old ≤ 8 }
-    requires usable { All IsUsable (map (source_seen I.File) sources.old) }
     requires fresh { All IsFreshSource (map (source_seen I.File) sources.old) }
     ensures { (before now : FolderSeen) → AreOpened (report_view words.now) (names_in (report_view words.now)) (map (source_seen I.File) sources.old) before now
         → FilesReported (report_view words.now) (map file_in (map (source_seen I.File) sources.new)) result.status result.file.now

@@ -1,16 +1,14 @@
 // The inputs of a report of several files: opened one by one with their headers, and closed on every way out.
 
-ghost use Rattle.std.specs.Prelude.{◌≡◌, ◌≤◌, ◌<◌, ◌+◌, [], List, ℕ, All, Contains, IfErr, IfOk, OnOk, length, map, vec_capacity, vec_len};
+ghost use Rattle.std.specs.Prelude.{◌≡◌, ◌≤◌, ◌<◌, ◌+◌, [], List, ℕ, Contains, IfErr, IfOk, OnOk, length, map, vec_capacity, vec_len};
 ghost use Rattle.trace_outside.specs.Folders.{Closes};
 ghost use Rattle.dat_header.specs.Allowed.{IsBody};
 ghost use Rattle.subpage.specs.WithBytes.{with_bytes};
 ghost use Rattle.trace_outside.specs.Keeping.{KeepsFile};
-ghost use Rattle.time_merge.specs.LaneRows.{parts_of};
 ghost use Rattle.trace_args.specs.Command.{report_view};
 ghost use Rattle.dat_header.specs.Seen.{file_seen};
 ghost use Rattle.restore_tool.specs.Open.{ClosesMany};
 ghost use Rattle.several_report.specs.Inputs as spec;
-ghost use Rattle.time_merge.specs.Unused.{IsUnused};
 ghost use Rattle.run_endings.specs.Outside.{FolderSeen, folder_seen};
 ghost use Rattle.several_report.specs.OpenInput.{IsBasis, IsRead, WhyUnread, file_in, seen_with, source_seen};
 ghost use Rattle.several_report.specs.Opened.{AreOpened, IsOpened, IsUnopened};
@@ -18,26 +16,22 @@ ghost use Rattle.several_report.specs.Reported.{OpensAll, OpensNext, StandsAt};
 
 use dat_header::{Body, Header, OpenFault, read_header};
 use multi_report::Source;
-use page_pool::Pool;
 use report_context::{ItemLines, context_of};
 use run_endings::{JobEnd, Selection, Status};
 use run_words::read_filters;
 use std::alloc::{AllocError, Global};
-use time_merge::set_lanes;
-use tournament_tree::TournamentTree;
+use time_merge::Lanes;
 use trace_args::ReportWords;
-use trace_base::{Layout, Part};
+use trace_base::Part;
 use trace_outside::{Failed, File, Folder};
 use word_values::CpuSet;
 
 /// What the lines of a file stand on, and the lanes over the parts that are shown of it and have bytes.
 #[derive(Drop)]
 struct Basis {
-    layout: Layout,
     cpus: u32,
     form: ItemLines,
-    pool: Pool,
-    nexts: TournamentTree,
+    lanes: Lanes,
 }
 
 // The parts that are shown of a file and have bytes.
@@ -57,17 +51,6 @@ fn shown_parts(
     }
 }
 
-// Lanes over these parts that keep no lines.
-fn lanes_over(alloc: Global, page: u32, parts: &[(u32, Part)]) -> Result<Pool, AllocError>
-    requires { length parts.now ≤ 1024 }
-    ensures parts { IfOk result (λ pool. parts_of pool ≡ parts.now) }
-    ensures unused { IfOk result (λ pool. All (IsUnused page 0) pool) }
-{
-    let mut pool = Pool::new(alloc, parts.len() as u32, page, 0)?;
-    set_lanes(pool.lanes(), parts);
-    Ok(pool)
-}
-
 // What the lines of a file with this header stand on. The filters of the words are read for each file.
 #[tactic(auto, using(run_words::proofs::Usages::uses_known))]
 fn basis_of(alloc: Global, words: &ReportWords<'_>, header: Header) -> Result<Basis, AllocError>
@@ -82,14 +65,11 @@ fn basis_of(alloc: Global, words: &ReportWords<'_>, header: Header) -> Result<Ba
     let layout = header.layout;
     let shown = shown_parts(alloc, &words.cpus, &header)?;
     let context = context_of(alloc, words, filters, header)?;
-    let pool = lanes_over(alloc, layout.page, shown.as_slice())?;
-    let nexts = TournamentTree::new(alloc, shown.len() as u32)?;
+    let lanes = Lanes::new(alloc, &layout, shown.as_slice())?;
     Ok(Basis {
-        layout,
         cpus,
         form: ItemLines { context },
-        pool,
-        nexts,
+        lanes,
     })
 }
 
@@ -143,21 +123,13 @@ fn open_source<'a, F: Folder>(
 fn source_on<'a, I: File>(name: &'a str, file: I, basis: Basis) -> Source<'a, I, ItemLines>
     ensures { source_seen I.File result ≡ seen_with name.now (file_seen I.File file) basis }
 {
-    let Basis {
-        layout,
-        cpus,
-        form,
-        pool,
-        nexts,
-    } = basis;
+    let Basis { cpus, form, lanes } = basis;
     Source {
         name,
         file,
-        layout,
         cpus,
         form,
-        pool,
-        nexts,
+        lanes,
     }
 }
 
@@ -232,11 +204,9 @@ fn close_source<F: Folder>(source: Source<'_, F::In, ItemLines>, folder: &mut F)
     let Source {
         name: _,
         file,
-        layout: _,
         cpus: _,
         form: _,
-        pool: _,
-        nexts: _,
+        lanes: _,
     } = source;
     folder.close_file(file);
 }

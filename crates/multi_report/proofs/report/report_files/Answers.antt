@@ -52,7 +52,6 @@ loop-end-preserved g c =
     let before = c.loop-end.invariant in
     let more = c.in_default-turn.ensures in
     record {
-      usable = more.readied.usable;
       prepared = more.readied.prepared;
       room = subst (λ (n : ℕ). All (HasRoom n) now) (sym more.long) (room_all (length c.loop-end.buffer) old now more.same before.room);
       slots = slots_on f c.loop-end.sources c.turn.new.sources c.loop-end.nexts c.turn.new.nexts more.same before.slots more.slots;

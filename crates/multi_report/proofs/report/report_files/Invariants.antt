@@ -2,7 +2,7 @@ use Rattle.std.proofs.Common.{map, ◌≡◌, length, sum_by}
 use Rattle.std.specs.List.{All}
 use Rattle.trace_outside.specs.Keeping.{KeepsSink}
 use Rattle.multi_report.specs.Reports.{AreSame}
-use Rattle.multi_report.specs.Sources.{HasRoom, IsPrepared, IsUsable, seen, work}
+use Rattle.multi_report.specs.Sources.{HasRoom, IsPrepared, seen, work}
 use Rattle.multi_report.specs.Turns.{state_of}
 use Rattle.multi_report.proofs.Files.{NoMoreDue}
 use Rattle.multi_report.proofs.ReportLaws.{IsOnWay}
@@ -10,7 +10,6 @@ use Rattle.multi_report.proofs.report.report_files.Given as goal
 
 abbrev pub invariant-loop-end : goal.invariant-loop-end
 invariant-loop-end g l = record {
-  usable : All IsUsable (map (seen g.F.File g.L.LineFormat.text) l.sources);
   prepared : All IsPrepared (map (seen g.F.File g.L.LineFormat.text) l.sources);
   room : All (HasRoom (length l.buffer)) (map (seen g.F.File g.L.LineFormat.text) l.sources);
   slots : length l.nexts ≡ length l.sources;

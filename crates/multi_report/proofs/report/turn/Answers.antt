@@ -56,7 +56,7 @@ pub returns-in-Item-clause-readied : goal.returns-in-Item-clause-readied
 returns-in-Item-clause-readied g c =
     let f = seen g.F.File g.L.LineFormat.text in
     let lt = slot_of f c.args.sources.now c.args.nexts.now c.in-Some.j c.in-Some.ensures.inside c.requires.slots in
-    readied_taken (map f c.args.sources.now) c.in-Some.j lt _ _ _ _ c.requires.usable c.requires.prepared c.in-Item.ensures.taken
+    readied_taken (map f c.args.sources.now) c.in-Some.j lt _ _ _ _ c.requires.prepared c.in-Item.ensures.taken
 
 pub returns-in-Item-clause-less : goal.returns-in-Item-clause-less
 returns-in-Item-clause-less g c =

@@ -4,5 +4,5 @@ use Rattle.multi_report.proofs.source.use_item.Goals as goal
 pub returns : goal.returns
 returns g c =
     let s = c.args.source.now in
-    stepped_lane s.name.now s.cpus s.layout (g.L.LineFormat.text s.form) _ _ _ _ s.pool c.lanes-lanes.result.now s.nexts c.args.i c.index-lanes-i.result c.step.new.lane c.lanes-lanes.ensures.value c.requires.inside c.requires.usable
-    c.requires.prepared c.step.ensures.in_order c.step.ensures.used c.step.ensures.most
+    let r = c.step in
+    stepped_lane s.name.now s.cpus (g.L.LineFormat.text s.form) s.lanes.layout r.new.self.layout _ _ _ _ s.lanes.all r.new.self.all c.args.i s.lanes.readiness r.new.self.readiness r.ensures.layout c.requires.inside r.ensures.stepped

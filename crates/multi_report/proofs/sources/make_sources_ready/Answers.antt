@@ -1,18 +1,12 @@
 use Rattle.std.proofs.Common.{rules, refl, arith, ◌≡◌, ◌<◌, ◌+◌, ℕ, List, Option, length, map, set, ap, sym, subst, ◌∙◌}
 use Rattle.std.proofs.lemmas.List.{length-map, length-set}
 use Rattle.multi_report.specs.Sources.{seen}
-use Rattle.multi_report.proofs.Loops.{AreBegun, all_keys, all_readied, begun_set, rose_set, still_set, tied_self, tied_set, usable_here}
+use Rattle.multi_report.proofs.Loops.{AreBegun, all_keys, all_readied, begun_set, rose_set, still_set, tied_self, tied_set}
 use Rattle.multi_report.proofs.sources.make_sources_ready.Goals as goal
-
-pub make_source_ready-requires-clause-usable : goal.make_source_ready-requires-clause-usable
-make_source_ready-requires-clause-usable g c κs live =
-    let lt : c.loop-j.j < length c.loop-j.sources = search rules in
-    let long : length c.loop-j.sources ≡ length c.args.sources.now = search rules in
-    usable_here (seen g.F.File g.L.LineFormat.text) c.args.sources.now c.loop-j.sources c.loop-j.j c.index-sources-j.result c.index-sources-j.result long lt c.loop-j.invariant.still c.requires.usable
 
 pub loop-j-init : goal.loop-j-init
 loop-j-init g c = record {
-  tied = tied_self (map (seen g.F.File g.L.LineFormat.text) c.args.sources.now) c.requires.usable;
+  tied = tied_self (map (seen g.F.File g.L.LineFormat.text) c.args.sources.now);
   still = λ i d le. refl;
   begun = λ i d lt. absurd (omega (arith, lt));
   slots = refl;
@@ -25,7 +19,7 @@ loop-j-preserved g c =
     let long : length c.loop-j.sources ≡ length c.args.sources.now = search rules in
     let new = c.make_source_ready.new.source in
     let more = c.loop-j.invariant in
-    let room : c.loop-j.j < length c.loop-j.nexts = omega (arith, lt, long, more.slots, c.requires.slots) in
+    let room : c.loop-j.j < length c.loop-j.nexts = omega (arith, lt, long, more.slots, c.requires) in
     record {
       tied = tied_set f c.args.sources.now c.loop-j.sources c.loop-j.j c.index-sources-j.result new long lt more.still c.make_source_ready.ensures.keeps more.tied;
       still = still_set f c.args.sources.now c.loop-j.sources c.loop-j.j c.index-sources-j.result new long lt more.still;
@@ -51,7 +45,7 @@ returns-clause-readied g c =
     let f = seen g.F.File g.L.LineFormat.text in
     let long : length c.loop-j.sources ≡ length c.args.sources.now = search rules in
     let same : length (map f c.loop-j.sources) ≡ length (map f c.args.sources.now) = length-map c.loop-j.sources f ∙ long ∙ sym (length-map c.args.sources.now f) in
-    all_readied (map f c.args.sources.now) (map f c.loop-j.sources) c.loop-j.nexts c.loop-j.j same (omega (arith, length-map c.args.sources.now f, long, c.loop-j-test.false)) c.loop-j.invariant.begun c.loop-j.invariant.tied c.requires.usable
+    all_readied (map f c.args.sources.now) (map f c.loop-j.sources) c.loop-j.nexts c.loop-j.j same (omega (arith, length-map c.args.sources.now f, long, c.loop-j-test.false)) c.loop-j.invariant.begun
 
 pub returns-clause-keys : goal.returns-clause-keys
 returns-clause-keys g c =
@@ -59,4 +53,4 @@ returns-clause-keys g c =
     let long : length c.loop-j.sources ≡ length c.args.sources.now = search rules in
     let same : length (map f c.loop-j.sources) ≡ length (map f c.args.sources.now) = length-map c.loop-j.sources f ∙ long ∙ sym (length-map c.args.sources.now f) in
     all_keys (map f c.args.sources.now) (map f c.loop-j.sources) c.loop-j.nexts c.loop-j.j same (omega (arith, length-map c.args.sources.now f, long, c.loop-j-test.false)) c.loop-j.invariant.begun
-    (c.loop-j.invariant.slots ∙ c.requires.slots ∙ sym (length-map c.args.sources.now f))
+    (c.loop-j.invariant.slots ∙ c.requires ∙ sym (length-map c.args.sources.now f))

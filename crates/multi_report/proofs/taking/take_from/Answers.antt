@@ -1,11 +1,8 @@
 use Rattle.std.proofs.Common.{length}
 use Rattle.time_merge.proofs.Choosing.{all_of_map}
-use Rattle.multi_report.specs.Sources.{HasRoom, IsPrepared, IsUsable, seen}
+use Rattle.multi_report.specs.Sources.{HasRoom, IsPrepared, seen}
 use Rattle.multi_report.proofs.TakenItems.{taken_from}
 use Rattle.multi_report.proofs.taking.take_from.Goals as goal
-
-pub take_next-requires-clause-usable : goal.take_next-requires-clause-usable
-take_next-requires-clause-usable g c κs live = all_of_map IsUsable (seen g.F.File g.L.LineFormat.text) c.args.sources.now c.requires.usable c.args.j c.index-sources-j.result c.requires.inside
 
 pub take_next-requires-clause-prepared : goal.take_next-requires-clause-prepared
 take_next-requires-clause-prepared g c κs live = all_of_map IsPrepared (seen g.F.File g.L.LineFormat.text) c.args.sources.now c.requires.prepared c.args.j c.index-sources-j.result c.requires.inside

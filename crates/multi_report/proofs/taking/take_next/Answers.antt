@@ -28,7 +28,7 @@ returns-in-Cut-clause-taken g c =
       same = same_one a;
       goes = tt;
       read = tt;
-      taken = λ known. cut_told a _ c.in-Cut.i c.all-lanes.result.now c.index-lanes-i.result c.index-lanes-i-in-Cut.result c.all-lanes.ensures c.in-Cut.ensures.holds (c.in-Cut.ensures.next _ known.stands);
+      taken = λ known. cut_told a _ c.in-Cut.i c.all-lanes.result.now c.index-lanes-i.result c.index-lanes-i-in-Cut.result c.all-lanes.ensures.value c.in-Cut.ensures.holds (c.in-Cut.ensures.next _ known.stands);
     }
 
 pub returns-in-Done-clause-taken : goal.returns-in-Done-clause-taken

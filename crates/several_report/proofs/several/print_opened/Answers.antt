@@ -2,7 +2,7 @@ use Rattle.std.proofs.Common.{◌≡◌, List, length, map, ap, subst, sym, arit
 use Rattle.std.specs.List.{All}
 use Rattle.std.proofs.lemmas.List.{length-map, take_at}
 use Rattle.multi_report.specs.declared.source.Source.{Source}
-use Rattle.multi_report.specs.Sources.{IsFreshSource, IsUsable}
+use Rattle.multi_report.specs.Sources.{IsFreshSource}
 use Rattle.trace_args.specs.Command.{report_view}
 use Rattle.report_context.specs.declared.lines.ItemLines.{ItemLines}
 use Rattle.several_report.specs.Inputs.{names_in}
@@ -22,10 +22,6 @@ print_sources-requires-clause-few g c =
       length-map c.args.words.now.more.items (λ name. name.now),
       c.requires.few,
     )
-
-pub print_sources-requires-clause-usable : goal.print_sources-requires-clause-usable
-print_sources-requires-clause-usable g c =
-    subst (λ (xs : List (Source g.row.F-In.Denot ItemLines)). All IsUsable (map (source_seen g.F.In.File) xs)) (sym c.as_mut_slice.ensures.value) c.in-Ok.ensures.usable
 
 pub print_sources-requires-clause-fresh : goal.print_sources-requires-clause-fresh
 print_sources-requires-clause-fresh g c =

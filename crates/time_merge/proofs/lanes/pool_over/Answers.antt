@@ -3,8 +3,8 @@ use Rattle.std.specs.List.{All}
 use Rattle.page_pool.specs.declared.lane.Lane.{Lane}
 use Rattle.time_merge.specs.Unused.{IsUnused}
 use Rattle.time_merge.proofs.UnusedLanes.{new_unused}
-use Rattle.several_report.proofs.LentLanes.{all_written}
-use Rattle.several_report.proofs.sources.lanes_over.Goals as goal
+use Rattle.time_merge.proofs.LentLanes.{all_written}
+use Rattle.time_merge.proofs.lanes.pool_over.Goals as goal
 
 pub returns-clause-unused : goal.returns-clause-unused
 returns-clause-unused c =

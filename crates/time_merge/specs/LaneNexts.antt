@@ -1,0 +1,34 @@
+-- Which lane is next, told with its place.
+use Rattle.std.specs.Prelude.{◌≡◌, ℕ, ◌<◌, List, [], length, slice_index_or, Some, None}
+use Rattle.trace_base.specs.declared.layout.Layout.{Layout}
+use Rattle.subpage.specs.Cut.{Cut}
+use Rattle.page_pool.specs.declared.lane.Lane.{Lane}
+use Rattle.page_pool.specs.declared.cursor.LaneState.TheVariants.{Held}
+use Rattle.event_cursor.specs.Standing.{held_left}
+use Rattle.time_merge.specs.Rows.{least_cut}
+use Rattle.time_merge.specs.LaneRows.{rows_of, to_come}
+use Rattle.time_merge.specs.Nexts.{IsNextLane}
+use Rattle.time_merge.specs.declared.lane_nexts.LaneNext.{LaneNext}
+use Rattle.time_merge.specs.declared.lane_nexts.LaneNext.TheVariants as next
+
+-- the cut of a lane that stands before a malformed sub-buffer
+abbrev pub cut_at : List Lane → ℕ → Lane → Cut
+cut_at lanes i d = record {
+  key = (slice_index_or lanes i d).cursor.high;
+  cpu = (slice_index_or lanes i d).cpu;
+  page = (slice_index_or lanes i d).cursor.next;
+}
+
+abbrev pub IsLaneNext : Layout → List ℕ → List Lane → LaneNext → Type 0
+IsLaneNext layout file lanes (next.Item i) = IsNextLane layout file lanes i
+IsLaneNext layout file lanes (next.Cut i) =
+    (to_come layout file lanes ≡ []) × ((d : Lane) → least_cut (rows_of layout file lanes) ≡ Some (cut_at lanes i d))
+IsLaneNext layout file lanes next.Done = (to_come layout file lanes ≡ []) × (least_cut (rows_of layout file lanes) ≡ None)
+
+-- a lane of which an item is next holds it
+abbrev pub HoldsLaneNext : Layout → List Lane → LaneNext → Type 0
+HoldsLaneNext layout lanes (next.Item i) =
+    (i < length lanes)
+    × ((d : Lane) → ((slice_index_or lanes i d).cursor.state ≡ Held) × (0 < length (held_left layout (slice_index_or lanes i d))))
+HoldsLaneNext layout lanes (next.Cut i) = i < length lanes
+HoldsLaneNext layout lanes next.Done = Unit {0}
