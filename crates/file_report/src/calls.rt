@@ -1,14 +1,10 @@
 // The function graph, printed in place of the events.
 
 ghost use Rattle.std.specs.Option.{option_map};
-ghost use Rattle.std.specs.Prelude.{◌≡◌, ◌≤◌, [], Err, length, IfOk, IfSome};
+ghost use Rattle.std.specs.Prelude.{◌≡◌, ◌≤◌, [], length};
 ghost use Rattle.trace_outside.specs.Causes.{Rose, raised};
 ghost use Rattle.trace_outside.specs.Pending.{PutsText, on_way};
-ghost use Rattle.subpage.specs.Arrangement.{CpusRise};
-ghost use Rattle.subpage.specs.Cut.{cut_of};
 ghost use Rattle.multi_report.specs.Pieces.{text_of};
-ghost use Rattle.graph_report.specs.Gathered.{cut_place, reached_calls};
-ghost use Rattle.item_pass.specs.Faults.{KeptUnlessRead};
 ghost use Rattle.run_endings.specs.Ending.{IfNoMemory, Prints};
 ghost use Rattle.run_endings.specs.Progress.{parts_size};
 ghost use Rattle.file_report.specs.Meaning.{calls_report};
@@ -19,15 +15,11 @@ ghost use Rattle.file_report.specs.Reported.{IsShown, events_shown};
 
 use crate::report::{Recording, Shown};
 use call_pairs::Call;
-use graph_report::{Calls, gather_calls, put_calls};
-use item_pass::PassFault;
-use page_pool::Pool;
+use graph_report::{gather_calls, put_calls};
 use report_context::{line_buffer, put_cpus};
 use report_print::Context;
 use run_endings::{Status, status_of_cut, status_of_pass};
 use std::alloc::Global;
-use time_merge::set_lanes;
-use trace_base::{Layout, Part};
 use trace_outside::{Failed, File, Pending, Sink};
 
 /// Prints the first line of a report, and after it the calls of the reached items of the parts that are shown. All memory is
@@ -51,7 +43,7 @@ pub(crate) fn print_calls<I: File, O: Sink>(
     let (Ok(mut buffer), Ok(mut pending)) = (line_buffer(alloc), Pending::new(alloc)) else {
         return Status::NoMemory;
     };
-    let calls = match gathered(alloc, context, &layout, shown.parts, file) {
+    let calls = match gather_calls(alloc, context, &layout, file, shown.parts) {
         Ok(calls) => calls,
         Err(fault) => return status_of_pass(fault),
     };
@@ -60,31 +52,6 @@ pub(crate) fn print_calls<I: File, O: Sink>(
         Ok(()) => status_of_cut(calls.cut),
         Err(Failed) => Status::WriteFault,
     }
-}
-
-// The calls of the reached items of these parts. The memory of the lanes is given back.
-fn gathered<I: File>(
-    alloc: Global,
-    context: &Context,
-    layout: &Layout,
-    chosen: &[(u32, Part)],
-    file: &mut I,
-) -> Result<Calls, PassFault>
-    requires few { length chosen.now ≤ 1024 }
-    requires rise { CpusRise chosen.now }
-    ensures list { IfSome (I.bytes file.old) (λ bytes. IfOk result (λ calls. calls.list.items ≡ reached_calls context.now layout.now bytes chosen.now)) }
-    ensures cut { IfSome (I.bytes file.old) (λ bytes. IfOk result (λ calls. calls.cut ≡ cut_place (cut_of layout.now bytes chosen.now))) }
-    ensures read { result ≡ Err PassFault.Read → Rose (I.faults file.old) (I.faults file.new) }
-    ensures kept { KeptUnlessRead (I.faults file.old) (I.faults file.new) result }
-    ensures reads { I.reads file.new ≤ raised (I.reads file.old) (parts_size chosen.now) }
-{
-    // No lines are kept.
-    let Ok(mut pool) = Pool::new(alloc, chosen.len() as u32, layout.page, 0) else {
-        return Err(PassFault::Memory);
-    };
-    let lanes = pool.lanes();
-    set_lanes(lanes, chosen);
-    gather_calls(alloc, context, layout, file, lanes)
 }
 
 // Puts the first line and those of the calls, and writes all of it.

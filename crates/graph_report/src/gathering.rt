@@ -1,11 +1,8 @@
-ghost use Rattle.std.specs.Prelude.{◌≡◌, ◌≤◌, Err, All, IfOk, IfSome, sum_by};
+ghost use Rattle.std.specs.Prelude.{◌≡◌, ◌≤◌, Err, IfOk, IfSome, length, sum_by};
 ghost use Rattle.trace_outside.specs.Causes.{Rose, raised};
 ghost use Rattle.trace_outside.specs.Keeping.{KeepsFile};
 ghost use Rattle.subpage.specs.Arrangement.{CpusRise};
 ghost use Rattle.subpage.specs.Cut.{cut_of};
-ghost use Rattle.event_cursor.specs.Standing.{IsInOrder};
-ghost use Rattle.page_pool.specs.Fresh.{IsFresh};
-ghost use Rattle.time_merge.specs.LaneRows.{parts_of};
 ghost use Rattle.item_pass.specs.Faults.{KeptUnlessRead};
 ghost use Rattle.graph_report.specs.Gathered.{reached_calls, cut_place};
 
@@ -13,11 +10,10 @@ use crate::call_gatherer::CallGatherer;
 use call_pairs::{Call, Tracing};
 use format_index::FormatRoles;
 use item_pass::{PassFault, pass};
-use page_pool::Lane;
 use report_print::Context;
 use std::alloc::Global;
 use subpage::CutPlace;
-use trace_base::Layout;
+use trace_base::{Layout, Part};
 use trace_outside::File;
 
 /// The calls of a trace, and where its items end before their end.
@@ -30,7 +26,7 @@ pub struct Calls {
     pub cut: Option<CutPlace>,
 }
 
-/// Gathers the calls of all reached items of the lanes' parts, whatever the filters of the context.
+/// Gathers the calls of all reached items of these processors, whatever the filters of the context.
 ///
 /// It takes memory for what the events of each format are, for 64 bytes a call, and for what is open. Each sub-buffer is read
 /// once. A malformed sub-buffer is no fault: the items end before it.
@@ -39,16 +35,13 @@ pub fn gather_calls<F: File>(
     context: &Context,
     layout: &Layout,
     file: &mut F,
-    lanes: &mut [Lane],
+    parts: &[(u32, Part)],
 ) -> Result<Calls, PassFault>
-    requires fresh { All (λ lane. IsFresh lane.cursor) lanes.old }
-    requires in_order { All (IsInOrder layout.now) lanes.old }
-    requires rise { CpusRise (parts_of lanes.old) }
-    ensures list { IfSome (F.bytes file.old) (λ bytes. IfOk result (λ calls. calls.list.items ≡ reached_calls context.now layout.now bytes (parts_of lanes.old))) }
-    ensures cut { IfSome (F.bytes file.old) (λ bytes. IfOk result (λ calls. calls.cut ≡ cut_place (cut_of layout.now bytes (parts_of lanes.old)))) }
-    ensures in_order { All (IsInOrder layout.now) lanes.new }
-    ensures parts { parts_of lanes.new ≡ parts_of lanes.old }
-    ensures reads { F.reads file.new ≤ raised (F.reads file.old) (sum_by (λ part. part.1.size) (parts_of lanes.old)) }
+    requires few { length parts.now ≤ 1024 }
+    requires rise { CpusRise parts.now }
+    ensures list { IfSome (F.bytes file.old) (λ bytes. IfOk result (λ calls. calls.list.items ≡ reached_calls context.now layout.now bytes parts.now)) }
+    ensures cut { IfSome (F.bytes file.old) (λ bytes. IfOk result (λ calls. calls.cut ≡ cut_place (cut_of layout.now bytes parts.now))) }
+    ensures reads { F.reads file.new ≤ raised (F.reads file.old) (sum_by (λ part. part.1.size) parts.now) }
     ensures read { result ≡ Err PassFault.Read → Rose (F.faults file.old) (F.faults file.new) }
     ensures kept { KeptUnlessRead (F.faults file.old) (F.faults file.new) result }
     ensures keeps { KeepsFile F.File file.old file.new }
@@ -61,7 +54,7 @@ pub fn gather_calls<F: File>(
         roles: &roles,
     };
     let mut tracing = Tracing::new(alloc);
-    let cut = pass(alloc, &gatherer, layout, file, lanes, &mut tracing)?;
+    let cut = pass(alloc, &gatherer, layout, file, parts, &mut tracing)?;
     Ok(Calls {
         list: tracing.into_calls(),
         cut,

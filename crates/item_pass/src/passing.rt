@@ -13,13 +13,13 @@ ghost use Rattle.item_pass.specs.declared.passing.PassFault.TheVariants.{Read};
 use crate::gatherer::Gatherer;
 use crate::skipping::use_up;
 use crate::taking::take_head;
-use page_pool::Lane;
+use page_pool::{Lane, Pool};
 use std::alloc::Global;
 use subpage::CutPlace;
 use thiserror::Error;
-use time_merge::{Next, next_lane_by};
+use time_merge::{Next, next_lane_by, set_lanes};
 use tournament_tree::TournamentTree;
-use trace_base::Layout;
+use trace_base::{Layout, Part};
 use trace_outside::{Failed, File};
 
 /// Why a pass, or the gathering that it is part of, ended early.
@@ -41,40 +41,71 @@ impl From<Failed> for PassFault {
     }
 }
 
-/// Gathers of all reached items of the lanes' parts that matter, in their order, and tells the processor and the number of the
+/// Gathers of all reached items of these processors that matter, in their order, and tells the processor and the number of the
 /// first malformed sub-buffer in the order of the items, if there is one. Each sub-buffer is read once. A malformed one is no
-/// fault: the items end before it. It takes memory for one number a lane, and what the gatherer takes.
+/// fault: the items end before it. The memory of all processors is taken here and given back, but for what the gatherer takes.
 pub fn pass<G: Gatherer, F: File>(
     alloc: Global,
     gatherer: &G,
     layout: &Layout,
     file: &mut F,
+    parts: &[(u32, Part)],
+    gathered: &mut G::Gathered,
+) -> Result<Option<CutPlace>, PassFault>
+    requires few { length parts.now ≤ 1024 }
+    requires rise { CpusRise parts.now }
+    requires sound { G.is_sound gatherer.now }
+    requires none { G.holds gatherer.now [] gathered.old }
+    ensures gathered { OnOk result (IfSome (F.bytes file.old) (λ bytes. G.holds gatherer.now
+        (filter (by_item (G.matters gatherer.now)) (reached_of layout.now bytes parts.now)) gathered.new)) }
+    ensures cut { IfOk result (λ cut. IfSome (F.bytes file.old) (λ bytes.
+        cut ≡ cut_place (cut_of layout.now bytes parts.now))) }
+    ensures reads { F.reads file.new
+        ≤ raised (F.reads file.old) (sum_by (λ part. part.1.size) parts.now) }
+    ensures read { result ≡ Err PassFault.Read → Rose (F.faults file.old) (F.faults file.new) }
+    ensures kept { KeptUnlessRead (F.faults file.old) (F.faults file.new) result }
+    ensures keeps { KeepsFile F.File file.old file.new }
+{
+    // The lanes keep no lines.
+    let Ok(mut pool) = Pool::new(alloc, parts.len() as u32, layout.page, 0) else {
+        return Err(PassFault::Memory);
+    };
+    let lanes = pool.lanes();
+    set_lanes(lanes, parts);
+    let Some(mut nexts) = tree_for(alloc, lanes) else {
+        return Err(PassFault::Memory);
+    };
+    pass_lanes(gatherer, layout, file, lanes, &mut nexts, gathered)
+}
+
+// The same over lanes before their first items.
+fn pass_lanes<G: Gatherer, F: File>(
+    gatherer: &G,
+    layout: &Layout,
+    file: &mut F,
     lanes: &mut [Lane],
+    nexts: &mut TournamentTree,
     gathered: &mut G::Gathered,
 ) -> Result<Option<CutPlace>, PassFault>
     requires fresh { All (λ lane. IsFresh lane.cursor) lanes.old }
     requires in_order { All (IsInOrder layout.now) lanes.old }
     requires rise { CpusRise (parts_of lanes.old) }
+    requires slots { length nexts.old ≡ length lanes.old }
     requires sound { G.is_sound gatherer.now }
     requires none { G.holds gatherer.now [] gathered.old }
     ensures gathered { OnOk result (IfSome (F.bytes file.old) (λ bytes. G.holds gatherer.now
         (filter (by_item (G.matters gatherer.now)) (reached_of layout.now bytes (parts_of lanes.old))) gathered.new)) }
     ensures cut { IfOk result (λ cut. IfSome (F.bytes file.old) (λ bytes.
         cut ≡ cut_place (cut_of layout.now bytes (parts_of lanes.old)))) }
-    ensures in_order { All (IsInOrder layout.now) lanes.new }
-    ensures parts { parts_of lanes.new ≡ parts_of lanes.old }
     ensures reads { F.reads file.new
         ≤ raised (F.reads file.old) (sum_by (λ part. part.1.size) (parts_of lanes.old)) }
     ensures read { result ≡ Err PassFault.Read → Rose (F.faults file.old) (F.faults file.new) }
     ensures kept { KeptUnlessRead (F.faults file.old) (F.faults file.new) result }
     ensures keeps { KeepsFile F.File file.old file.new }
 {
-    let Some(mut nexts) = tree_for(alloc, lanes) else {
-        return Err(PassFault::Memory);
-    };
     let mut used = None;
     loop {
-        match next_lane_by(layout, file, lanes, &mut nexts, used)? {
+        match next_lane_by(layout, file, lanes, nexts, used)? {
             Next::Lane(i) => match take_head(gatherer, layout, &lanes[i], gathered) {
                 Ok(()) => {
                     use_up(gatherer, layout, &mut lanes[i]);

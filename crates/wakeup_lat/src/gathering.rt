@@ -10,10 +10,8 @@ ghost use Rattle.wakeup_lat.specs.Roles.{all_seen};
 use crate::wakeup_gatherer::WakeupGatherer;
 use format_index::FormatRoles;
 use item_pass::{PassFault, pass};
-use page_pool::Pool;
 use report_print::Context;
 use std::alloc::Global;
-use time_merge::set_lanes;
 use trace_base::{Layout, Part};
 use trace_outside::File;
 use wakeup_pairs::Wakeups;
@@ -37,20 +35,14 @@ pub fn gather<F: File>(
     ensures reads { F.reads file.new ≤ raised (F.reads file.old) (sum_by (λ part. part.1.size) parts.now) }
     ensures keeps { KeepsFile F.File file.old file.new }
 {
-    // The lanes keep no lines.
-    let (Ok(mut pool), Ok(roles)) = (
-        Pool::new(alloc, parts.len() as u32, layout.page, 0),
-        FormatRoles::of(alloc, context.formats()),
-    ) else {
+    let Ok(roles) = FormatRoles::of(alloc, context.formats()) else {
         return Err(PassFault::Memory);
     };
-    let lanes = pool.lanes();
-    set_lanes(lanes, parts);
     let gatherer = WakeupGatherer {
         context,
         roles: &roles,
     };
     let mut wakeups = Wakeups::new(alloc);
-    pass(alloc, &gatherer, layout, file, lanes, &mut wakeups)?;
+    pass(alloc, &gatherer, layout, file, parts, &mut wakeups)?;
     Ok(wakeups)
 }

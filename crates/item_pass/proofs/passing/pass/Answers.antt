@@ -1,116 +1,38 @@
-use Rattle.std.proofs.Common.{refl, arith, ◌<◌, [], length, set, sym, ap, ◌∙◌}
-use Rattle.std.proofs.lemmas.List.{get_or_default, length-set}
-use Rattle.std.proofs.lemmas.List.Elements.{All-set}
-use Rattle.std.proofs.lemmas.Result.{err_from_is_err_and}
-use Rattle.trace_base.proofs.Layouts.{carried}
-use Rattle.page_pool.specs.declared.lane.Lane.{Lane}
-use Rattle.event_cursor.specs.Keys.{first_of}
-use Rattle.event_cursor.specs.Standing.{IsInOrder, keyed_held}
-use Rattle.event_cursor.proofs.Told.{told_all, told_map}
-use Rattle.time_merge.specs.declared.next_lanes.Next.TheVariants as code
-use Rattle.time_merge.proofs.Advancing.{same_length}
-use Rattle.time_merge.proofs.Going.{holds_is, next_is}
-use Rattle.time_merge.proofs.OneLane.{in_step_but}
-use Rattle.time_merge.proofs.PartReads.{going_reads, reads_inside}
-use Rattle.item_pass.proofs.PassSteps.{begins, loaded, goes_on, all_passed, no_cut, one_cut, using_unread, used_parts}
+use Rattle.std.proofs.Common.{◌≡◌, ◌≤◌, ℕ, List, IfOk, IfSome, sum_by, subst, sym}
+use Rattle.std.specs.List.{filter}
+use Rattle.std.specs.Prelude.{OnOk}
+use Rattle.trace_base.specs.declared.part.Part.{Part}
+use Rattle.trace_outside.specs.Causes.{raised}
+use Rattle.subpage.specs.Arrangement.{CpusRise}
+use Rattle.subpage.specs.Cut.{cut_of, reached_of}
+use Rattle.time_merge.proofs.UnusedLanes.{new_unused, unused_fresh, unused_in_order}
+use Rattle.item_pass.specs.Skipping.{by_item, cut_place}
 use Rattle.item_pass.proofs.passing.pass.Goals as goal
 
-pub loop-nexts-init : goal.loop-nexts-init
-loop-nexts-init g c = record {
-  in_order = c.requires.in_order;
-  parts = refl;
-  in_step = tt;
-  slots = c.in-Some.ensures;
-  known = ([], c.requires.none);
-  passed = told_all _ (g.F.File.bytes c.args.file.now) (λ file. begins _ c.args.layout.now _ file c.args.lanes.now c.requires.fresh c.requires.none);
-  reads = omega arith;
-  unread = omega arith;
-  keeps = record { bytes = refl; size = refl; later = omega arith };
-  faults = refl;
-}
+pub pass_lanes-requires-clause-fresh : goal.pass_lanes-requires-clause-fresh
+pass_lanes-requires-clause-fresh g c =
+    unused_fresh c.args.layout.now.page 0 _ (c.set_lanes.ensures.unused _ 0 (new_unused _ _ _ _ c.lanes-lanes.ensures.value c.in-Ok.ensures.lanes))
 
-pub loop-nexts-preserved : goal.loop-nexts-preserved
-loop-nexts-preserved g c =
-    let l = c.args.layout.now in
-    let m = g.G.Gatherer.matters c.args.gatherer.now in
-    let lt : c.in-Lane.i < length c.next_lane_by.new.lanes = (holds_is c.args.layout.now c.next_lane_by.new.lanes c.in-Lane.is c.in_ok-i.ensures.holds).0 in
-    let d = c.index-lanes-i-in-Ok.result in
-    let still = using_unread m l (g.F.File.size c.args.file.now) c.next_lane_by.new.lanes c.in-Lane.i d c.use_up.new.lane lt c.use_up.ensures.used in
-    let reads = going_reads l (g.F.File.size c.args.file.now) (g.F.File.size c.loop-nexts.file) c.loop-nexts.lanes c.next_lane_by.new.lanes (set c.next_lane_by.new.lanes c.in-Lane.i c.use_up.new.lane) _ _ _ _
-    c.loop-nexts.invariant.keeps.size still c.in_ok-i.ensures.ready c.loop-nexts.invariant.reads c.loop-nexts.invariant.unread c.next_lane_by.ensures.loads.reads c.next_lane_by.ensures.loads.unread in
-    record {
-      in_order = All-set (IsInOrder l) c.next_lane_by.new.lanes c.in-Lane.i c.use_up.new.lane c.use_up.ensures.in_order c.next_lane_by.ensures.loads.in_order;
-      parts = used_parts m l c.next_lane_by.new.lanes c.in-Lane.i d c.use_up.new.lane lt c.use_up.ensures.used ∙ c.next_lane_by.ensures.loads.parts ∙ c.loop-nexts.invariant.parts;
-      in_step = in_step_but l c.next_lane_by.new.lanes c.next_lane_by.new.nexts c.in-Lane.i c.use_up.new.lane lt c.in_ok-i.ensures.ready c.in_ok-i.ensures.nexts;
-      slots = c.next_lane_by.ensures.slots ∙ c.loop-nexts.invariant.slots ∙ sym (same_length c.next_lane_by.new.lanes c.loop-nexts.lanes c.next_lane_by.ensures.loads.parts) ∙ sym (length-set c.next_lane_by.new.lanes c.in-Lane.i c.use_up.new.lane);
-      known = c.in-Ok.ensures.known;
-      passed = told_map _ _ (g.F.File.bytes c.args.file.now) (λ file.
-          goes_on m l _ _ file c.args.lanes.now c.next_lane_by.new.lanes c.in-Lane.i d c.use_up.new.lane lt c.use_up.ensures.used
-          (λ xs x e. c.in-Ok.ensures.taken xs x (ap (λ (a : Lane). first_of (keyed_held l a)) (get_or_default c.next_lane_by.new.lanes c.in-Lane.i c.index-lanes-i.result d lt) ∙ e)))
-          (loaded m l _ (g.F.File.bytes c.args.file.now) (g.F.File.bytes c.loop-nexts.file) c.args.lanes.now c.loop-nexts.lanes c.next_lane_by.new.lanes (code.Lane c.in-Lane.i)
-          c.loop-nexts.invariant.keeps.bytes c.loop-nexts.invariant.passed c.next_lane_by.ensures.loads.rows c.next_lane_by.ensures.loads.stands (next_is c.args.layout.now _ _ c.next_lane_by.new.lanes c.in-Lane.is c.in_ok-i.ensures.next));
-      reads = reads.0;
-      unread = reads.1;
-      keeps = record {
-        bytes = c.next_lane_by.ensures.loads.keeps.bytes ∙ c.loop-nexts.invariant.keeps.bytes;
-        size = c.next_lane_by.ensures.loads.keeps.size ∙ c.loop-nexts.invariant.keeps.size;
-        later = omega (arith, c.next_lane_by.ensures.loads.keeps.later, c.loop-nexts.invariant.keeps.later);
-      };
-      faults = c.in_ok-i.ensures.cause.kept ∙ c.loop-nexts.invariant.faults;
-    }
+pub pass_lanes-requires-clause-in_order : goal.pass_lanes-requires-clause-in_order
+pass_lanes-requires-clause-in_order g c =
+    unused_in_order c.args.layout.now 0 _ (c.set_lanes.ensures.unused _ 0 (new_unused _ _ _ _ c.lanes-lanes.ensures.value c.in-Ok.ensures.lanes))
 
-pub returns-in_err-i-clause-kept : goal.returns-in_err-i-clause-kept
-returns-in_err-i-clause-kept g c =
-    let p = err_from_is_err_and c.from_residual.result c.from_residual.ensures.1 in
-    rw (p.1, p.2) tt
+pub pass_lanes-requires-clause-rise : goal.pass_lanes-requires-clause-rise
+pass_lanes-requires-clause-rise g c =
+    subst (λ (ps : List (ℕ × Part)). CpusRise ps) (sym c.set_lanes.ensures.parts) c.requires.rise
 
-pub returns-in-Done-clause-gathered : goal.returns-in-Done-clause-gathered
-returns-in-Done-clause-gathered g c =
-    let l = c.args.layout.now in
-    let m = g.G.Gatherer.matters c.args.gatherer.now in
-    told_map _ _ (g.F.File.bytes c.args.file.now) (λ file p. all_passed m l _ file c.args.lanes.now c.next_lane_by.new.lanes c.requires.fresh p.1.0 p.0)
-    (loaded m l _ (g.F.File.bytes c.args.file.now) (g.F.File.bytes c.loop-nexts.file) c.args.lanes.now c.loop-nexts.lanes c.next_lane_by.new.lanes code.Done
-    c.loop-nexts.invariant.keeps.bytes c.loop-nexts.invariant.passed c.next_lane_by.ensures.loads.rows c.next_lane_by.ensures.loads.stands (next_is l _ _ c.next_lane_by.new.lanes c.in-Done.is c.in_ok-i.ensures.next))
+pub returns-clause-gathered : goal.returns-clause-gathered
+returns-clause-gathered g c =
+    subst (λ (ps : List (ℕ × Part)). OnOk c.pass_lanes.result (IfSome (g.F.File.bytes c.args.file.now) (λ bytes. g.G.Gatherer.holds c.args.gatherer.now
+    (filter (by_item (g.G.Gatherer.matters c.args.gatherer.now)) (reached_of c.args.layout.now bytes ps)) c.pass_lanes.new.gathered)))
+    c.set_lanes.ensures.parts c.pass_lanes.ensures.gathered
 
-pub returns-in-Malformed-clause-gathered : goal.returns-in-Malformed-clause-gathered
-returns-in-Malformed-clause-gathered g c =
-    let l = c.args.layout.now in
-    let m = g.G.Gatherer.matters c.args.gatherer.now in
-    told_map _ _ (g.F.File.bytes c.args.file.now) (λ file p. all_passed m l _ file c.args.lanes.now c.next_lane_by.new.lanes c.requires.fresh p.1.0 p.0)
-    (loaded m l _ (g.F.File.bytes c.args.file.now) (g.F.File.bytes c.loop-nexts.file) c.args.lanes.now c.loop-nexts.lanes c.next_lane_by.new.lanes (code.Malformed c.in-Malformed.cut)
-    c.loop-nexts.invariant.keeps.bytes c.loop-nexts.invariant.passed c.next_lane_by.ensures.loads.rows c.next_lane_by.ensures.loads.stands (next_is l _ _ c.next_lane_by.new.lanes c.in-Malformed.is c.in_ok-i.ensures.next))
+pub returns-clause-cut : goal.returns-clause-cut
+returns-clause-cut g c =
+    subst (λ (ps : List (ℕ × Part)). IfOk c.pass_lanes.result (λ cut. IfSome (g.F.File.bytes c.args.file.now) (λ bytes. cut ≡ cut_place (cut_of c.args.layout.now bytes ps))))
+    c.set_lanes.ensures.parts c.pass_lanes.ensures.cut
 
-pub returns-in-Done-clause-cut : goal.returns-in-Done-clause-cut
-returns-in-Done-clause-cut g c =
-    let l = c.args.layout.now in
-    told_map _ _ (g.F.File.bytes c.args.file.now) (λ file p. no_cut l file c.args.lanes.now c.next_lane_by.new.lanes (c.next_lane_by.ensures.loads.parts ∙ c.loop-nexts.invariant.parts) p.1.1)
-    (loaded (g.G.Gatherer.matters c.args.gatherer.now) l _ (g.F.File.bytes c.args.file.now) (g.F.File.bytes c.loop-nexts.file) c.args.lanes.now c.loop-nexts.lanes c.next_lane_by.new.lanes code.Done
-    c.loop-nexts.invariant.keeps.bytes c.loop-nexts.invariant.passed c.next_lane_by.ensures.loads.rows c.next_lane_by.ensures.loads.stands (next_is l _ _ c.next_lane_by.new.lanes c.in-Done.is c.in_ok-i.ensures.next))
-
-pub returns-in-Malformed-clause-cut : goal.returns-in-Malformed-clause-cut
-returns-in-Malformed-clause-cut g c =
-    let l = c.args.layout.now in
-    told_map _ _ (g.F.File.bytes c.args.file.now)
-    (λ file p. one_cut l file c.args.lanes.now c.next_lane_by.new.lanes c.in-Malformed.cut (c.next_lane_by.ensures.loads.parts ∙ c.loop-nexts.invariant.parts) p.1.1)
-    (loaded (g.G.Gatherer.matters c.args.gatherer.now) l _ (g.F.File.bytes c.args.file.now) (g.F.File.bytes c.loop-nexts.file) c.args.lanes.now c.loop-nexts.lanes c.next_lane_by.new.lanes (code.Malformed c.in-Malformed.cut)
-    c.loop-nexts.invariant.keeps.bytes c.loop-nexts.invariant.passed c.next_lane_by.ensures.loads.rows c.next_lane_by.ensures.loads.stands (next_is l _ _ c.next_lane_by.new.lanes c.in-Malformed.is c.in_ok-i.ensures.next))
-
-pub returns-in-Err-clause-reads : goal.returns-in-Err-clause-reads
-returns-in-Err-clause-reads g c =
-    reads_inside c.args.layout.now (g.F.File.size c.args.file.now) (g.F.File.size c.loop-nexts.file) c.args.lanes.now c.loop-nexts.lanes c.next_lane_by.new.lanes _ _ _ (omega (arith, (carried c.args.layout.now).page_least))
-    c.loop-nexts.invariant.keeps.size c.loop-nexts.invariant.reads c.loop-nexts.invariant.unread c.next_lane_by.ensures.loads.reads c.next_lane_by.ensures.loads.unread
-
-pub returns-in-Done-clause-reads : goal.returns-in-Done-clause-reads
-returns-in-Done-clause-reads g c =
-    reads_inside c.args.layout.now (g.F.File.size c.args.file.now) (g.F.File.size c.loop-nexts.file) c.args.lanes.now c.loop-nexts.lanes c.next_lane_by.new.lanes _ _ _ (omega (arith, (carried c.args.layout.now).page_least))
-    c.loop-nexts.invariant.keeps.size c.loop-nexts.invariant.reads c.loop-nexts.invariant.unread c.next_lane_by.ensures.loads.reads c.next_lane_by.ensures.loads.unread
-
-pub returns-in-Malformed-clause-reads : goal.returns-in-Malformed-clause-reads
-returns-in-Malformed-clause-reads g c =
-    reads_inside c.args.layout.now (g.F.File.size c.args.file.now) (g.F.File.size c.loop-nexts.file) c.args.lanes.now c.loop-nexts.lanes c.next_lane_by.new.lanes _ _ _ (omega (arith, (carried c.args.layout.now).page_least))
-    c.loop-nexts.invariant.keeps.size c.loop-nexts.invariant.reads c.loop-nexts.invariant.unread c.next_lane_by.ensures.loads.reads c.next_lane_by.ensures.loads.unread
-
-pub returns-in_err-i-clause-reads : goal.returns-in_err-i-clause-reads
-returns-in_err-i-clause-reads g c =
-    reads_inside c.args.layout.now (g.F.File.size c.args.file.now) (g.F.File.size c.loop-nexts.file) c.args.lanes.now c.loop-nexts.lanes c.next_lane_by.new.lanes _ _ _ (omega (arith, (carried c.args.layout.now).page_least))
-    c.loop-nexts.invariant.keeps.size c.loop-nexts.invariant.reads c.loop-nexts.invariant.unread c.next_lane_by.ensures.loads.reads c.next_lane_by.ensures.loads.unread
+pub returns-clause-reads : goal.returns-clause-reads
+returns-clause-reads g c =
+    subst (λ (ps : List (ℕ × Part)). g.F.File.reads c.pass_lanes.new.file ≤ raised (g.F.File.reads c.args.file.now) (sum_by (λ part. part.1.size) ps))
+    c.set_lanes.ensures.parts c.pass_lanes.ensures.reads

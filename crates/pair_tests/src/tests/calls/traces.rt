@@ -1,24 +1,16 @@
 // The calls of whole traces of two processors, and what is printed of them.
 
-ghost use Rattle.std.specs.Prelude.{◌≡◌, All, length};
-ghost use Rattle.subpage.specs.Arrangement.{CpusRise};
-ghost use Rattle.page_pool.specs.Fresh.{IsFresh, IsNew};
-ghost use Rattle.event_cursor.specs.Standing.{IsInOrder};
-ghost use Rattle.time_merge.specs.LaneRows.{parts_of};
-
 use super::lines::KALLSYMS;
 use crate::tests::contexts::context_of;
 use crate::tests::sub_buffers::recording_of;
 use format_parse::FormatTable;
 use graph_report::{Calls, gather_calls, put_calls};
 use item_pass::PassFault;
-use page_pool::{Lane, Pool};
 use report_print::Context;
 use std::alloc::{AllocError, Global};
 use std::test::Fail;
 use subpage::CutPlace;
-use time_merge::set_lanes;
-use trace_base::{ByteText, Layout, Part};
+use trace_base::{ByteText, Part};
 use trace_outside::{File, MemFile, MemSink, Pending, Sink};
 use trace_samples::layout;
 
@@ -130,22 +122,6 @@ times below 0
               sh-7     [000]     0.000001:     0.600 us | outer();
 ";
 
-// Of so many bytes the first ones are of processor 0, and the others of processor 1.
-fn set_parts(layout: &Layout, lanes: &mut [Lane], size: u64, other: u64)
-    requires two { length lanes.old ≡ 2 }
-    requires new { All (IsNew layout.now.page 16) lanes.old }
-    ensures in_order { All (IsInOrder layout.now) lanes.new }
-    ensures rise { CpusRise (parts_of lanes.new) }
-    ensures fresh { All (λ lane. IsFresh lane.cursor) lanes.new }
-{
-    let first = Part { offset: 0, size };
-    let second = Part {
-        offset: size,
-        size: other,
-    };
-    set_lanes(lanes, &[(0, first), (1, second)]);
-}
-
 // A context with the entry's format and this one.
 fn context_with(alloc: Global, format: &str) -> Result<Context, AllocError> {
     let mut texts = Vec::new(alloc);
@@ -155,22 +131,6 @@ fn context_with(alloc: Global, format: &str) -> Result<Context, AllocError> {
     context_of(alloc, formats, KALLSYMS, false)
 }
 
-fn gather_over<F: File>(
-    alloc: Global,
-    context: &Context,
-    layout: &Layout,
-    file: &mut F,
-    middle: u64,
-    lanes: &mut [Lane],
-) -> Result<Calls, PassFault>
-    requires two { length lanes.old ≡ 2 }
-    requires new { All (IsNew layout.now.page 16) lanes.old }
-{
-    let other = file.len().saturating_sub(middle);
-    set_parts(layout, lanes, middle, other);
-    gather_calls(alloc, context, layout, file, lanes)
-}
-
 // The calls of a file, in which the sub-buffers of processor 1 begin at this byte.
 fn gathered<F: File>(
     alloc: Global,
@@ -178,11 +138,15 @@ fn gathered<F: File>(
     file: &mut F,
     middle: u64,
 ) -> Result<Calls, PassFault> {
-    let layout = layout();
-    let Ok(mut pool) = Pool::new(alloc, 2, layout.page, 16) else {
-        return Err(PassFault::Memory);
+    let first = Part {
+        offset: 0,
+        size: middle,
     };
-    gather_over(alloc, context, &layout, file, middle, pool.lanes())
+    let second = Part {
+        offset: middle,
+        size: file.len().saturating_sub(middle),
+    };
+    gather_calls(alloc, context, &layout(), file, &[(0, first), (1, second)])
 }
 
 // The calls of what is recorded, of which each byte is read once.

@@ -9,10 +9,10 @@ use Rattle.time_merge.specs.LaneRows.{parts_of}
 use Rattle.time_merge.specs.Nexts.{IsInStep}
 use Rattle.time_merge.specs.Reads.{all_unread}
 use Rattle.item_pass.proofs.PassSteps.{Passed}
-use Rattle.item_pass.proofs.passing.pass.Given as goal
+use Rattle.item_pass.proofs.passing.pass_lanes.Given as goal
 
-abbrev pub invariant-loop-nexts : goal.invariant-loop-nexts
-invariant-loop-nexts g l = record {
+abbrev pub invariant-loop-i : goal.invariant-loop-i
+invariant-loop-i g l = record {
   in_order : All (IsInOrder l.layout) l.lanes;
   parts : parts_of l.lanes ≡ parts_of l.fn.lanes;
   in_step : IsInStep l.layout l.lanes l.nexts l.used;
@@ -28,5 +28,5 @@ invariant-loop-nexts g l = record {
   faults : g.F.File.faults l.file ≡ g.F.File.faults l.fn.file;
 }
 
-abbrev pub decreases-loop-nexts : goal.decreases-loop-nexts
-decreases-loop-nexts g l = sum_by (most_left l.layout) l.lanes
+abbrev pub decreases-loop-i : goal.decreases-loop-i
+decreases-loop-i g l = sum_by (most_left l.layout) l.lanes
