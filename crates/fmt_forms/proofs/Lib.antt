@@ -4,5 +4,6 @@ pub mod PutLemmas
 pub mod PlainLemmas
 pub mod Gathering
 pub mod DigitLemmas
+pub mod FewDigits
 pub mod CutLemmas
 pub mod ShownLemmas

@@ -1,11 +1,12 @@
 //! Integers that are shown as they are. Most are.
 
-ghost use Rattle.std.specs.Prelude.{◌≡◌, ◌<◌, ◌≤◌, ◌&&◌, ◌++◌, length, take};
+ghost use Rattle.std.specs.Prelude.{◌≡◌, ◌&&◌, ◌++◌};
 ghost use Rattle.std.specs.Fmt.{decimal};
 ghost use Rattle.fmt_forms.specs.Integers.{integer_text, is_decimal, is_signed};
 ghost use Rattle.fmt_forms.specs.Plain.{is_plain, minus};
 ghost use Rattle.fmt_forms.specs.Shows.{Shows};
 
+use crate::few_digits::few_digits;
 use crate::form::Form;
 use crate::integer::put_integer;
 use fmt_directives::Base;
@@ -51,38 +52,15 @@ fn show_minus(negative: bool, into: &mut Tail<'_>)
     }
 }
 
-/// Writes the digits of a number below 1,000, and gives their count.
-#[inline(always)]
-#[tactic(auto, using(crate::proofs::DigitLemmas::one_within, crate::proofs::DigitLemmas::two_within, crate::proofs::DigitLemmas::three_within, crate::proofs::DigitLemmas::one_digit, crate::proofs::DigitLemmas::two_digits, crate::proofs::DigitLemmas::three_digits))]
-fn write_few(n: u64, room: &mut [u8]) -> usize
-    requires few { n < 1000 }
-    requires room { 3 ≤ length room.old }
-    ensures count { result ≤ 3 }
-    ensures digits { take result room.new ≡ decimal n }
-    ensures same_length { length room.new ≡ length room.old }
-{
-    if n < 10 {
-        write_digits(n, room, 1);
-        1
-    } else if n < 100 {
-        write_digits(n, room, 2);
-        2
-    } else {
-        write_digits(n, room, 3);
-        3
-    }
-}
-
-/// Shows a number. Most have few digits, each of which has its place.
+/// Shows a number. Most have few digits.
 #[inline(always)]
 #[tactic(auto, using(crate::proofs::Gathering::put_shown))]
 fn show_digits(n: u64, into: &mut Tail<'_>)
     ensures { Shows into.old into.new (decimal n) }
 {
     if n < 1000 {
-        let mut room = [0; 16];
-        let len = write_few(n, &mut room);
-        into.put_front(&room, len);
+        let (digits, len) = few_digits(n);
+        into.put_front(digits, len);
     } else {
         show_many(n, into);
     }

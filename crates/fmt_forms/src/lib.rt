@@ -9,6 +9,7 @@
 #![tactic(auto)]
 
 mod decimal;
+mod few_digits;
 mod form;
 mod integer;
 mod layout;
