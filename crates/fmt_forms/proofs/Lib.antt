@@ -7,3 +7,4 @@ pub mod DigitLemmas
 pub mod FewDigits
 pub mod CutLemmas
 pub mod ShownLemmas
+pub mod HexLemmas

@@ -32,3 +32,7 @@ pub letter_short : (before tail : Tail) (left : Bool) (width : ℕ) (precision :
     → gathered tail ≡ joined (gathered before) (padded left width (cut_to precision (until_nul text)))
 letter_short before tail left width precision text slice is one letter none all =
     put_shown before tail text slice is ∙ ap (joined (gathered before)) (whole_letter text one letter ∙ shown_bare left width precision (until_nul text) none all)
+
+pub bare_shown : (before tail : Tail) (left : Bool) (width : ℕ) (precision : Option ℕ) (text : List ℕ) → gathered tail ≡ joined (gathered before) text → width ≡ 0 → precision ≡ None
+    → gathered tail ≡ joined (gathered before) (padded left width (cut_to precision text))
+bare_shown before tail left width precision text is none all = is ∙ ap (joined (gathered before)) (shown_bare left width precision text none all)

@@ -34,7 +34,7 @@ fn digits_of<'b>(
 }
 
 /// The digits of a number in base 8 or 16, in a buffer.
-pub fn written<'b>(n: u64, octal: bool, upper: bool, buffer: &'b mut [u8; 64]) -> &'b [u8]
+pub(crate) fn written<'b>(n: u64, octal: bool, upper: bool, buffer: &'b mut [u8; 64]) -> &'b [u8]
     ensures { result.now ≡ digits (if octal then 8 else 16) upper n }
 {
     let start = write_digits(n, octal, upper, buffer);

@@ -116,7 +116,7 @@ fn put_pieces(one: &[u8], two: &[u8], three: &[u8], into: &mut Tail<'_>)
 /// Puts a text of three pieces in its width, with spaces.
 #[inline(never)]
 #[tactic(auto, using(crate::proofs::PlainLemmas::padded_bare, crate::proofs::LaidLemmas::padded_left, crate::proofs::LaidLemmas::padded_right))]
-pub fn put_padded(form: &Form, one: &[u8], two: &[u8], three: &[u8], into: &mut Tail<'_>)
+pub(crate) fn put_padded(form: &Form, one: &[u8], two: &[u8], three: &[u8], into: &mut Tail<'_>)
     ensures same_slice { lent into.new ≡ lent into.old }
     ensures value { kept into.new ≡ put (kept into.old) (padded form.now.left form.now.width (one.now ++ (two.now ++ three.now))) }
 {

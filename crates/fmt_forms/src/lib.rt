@@ -2,15 +2,15 @@
 //!
 //! [`form_of`] gives the [`Form`] of a conversion. [`show_integer`] shows an integer in its form, [`show_text`] a text in its
 //! width, [`show_cut`] as much of it as the precision shows, [`show_until_nul`] and, where most have one letter or none,
-//! [`show_short`] as much of it up to its first NUL, and [`show_address`] an address. Their contracts tell of the `Tail` what
-//! stays true through cuts. [`put_padded`] puts a text of three pieces in its width, and [`put_repeated`] so many spaces or
-//! zeros. [`is_signed`] says whether a conversion shows a sign, and [`written`] gives the digits of a number in base 8 or 16
-//! alone. No call takes memory.
+//! [`show_short`] as much of it up to its first NUL, [`show_address`] an address, and [`show_offset`] a name and how far after
+//! its address an address is. Their contracts tell of the `Tail` what stays true through cuts. [`put_repeated`] puts so many
+//! spaces or zeros. [`is_signed`] says whether a conversion shows a sign. No call takes memory.
 #![tactic(auto)]
 
 mod decimal;
 mod few_digits;
 mod form;
+mod hexadecimal;
 mod integer;
 mod layout;
 mod repeat;
@@ -18,7 +18,5 @@ mod text;
 
 pub use decimal::{is_signed, show_integer};
 pub use form::{Form, form_of};
-pub use integer::written;
-pub use layout::put_padded;
 pub use repeat::{Fill, put_repeated};
-pub use text::{show_address, show_cut, show_short, show_text, show_until_nul};
+pub use text::{show_address, show_cut, show_offset, show_short, show_text, show_until_nul};

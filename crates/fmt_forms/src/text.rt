@@ -8,6 +8,7 @@ ghost use Rattle.fmt_forms.specs.Shows.{Shows};
 ghost use Rattle.fmt_forms.specs.Texts.{cut_to, padded};
 
 use crate::form::Form;
+use crate::hexadecimal::show_hexadecimal;
 use crate::integer::written;
 use crate::layout::put_padded;
 use trace_base::{Tail, until_nul};
@@ -87,9 +88,9 @@ pub fn show_short(form: &Form, text: &[u8], into: &mut Tail<'_>)
     }
 }
 
-/// Shows an address as `0x` and its digits, as much of it as a precision shows.
+/// Shows an address in its width, as much of it as a precision shows.
 #[inline(never)]
-pub fn show_address(form: &Form, precision: Option<u32>, n: u64, into: &mut Tail<'_>)
+fn show_cut_address(form: &Form, precision: Option<u32>, n: u64, into: &mut Tail<'_>)
     ensures { Shows into.old into.new (padded form.now.left form.now.width (cut_to precision (codes "0x" ++ digits 16 false n))) }
 {
     let mut buffer = [0; 64];
@@ -97,4 +98,33 @@ pub fn show_address(form: &Form, precision: Option<u32>, n: u64, into: &mut Tail
     let prefix = cut_to(precision, b"0x");
     let shown = cut_to(behind_prefix(precision), digits);
     put_padded(form, prefix, shown, b"", into);
+}
+
+/// Shows an address as `0x` and its digits, as much of it as a precision shows. Most have no width, and are shown as they are.
+#[inline(never)]
+#[tactic(auto, using(crate::proofs::ShownLemmas::bare_shown))]
+pub fn show_address(form: &Form, precision: Option<u32>, n: u64, into: &mut Tail<'_>)
+    ensures { Shows into.old into.new (padded form.now.left form.now.width (cut_to precision (codes "0x" ++ digits 16 false n))) }
+{
+    if form.width == 0 && precision.is_none() {
+        show_hexadecimal(b"0x", n, into);
+    } else {
+        show_cut_address(form, precision, n, into);
+    }
+}
+
+/// Shows a name and how far after its address an address is, in a width. Most have none, and are shown as they are.
+#[inline(always)]
+#[tactic(auto, using(crate::proofs::Gathering::kept_shown))]
+pub fn show_offset(form: &Form, name: &[u8], behind: u64, into: &mut Tail<'_>)
+    ensures { Shows into.old into.new (padded form.now.left form.now.width (name.now ++ (codes "+0x" ++ digits 16 false behind))) }
+{
+    if form.width == 0 {
+        into.put_piece(name);
+        show_hexadecimal(b"+0x", behind, into);
+    } else {
+        let mut buffer = [0; 64];
+        let digits = written(behind, false, false, &mut buffer);
+        put_padded(form, name, b"+0x", digits, into);
+    }
 }

@@ -23,8 +23,8 @@ use fmt_directives::{Base, Length, PointerForm};
 use fmt_eval::{bytes, cast_bits, only_flag, put_text};
 use fmt_expr::{Expr, Kind};
 use fmt_forms::{
-    Form, is_signed, put_padded, show_address, show_cut, show_integer, show_short, show_text,
-    show_until_nul, written,
+    Form, is_signed, show_address, show_cut, show_integer, show_offset, show_short, show_text,
+    show_until_nul,
 };
 use symbols::Symbols;
 use trace_base::{Rec, Tail, bytes_of, long_text_len};
@@ -177,16 +177,11 @@ impl<'a> Printer<'a> {
     /// Shows the symbol that stands at a number and how far after its address that is, or else the address. It is a call, so
     /// that what is shown most stays small enough to be shown in place.
     #[inline(never)]
-    #[tactic(auto, using(fmt_forms::proofs::Gathering::kept_shown, fmt_forms::proofs::LaidLemmas::padded_alone))]
     fn name_and_offset(&self, form: &Form, n: u64, into: &mut Tail<'_>)
         ensures { Shows into.old into.new (padded form.now.left form.now.width (number_address PointerForm.NameOffset n self.now.symbols.now)) }
     {
         match self.symbols.name_at(n) {
-            Some((name, behind)) => {
-                let mut buffer = [0; 64];
-                let digits = written(behind, false, false, &mut buffer);
-                put_padded(form, name, b"+0x", digits, into);
-            }
+            Some((name, behind)) => show_offset(form, name, behind, into),
             None => show_address(form, None, n, into),
         }
     }

@@ -6,7 +6,7 @@ use Rattle.fmt_forms.specs.Gathered.{gathered, joined}
 use Rattle.fmt_forms.proofs.Gathering.{kept_shown}
 use Rattle.fmt_forms.specs.Texts.{cut_to, padded}
 use Rattle.fmt_forms.proofs.CutLemmas.{cut_two}
-use Rattle.fmt_forms.proofs.text.show_address.Goals as goal
+use Rattle.fmt_forms.proofs.text.show_cut_address.Goals as goal
 
 pub returns : goal.returns
 returns c =
