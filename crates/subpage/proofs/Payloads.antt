@@ -1,5 +1,5 @@
 -- Where an event's payload stands.
-use Rattle.std.proofs.Common.{◌≡◌, ℕ, ◌+◌, ◌-◌, ◌*◌, ◌≤◌, true, false, ltb, eqb, List, [], ◌∷◌, ◌++◌, length, take, drop, Option, Some, None, refl, sym, ap, subst, ◌∙◌, append_assoc, arith}
+use Rattle.std.proofs.Common.{◌≡◌, ℕ, ◌+◌, ◌-◌, ◌*◌, ◌<◌, ◌≤◌, true, false, ltb, eqb, List, [], ◌∷◌, ◌++◌, length, take, drop, Option, Some, None, refl, sym, ap, subst, ◌∙◌, append_assoc, arith}
 use Rattle.std.specs.Option.{IsSome, option_map, unwrap_or}
 use Rattle.std.proofs.lemmas.Bool.{lt-ltb, le-ltb, ne_eqb}
 use Rattle.std.proofs.lemmas.List.{drop_at, take_at, drop-drop, drop-take, take-take, take-append-drop, take-append-le, length-append, length-drop, length-take, append-nil}
@@ -12,10 +12,10 @@ use Rattle.subpage.specs.ItemData.{ItemData, EventAt}
 use Rattle.subpage.specs.Reading.{word_at, short_event_at, rest_at, element_at, walk}
 use Rattle.subpage.specs.RunningTime.{in_64_bits}
 use Rattle.subpage.specs.declared.loss.Loss.{Loss}
-use Rattle.subpage.specs.NextEvent.{IsShort}
+use Rattle.subpage.specs.NextEvent.{IsClaimed, IsShort}
 use Rattle.subpage.specs.Marks.{bytes_from, item_by, items_from, IsMark, IsPassed}
 use Rattle.subpage.proofs.ElementSound.{element_takes}
-use Rattle.subpage.proofs.Walking.{goes_on}
+use Rattle.subpage.proofs.Walking.{goes_on, walk_none}
 use Rattle.subpage.proofs.Settling.{suffix_at}
 
 -- a payload that stands, filled up, at the end of bytes
@@ -89,6 +89,38 @@ pub short_told : (order : Order) (time : ℕ) (bytes : List ℕ) (word kind delt
 short_told order time bytes word kind delta after w k d long some few room is =
     let t = goes_on order time bytes (Event delta (take (4 * kind) (drop 4 bytes))) (drop (4 * kind) (drop 4 bytes)) after (short_is order bytes word kind delta w k d long some few room) is in
     (t.0 ∙ ap (λ (rest : List ℕ). option_map (λ xs. EventAt after (take (4 * kind) (drop 4 bytes)) ∷ xs) (walk order after rest)) (drop-drop (4 * kind) 4 bytes), omega (arith, long, room))
+
+-- an event of which its first word tells more than there is
+short_cut : (order : Order) (bytes : List ℕ) (word kind : ℕ) → word ≡ num order (take 4 bytes) → kind ≡ type_len order word
+    → 4 ≤ length bytes → 1 ≤ kind → kind ≤ 28 → length bytes < 4 + 4 * kind → element_at order bytes ≡ None
+unfolding element_at word_at rest_at short_event_at
+short_cut order bytes word kind w k long some few room =
+    let kind_is : type_len order (num order (take 4 bytes)) ≡ kind = ap (type_len order) (sym w) ∙ sym k in
+    let enough : ltb (length bytes) 4 ≡ false = le-ltb _ _ long in
+    let not_long : eqb kind 0 ≡ false = ne_eqb _ _ (λ (e : kind ≡ 0). omega (arith, e, some)) in
+    let small : ltb kind 29 ≡ true = lt-ltb _ _ (omega (arith, few)) in
+    let past : ltb (length (drop 4 bytes)) (4 * kind) ≡ true = lt-ltb _ _ (omega (arith, length-drop 4 bytes, room)) in
+    rw (enough, kind_is, not_long, small, past) refl
+
+-- an event of which its first word tells the length, wherever the bytes end
+pub claimed : (order : Order) (time : ℕ) (bytes : List ℕ) (from word kind delta after : ℕ) → word ≡ num order (take 4 (drop from bytes)) → kind ≡ type_len order word
+    → delta ≡ time_delta order word → from + 4 ≤ length bytes → 1 ≤ kind → kind ≤ 28 → Some after ≡ in_64_bits (time + delta) → IsClaimed order time bytes from after (from + 4 + 4 * kind)
+claimed order time bytes from word kind delta after w k d long some few is =
+    let rest = drop from bytes in
+    let size : length rest ≡ length bytes - from = length-drop from bytes in
+    let len : 4 * kind ≡ from + 4 + 4 * kind - (from + 4) = omega arith in
+    let behind : from + (4 + 4 * kind) ≡ from + 4 + 4 * kind = omega arith in
+    let own : take (4 * kind) (drop 4 rest) ≡ take (from + 4 + 4 * kind - (from + 4)) (drop (from + 4) bytes) = ap (take (4 * kind)) (drop-drop 4 from bytes) ∙ ap (λ (n : ℕ). take n (drop (from + 4) bytes)) len in
+    let after_it : drop (4 + 4 * kind) rest ≡ drop (from + 4 + 4 * kind) bytes = drop-drop (4 + 4 * kind) from bytes ∙ ap (λ (n : ℕ). drop n bytes) behind in
+    record {
+      inside = long;
+      further = omega (arith, some);
+      told = λ fits.
+          (short_told order time rest word kind delta after w k d (omega (arith, size, long)) some few (omega (arith, size, fits)) is).0
+          ∙ ap (λ (p : List ℕ). option_map (λ xs. EventAt after p ∷ xs) (walk order after (drop (4 + 4 * kind) rest))) own
+          ∙ ap (λ (r : List ℕ). option_map (λ xs. EventAt after (take (from + 4 + 4 * kind - (from + 4)) (drop (from + 4) bytes)) ∷ xs) (walk order after r)) after_it;
+      cut = λ past. walk_none order time rest (omega (arith, size, long)) (short_cut order rest word kind w k (omega (arith, size, long)) some few (omega (arith, size, past)));
+    }
 
 some_more : (o p : Option (List ItemData)) (x : ItemData) → IsSome o → o ≡ option_map (λ xs. x ∷ xs) p → (unwrap_or o [] ≡ x ∷ unwrap_or p []) × IsSome p
 some_more o None x some is = let none = subst (λ (q : Option (List ItemData)). IsSome q) is some in absurd cc

@@ -34,3 +34,12 @@ IsShort order time bytes None = Unit {0}
 IsShort order time bytes (Some event) =
     (walk order time bytes ≡ option_map (λ xs. EventAt event.0 (take event.1 (drop 4 bytes)) ∷ xs) (walk order event.0 (drop (4 + event.1) bytes)))
     × (4 + event.1 ≤ length bytes)
+
+-- A word in these bytes claims an event after a running time, with its payload right after the word: where the bytes go as far they
+-- tell it, and where they do not they tell nothing.
+pub record IsClaimed (order : Order) (time : ℕ) (bytes : List ℕ) (from after behind : ℕ) : Type 0 where
+  pub inside : from + 4 ≤ length bytes
+  pub further : from + 4 < behind
+  pub told : behind ≤ length bytes
+      → walk order time (drop from bytes) ≡ option_map (λ xs. EventAt after (take (behind - (from + 4)) (drop (from + 4) bytes)) ∷ xs) (walk order after (drop behind bytes))
+  pub cut : length bytes < behind → walk order time (drop from bytes) ≡ None

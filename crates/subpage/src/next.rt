@@ -25,6 +25,7 @@ pub enum Next<'a> {
 }
 
 /// The next event, from a running time on.
+#[inline(never)]
 pub fn next_event(order: Order, start: u64, bytes: &[u8]) -> Next<'_>
     ensures next { IsNext order start bytes.now result }
     ensures suffix { IsSuffix bytes.now result }

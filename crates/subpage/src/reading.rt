@@ -3,7 +3,7 @@
 ghost use Rattle.std.specs.Prelude.{◌≡◌, ◌-◌, ◌^◌, ◌<◌, ◌≤◌, IfSome, length, option_map};
 ghost use Rattle.subpage.specs.Element.{round4, type_len, time_delta};
 ghost use Rattle.subpage.specs.ElementView.{split_view};
-ghost use Rattle.subpage.specs.NextEvent.{IsShort};
+ghost use Rattle.subpage.specs.NextEvent.{IsClaimed, IsShort};
 ghost use Rattle.subpage.specs.PlainRecord.{IsPlainFront, IsPlainFrom};
 ghost use Rattle.subpage.specs.Reading.{word_at, counted_at, short_event_at, long_event_at, discarded_at, extend_at, stamp_at, rest_at, element_at};
 
@@ -172,6 +172,27 @@ pub fn short_event(order: Order, time: u64, bytes: &[u8]) -> Option<(u64, u32)>
         return None;
     };
     Some((after, len))
+}
+
+/// What the word at a place claims of an event: the running time after it, and the place after it, wherever the bytes end. `None`
+/// where no whole word stands there, or it does not tell a payload's length, or the time is too late.
+#[inline(always)]
+pub fn claimed_event(order: Order, time: u64, bytes: &[u8], from: usize) -> Option<(u64, usize)>
+    ensures { IfSome result (λ event. IsClaimed order time bytes.now from event.0 event.1) }
+{
+    if bytes.len() < 4 || bytes.len() - 4 < from {
+        return None;
+    }
+    let (_, rest) = bytes.split_at(from);
+    let word = read_u32(order, rest);
+    let kind = type_len_of(order, word);
+    if kind == 0 || kind > 28 {
+        return None;
+    }
+    let Some(after) = time_past(time, time_delta_of(order, word)) else {
+        return None;
+    };
+    Some((after, from + 4 + 4 * kind as usize))
 }
 
 /// The delta of the event at a place and the place after it, where its first word tells the length of its payload.

@@ -6,7 +6,7 @@ ghost use Rattle.subpage.specs.Summary.{summary_of};
 
 use crate::loss::Loss;
 use crate::next::{Next, next_event};
-use crate::reading::short_event;
+use crate::reading::claimed_event;
 use trace_base::Order;
 
 /// How many items there are, and when the first and the last are.
@@ -60,7 +60,7 @@ fn bytes_past(bytes: &[u8], len: usize) -> &[u8]
 }
 
 /// A summary of the items, where the bytes can be read. Most events have their length in their first word, and are passed over
-/// before anything else is looked for.
+/// before anything else is looked for. Whether they end past the bytes is asked once, after the last of them.
 #[inline(always)]
 fn summarize_in(order: Order, loss: Option<Loss>, start: u64, bytes: &[u8]) -> Option<Summary>
     requires { length bytes.now < 2 ^ 31 }
@@ -69,22 +69,25 @@ fn summarize_in(order: Order, loss: Option<Loss>, start: u64, bytes: &[u8]) -> O
 {
     let mut summary = summary_of_loss(loss);
     let mut time = start;
-    let mut rest = bytes;
+    let mut from = 0;
     loop {
-        if let Some((after, len)) = short_event(order, time, rest) {
+        if let Some((after, behind)) = claimed_event(order, time, bytes, from) {
             summary = with_event(summary, after);
             time = after;
-            rest = bytes_past(rest, 4 + len as usize);
+            from = behind;
         } else {
-            match next_event(order, time, rest) {
+            if bytes.len() < from {
+                return None;
+            }
+            match next_event(order, time, bytes_past(bytes, from)) {
                 Next::Event {
                     time: after,
-                    rest: behind,
+                    rest,
                     ..
                 } => {
                     summary = with_event(summary, after);
                     time = after;
-                    rest = behind;
+                    from = bytes.len() - rest.len();
                 }
                 Next::Done => return Some(summary),
                 Next::Malformed => return None,
