@@ -15,6 +15,8 @@ use Rattle.subpage.specs.CutPlaces.{cut_at}
 use Rattle.subpage.specs.Cut.{Cut}
 use Rattle.time_merge.specs.Rows.{bound_of}
 use Rattle.time_merge.specs.Nexts.{IsLeastOf, IsLeastAt}
+use Rattle.tournament_tree.specs.declared.slot_key.SlotKey.{SlotKey}
+use Rattle.tournament_tree.specs.Slots.{next_by}
 use Rattle.multi_report.specs.declared.report.FilesEnd.{FilesEnd}
 use Rattle.multi_report.specs.declared.report.FilesEnd.TheVariants as code
 use Rattle.multi_report.specs.declared.taking.Taken.{Taken}
@@ -85,7 +87,7 @@ module _ (sources : List SourceView) (j : ℕ) (lt : j < length sources) (way wa
     each = λ i e inside. one_or_same IsSame from.one (λ x. (from.is x).same) same_one i e;
   })
 
-  pub readied_taken : (now : List SourceView) (key : Option (Option ℕ)) → All IsPrepared sources → TakenFrom sources j way (took.Item key) now way_now → AreReadied sources now
+  pub readied_taken : (now : List SourceView) (key : SlotKey) → All IsPrepared sources → TakenFrom sources j way (took.Item key) now way_now → AreReadied sources now
   readied_taken now key prepared from =
       let goes = (from.is (some_seen sources j lt)).goes in
       subst (AreReadied sources) (sym from.set) (record {
@@ -93,7 +95,7 @@ module _ (sources : List SourceView) (j : ℕ) (lt : j < length sources) (way wa
         due = λ i e inside. one_or_same (λ a b. due b ≤ due a) from.one (λ x. (from.is x).goes.readied.due) (λ s. omega arith) i e;
       })
 
-  pub less_taken : (now : List SourceView) (key : Option (Option ℕ)) → TakenFrom sources j way (took.Item key) now way_now → sum_by work now < sum_by work sources
+  pub less_taken : (now : List SourceView) (key : SlotKey) → TakenFrom sources j way (took.Item key) now way_now → sum_by work now < sum_by work sources
   less_taken now key from =
       let d = some_seen sources j lt in
       let same : sum_by work now ≡ sum_by work (set sources j from.one) = ap (sum_by work) from.set in
@@ -138,14 +140,14 @@ module _ (before : Option (List ℕ)) (whole : List (List ℕ)) (sources : List 
       put_one before whole way.written way_now.written way.waiting way_now.waiting piece (lines_left after) t.puts (subst (Going before whole way.written way.waiting) rest under.going)
 
   -- an item was taken
-  pub turn_item : (now : List SourceView) (here : Option ℕ) (key : Option (Option ℕ)) → IsLeastOf keys j here → TakenFrom sources j way (took.Item key) now way_now
-      → IsUnderway before whole (state_of sources keys way.written way.waiting) → IsUnderway before whole (state_of now (set keys j key) way_now.written way_now.waiting)
+  pub turn_item : (now : List SourceView) (here : Option ℕ) (key : SlotKey) → IsLeastOf keys j here → TakenFrom sources j way (took.Item key) now way_now
+      → IsUnderway before whole (state_of sources keys way.written way.waiting) → IsUnderway before whole (state_of now (set keys j (next_by key)) way_now.written way_now.waiting)
   turn_item now here key least from under =
       let is = from.is d in
       let t = is.taken (one_known under) in
-      let same_keys : set keys j key ≡ map next_key (set sources j from.one) =
-      ap (λ (ks : List (Option (Option ℕ))). set ks j key) under.keys_are ∙ ap (set (map next_key sources) j) t.1 ∙ sym (map-set next_key sources j from.one) in
-      subst (λ (ss : List SourceView). IsUnderway before whole (state_of ss (set keys j key) way_now.written way_now.waiting)) (sym from.set) (record {
+      let same_keys : set keys j (next_by key) ≡ map next_key (set sources j from.one) =
+      ap (λ (ks : List (Option (Option ℕ))). set ks j (next_by key)) under.keys_are ∙ ap (set (map next_key sources) j) t.1 ∙ sym (map-set next_key sources j from.one) in
+      subst (λ (ss : List SourceView). IsUnderway before whole (state_of ss (set keys j (next_by key)) way_now.written way_now.waiting)) (sym from.set) (record {
         known = All-set IsKnown sources j from.one t.0.known under.known;
         keys_are = same_keys;
         going = going_one from.one here least under is.same.shown t.0;

@@ -5,10 +5,12 @@ ghost use Rattle.page_pool.specs.declared.lane.Lane.{Lane};
 ghost use Rattle.page_pool.specs.declared.cursor.LaneState.TheVariants as state;
 ghost use Rattle.multi_report.specs.Nexts.{IsLaneStepped};
 ghost use Rattle.multi_report.specs.Sources.{IsKnown, IsPrepared, IsReadied, Keeps, next_key, seen};
+ghost use Rattle.tournament_tree.specs.Slots.{next_by};
 
 use event_cursor::head_key;
 use line_holes::LineFormat;
 use time_merge::{LaneNext, Lanes};
+use tournament_tree::SlotKey;
 use trace_outside::{Failed, File};
 
 /// One of several files, with all that its lines stand on.
@@ -25,29 +27,29 @@ pub struct Source<'a, F, L> {
 }
 
 /// The key of what comes next of a file: of its first item, or of its cut.
-fn key_of_next<F: File, L: LineFormat>(source: &Source<'_, F, L>) -> Option<Option<u64>>
+fn key_of_next<F: File, L: LineFormat>(source: &Source<'_, F, L>) -> SlotKey
     requires { IsPrepared (seen F.File L.text source.now) }
-    ensures { IsKnown (seen F.File L.text source.now) → result ≡ next_key (seen F.File L.text source.now) }
+    ensures { IsKnown (seen F.File L.text source.now) → next_by result ≡ next_key (seen F.File L.text source.now) }
 {
     let lanes = source.lanes.all();
     match source.lanes.next() {
         LaneNext::Item(i) => match head_key(&lanes[i]) {
-            Some(key) => Some(Some(key)),
-            None => None,
+            Some(key) => SlotKey::At(key),
+            None => SlotKey::Empty,
         },
-        LaneNext::Cut(i) => Some(lanes[i].cursor.high),
-        LaneNext::Done => None,
+        LaneNext::Cut(i) => SlotKey::from_time(lanes[i].cursor.high),
+        LaneNext::Done => SlotKey::Empty,
     }
 }
 
 /// Makes the lanes of a file ready, and tells the key of what comes next.
 pub(crate) fn make_source_ready<F: File, L: LineFormat>(
     source: &mut Source<'_, F, L>,
-) -> Result<Option<Option<u64>>, Failed>
+) -> Result<SlotKey, Failed>
     ensures keeps { Keeps (seen F.File L.text source.old) (seen F.File L.text source.new) }
     ensures readied { OnOk result (IsReadied (seen F.File L.text source.old) (seen F.File L.text source.new)) }
     ensures key { IfOk result (λ key. IsKnown (seen F.File L.text source.new)
-        → key ≡ next_key (seen F.File L.text source.new)) }
+        → next_by key ≡ next_key (seen F.File L.text source.new)) }
     ensures cause { HasCause (F.faults source.old.file) (F.faults source.new.file) result }
 {
     source.lanes.make_ready(&mut source.file)?;

@@ -9,13 +9,14 @@ use crate::source::{Source, make_source_ready, use_item};
 use line_holes::LineFormat;
 use subpage::CutPlace;
 use time_merge::LaneNext;
+use tournament_tree::SlotKey;
 use trace_outside::{Failed, File, Pending, Sink};
 
 /// What was taken of a file.
 #[derive(Clone, Copy, Debug, PartialEq, Eq)]
 pub(crate) enum Taken {
     /// Its first item, whose line was put. The key is that of what comes next.
-    Item(Option<Option<u64>>),
+    Item(SlotKey),
     /// Nothing: its items end before this malformed sub-buffer.
     Cut(CutPlace),
     /// Nothing: all were used up.

@@ -1,14 +1,15 @@
-ghost use Rattle.std.specs.Prelude.{◌≡◌, ◌<◌, ◌≤◌, ℕ, length, map, true, IfSome};
+ghost use Rattle.std.specs.Prelude.{◌≡◌, ◌<◌, ◌≤◌, ℕ, length, map, option_map, true, Some, IfSome};
 ghost use Rattle.time_merge.specs.Nexts.{IsLeastAt};
 ghost use Rattle.subpage.specs.Arrangement.{CpusRise};
 ghost use Rattle.time_merge.specs.Horizons.{is_due};
 ghost use Rattle.time_merge.specs.LaneRows.{parts_of};
 ghost use Rattle.round_print.specs.Prints.{IsDropped, head_due, head_kept};
 ghost use Rattle.round_print.specs.Rounds.{IsNextAt, IsRun};
+ghost use Rattle.tournament_tree.specs.Slots.{next_by};
 
 use page_pool::{Lane, Region};
 use time_merge::Horizon;
-use tournament_tree::TournamentTree;
+use tournament_tree::{SlotKey, TournamentTree};
 
 /// Whether a line with this key, of this processor, stands at or before a horizon.
 fn is_due(horizon: &Horizon, key: u64, cpu: u32) -> bool
@@ -22,29 +23,29 @@ fn is_due(horizon: &Horizon, key: u64, cpu: u32) -> bool
 }
 
 /// The key of a lane's first line, where that line is due.
-fn head_due(horizon: &Horizon, lane: &Lane) -> Option<Option<u64>>
-    ensures { result ≡ head_due horizon.now lane.now }
+fn head_due(horizon: &Horizon, lane: &Lane) -> Option<u64>
+    ensures { option_map Some result ≡ head_due horizon.now lane.now }
 {
     if lane.region.lines() == 0 {
         return None;
     }
     let (_, key, _) = lane.region.line(0);
     if is_due(horizon, key, lane.cpu) {
-        Some(Some(key))
+        Some(key)
     } else {
         None
     }
 }
 
 /// The key of the first line that a lane keeps, if it keeps one: what stands in the lane's slot of a tree of first lines.
-pub fn head_kept(lane: &Lane) -> Option<Option<u64>>
-    ensures { result ≡ head_kept lane.now }
+pub fn head_kept(lane: &Lane) -> SlotKey
+    ensures { next_by result ≡ head_kept lane.now }
 {
     if lane.region.lines() == 0 {
-        return None;
+        return SlotKey::Empty;
     }
     let (_, key, _) = lane.region.line(0);
-    Some(Some(key))
+    SlotKey::At(key)
 }
 
 /// The lane whose first line is due and has the least key, and the first of several such. `None` exactly where no line is

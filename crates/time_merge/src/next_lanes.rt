@@ -8,12 +8,14 @@ ghost use Rattle.time_merge.specs.LaneRows.{IsReady, next_of, parts_of};
 ghost use Rattle.time_merge.specs.Loading.{LoadsLanes};
 ghost use Rattle.time_merge.specs.Nexts.{HoldsNext, IsBest, IsLeastAt, IsNext};
 ghost use Rattle.time_merge.specs.Reads.{HasStopped};
+ghost use Rattle.tournament_tree.specs.Slots.{next_by};
 
 use crate::best::better;
 use crate::ready::make_all_ready;
 use event_cursor::head_key;
 use page_pool::{Lane, LaneState};
 use subpage::CutPlace;
+use tournament_tree::SlotKey;
 use trace_base::Layout;
 use trace_outside::{Failed, File};
 
@@ -29,17 +31,17 @@ pub enum Next {
 }
 
 /// What comes next of a ready lane: the key of its head, or that of the last item before its malformed sub-buffer.
-pub(crate) fn next_of(layout: &Layout, lane: &Lane) -> Option<Option<u64>>
+pub(crate) fn next_of(layout: &Layout, lane: &Lane) -> SlotKey
     requires { IsInOrder layout.now lane.now }
-    ensures { result ≡ next_of layout.now lane.now }
+    ensures { next_by result ≡ next_of layout.now lane.now }
 {
     match lane.cursor.state {
         LaneState::Held => match head_key(lane) {
-            Some(key) => Some(Some(key)),
-            None => None,
+            Some(key) => SlotKey::At(key),
+            None => SlotKey::Empty,
         },
-        LaneState::Malformed => Some(lane.cursor.high),
-        LaneState::Fresh | LaneState::Ended => None,
+        LaneState::Malformed => SlotKey::from_time(lane.cursor.high),
+        LaneState::Fresh | LaneState::Ended => SlotKey::Empty,
     }
 }
 

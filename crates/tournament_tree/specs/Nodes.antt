@@ -1,7 +1,8 @@
 -- A tournament tree over slots: each slot has a leaf, and each node above is the lesser of the two below it.
-use Rattle.std.specs.Prelude.{◌≡◌, ◌≢◌, ℕ, zero, suc, ◌+◌, ◌*◌, ◌/◌, ◌<◌, ◌≤◌, min, IfSome, List, length, slice_index_or, Option, Some, None}
+use Rattle.std.specs.Prelude.{◌≡◌, ◌≢◌, ℕ, zero, suc, ◌+◌, ◌*◌, ◌/◌, ◌<◌, ◌≤◌, min, IfSome, List, length, map, slice_index_or, Option, Some, None}
 use Rattle.tournament_tree.specs.declared.trees.TournamentTree.TheInside.{Inside}
 use Rattle.tournament_tree.specs.Least.{rank}
+use Rattle.tournament_tree.specs.Slots.{next_by}
 
 -- a number that all slots stand below
 abbrev pub most : ℕ
@@ -35,12 +36,16 @@ AllBut slots nodes p = (q : ℕ) → 1 ≤ q → q < slots → ((steps : ℕ) �
 abbrev pub HasLeaves : List ℕ → List (Option (Option ℕ)) → Type 0
 HasLeaves nodes keys = (i : ℕ) → i < length keys → node nodes (length keys + i) ≡ mark_of i (slice_index_or keys i None)
 
-pub record IsTree (tree : Inside) : Type 0 where
-  pub few : length tree.keys.items ≤ most
-  pub size : length tree.nodes.items ≡ 2 * length tree.keys.items
-  pub small : (i : ℕ) → i < length tree.keys.items → IfSome (slice_index_or tree.keys.items i None) (λ next. rank next < nothing)
-  pub leaves : HasLeaves tree.nodes.items tree.keys.items
-  pub settled : (q : ℕ) → 1 ≤ q → q < length tree.keys.items → IsSettled tree.nodes.items q
+-- what comes next in each slot
+abbrev pub nexts_in : Inside → List (Option (Option ℕ))
+nexts_in tree = map next_by tree.keys.items
 
-abbrev pub keys_in : Inside → List (Option (Option ℕ))
-keys_in tree = tree.keys.items
+pub record IsTreeOver (nexts : List (Option (Option ℕ))) (nodes : List ℕ) : Type 0 where
+  pub few : length nexts ≤ most
+  pub size : length nodes ≡ 2 * length nexts
+  pub small : (i : ℕ) → i < length nexts → IfSome (slice_index_or nexts i None) (λ next. rank next < nothing)
+  pub leaves : HasLeaves nodes nexts
+  pub settled : (q : ℕ) → 1 ≤ q → q < length nexts → IsSettled nodes q
+
+abbrev pub IsTree : Inside → Type 0
+IsTree tree = IsTreeOver (nexts_in tree) tree.nodes.items

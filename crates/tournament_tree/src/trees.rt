@@ -1,7 +1,9 @@
 ghost use Rattle.std.specs.Prelude.{◌≡◌, ◌≢◌, ℕ, ◌+◌, ◌*◌, ◌/◌, ◌<◌, ◌≤◌, length, take, replicate, slice_set, Option, Some, None, IfOk, IfSome, if◌then◌else◌};
 ghost use Rattle.tournament_tree.specs.Least.{rank, IsLeastAt};
 ghost use Rattle.tournament_tree.specs.Nodes.{AllBut, HasLeaves, IsSettled, mark_of, most, node, nothing};
+ghost use Rattle.tournament_tree.specs.Slots.{next_by};
 
+use crate::slot_key::SlotKey;
 use std::alloc::{AllocError, Global};
 use std::marker::Model;
 
@@ -11,10 +13,11 @@ const MOST: u128 = 4_294_967_296;
 /// The leaf of an empty slot, greater than those of all keys.
 const NOTHING: u128 = 18_446_744_073_709_551_617 * 4_294_967_296;
 
-/// A tournament tree over slots with keys, which tells which of them has the least. A contract sees it as the list of the keys.
+/// A tournament tree over slots with keys, which tells which of them has the least. A contract sees it as
+/// the list of what comes next in each slot.
 #[derive(Drop)]
 pub struct TournamentTree {
-    keys: Vec<Option<Option<u64>>>,
+    keys: Vec<SlotKey>,
     // The leaves, one for each slot, stand after as many other nodes. The node at place p is the lesser of those at 2 p and
     // 2 p + 1, so that the least of all stands at place 1.
     nodes: Vec<u128>,
@@ -22,25 +25,25 @@ pub struct TournamentTree {
 
 impl Model for TournamentTree {
     ghost use Rattle.std.specs.Prelude.{ℕ, List, Option};
-    ghost use Rattle.tournament_tree.specs.Nodes.{IsTree, keys_in};
+    ghost use Rattle.tournament_tree.specs.Nodes.{IsTree, nexts_in};
 
     ghost Value = { List (Option (Option ℕ)) };
 
-    ghost view = { keys_in };
+    ghost view = { nexts_in };
 
     ghost invariant = { IsTree };
 }
 
 /// The leaf of a slot, by which slots are compared: lesser keys come first, and slots of one key in their order.
-fn mark_of(slot: usize, key: Option<Option<u64>>) -> u128
+fn mark_of(slot: usize, key: SlotKey) -> u128
     requires { slot < most }
-    ensures value { result ≡ mark_of slot key }
-    ensures small { IfSome key (λ next. rank next < nothing) }
+    ensures value { result ≡ mark_of slot (next_by key) }
+    ensures small { IfSome (next_by key) (λ next. rank next < nothing) }
 {
     match key {
-        None => NOTHING,
-        Some(None) => slot as u128,
-        Some(Some(key)) => (u128::from(key) + 1) * MOST + slot as u128,
+        SlotKey::Empty => NOTHING,
+        SlotKey::Start => slot as u128,
+        SlotKey::At(key) => (u128::from(key) + 1) * MOST + slot as u128,
     }
 }
 
@@ -98,15 +101,15 @@ impl TournamentTree {
     pub fn new(alloc: Global, slots: u32) -> Result<TournamentTree, AllocError>
         ensures { IfOk result (λ tree. tree ≡ replicate slots None) }
     {
-        let keys = vec![in alloc; None; slots as usize]?;
+        let keys = vec![in alloc; SlotKey::Empty; slots as usize]?;
         let nodes = vec![in alloc; NOTHING; 2 * slots as usize]?;
         Ok(TournamentTree { keys, nodes })
     }
 
     /// Gives a slot another key, or empties it. Where that changes nothing it takes no steps.
-    pub fn set(&mut self, slot: usize, key: Option<Option<u64>>)
+    pub fn set(&mut self, slot: usize, key: SlotKey)
         requires { slot < length self.old }
-        ensures { self.new ≡ slice_set self.old slot key }
+        ensures { self.new ≡ slice_set self.old slot (next_by key) }
     {
         if self.keys[slot] == key {
             return;

@@ -3,6 +3,7 @@ use Rattle.std.proofs.lemmas.List.{length-set}
 use Rattle.multi_report.specs.Sources.{seen}
 use Rattle.multi_report.specs.Turns.{IsUnderway, state_of}
 use Rattle.multi_report.proofs.Files.{same_self}
+use Rattle.tournament_tree.specs.Slots.{next_by}
 use Rattle.multi_report.proofs.TurnLaws.{less_taken, readied_taken, rose_from, rose_taken, same_taken, slot_of, told_read, told_write, turn_cut, turn_done, turn_item, turn_nothing, turn_read, turn_stopped}
 use Rattle.multi_report.proofs.report.turn.Goals as goal
 
@@ -50,7 +51,7 @@ returns-in-Write-clause-same g c =
     same_taken (map f c.args.sources.now) c.in-Some.j lt _ _ _ _ c.in-Write.ensures.taken
 
 pub returns-in-Item-clause-slots : goal.returns-in-Item-clause-slots
-returns-in-Item-clause-slots g c = ap length c.set.ensures ∙ length-set c.args.nexts.now c.in-Some.j c.in-Item.key
+returns-in-Item-clause-slots g c = ap length c.set.ensures ∙ length-set c.args.nexts.now c.in-Some.j (next_by c.in-Item.key)
 
 pub returns-in-Item-clause-readied : goal.returns-in-Item-clause-readied
 returns-in-Item-clause-readied g c =

@@ -16,5 +16,5 @@ returns-in-None-head_due-clause-least c =
 
 pub returns-in-Some-head_due-clause-least : goal.returns-in-Some-head_due-clause-least
 returns-in-Some-head_due-clause-least c =
-    least_due_at c.args.horizon.now c.args.lanes.now c.in-Some.i c.index-lanes-i.result c.in-Some-head_due.field-0 (omega (arith, c.in-Some.ensures.inside, ap length c.requires.heads, length-map c.args.lanes.now head_kept)) c.index-lanes-i.is
+    least_due_at c.args.horizon.now c.args.lanes.now c.in-Some.i c.index-lanes-i.result (Some c.in-Some-head_due.field-0) (omega (arith, c.in-Some.ensures.inside, ap length c.requires.heads, length-map c.args.lanes.now head_kept)) c.index-lanes-i.is
     (subst (λ (keys : List (Option (Option ℕ))). IsLeastAt keys (Some c.in-Some.i)) c.requires.heads c.in-Some.ensures.least) c.in-Some-head_due.ensures

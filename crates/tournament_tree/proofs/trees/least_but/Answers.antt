@@ -1,4 +1,4 @@
-use Rattle.std.proofs.Common.{◌≡◌, ℕ, ◌-◌, ◌/◌, ◌≤◌, ◌⊎◌, sym, subst, arith}
+use Rattle.std.proofs.Common.{◌≡◌, ℕ, ◌/◌, ◌≤◌, ◌⊎◌, sym, subst, arith}
 use Rattle.tournament_tree.proofs.Beside.{IsLeastBelow, all_below, beside_even, beside_odd, more_below, none_below}
 use Rattle.tournament_tree.proofs.trees.least_but.Goals as goal
 use Rattle.tournament_tree.proofs.trees.least_but.Goals.{then-at-eq0, else-at-eq0}

@@ -1,0 +1,26 @@
+ghost use Rattle.std.specs.Prelude.{◌≡◌, Some};
+ghost use Rattle.tournament_tree.specs.Slots.{next_by};
+
+/// What a slot has: the time of what comes next there, if anything comes.
+#[derive(Clone, Copy, Debug, PartialEq, Eq)]
+pub enum SlotKey {
+    /// Nothing comes.
+    Empty,
+    /// It comes before all times.
+    Start,
+    /// It comes at this time.
+    At(u64),
+}
+
+impl SlotKey {
+    /// The key of what comes at a time, or before all times where it has none.
+    #[inline]
+    pub fn from_time(time: Option<u64>) -> SlotKey
+        ensures { next_by result ≡ Some time }
+    {
+        match time {
+            None => SlotKey::Start,
+            Some(time) => SlotKey::At(time),
+        }
+    }
+}
