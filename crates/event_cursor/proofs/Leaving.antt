@@ -6,7 +6,7 @@ use Rattle.trace_base.specs.declared.layout.Layout.{Layout}
 use Rattle.trace_base.specs.declared.part.Part.{Part}
 use Rattle.subpage.specs.declared.mark.Mark.{Mark}
 use Rattle.subpage.specs.ItemData.{ItemData}
-use Rattle.subpage.specs.Marks.{items_from}
+use Rattle.subpage.specs.Marks.{items_from, mark_of}
 use Rattle.subpage.specs.Processor.{items_at, page_count, pages_from, joined, list_of, bad_of}
 use Rattle.subpage.proofs.Joining.{one_more, stops}
 use Rattle.page_pool.specs.declared.lane.Lane.{Lane}
@@ -113,7 +113,7 @@ stands_failed l (Some file) a m b k k2 p q fresh own = λ stands.
 -- an item is ahead where one is told
 pub some_ahead : (l : Layout) (page : List ℕ) (mark : Mark) (high : Option ℕ) (ahead : Option Ahead) → TellsAhead l page mark high ahead → is_none ahead ≡ false → 0 < length (items_from l page mark)
 some_ahead l page mark high None tells some = absurd cc
-some_ahead l page mark high (Some ahead) tells some = let e : length (items_from l page mark) ≡ suc (length (items_from l page ahead.behind)) = ap length tells.items in omega (arith, e)
+some_ahead l page mark high (Some ahead) tells some = let e : length (items_from l page mark) ≡ suc (length (items_from l page (mark_of ahead.behind))) = ap length tells.items in omega (arith, e)
 
 -- a sub-buffer that was just loaded is held at its first item
 pub holds_first : (l : Layout) (b : Lane) → HoldsItems l b.page (Some b.cursor.mark) → b.cursor.at ≡ 0 → TellsAhead l b.page b.cursor.mark b.cursor.high b.cursor.ahead → b.cursor.next ≡ b.cursor.held + 1 → HoldsPage l b

@@ -8,7 +8,7 @@ use Rattle.subpage.specs.Arrangement.{Keyed}
 use Rattle.subpage.specs.ItemData.{ItemData}
 use Rattle.subpage.specs.ItemView.{item_view}
 use Rattle.subpage.specs.declared.mark.Mark.{Mark}
-use Rattle.subpage.specs.Marks.{IsMark, items_from}
+use Rattle.subpage.specs.Marks.{IsMark, items_from, mark_of}
 use Rattle.page_pool.specs.declared.lane.Lane.{Lane}
 use Rattle.page_pool.specs.declared.cursor.Ahead.{Ahead}
 use Rattle.page_pool.specs.declared.cursor.LaneState.{LaneState}
@@ -25,7 +25,7 @@ moved a x mark next = record a { cursor = record a.cursor { at = a.cursor.at + 1
 pub ahead_of : (l : Layout) (a : Lane) (o : Option Ahead) → IsInOrder l a → a.cursor.state ≡ Held → a.cursor.ahead ≡ o → TellsAhead l a.page a.cursor.mark a.cursor.high o
 ahead_of l a o order held is = subst (TellsAhead l a.page a.cursor.mark a.cursor.high) is (order.held held).ahead
 
-pub step_holds : (l : Layout) (a : Lane) (x : Ahead) (mark : Mark) (next : Option Ahead) → HoldsPage l a → HasAhead l a.page a.cursor.mark a.cursor.high x → x.behind ≡ mark
+pub step_holds : (l : Layout) (a : Lane) (x : Ahead) (mark : Mark) (next : Option Ahead) → HoldsPage l a → HasAhead l a.page a.cursor.mark a.cursor.high x → mark_of x.behind ≡ mark
     → TellsAhead l a.page mark (Some x.key) next → HoldsPage l (moved a x mark next)
 step_holds l a x mark next h here same further =
     let rest : drop a.cursor.at h.all ≡ here.first ∷ items_from l a.page mark = sym h.left ∙ here.items ∙ ap (λ (m : Mark). here.first ∷ items_from l a.page m) same in

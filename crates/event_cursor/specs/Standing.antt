@@ -5,7 +5,7 @@ use Rattle.trace_base.specs.declared.layout.Layout.{Layout}
 use Rattle.subpage.specs.declared.mark.Mark.{Mark}
 use Rattle.subpage.specs.ItemData.{ItemData}
 use Rattle.subpage.specs.Page.{items}
-use Rattle.subpage.specs.Marks.{IsInside, IsMark, item_between, items_from, past_loss}
+use Rattle.subpage.specs.Marks.{IsInside, IsMark, item_between, items_from, mark_of}
 use Rattle.subpage.specs.Processor.{is_there, page_bytes, page_count, pages_from, joined, list_of, bad_of}
 use Rattle.subpage.specs.Arrangement.{Keyed}
 use Rattle.subpage.specs.Cut.{last_key}
@@ -19,12 +19,11 @@ use Rattle.event_cursor.specs.Keys.{key_behind, keyed_behind}
 -- its payload.
 pub record HasAhead (layout : Layout) (page : List ℕ) (mark : Mark) (high : Option ℕ) (ahead : Ahead) : Type 0 where
   pub first : ItemData
-  pub items : items_from layout page mark ≡ first ∷ items_from layout page ahead.behind
+  pub items : items_from layout page mark ≡ first ∷ items_from layout page (mark_of ahead.behind)
   pub key : ahead.key ≡ key_behind high first
-  pub behind : IsMark layout page ahead.behind
+  pub behind : IsMark layout page (mark_of ahead.behind)
   pub inside : IsInside page ahead.payload
   pub item : item_between page mark ahead.behind ahead.payload ≡ first
-  pub told : past_loss ahead.behind ≡ ahead.behind
 
 -- the first item there, or that there is none
 abbrev pub TellsAhead : Layout → List ℕ → Mark → Option ℕ → Option Ahead → Type 0

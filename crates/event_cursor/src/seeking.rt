@@ -47,7 +47,7 @@ fn pass_some(layout: &Layout, page: &[u8], mark: Mark, most: u32) -> Option<(Mar
     let Some((behind, _)) = pass_item(layout, page, mark) else {
         return None;
     };
-    Some((behind, 1))
+    Some((behind.mark(), 1))
 }
 
 /// The position after the first `count` items of a sub-buffer. `None`: it has fewer.

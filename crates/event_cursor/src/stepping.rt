@@ -38,7 +38,7 @@ pub(crate) fn ahead_at(layout: &Layout, page: &[u8], mark: Mark, high: Option<u6
     let item = item_between(page, &mark, &behind, payload);
     Some(Ahead {
         key: key_behind(high, &item),
-        behind: behind.past_loss(),
+        behind,
         payload,
     })
 }
@@ -96,7 +96,7 @@ pub fn step(layout: &Layout, lane: &mut Lane)
 {
     if let Some(ahead) = lane.cursor.ahead {
         let high = Some(ahead.key);
-        let mark = ahead.behind.past_loss();
+        let mark = ahead.behind.mark();
         lane.cursor.ahead = ahead_at(layout, lane.page.bytes(), mark, high);
         lane.cursor.mark = mark;
         lane.cursor.at += 1;

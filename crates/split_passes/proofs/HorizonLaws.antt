@@ -7,7 +7,7 @@ use Rattle.std.proofs.lemmas.List.Elements.{All-nil, All-cons, All-take}
 use Rattle.trace_base.specs.declared.layout.Layout.{Layout}
 use Rattle.trace_base.specs.declared.order.Order.{Order}
 use Rattle.subpage.specs.ItemData.{ItemData, item_time, EventAt}
-use Rattle.subpage.specs.Marks.{items_from}
+use Rattle.subpage.specs.Marks.{items_from, mark_of}
 use Rattle.subpage.specs.declared.mark.Mark.{Mark}
 use Rattle.subpage.specs.declared.run.RunLimits.{RunLimits}
 use Rattle.subpage.specs.Run.{IsRun, IsLongestRun, nothing, begins_with, run_bytes, time_at}
@@ -95,7 +95,7 @@ module _ (l : Layout) (a : Lane) (held : a.cursor.state ≡ Held) where
   next_later ahead until most n has late = record {
     front = [];
     item = has.first;
-    rest = items_from l a.page ahead.behind;
+    rest = items_from l a.page (mark_of ahead.behind);
     held = held_is ∙ has.items;
     few = omega arith;
     events = All-nil IsEventItem;

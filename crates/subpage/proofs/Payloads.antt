@@ -146,7 +146,7 @@ piece_of page from to k len fits =
 event_passed : (l : Layout) (page : List ℕ) (m : Mark) (time at len n : ℕ) (payload rest : List ℕ) → m.loss ≡ None → IsMark l page m
     → walk l.order m.time (bytes_from page m) ≡ option_map (λ xs. EventAt time payload ∷ xs) (walk l.order time rest)
     → payload ≡ take len (drop at page) → rest ≡ drop n (take m.to page) → n ≤ m.to → at + len ≤ length page
-    → IsPassed l page m (Some (record { loss = None; time = time; from = n; to = m.to }, record { from = at; len = len }))
+    → IsPassed l page m (Some (record { time = time; from = n; to = m.to }, record { from = at; len = len }))
 event_passed l page m time at len n payload rest event here is own behind forward inside =
     let own_bytes = take len (drop at page) in
     let next : Mark = record { loss = None; time = time; from = n; to = m.to } in
@@ -154,13 +154,13 @@ event_passed l page m time at len n payload rest event here is own behind forwar
     is ∙ ap (λ (p : List ℕ). option_map (λ xs. EventAt time p ∷ xs) (walk l.order time rest)) own
     ∙ ap (λ (r : List ℕ). option_map (λ xs. EventAt time own_bytes ∷ xs) (walk l.order time r)) behind in
     let t = one_on l page m next (EventAt time own_bytes) event refl here walked forward here.within in
-    (t.0 ∙ ap (λ (o : Option Loss). item_by o time own_bytes ∷ items_from l page next) (sym event), (t.1, (inside, refl)))
+    (t.0 ∙ ap (λ (o : Option Loss). item_by o time own_bytes ∷ items_from l page next) (sym event), (t.1, inside))
 
 size_behind : (page : List ℕ) (from to : ℕ) → from ≤ to → to ≤ length page → length (drop from (take to page)) ≡ to - from
 size_behind page from to forward within = omega (arith, length-drop from (take to page), length-take to page)
 
 pub short_passed : (l : Layout) (page : List ℕ) (m : Mark) (time len : ℕ) → m.loss ≡ None → IsMark l page m → IsShort l.order m.time (bytes_from page m) (Some (time, len))
-    → IsPassed l page m (Some (record { loss = None; time = time; from = m.from + 4 + len; to = m.to }, record { from = m.from + 4; len = len }))
+    → IsPassed l page m (Some (record { time = time; from = m.from + 4 + len; to = m.to }, record { from = m.from + 4; len = len }))
 short_passed l page m time len event here short =
     let size = size_behind page m.from m.to here.forward here.within in
     let forward = here.forward in
@@ -179,7 +179,7 @@ pub record Told (l : Layout) (m : Mark) (time : ℕ) (payload rest bytes : List 
 
 pub next_passed : (l : Layout) (page : List ℕ) (m : Mark) (time filled : ℕ) (payload rest : List ℕ) → m.loss ≡ None → IsMark l page m → Told l m time payload rest (bytes_from page m)
     → filled ≡ round4 (length payload)
-    → IsPassed l page m (Some (record { loss = None; time = time; from = m.to - length rest; to = m.to }, record { from = m.to - length rest - filled; len = length payload }))
+    → IsPassed l page m (Some (record { time = time; from = m.to - length rest; to = m.to }, record { from = m.to - length rest - filled; len = length payload }))
 next_passed l page m time filled payload rest event here told f =
     let bytes = bytes_from page m in
     let size = size_behind page m.from m.to here.forward here.within in

@@ -3,6 +3,7 @@ use Rattle.std.specs.Prelude.{◌≡◌, ℕ, ◌+◌, ◌≤◌, List, [], ◌�
 use Rattle.trace_base.specs.declared.layout.Layout.{Layout}
 use Rattle.subpage.specs.declared.loss.Loss.{Loss}
 use Rattle.subpage.specs.declared.mark.Mark.{Mark}
+use Rattle.subpage.specs.declared.mark.ItemEnd.{ItemEnd}
 use Rattle.subpage.specs.declared.mark.Span.{Span}
 use Rattle.subpage.specs.declared.item.Item.{Item}
 use Rattle.subpage.specs.ItemData.{ItemData, EventAt, LossAt}
@@ -41,16 +42,20 @@ item_by None time payload = EventAt time payload
 item_by (Some loss) time payload = LossAt loss.time loss.count
 
 -- The item between a position and the one after it: an event's time is the running time after it.
-abbrev pub item_between : List ℕ → Mark → Mark → Span → ItemData
+abbrev pub item_between : List ℕ → Mark → ItemEnd → Span → ItemData
 item_between page mark behind payload = item_by mark.loss behind.time (span_bytes page payload)
 
 -- the position after the loss that is told at a position
-abbrev pub past_loss : Mark → Mark
-past_loss mark = record { loss = None; time = mark.time; from = mark.from; to = mark.to }
+abbrev pub past_loss : Mark → ItemEnd
+past_loss mark = record { time = mark.time; from = mark.from; to = mark.to }
 
--- The position after the first item, at which no loss is told, and its payload.
-abbrev pub IsPassed : Layout → List ℕ → Mark → Option (Mark × Span) → Type 0
+-- the position after an item, among all: no loss is told there
+abbrev pub mark_of : ItemEnd → Mark
+mark_of end = record { loss = None; time = end.time; from = end.from; to = end.to }
+
+-- The position after the first item, and its payload.
+abbrev pub IsPassed : Layout → List ℕ → Mark → Option (ItemEnd × Span) → Type 0
 IsPassed layout page mark None = items_from layout page mark ≡ []
 IsPassed layout page mark (Some passed) =
-    (items_from layout page mark ≡ item_between page mark passed.0 passed.1 ∷ items_from layout page passed.0)
-    × (IsMark layout page passed.0 × (IsInside page passed.1 × (past_loss passed.0 ≡ passed.0)))
+    (items_from layout page mark ≡ item_between page mark passed.0 passed.1 ∷ items_from layout page (mark_of passed.0))
+    × (IsMark layout page (mark_of passed.0) × IsInside page passed.1)

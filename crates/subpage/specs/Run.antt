@@ -8,7 +8,7 @@ use Rattle.subpage.specs.declared.mark.Mark.{Mark}
 use Rattle.subpage.specs.declared.run.RunLimits.{RunLimits}
 use Rattle.subpage.specs.Element.{IsFirstWord}
 use Rattle.subpage.specs.ItemData.{ItemData, EventAt}
-use Rattle.subpage.specs.Marks.{IsMark, bytes_from, items_from, past_loss}
+use Rattle.subpage.specs.Marks.{IsMark, bytes_from, items_from, mark_of, past_loss}
 
 -- The bytes spell an event whose first word tells the length of its payload.
 pub record IsPlain (order : Order) (delta : ℕ) (payload bytes : List ℕ) : Type 0 where
@@ -47,7 +47,7 @@ pub record IsRunTo (layout : Layout) (page : List ℕ) (mark next : Mark) (count
   pub run : IsRun layout.order (time_at mark) items (run_bytes page mark next) (time_at next)
   pub left : items_from layout page mark ≡ items ++ items_from layout page next
   pub there : IsMark layout page next
-  pub event : past_loss next ≡ next
+  pub event : mark_of (past_loss next) ≡ next
   pub forward : mark.from ≤ next.from
 
 -- no plain record stands at a place that ends within so many bytes and whose event is no later than so

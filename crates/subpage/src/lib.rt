@@ -33,7 +33,7 @@ mod summary;
 pub use cut_place::CutPlace;
 pub use item::Item;
 pub use items::Items;
-pub use mark::{Mark, Span, first_at, item_between, pass_item};
+pub use mark::{ItemEnd, Mark, Span, first_at, item_between, pass_item};
 pub use page::{Page, check_page, open_checked, open_page};
 pub use parts::drop_empty;
 pub use reading::filled_up;

@@ -1,6 +1,6 @@
-ghost use Rattle.std.specs.Prelude.{◌≡◌, ◌≤◌, None, length};
+ghost use Rattle.std.specs.Prelude.{◌≡◌, ◌≤◌, length};
 ghost use Rattle.subpage.specs.ItemView.{item_view};
-ghost use Rattle.subpage.specs.Marks.{bytes_from, item_between, items_from, IsMark, IsFirst, IsInside, IsPassed, past_loss};
+ghost use Rattle.subpage.specs.Marks.{bytes_from, item_between, items_from, mark_of, IsMark, IsFirst, IsInside, IsPassed, past_loss};
 ghost use Rattle.subpage.specs.Run.{time_at};
 
 use crate::item::Item;
@@ -39,10 +39,32 @@ impl Mark {
         self.time
     }
 
-    /// The position after the loss, where one is told here. After an item none is told, and it is this very position.
+    /// The position after the loss, where one is told here.
     #[inline(always)]
-    pub fn past_loss(&self) -> Mark
+    fn past_loss(&self) -> ItemEnd
         ensures { result ≡ past_loss self.now }
+    {
+        ItemEnd {
+            time: self.time,
+            from: self.from,
+            to: self.to,
+        }
+    }
+}
+
+/// The position after an item. No loss is told there, so that less is kept of it than of another [`Mark`].
+#[derive(Clone, Copy, Debug)]
+pub struct ItemEnd {
+    pub(crate) time: u64,
+    pub(crate) from: u32,
+    pub(crate) to: u32,
+}
+
+impl ItemEnd {
+    /// This position as any other.
+    #[inline(always)]
+    pub fn mark(&self) -> Mark
+        ensures { result ≡ mark_of self.now }
     {
         Mark {
             loss: None,
@@ -93,7 +115,7 @@ impl Span {
 
 /// The item between a position and the one after it, as [`pass_item`] found them. It is not decoded again.
 #[inline(always)]
-pub fn item_between<'a>(page: &'a [u8], mark: &Mark, behind: &Mark, payload: Span) -> Item<'a>
+pub fn item_between<'a>(page: &'a [u8], mark: &Mark, behind: &ItemEnd, payload: Span) -> Item<'a>
     requires { IsInside page.now payload }
     ensures { item_view result ≡ item_between page.now mark.now behind.now payload }
 {
@@ -115,23 +137,21 @@ pub fn item_between<'a>(page: &'a [u8], mark: &Mark, behind: &Mark, payload: Spa
 
 /// The position after the first event from a position on, whatever stands before it, and its payload.
 #[inline(never)]
-fn pass_next(layout: &Layout, page: &[u8], mark: Mark) -> Option<(Mark, Span)>
-    requires mark { IsMark layout.now page.now mark }
-    requires event { mark.loss ≡ None }
-    ensures { IsPassed layout.now page.now mark result }
+fn pass_next(layout: Layout, page: &[u8], start: ItemEnd) -> Option<(ItemEnd, Span)>
+    requires { IsMark layout page.now (mark_of start) }
+    ensures { IsPassed layout page.now (mark_of start) result }
 {
-    match next_event(layout.order, mark.time, bytes_behind(page, mark)) {
+    match next_event(layout.order, start.time, bytes_behind(page, start.mark())) {
         Next::Event {
             time,
             payload,
             rest,
         } => {
-            let from = mark.to - rest.len() as u32;
-            let behind = Mark {
-                loss: None,
+            let from = start.to - rest.len() as u32;
+            let behind = ItemEnd {
                 time,
                 from,
-                to: mark.to,
+                to: start.to,
             };
             let len = payload.len();
             let filled = filled_up(len) as u32;
@@ -149,37 +169,35 @@ fn pass_next(layout: &Layout, page: &[u8], mark: Mark) -> Option<(Mark, Span)>
 /// The position after the event at a position at which no loss is told, and its payload. Most events have their length in
 /// their first word.
 #[inline(always)]
-fn pass_event(layout: &Layout, page: &[u8], mark: Mark) -> Option<(Mark, Span)>
-    requires mark { IsMark layout.now page.now mark }
-    requires event { mark.loss ≡ None }
-    ensures { IsPassed layout.now page.now mark result }
+fn pass_event(layout: &Layout, page: &[u8], start: ItemEnd) -> Option<(ItemEnd, Span)>
+    requires { IsMark layout.now page.now (mark_of start) }
+    ensures { IsPassed layout.now page.now (mark_of start) result }
 {
-    match short_event(layout.order, mark.time, bytes_behind(page, mark)) {
+    match short_event(layout.order, start.time, bytes_behind(page, start.mark())) {
         Some((time, len)) => {
-            let from = mark.from + 4;
-            let behind = Mark {
-                loss: None,
+            let from = start.from + 4;
+            let behind = ItemEnd {
                 time,
                 from: from + len,
-                to: mark.to,
+                to: start.to,
             };
             Some((behind, Span { from, len }))
         }
-        None => pass_next(layout, page, mark),
+        None => pass_next(*layout, page, start),
     }
 }
 
 /// The position after the item at a position, and the item's payload.
 #[inline(always)]
-pub fn pass_item(layout: &Layout, page: &[u8], mark: Mark) -> Option<(Mark, Span)>
+pub fn pass_item(layout: &Layout, page: &[u8], mark: Mark) -> Option<(ItemEnd, Span)>
     requires { IsMark layout.now page.now mark }
     ensures { IsPassed layout.now page.now mark result }
 {
+    let start = mark.past_loss();
     if mark.loss.is_some() {
-        let behind = mark.past_loss();
-        return Some((behind, Span::NONE));
+        return Some((start, Span::NONE));
     }
-    pass_event(layout, page, mark)
+    pass_event(layout, page, start)
 }
 
 /// The item at a position, and the position after it.
@@ -188,5 +206,5 @@ pub fn first_at<'a>(layout: &Layout, page: &'a [u8], mark: Mark) -> Option<(Item
     ensures { IsFirst layout.now page.now mark result }
 {
     let (behind, payload) = pass_item(layout, page, mark)?;
-    Some((item_between(page, &mark, &behind, payload), behind))
+    Some((item_between(page, &mark, &behind, payload), behind.mark()))
 }

@@ -1,3 +1,6 @@
+use Rattle.std.proofs.Common.{sym, subst}
+use Rattle.subpage.specs.declared.mark.Mark.{Mark}
+use Rattle.event_cursor.specs.Passing.{IsPassedBy}
 use Rattle.event_cursor.proofs.Passing.{one_passed, run_passed}
 use Rattle.event_cursor.proofs.seeking.pass_some.Goals as goal
 
@@ -12,4 +15,7 @@ returns-in-Some-clause-few c = c.in-Some.ensures.few
 
 pub returns-clause-passed : goal.returns-clause-passed
 returns-clause-passed c =
-    one_passed c.args.layout.now c.args.page.now c.args.mark c.in-Some-pass_item.behind _ c.in-Some-pass_item.ensures.1.0 c.in-Some-pass_item.ensures.0
+    let l = c.args.layout.now in
+    let page = c.args.page.now in
+    subst (λ (m : Mark). IsPassedBy l page c.args.mark m 1) (sym c.mark.ensures)
+    (one_passed l page c.args.mark _ _ c.in-Some-pass_item.ensures.1.0 c.in-Some-pass_item.ensures.0)

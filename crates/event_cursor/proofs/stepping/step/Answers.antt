@@ -10,19 +10,17 @@ ahead_at-lane-requires c =
     let l = c.args.layout.now in
     let a = c.args.lane.now in
     let here : HasAhead l a.page a.cursor.mark a.cursor.high c.in-Some.ahead = ahead_of l a _ c.requires.in_order c.requires.held c.in-Some.is in
-    let same : c.in-Some.ahead.behind ≡ c.past_loss-mark.result = sym (c.past_loss-mark.ensures ∙ here.told) in
-    subst (λ (p : List ℕ). IsMark l p c.past_loss-mark.result) (sym c.bytes.ensures) (subst (λ (m : Mark). IsMark l a.page m) same here.behind)
+    subst (λ (p : List ℕ). IsMark l p c.mark-mark.result) (sym c.bytes.ensures) (subst (λ (m : Mark). IsMark l a.page m) (sym c.mark-mark.ensures) here.behind)
 
 pub returns-in-Some-clause-in_order : goal.returns-in-Some-clause-in_order
 returns-in-Some-clause-in_order c =
     let l = c.args.layout.now in
     let a = c.args.lane.now in
     let here : HasAhead l a.page a.cursor.mark a.cursor.high c.in-Some.ahead = ahead_of l a _ c.requires.in_order c.requires.held c.in-Some.is in
-    let same : c.in-Some.ahead.behind ≡ c.past_loss-mark.result = sym (c.past_loss-mark.ensures ∙ here.told) in
     record {
       long = c.requires.in_order.long;
-      held = λ e. step_holds l a c.in-Some.ahead c.past_loss-mark.result _ (c.requires.in_order.held e) here same
-          (subst (λ (p : List ℕ). TellsAhead l p c.past_loss-mark.result (Some c.in-Some.ahead.key) c.ahead_at-lane.result) c.bytes.ensures c.ahead_at-lane.ensures);
+      held = λ e. step_holds l a c.in-Some.ahead c.mark-mark.result _ (c.requires.in_order.held e) here (sym c.mark-mark.ensures)
+          (subst (λ (p : List ℕ). TellsAhead l p c.mark-mark.result (Some c.in-Some.ahead.key) c.ahead_at-lane.result) c.bytes.ensures c.ahead_at-lane.ensures);
     }
 
 pub returns-in-Some-clause-used : goal.returns-in-Some-clause-used
@@ -30,10 +28,9 @@ returns-in-Some-clause-used c =
     let l = c.args.layout.now in
     let a = c.args.lane.now in
     let here : HasAhead l a.page a.cursor.mark a.cursor.high c.in-Some.ahead = ahead_of l a _ c.requires.in_order c.requires.held c.in-Some.is in
-    let same : c.in-Some.ahead.behind ≡ c.past_loss-mark.result = sym (c.past_loss-mark.ensures ∙ here.told) in
     record {
       first = here.first;
-      left = held_first a.cursor.state _ _ _ c.requires.held (here.items ∙ ap (λ (m : Mark). here.first ∷ items_from l a.page m) same);
+      left = held_first a.cursor.state _ _ _ c.requires.held (here.items ∙ ap (λ (m : Mark). here.first ∷ items_from l a.page m) (sym c.mark-mark.ensures));
       high = ap (λ (n : ℕ). Some n) here.key;
       at = refl;
       page = record { cpu = refl; part = refl; region = refl; page = refl; state = refl; held = refl; next = refl; forward = omega arith; high = tt; cursor = tt };
