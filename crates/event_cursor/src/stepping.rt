@@ -85,7 +85,8 @@ pub fn head<'a>(layout: &Layout, lane: &'a Lane) -> Option<(u64, Item<'a>)>
     head_at(layout, &lane.cursor, lane.page.bytes())
 }
 
-/// Uses up the item that [`head`] gives.
+/// Uses up the item that [`head`] gives. The loop over a lane's items keeps it within itself.
+#[inline(always)]
 pub fn step(layout: &Layout, lane: &mut Lane)
     requires in_order { IsInOrder layout.now lane.old }
     requires held { lane.old.cursor.state ≡ LaneState.Held }

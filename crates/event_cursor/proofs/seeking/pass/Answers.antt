@@ -1,4 +1,4 @@
-use Rattle.std.proofs.Common.{◌≡◌, ◌≤◌, ℕ, length, drop, subst, arith}
+use Rattle.std.proofs.Common.{◌≡◌, ℕ, drop, subst, arith}
 use Rattle.subpage.specs.Marks.{items_from}
 use Rattle.event_cursor.proofs.Passing.{none_passed, passed_on, all_passed}
 use Rattle.event_cursor.proofs.seeking.pass.Goals as goal

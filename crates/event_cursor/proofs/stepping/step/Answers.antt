@@ -1,4 +1,4 @@
-use Rattle.std.proofs.Common.{◌≡◌, ◌∷◌, ℕ, List, Some, refl, sym, ap, subst, ◌∙◌, arith}
+use Rattle.std.proofs.Common.{◌∷◌, ℕ, List, Some, refl, sym, ap, subst, ◌∙◌, arith}
 use Rattle.subpage.specs.declared.mark.Mark.{Mark}
 use Rattle.subpage.specs.Marks.{IsMark, items_from}
 use Rattle.event_cursor.specs.Standing.{HasAhead, TellsAhead}
