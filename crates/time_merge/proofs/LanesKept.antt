@@ -1,5 +1,5 @@
 -- What always holds of lanes, once one of them used up an item.
-use Rattle.std.proofs.Common.{◌≡◌, ℕ, ◌<◌, List, length, set, Option, sym, ap, subst, ◌∙◌}
+use Rattle.std.proofs.Common.{◌≡◌, ℕ, ◌<◌, List, length, Option, sym, ap, subst, ◌∙◌}
 use Rattle.std.proofs.lemmas.List.{length-set}
 use Rattle.trace_base.specs.declared.layout.Layout.{Layout}
 use Rattle.trace_base.specs.declared.part.Part.{Part}

@@ -1,8 +1,7 @@
-use Rattle.std.proofs.Common.{◌≡◌, ℕ, List, Option, length, map, ap, subst, sym, ◌∙◌}
+use Rattle.std.proofs.Common.{◌≡◌, List, length, map, ap, subst, sym, ◌∙◌}
 use Rattle.std.specs.List.{All}
 use Rattle.page_pool.specs.declared.lane.Lane.{Lane}
 use Rattle.time_merge.specs.LaneRows.{IsReady, next_of}
-use Rattle.time_merge.specs.Loading.{LoadsLanes}
 use Rattle.time_merge.proofs.Advancing.{same_length}
 use Rattle.time_merge.proofs.LentLanes.{all_written, lent_loads}
 use Rattle.time_merge.proofs.lanes.make_pool_ready.Goals as goal

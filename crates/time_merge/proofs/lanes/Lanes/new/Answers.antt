@@ -1,4 +1,4 @@
-use Rattle.std.proofs.Common.{◌≡◌, ℕ, List, Option, None, length, ap, subst, sym, arith}
+use Rattle.std.proofs.Common.{ℕ, List, Option, None, length, ap, subst, sym, arith}
 use Rattle.std.proofs.lemmas.List.{length-map, length-replicate}
 use Rattle.trace_base.specs.declared.part.Part.{Part}
 use Rattle.subpage.specs.Arrangement.{CpusRise}

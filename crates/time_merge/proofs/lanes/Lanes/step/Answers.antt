@@ -1,4 +1,4 @@
-use Rattle.std.proofs.Common.{◌≡◌, ℕ, ◌<◌, length, ap, subst, sym, ◌∙◌}
+use Rattle.std.proofs.Common.{◌≡◌, ◌<◌, length, ap, subst, sym, ◌∙◌}
 use Rattle.page_pool.specs.declared.cursor.LaneState.TheVariants.{Held}
 use Rattle.page_pool.specs.declared.lane.Lane.{Lane}
 use Rattle.std.specs.Prelude.{slice_index_or}
