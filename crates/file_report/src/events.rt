@@ -16,13 +16,12 @@ ghost use Rattle.file_report.specs.Reported.{IsShown, events_shown};
 
 use crate::report::{Recording, Shown};
 use cpu_workers::{SHARED_FROM, Workers};
-use page_pool::Pool;
 use report_context::{LINES_ROOM, line_buffer, put_cpus};
 use report_print::Context;
 use report_rounds::{RoundWork, report_rounds};
 use run_endings::{Resources, Status, is_whole, status_of_end, status_of_pass};
 use std::thread::Threads;
-use time_merge::{End, set_lanes};
+use time_merge::{End, pool_over};
 use tournament_tree::TournamentTree;
 use trace_outside::{Failed, File, Gate, Pending, Sink};
 use wakeup_lat::{gather, put_wakeups};
@@ -53,7 +52,7 @@ pub(crate) fn print_lines<R: Threads + Sync, I: File, O: Sink, G: Gate>(
     let Recording { cpus, layout } = shown.recording;
     let count = shown.parts.len() as u32;
     let (Ok(mut pool), Ok(heads), Ok(highs), Ok(moved), Ok(mut pending)) = (
-        Pool::new(alloc, count, layout.page, LINES_ROOM),
+        pool_over(alloc, layout.page, LINES_ROOM, shown.parts),
         TournamentTree::new(alloc, count),
         TournamentTree::new(alloc, count),
         vec![in alloc; true; shown.parts.len()],
@@ -61,8 +60,6 @@ pub(crate) fn print_lines<R: Threads + Sync, I: File, O: Sink, G: Gate>(
     ) else {
         return None;
     };
-    let lanes = pool.lanes();
-    set_lanes(lanes, shown.parts);
     match print_cpus(cpus, &mut pending, out) {
         Ok(()) => {}
         Err(Failed) => return Some(End::Write),
@@ -79,6 +76,7 @@ pub(crate) fn print_lines<R: Threads + Sync, I: File, O: Sink, G: Gate>(
         moved,
         pending,
     };
+    let lanes = pool.lanes();
     Some(report_rounds(&workers, shown.form, &layout, file, lanes, &mut work, out))
 }
 

@@ -13,11 +13,11 @@ ghost use Rattle.item_pass.specs.declared.passing.PassFault.TheVariants.{Read};
 use crate::gatherer::Gatherer;
 use crate::skipping::use_up;
 use crate::taking::take_head;
-use page_pool::{Lane, Pool};
+use page_pool::Lane;
 use std::alloc::Global;
 use subpage::CutPlace;
 use thiserror::Error;
-use time_merge::{Next, next_lane_by, set_lanes};
+use time_merge::{Next, next_lane_by, pool_over};
 use tournament_tree::TournamentTree;
 use trace_base::{Layout, Part};
 use trace_outside::{Failed, File};
@@ -67,15 +67,13 @@ pub fn pass<G: Gatherer, F: File>(
     ensures keeps { KeepsFile F.File file.old file.new }
 {
     // The lanes keep no lines.
-    let Ok(mut pool) = Pool::new(alloc, parts.len() as u32, layout.page, 0) else {
+    let (Ok(mut pool), Ok(mut nexts)) = (
+        pool_over(alloc, layout.page, 0, parts),
+        TournamentTree::new(alloc, parts.len() as u32),
+    ) else {
         return Err(PassFault::Memory);
     };
-    let lanes = pool.lanes();
-    set_lanes(lanes, parts);
-    let Some(mut nexts) = tree_for(alloc, lanes) else {
-        return Err(PassFault::Memory);
-    };
-    pass_lanes(gatherer, layout, file, lanes, &mut nexts, gathered)
+    pass_lanes(gatherer, layout, file, pool.lanes(), &mut nexts, gathered)
 }
 
 // The same over lanes before their first items.
@@ -116,18 +114,5 @@ fn pass_lanes<G: Gatherer, F: File>(
             Next::Done => return Ok(None),
             Next::Malformed(cut) => return Ok(Some(cut)),
         }
-    }
-}
-
-// A tree with a slot for each lane. For more lanes than 32 bits count there is no memory.
-fn tree_for(alloc: Global, lanes: &[Lane]) -> Option<TournamentTree>
-    ensures { IfSome result (λ nexts. length nexts ≡ length lanes.now) }
-{
-    let Ok(slots) = u32::try_from(lanes.len()) else {
-        return None;
-    };
-    match TournamentTree::new(alloc, slots) {
-        Ok(nexts) => Some(nexts),
-        Err(_) => None,
     }
 }

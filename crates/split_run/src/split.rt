@@ -18,12 +18,11 @@ ghost use Rattle.run_endings.specs.Outside.{folder_seen};
 ghost use Rattle.split_run.specs.Split.{taken_of};
 
 use dat_header::{Body, Header};
-use page_pool::Pool;
 use run_endings::{Selection, Status, status_of_end};
 use split_pieces::Rules;
 use split_tool::{SplitPlan, SplitWork, split};
 use std::alloc::{AllocError, Global};
-use time_merge::set_lanes;
+use time_merge::pool_over;
 use trace_args::SplitWords;
 use trace_base::Part;
 use trace_outside::Folder;
@@ -56,13 +55,11 @@ pub fn cut_file<F: Folder>(
     header.drop_instances();
     let count = parts.len() as u32;
     let (Ok(mut pool), Ok(mut work)) = (
-        Pool::new(alloc, count, header.layout.page, 0),
+        pool_over(alloc, header.layout.page, 0, &parts),
         SplitWork::new(alloc, &header, count),
     ) else {
         return Status::NoMemory;
     };
-    let lanes = pool.lanes();
-    set_lanes(lanes, &parts);
     let plan = SplitPlan {
         header: &header,
         rules: Rules {
@@ -74,7 +71,7 @@ pub fn cut_file<F: Folder>(
         },
         base: words.base,
     };
-    status_of_end(split(&plan, file, lanes, &mut work, folder))
+    status_of_end(split(&plan, file, pool.lanes(), &mut work, folder))
 }
 
 // The processors that a split takes, with their numbers.

@@ -41,6 +41,10 @@ new_unused len room made lanes are all =
     subst (λ (xs : List Lane). All (IsUnused len room) xs) (sym are)
     (All-weaker (IsNew len room) (IsUnused len room) (λ a new. record { fresh = new.cursor; page = new.page; region = new.region }) made all)
 
+-- and so are those that it lends
+pub lent_unused : (len room : ℕ) (pool lanes : List Lane) → lanes ≡ pool → All (IsUnused len room) pool → All (IsUnused len room) lanes
+lent_unused len room pool lanes are all = subst (λ (xs : List Lane). All (IsUnused len room) xs) (sym are) all
+
 pub unused_fresh : (len room : ℕ) (lanes : List Lane) → All (IsUnused len room) lanes → All (λ (a : Lane). IsFresh a.cursor) lanes
 unused_fresh len room lanes all = All-weaker (IsUnused len room) (λ (a : Lane). IsFresh a.cursor) (λ a unused. unused.fresh) lanes all
 

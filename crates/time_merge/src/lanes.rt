@@ -16,7 +16,7 @@ ghost use Rattle.time_merge.specs.Unused.{IsUnused};
 use crate::in_step::next_lane_by;
 use crate::lane_nexts::{LaneNext, lane_next};
 use crate::readiness::Readiness;
-use crate::setting::set_lanes;
+use crate::setting::pool_over;
 use event_cursor::{head, step};
 use page_pool::{Lane, Pool};
 use std::alloc::{AllocError, Global};
@@ -60,7 +60,7 @@ impl Lanes {
         ensures parts { IfOk result (λ lanes. parts_of lanes.all ≡ parts.now) }
         ensures unused { IfOk result (λ lanes. All (IsUnused layout.now.page 0) lanes.all) }
     {
-        let pool = pool_over(alloc, layout.page, parts)?;
+        let pool = pool_over(alloc, layout.page, 0, parts)?;
         let nexts = TournamentTree::new(alloc, parts.len() as u32)?;
         Ok(Lanes {
             layout: *layout,
@@ -132,17 +132,6 @@ impl Lanes {
         step_in(&self.layout, &mut self.pool, i);
         self.readiness = Readiness::AllBut(i);
     }
-}
-
-// A pool of lanes over these parts that keep no lines.
-fn pool_over(alloc: Global, page: u32, parts: &[(u32, Part)]) -> Result<Pool, AllocError>
-    requires { length parts.now ≤ 1024 }
-    ensures parts { IfOk result (λ pool. parts_of pool ≡ parts.now) }
-    ensures unused { IfOk result (λ pool. All (IsUnused page 0) pool) }
-{
-    let mut pool = Pool::new(alloc, parts.len() as u32, page, 0)?;
-    set_lanes(pool.lanes(), parts);
-    Ok(pool)
 }
 
 // Makes the lanes of a pool ready, by a tree that is in step with them but for the lane of which an item was used up.

@@ -36,4 +36,4 @@ pub use lanes::Lanes;
 pub use next_lanes::{Next, next_lane};
 pub use readiness::Readiness;
 pub use ready::{make_all_ready, make_moved_ready, wants_load};
-pub use setting::set_lanes;
+pub use setting::pool_over;

@@ -1,14 +1,32 @@
 // Lanes over processors, before their first items.
 
-ghost use Rattle.std.specs.Prelude.{◌≡◌, ℕ, All, length};
+ghost use Rattle.std.specs.Prelude.{◌≡◌, ◌≤◌, ℕ, All, length, IfOk};
 ghost use Rattle.time_merge.specs.LaneRows.{parts_of};
 ghost use Rattle.time_merge.specs.Unused.{IsUnused};
 
-use page_pool::Lane;
+use page_pool::{Lane, Pool};
+use std::alloc::{AllocError, Global};
 use trace_base::Part;
 
-/// Gives each lane its processor and its part.
-pub fn set_lanes(lanes: &mut [Lane], parts: &[(u32, Part)])
+/// A pool of lanes over these parts, before their first items, with `page` bytes for a sub-buffer and `room` bytes for lines.
+pub fn pool_over(
+    alloc: Global,
+    page: u32,
+    room: u32,
+    parts: &[(u32, Part)],
+) -> Result<Pool, AllocError>
+    requires { length parts.now ≤ 1024 }
+    ensures count { IfOk result (λ pool. length pool ≡ length parts.now) }
+    ensures parts { IfOk result (λ pool. parts_of pool ≡ parts.now) }
+    ensures unused { IfOk result (λ pool. All (IsUnused page room) pool) }
+{
+    let mut pool = Pool::new(alloc, parts.len() as u32, page, room)?;
+    set_lanes(pool.lanes(), parts);
+    Ok(pool)
+}
+
+// Gives each lane its processor and its part.
+fn set_lanes(lanes: &mut [Lane], parts: &[(u32, Part)])
     requires { length lanes.old ≡ length parts.now }
     ensures parts { parts_of lanes.new ≡ parts.now }
     ensures unused { (len room : ℕ) → All (IsUnused len room) lanes.old → All (IsUnused len room) lanes.new }

@@ -3,7 +3,7 @@
 ghost use Rattle.std.specs.Prelude.{◌≡◌, ◌+◌, ◌<◌, ◌≤◌, length, Some, All, IfOk, IfSome, OnErr, option_map};
 ghost use Rattle.trace_outside.specs.Causes.{Rose};
 ghost use Rattle.subpage.specs.Arrangement.{CpusRise, key_of};
-ghost use Rattle.page_pool.specs.Fresh.{IsFresh, IsNew};
+ghost use Rattle.page_pool.specs.Fresh.{IsFresh};
 ghost use Rattle.event_cursor.specs.Keys.{first_of};
 ghost use Rattle.event_cursor.specs.Standing.{IsInOrder, held_left, keyed_held, most_left};
 ghost use Rattle.event_cursor.specs.Stepping.{IsStepped};
@@ -11,11 +11,11 @@ ghost use Rattle.time_merge.specs.LaneRows.{parts_of};
 ghost use Rattle.lane_tests.specs.Through.{IsThrough};
 
 use event_cursor::{head, step};
-use page_pool::{Lane, LaneState, Pool};
+use page_pool::{Lane, LaneState};
 use std::alloc::{AllocError, Global};
 use std::test::Fail;
 use subpage::CutPlace;
-use time_merge::{Next, next_lane, set_lanes};
+use time_merge::{Next, next_lane, pool_over};
 use trace_base::{ByteText, Layout, Part};
 use trace_outside::{Failed, File, MemFile};
 use trace_samples::Page::{Malformed, Of};
@@ -67,25 +67,6 @@ fn all_keys<F: File>(
     }
 }
 
-// Processor 3 has the first three sub-buffers of the file, processor 7 the other two.
-fn set_parts(layout: &Layout, lanes: &mut [Lane])
-    requires two { length lanes.old ≡ 2 }
-    requires new { All (IsNew layout.now.page 16) lanes.old }
-    ensures in_order { All (IsInOrder layout.now) lanes.new }
-    ensures rise { CpusRise (parts_of lanes.new) }
-    ensures fresh { All (λ lane. IsFresh lane.cursor) lanes.new }
-{
-    let first = Part {
-        offset: 0,
-        size: 12288,
-    };
-    let second = Part {
-        offset: 12288,
-        size: 8192,
-    };
-    set_lanes(lanes, &[(3, first), (7, second)]);
-}
-
 // A file of five sub-buffers, of which the third and the last are given.
 fn file_of(
     alloc: Global,
@@ -129,10 +110,17 @@ fn ends_so(
 ) -> Result<bool, AllocError> {
     let mut file = file_of(alloc, third, last)?;
     let layout = layout();
-    let mut pool = Pool::new(alloc, 2, layout.page, 16)?;
-    let lanes = pool.lanes();
-    set_parts(&layout, lanes);
-    let (keys, ended) = all_keys(alloc, &layout, &mut file, lanes)?;
+    // Processor 3 has the first three sub-buffers of the file, processor 7 the other two.
+    let first = Part {
+        offset: 0,
+        size: 12288,
+    };
+    let second = Part {
+        offset: 12288,
+        size: 8192,
+    };
+    let mut pool = pool_over(alloc, layout.page, 16, &[(3, first), (7, second)])?;
+    let (keys, ended) = all_keys(alloc, &layout, &mut file, pool.lanes())?;
     Ok(ended == Ok(end) && keys.as_slice() == &KEYS[..reached.min(8)])
 }
 

@@ -7,7 +7,8 @@ use Rattle.trace_args.specs.Command.{split_view}
 use Rattle.dat_header.specs.declared.header.Header.{Header}
 use Rattle.subpage.specs.Arrangement.{CpusRise}
 use Rattle.page_pool.specs.declared.lane.Lane.{Lane}
-use Rattle.time_merge.proofs.UnusedLanes.{new_unused, unused_fresh, unused_in_order}
+use Rattle.time_merge.specs.LaneRows.{parts_of}
+use Rattle.time_merge.proofs.UnusedLanes.{lent_unused, unused_fresh, unused_in_order}
 use Rattle.run_endings.proofs.Faultless.{end_kept}
 use Rattle.run_endings.specs.Outside.{folder_seen}
 use Rattle.split_run.proofs.Requested.{asks_cut, folder_left, unbegun}
@@ -17,27 +18,26 @@ use Rattle.split_run.proofs.split.cut_file.Goals as goal
 
 pub split-requires-clause-fresh : goal.split-requires-clause-fresh
 split-requires-clause-fresh g c =
-    unused_fresh _ _ _ (c.set_lanes.ensures.unused _ _ (new_unused _ _ _ _ c.lanes-lanes.ensures.value c.in-Ok-Ok.ensures.lanes))
+    unused_fresh _ _ _ (lent_unused _ _ _ _ c.lanes.ensures.value c.in-Ok-Ok.ensures.unused)
 
 pub split-requires-clause-in_order : goal.split-requires-clause-in_order
 split-requires-clause-in_order g c =
-    unused_in_order c.drop_instances.new.self.layout _ _
-    (c.set_lanes.ensures.unused _ _ (new_unused _ _ _ _ c.lanes-lanes.ensures.value c.in-Ok-Ok.ensures.lanes))
+    unused_in_order c.drop_instances.new.self.layout _ _ (lent_unused _ _ _ _ c.lanes.ensures.value c.in-Ok-Ok.ensures.unused)
 
 pub split-requires-clause-rise : goal.split-requires-clause-rise
 split-requires-clause-rise g c =
-    let are = c.set_lanes.ensures.parts ∙ c.deref.ensures.value ∙ c.in-Ok.ensures.taken in
+    let are = ap parts_of c.lanes.ensures.value ∙ c.in-Ok-Ok.ensures.parts ∙ c.deref.ensures.value ∙ c.in-Ok.ensures.taken in
     subst (λ (ps : List (ℕ × Part)). CpusRise ps) (sym are) (taken_rise c.args.words.now.cpu c.args.header.body)
 
 pub split-requires-clause-cpus : goal.split-requires-clause-cpus
 split-requires-clause-cpus g c =
-    let are = c.set_lanes.ensures.parts ∙ c.deref.ensures.value ∙ c.in-Ok.ensures.taken in
-    subst (λ (n : ℕ). All (λ (lane : Lane). lane.cpu < n) c.set_lanes.new.lanes) (sym (ap (λ (h : Header). h.cpus) c.drop_instances.ensures.dropped))
-    (lanes_below c.args.words.now.cpu c.args.header.cpus c.args.header.body c.set_lanes.new.lanes c.requires.allowed.body are)
+    let are = ap parts_of c.lanes.ensures.value ∙ c.in-Ok-Ok.ensures.parts ∙ c.deref.ensures.value ∙ c.in-Ok.ensures.taken in
+    subst (λ (n : ℕ). All (λ (lane : Lane). lane.cpu < n) c.lanes.result.now) (sym (ap (λ (h : Header). h.cpus) c.drop_instances.ensures.dropped))
+    (lanes_below c.args.words.now.cpu c.args.header.cpus c.args.header.body c.lanes.result.now c.requires.allowed.body are)
 
 pub returns-clause-makes : goal.returns-clause-makes
 returns-clause-makes g c =
-    let are = c.set_lanes.ensures.parts ∙ c.deref.ensures.value ∙ c.in-Ok.ensures.taken in
+    let are = ap parts_of c.lanes.ensures.value ∙ c.in-Ok-Ok.ensures.parts ∙ c.deref.ensures.value ∙ c.in-Ok.ensures.taken in
     rw c.status_of_end.ensures
     (cut _ (split_view c.args.words.now) c.args.header c.drop_instances.new.self _ _ _ _ c.split.result
     c.drop_instances.ensures.dropped are c.split.ensures.told c.split.ensures.created c.split.ensures.read c.split.ensures.write)
@@ -56,11 +56,11 @@ returns-in_default-2-clause-requested g c = unbegun c.args.words.now.base.now _ 
 
 pub returns-clause-requested : goal.returns-clause-requested
 returns-clause-requested g c =
-    let are = c.set_lanes.ensures.parts ∙ c.deref.ensures.value ∙ c.in-Ok.ensures.taken in
+    let are = ap parts_of c.lanes.ensures.value ∙ c.in-Ok-Ok.ensures.parts ∙ c.deref.ensures.value ∙ c.in-Ok.ensures.taken in
     asks_cut (split_view c.args.words.now) c.args.header c.drop_instances.new.self _ _ _ (folder_seen g.F.Folder c.args.folder.now) (folder_seen g.F.Folder c.split.new.folder) c.split.result
     c.drop_instances.ensures.dropped are c.split.ensures.requested c.split.ensures.leaves
 
 pub returns-clause-reads : goal.returns-clause-reads
 returns-clause-reads g c =
-    let are = c.set_lanes.ensures.parts ∙ c.deref.ensures.value ∙ c.in-Ok.ensures.taken in
+    let are = ap parts_of c.lanes.ensures.value ∙ c.in-Ok-Ok.ensures.parts ∙ c.deref.ensures.value ∙ c.in-Ok.ensures.taken in
     subst (λ (parts : List (ℕ × Part)). g.F.In.File.reads c.split.new.file ≤ raised (g.F.In.File.reads c.args.file.now) (3 * sum_by (λ part. part.1.size) parts)) are c.split.ensures.reads
