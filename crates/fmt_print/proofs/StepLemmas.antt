@@ -1,9 +1,9 @@
 -- The steps of directives.
-use Rattle.std.proofs.Common.{◌≡◌, ℕ, ◌+◌, ◌-◌, ◌<◌, ◌≤◌, List, [], ◌∷◌, ◌++◌, length, length-append, take, drop, replicate, get_or, Option, Some, None, refl, sym, ap, subst, ◌∙◌, append_assoc, arith}
-use Rattle.std.specs.Prelude.{IfSome, slice_range}
+use Rattle.std.proofs.Common.{◌≡◌, ℕ, ◌+◌, ◌-◌, ◌<◌, ◌≤◌, List, [], ◌∷◌, ◌++◌, length, take, drop, replicate, get_or, Option, Some, None, refl, sym, ap, subst, ◌∙◌, append_assoc, arith}
+use Rattle.std.specs.Prelude.{IfSome, slice_range, map, min}
 use Rattle.std.specs.List.{All, flat_map}
 use Rattle.std.specs.Option.{option_to_list}
-use Rattle.std.proofs.lemmas.List.{append-nil, drop_more, drop_all, flat_map_more, length-take, length-drop, take_all, drop-append-le, take-append-le}
+use Rattle.std.proofs.lemmas.List.{append-nil, drop_more, drop_all, drop_min, flat_map_more, length-take, length-drop, map_push, take-take, take_min, take_rest, take-append-le}
 use Rattle.std.proofs.lemmas.List.Elements.{All-nil, All-cons, All-head, All-tail, All-same}
 use Rattle.trace_base.specs.declared.tail.Tail.{Tail}
 use Rattle.fmt_forms.specs.Gathered.{Gathered, gathered, joined}
@@ -24,20 +24,28 @@ use Rattle.fmt_print.specs.Contents.{content_text, directive_of}
 use Rattle.fmt_print.specs.Printed.{Source, printed, printed_one}
 use Rattle.fmt_forms.specs.Shows.{Shows}
 use Rattle.fmt_print.specs.Takes.{Takes}
-use Rattle.fmt_print.specs.Steps.{literal_directive, literal_text, shown_directive, directives_of, IsPlaced, printed_some, printed_step}
+use Rattle.fmt_print.specs.Steps.{literal_directive, literal_start, literal_text, shown_directive, directives_of, sixteen_at, front_of, front_in, IsPlaced, printed_some, printed_step}
 
 -- steps that were made of the first of some directives
-abbrev made : Option Literal → Shown → Step
-made l s = record { literal = l; shown = s }
+abbrev made : Option Literal → List ℕ → Shown → Step
+made l front s = record { literal = l; front = front; shown = s }
 
-pub steps_more : (steps : List Step) (left behind rest ds : List Directive) (l : Option Literal) (s : Shown) → option_to_list (literal_directive l) ++ behind ≡ left → option_to_list (shown_directive s) ++ rest ≡ behind → flat_map directives_of steps ++ left ≡ ds
-    → flat_map directives_of (steps ++ made l s ∷ []) ++ rest ≡ ds
-steps_more steps left behind rest ds l s is_left is_behind before =
-    ap (λ (es : List Directive). es ++ rest) (sym (flat_map_more directives_of [] steps (made l s)))
-    ∙ append_assoc (flat_map directives_of steps) (directives_of (made l s)) rest
+pub steps_more : (steps : List Step) (left behind rest ds : List Directive) (l : Option Literal) (front : List ℕ) (s : Shown) → option_to_list (literal_directive l) ++ behind ≡ left → option_to_list (shown_directive s) ++ rest ≡ behind → flat_map directives_of steps ++ left ≡ ds
+    → flat_map directives_of (steps ++ made l front s ∷ []) ++ rest ≡ ds
+steps_more steps left behind rest ds l front s is_left is_behind before =
+    ap (λ (es : List Directive). es ++ rest) (sym (flat_map_more directives_of [] steps (made l front s)))
+    ∙ append_assoc (flat_map directives_of steps) (directives_of (made l front s)) rest
     ∙ ap (λ (es : List Directive). flat_map directives_of steps ++ es)
     (append_assoc (option_to_list (literal_directive l)) (option_to_list (shown_directive s)) rest ∙ ap (λ (es : List Directive). option_to_list (literal_directive l) ++ es) is_behind ∙ is_left)
     ∙ before
+
+pub fronts_more : (steps : List Step) (text front : List ℕ) (l : Option Literal) (s : Shown) → map front_of steps ≡ map (front_in text) steps → front ≡ sixteen_at (literal_start l) text
+    → map front_of (steps ++ made l front s ∷ []) ≡ map (front_in text) (steps ++ made l front s ∷ [])
+fronts_more steps text front l s before is =
+    map_push front_of steps (made l front s)
+    ∙ ap (λ (fs : List (List ℕ)). fs ++ front ∷ []) before
+    ∙ ap (λ (f : List ℕ). map (front_in text) steps ++ f ∷ []) is
+    ∙ sym (map_push (front_in text) steps (made l front s))
 
 pub steps_all : (steps : List Step) (left ds : List Directive) → length left ≡ 0 → flat_map directives_of steps ++ left ≡ ds → flat_map directives_of steps ≡ ds
 steps_all steps [] ds none before = sym (append-nil (flat_map directives_of steps)) ∙ before
@@ -102,24 +110,36 @@ both_of P (Some a) None ds each = ((All-head P a ds each, tt), All-tail P a ds e
 both_of P (Some a) (Some b) ds each =
     let rest = All-tail P a (b ∷ ds) each in ((All-head P a (b ∷ ds) each, All-head P b ds rest), All-tail P b ds rest)
 
-steps_each : (len : ℕ) (steps : List Step) → All (IsWithin len) (flat_map directives_of steps) → All (IsPlaced len) steps
-steps_each len [] each = All-nil (IsPlaced len)
-steps_each len (s ∷ steps) each =
-    let both = both_of (IsWithin len) (literal_directive s.literal) (shown_directive s.shown) (flat_map directives_of steps) each in
-    All-cons (IsPlaced len) s steps both.0 (steps_each len steps both.1)
+steps_each : (text : List ℕ) (steps : List Step) → map front_of steps ≡ map (front_in text) steps → All (IsWithin (length text)) (flat_map directives_of steps) → All (IsPlaced text) steps
+steps_each text [] fronts each = All-nil (IsPlaced text)
+steps_each text (s ∷ steps) fronts each =
+    let both = both_of (IsWithin (length text)) (literal_directive s.literal) (shown_directive s.shown) (flat_map directives_of steps) each in
+    let first : front_of s ≡ front_in text s = ap (λ (fs : List (List ℕ)). get_or fs 0 []) fronts in
+    let rest : map front_of steps ≡ map (front_in text) steps = ap (λ (fs : List (List ℕ)). drop 1 fs) fronts in
+    All-cons (IsPlaced text) s steps (both.0, first) (steps_each text steps rest both.1)
 
-pub steps_within : (len : ℕ) (steps : List Step) (ds : List Directive) → flat_map directives_of steps ≡ ds → All (IsWithin len) ds → All (IsPlaced len) steps
-steps_within len steps ds is each = steps_each len steps (All-same (IsWithin len) (flat_map directives_of steps) ds is each)
+pub steps_within : (text : List ℕ) (steps : List Step) (ds : List Directive) → flat_map directives_of steps ≡ ds → map front_of steps ≡ map (front_in text) steps → All (IsWithin (length text)) ds → All (IsPlaced text) steps
+steps_within text steps ds is fronts each = steps_each text steps fronts (All-same (IsWithin (length text)) (flat_map directives_of steps) ds is each)
 
--- a literal in a text with zeros after it
-pub literal_room : (text padded : List ℕ) (start end : ℕ) → padded ≡ text ++ replicate 16 0 → start ≤ end → end ≤ length text → (end - start) + 16 ≤ length (take (length padded - start) (drop start padded))
-literal_room text padded start end is le within =
-    omega (arith, le, within, ap length is, length-append text (replicate 16 0), length-drop start padded, length-take (length padded - start) (drop start padded))
+-- the front of a literal
+pub front_text : (text front : List ℕ) (start end : ℕ) → front ≡ sixteen_at start text → start ≤ end → end ≤ length text → end - start ≤ 16 → take (end - start) front ≡ slice_range text start end
+front_text text front start end is le within few =
+    let bytes : List ℕ = take 16 (drop start text) in
+    ap (take (end - start)) is
+    ∙ take-append-le (end - start) bytes (drop (length bytes) (replicate 16 0)) (omega (arith, le, within, few, length-take 16 (drop start text), length-drop start text))
+    ∙ take-take (end - start) 16 (drop start text) few
 
-pub literal_front : (text padded : List ℕ) (start end : ℕ) → padded ≡ text ++ replicate 16 0 → start ≤ end → end ≤ length text
-    → take (end - start) (take (length padded - start) (drop start padded)) ≡ slice_range text start end
-literal_front text padded start end is le within =
-    ap (take (end - start)) (take_all (length padded - start) (drop start padded) (omega (arith, length-drop start padded)))
-    ∙ ap (λ (l : List ℕ). take (end - start) (drop start l)) is
-    ∙ ap (take (end - start)) (drop-append-le start text (replicate 16 0) (omega (arith, le, within)))
-    ∙ take-append-le (end - start) (drop start text) (replicate 16 0) (omega (arith, le, within, length-drop start text))
+pub front_shown : (text front : List ℕ) (literal : Option Literal) (l : Literal) → literal ≡ Some l → l.end - l.start ≤ 16
+    → IfSome (literal_directive literal) (IsWithin (length text)) → front ≡ sixteen_at (literal_start literal) text → take (l.end - l.start) front ≡ literal_text text literal
+front_shown text front literal l is few =
+    subst (λ (o : Option Literal). IfSome (literal_directive o) (IsWithin (length text)) → front ≡ sixteen_at (literal_start o) text → take (l.end - l.start) front ≡ literal_text text o) (sym is)
+    (λ placed copied. front_text text front l.start l.end copied placed.0 placed.1 few)
+
+-- the sixteen bytes at a place, as they are copied
+take_least : (bytes : List ℕ) → take (min (length bytes) 16) bytes ≡ take 16 bytes
+take_least bytes = let same : min (length bytes) 16 ≡ min 16 (length bytes) = omega arith in ap (λ (k : ℕ). take k bytes) same ∙ take_min 16 bytes
+
+pub sixteen_made : (text behind first : List ℕ) (place : ℕ) → behind ≡ take (length text - min place (length text)) (drop (min place (length text)) text) → first ≡ take (min (length behind) 16) behind → first ≡ take 16 (drop place text)
+sixteen_made text behind first place is_behind is_first =
+    let whole : behind ≡ drop place text = is_behind ∙ take_rest text (min place (length text)) ∙ drop_min place text in
+    is_first ∙ take_least behind ∙ ap (take 16) whole

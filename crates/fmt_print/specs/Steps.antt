@@ -1,10 +1,11 @@
 -- Directives by how they are shown. Most conversions are plain: they have no flag, no width and no precision.
-use Rattle.std.specs.Prelude.{ℕ, false, List, [], ◌++◌, slice_range, Option, Some, None, IfSome}
+use Rattle.std.specs.Prelude.{◌≡◌, ℕ, false, List, [], ◌++◌, length, take, drop, replicate, slice_range, Option, Some, None, IfSome}
 use Rattle.std.specs.Option.{option_map, option_to_list}
 use Rattle.fmt_directives.specs.declared.directive.Amount.TheVariants.{Absent}
 use Rattle.fmt_directives.specs.declared.directive.Base.TheVariants.{Signed, Unsigned}
 use Rattle.fmt_directives.specs.declared.directive.Length.{Length}
 use Rattle.fmt_directives.specs.declared.directive.Length.TheVariants.{Usual}
+use Rattle.fmt_directives.specs.declared.directive.PointerForm.TheVariants as pointer
 use Rattle.fmt_directives.specs.declared.directive.Spec.{Spec}
 use Rattle.fmt_directives.specs.declared.directive.Directive.{Directive}
 use Rattle.fmt_directives.specs.declared.directive.Directive.TheVariants as directive
@@ -33,15 +34,34 @@ shown_directive (shown.Again l) = Some (a_literal l)
 shown_directive (shown.Signed length) = Some (directive.Number (plain_spec length) Signed)
 shown_directive (shown.Unsigned length) = Some (directive.Number (plain_spec length) Unsigned)
 shown_directive shown.Text = Some (directive.Text (plain_spec Usual))
+shown_directive shown.Name = Some (directive.Pointer (plain_spec Usual) pointer.Name)
 shown_directive (shown.Pointer form) = Some (directive.Pointer (plain_spec Usual) form)
 shown_directive (shown.Formed what spec) = Some (directive_of what spec)
 
 abbrev pub directives_of : Step → List Directive
 directives_of s = option_to_list (literal_directive s.literal) ++ option_to_list (shown_directive s.shown)
 
--- both lie within a text of so many bytes
-abbrev pub IsPlaced : ℕ → Step → Type 0
-IsPlaced len s = IfSome (literal_directive s.literal) (IsWithin len) × IfSome (shown_directive s.shown) (IsWithin len)
+-- the sixteen bytes that stand at a place of a text, with zeros for those behind its end
+abbrev pub first_sixteen : List ℕ → List ℕ
+first_sixteen bytes = bytes ++ drop (length bytes) (replicate 16 0)
+
+abbrev pub sixteen_at : ℕ → List ℕ → List ℕ
+sixteen_at place text = first_sixteen (take 16 (drop place text))
+
+abbrev pub literal_start : Option Literal → ℕ
+literal_start None = 0
+literal_start (Some l) = l.start
+
+-- the first bytes of the literal of a step, as it keeps them, and as they stand in a text
+abbrev pub front_of : Step → List ℕ
+front_of s = s.front
+
+abbrev pub front_in : List ℕ → Step → List ℕ
+front_in text s = sixteen_at (literal_start s.literal) text
+
+-- both directives lie within a text, and the front of the literal was copied from it
+abbrev pub IsPlaced : List ℕ → Step → Type 0
+IsPlaced text s = (IfSome (literal_directive s.literal) (IsWithin (length text)) × IfSome (shown_directive s.shown) (IsWithin (length text))) × (front_of s ≡ front_in text s)
 
 -- the text of a literal or none
 abbrev pub literal_text : List ℕ → Option Literal → List ℕ

@@ -1,4 +1,4 @@
-ghost use Rattle.std.specs.Prelude.{◌≡◌, ◌++◌, length, map, replicate};
+ghost use Rattle.std.specs.Prelude.{◌≡◌, length, map};
 ghost use Rattle.std.specs.List.{All, flat_map};
 ghost use Rattle.std.proofs.Props.{props};
 ghost use Rattle.fmt_directives.specs.Directives.{IsWithin};
@@ -6,7 +6,7 @@ ghost use Rattle.fmt_directives.proofs.Withins.{within_prop};
 ghost use Rattle.fmt_expr.specs.TreeView.{tree_of};
 ghost use Rattle.fmt_fold.specs.Same.{SameTrees};
 ghost use Rattle.fmt_print.specs.ArgumentView.{argument_tree};
-ghost use Rattle.fmt_print.specs.Steps.{directives_of, IsPlaced};
+ghost use Rattle.fmt_print.specs.Steps.{directives_of, front_of, front_in, IsPlaced};
 ghost use Rattle.std.specs.Coded.{codes};
 
 use crate::argument::Argument;
@@ -19,8 +19,6 @@ use trace_base::{ByteText, ListOf};
 #[derive(Drop)]
 pub struct PrintPlan {
     pub(crate) text: ByteText,
-    /// The format text with 16 zeros after it, so that 16 bytes stand wherever a literal begins.
-    pub(crate) padded: Vec<u8>,
     pub(crate) directives: Vec<Directive>,
     /// The directives, by how they are shown.
     pub(crate) steps: Vec<Step>,
@@ -29,8 +27,8 @@ pub struct PrintPlan {
     pub(crate) folded: Vec<Argument>,
     pub(crate) long: u32,
     ghost within: { All (IsWithin (length text)) directives.items } by { Prim.hlevel (props, within_prop) },
-    ghost zeros: { padded.items ≡ text ++ replicate 16 0 } by { Prim.hlevel (props, codes) },
     ghost shown: { flat_map directives_of steps.items ≡ directives.items } by { Prim.hlevel (props, codes) },
+    ghost copied: { map front_of steps.items ≡ map (front_in text) steps.items } by { Prim.hlevel (props, codes) },
     ghost same: { SameTrees (map argument_tree folded.items) (map tree_of args) } by { Prim.hlevel props },
 }
 
@@ -52,17 +50,10 @@ impl PrintPlan {
         self.directives.as_slice()
     }
 
-    /// The format text, and 16 zeros.
-    pub(crate) fn padded(&self) -> &[u8]
-        ensures { result.now ≡ (plan_view self.now).text ++ replicate 16 0 }
-    {
-        self.padded.as_slice()
-    }
-
     /// The steps that show the directives, in order.
     pub(crate) fn steps(&self) -> &[Step]
         ensures value { flat_map directives_of result.now ≡ (plan_view self.now).directives }
-        ensures within { All (IsPlaced (length (plan_view self.now).text)) result.now }
+        ensures within { All (IsPlaced (plan_view self.now).text) result.now }
     {
         self.steps.as_slice()
     }

@@ -1,6 +1,6 @@
 //! Directives over arguments.
 
-ghost use Rattle.std.specs.Prelude.{◌≡◌, length, IfSome};
+ghost use Rattle.std.specs.Prelude.{◌≡◌, length, Some, IfSome};
 ghost use Rattle.trace_base.specs.Kept.{put_held};
 ghost use Rattle.trace_base.specs.TailView.{held, lent};
 ghost use Rattle.fmt_directives.specs.Directives.{IsWithin};
@@ -8,14 +8,14 @@ ghost use Rattle.fmt_eval.specs.Values.{given};
 ghost use Rattle.fmt_print.specs.ArgumentView.{trees};
 ghost use Rattle.fmt_print.specs.PlanView.{plan_view};
 ghost use Rattle.fmt_print.specs.Printed.{printed, printed_one, print_text};
-ghost use Rattle.fmt_print.specs.Steps.{plain_spec, literal_directive, literal_text, shown_directive, printed_some, printed_step, IsPlaced};
+ghost use Rattle.fmt_print.specs.Steps.{plain_spec, a_literal, literal_directive, literal_start, literal_text, shown_directive, printed_some, printed_step, sixteen_at, IsPlaced};
 
 use crate::argument::Argument;
 use crate::arguments::{first_of, taken};
 use crate::conversions::{PLAIN, Printer};
 use crate::plan::PrintPlan;
 use crate::step::{Content, Literal, Shown, Step};
-use fmt_directives::{Base, Length, Spec};
+use fmt_directives::{Base, Length, PointerForm, Spec};
 use symbols::Symbols;
 use trace_base::{Rec, Tail};
 
@@ -65,17 +65,31 @@ impl<'a> Printer<'a> {
         }
     }
 
-    /// Shows a literal, if there is one.
+    /// Shows a literal of any length.
+    #[inline(never)]
+    #[tactic(auto, using(fmt_forms::proofs::Gathering::put_shown))]
+    fn any_literal(&self, literal: Literal, into: &mut Tail<'_>)
+        requires { IsWithin (length (source self.now).text) (a_literal literal) }
+        ensures { Shows into.old into.new (literal_text (source self.now).text (Some literal)) }
+    {
+        into.put(&self.plan.text()[literal.start as usize..literal.end as usize]);
+    }
+
+    /// Shows a literal, if there is one. Most have up to sixteen bytes, which their step keeps.
     #[inline(always)]
-    #[tactic(auto, using(fmt_forms::proofs::Gathering::put_shown, crate::proofs::StepLemmas::literal_room, crate::proofs::StepLemmas::literal_front, fmt_forms::proofs::Gathering::nothing_joined))]
-    fn literal(&self, literal: Option<Literal>, into: &mut Tail<'_>)
-        requires { IfSome (literal_directive literal) (IsWithin (length (source self.now).text)) }
+    fn literal(&self, literal: Option<Literal>, front: &[u8; 16], into: &mut Tail<'_>)
+        requires placed { IfSome (literal_directive literal) (IsWithin (length (source self.now).text)) }
+        requires copied { front.now ≡ sixteen_at (literal_start literal) (source self.now).text }
         ensures { Shows into.old into.new (literal_text (source self.now).text literal) }
     {
         match literal {
-            Some(Literal { start, end }) => {
-                let text = &self.plan.padded()[start as usize..];
-                into.put_front(text, (end - start) as usize);
+            Some(literal) => {
+                let len = literal.end - literal.start;
+                if len <= 16 {
+                    into.put_front(front, len as usize);
+                } else {
+                    self.any_literal(literal, into);
+                }
             }
             None => {}
         }
@@ -91,7 +105,7 @@ impl<'a> Printer<'a> {
         match shown {
             Shown::Nothing => args,
             Shown::Again(literal) => {
-                self.literal(Some(*literal), into);
+                self.any_literal(*literal, into);
                 args
             }
             Shown::Signed(length) => {
@@ -101,6 +115,14 @@ impl<'a> Printer<'a> {
                 self.plain(Content::Number(Base::Unsigned), *length, args, into)
             }
             Shown::Text => self.plain(Content::Text, Length::Usual, args, into),
+            Shown::Name => {
+                self.plain(
+                    Content::Pointer(PointerForm::Name),
+                    Length::Usual,
+                    args,
+                    into,
+                )
+            }
             Shown::Pointer(form) => {
                 self.plain(Content::Pointer(*form), Length::Usual, args, into)
             }
@@ -111,10 +133,10 @@ impl<'a> Printer<'a> {
     /// Shows a step. Gives the arguments after those that it takes.
     #[inline(always)]
     fn step<'b>(&self, step: &Step, args: &'b [Argument], into: &mut Tail<'_>) -> &'b [Argument]
-        requires { IsPlaced (length (source self.now).text) step.now }
+        requires { IsPlaced (source self.now).text step.now }
         ensures { Takes into.old into.new result.now (printed_step (source self.now) step.now (trees args.now)) }
     {
-        self.literal(step.literal, into);
+        self.literal(step.literal, &step.front, into);
         self.shown(&step.shown, args, into)
     }
 

@@ -1,6 +1,6 @@
 //! Format texts, read into plans.
 
-ghost use Rattle.std.specs.Prelude.{◌≡◌, ◌++◌, IfOk, IfSome, IfNone, map, replicate};
+ghost use Rattle.std.specs.Prelude.{◌≡◌, IfOk, IfSome, IfNone, map};
 ghost use Rattle.std.specs.Option.{option_map};
 ghost use Rattle.fmt_expr.specs.FmtView.{fmt_of};
 ghost use Rattle.fmt_expr.specs.TreeView.{tree_of};
@@ -16,16 +16,6 @@ use fmt_directives::directives;
 use fmt_expr::{Expr, PrintFmt};
 use fmt_fold::folded;
 use std::alloc::{AllocError, Global};
-
-/// A text with 16 zeros after it.
-fn padded(alloc: Global, text: &[u8]) -> Result<Vec<u8>, AllocError>
-    ensures { IfOk result (λ all. all.items ≡ text.now ++ replicate 16 0) }
-{
-    let mut all = Vec::with_capacity(alloc, text.len() + 16)?;
-    all.extend_from_slice(text)?;
-    all.extend_from_slice(&[0; 16])?;
-    Ok(all)
-}
 
 /// Arguments that are each the same over every record, with their constant parts computed.
 #[tactic(auto, using(crate::proofs::Folding::arguments_none, crate::proofs::Folding::arguments_more, crate::proofs::Folding::arguments_all))]
@@ -58,12 +48,10 @@ pub fn compile(alloc: Global, fmt: PrintFmt) -> Result<Option<PrintPlan>, AllocE
     let Some(directives) = directives(alloc, text.as_bytes())? else {
         return Ok(None);
     };
-    let steps = steps_of(alloc, directives.as_slice())?;
-    let padded = padded(alloc, text.as_bytes())?;
+    let steps = steps_of(alloc, text.as_bytes(), directives.as_slice())?;
     let folded = folded_arguments(alloc, args.as_slice())?;
     Ok(Some(PrintPlan {
         text,
-        padded,
         directives,
         steps,
         args,

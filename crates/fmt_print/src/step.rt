@@ -1,10 +1,10 @@
 //! Directives by how they are shown.
 
-ghost use Rattle.std.specs.Prelude.{◌≡◌, ◌≤◌, ◌-◌, ◌++◌, true, length, Some, IfOk};
+ghost use Rattle.std.specs.Prelude.{◌≡◌, ◌≤◌, ◌-◌, ◌++◌, true, length, map, drop, Some, IfOk};
 ghost use Rattle.std.specs.List.{flat_map};
 ghost use Rattle.std.specs.Option.{option_to_list};
 ghost use Rattle.fmt_directives.specs.declared.directive.Length.TheVariants as len;
-ghost use Rattle.fmt_print.specs.Steps.{plain_spec, literal_directive, shown_directive, directives_of};
+ghost use Rattle.fmt_print.specs.Steps.{plain_spec, literal_directive, literal_start, shown_directive, directives_of, front_of, front_in, sixteen_at};
 
 use fmt_directives::{Amount, Base, Directive, Length, PointerForm, Spec};
 use std::alloc::{AllocError, Global};
@@ -38,6 +38,8 @@ pub enum Shown {
     Unsigned(Length),
     /// A plain text.
     Text,
+    /// The name of the symbol at a plain address.
+    Name,
     /// A plain address.
     Pointer(PointerForm),
     /// Any other conversion.
@@ -48,6 +50,8 @@ pub enum Shown {
 #[derive(Clone, Copy)]
 pub struct Step {
     pub literal: Option<Literal>,
+    /// The first bytes of the literal. Most literals have no more.
+    pub front: [u8; 16],
     pub shown: Shown,
 }
 
@@ -79,6 +83,10 @@ fn shown_of(directive: Directive) -> Shown
             base: Base::Unsigned,
         } if is_plain(spec) => Shown::Unsigned(spec.length),
         Directive::Text { spec } if is_usual(spec) => Shown::Text,
+        Directive::Pointer {
+            spec,
+            form: PointerForm::Name,
+        } if is_usual(spec) => Shown::Name,
         Directive::Pointer { spec, form } if is_usual(spec) => Shown::Pointer(form),
         Directive::Number { spec, base } => Shown::Formed(Content::Number(base), spec),
         Directive::Letter { spec } => Shown::Formed(Content::Letter, spec),
@@ -115,17 +123,56 @@ fn first_shown(directives: &[Directive]) -> (Shown, &[Directive])
     }
 }
 
-/// The steps that show directives.
-#[tactic(auto, using(crate::proofs::StepLemmas::steps_more, crate::proofs::StepLemmas::steps_all))]
-pub fn steps_of(alloc: Global, directives: &[Directive]) -> Result<Vec<Step>, AllocError>
-    ensures { IfOk result (λ steps. flat_map directives_of steps.items ≡ directives.now) }
+/// Sets the first bytes to others.
+fn put_first(into: &mut [u8], bytes: &[u8])
+    requires { length bytes.now ≤ length into.old }
+    ensures { into.new ≡ bytes.now ++ drop (length bytes.now) into.old }
+{
+    into[..bytes.len()].copy_from_slice(bytes);
+}
+
+/// The sixteen bytes that stand at a place of a text, with zeros for those behind its end.
+fn sixteen_at(text: &[u8], place: usize) -> [u8; 16]
+    ensures { result ≡ sixteen_at place text.now }
+{
+    let behind = &text[place.min(text.len())..];
+    let first = &behind[..behind.len().min(16)];
+    let mut bytes = [0; 16];
+    put_first(&mut bytes, first);
+    bytes
+}
+
+/// The first bytes of a literal of a text.
+fn front_of(text: &[u8], literal: Option<Literal>) -> [u8; 16]
+    ensures { result ≡ sixteen_at (literal_start literal) text.now }
+{
+    match literal {
+        Some(literal) => sixteen_at(text, literal.start as usize),
+        None => sixteen_at(text, 0),
+    }
+}
+
+/// The steps that show directives of a text.
+#[tactic(auto, using(crate::proofs::StepLemmas::steps_more, crate::proofs::StepLemmas::steps_all, crate::proofs::StepLemmas::fronts_more))]
+pub fn steps_of(
+    alloc: Global,
+    text: &[u8],
+    directives: &[Directive],
+) -> Result<Vec<Step>, AllocError>
+    ensures shown { IfOk result (λ steps. flat_map directives_of steps.items ≡ directives.now) }
+    ensures copied { IfOk result (λ steps. map front_of steps.items ≡ map (front_in text.now) steps.items) }
 {
     let mut steps = Vec::with_capacity(alloc, directives.len() / 2 + 1)?;
     let mut left = directives;
     while !left.is_empty() {
         let (literal, behind) = first_literal(left);
         let (shown, rest) = first_shown(behind);
-        steps.push(Step { literal, shown })?;
+        let front = front_of(text, literal);
+        steps.push(Step {
+            literal,
+            front,
+            shown,
+        })?;
         left = rest;
     }
     Ok(steps)

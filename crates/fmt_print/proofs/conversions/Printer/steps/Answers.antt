@@ -1,4 +1,4 @@
-use Rattle.std.proofs.Common.{arith, length}
+use Rattle.std.proofs.Common.{arith}
 use Rattle.std.proofs.lemmas.List.Elements.{All-get_or}
 use Rattle.fmt_print.specs.ArgumentView.{trees}
 use Rattle.fmt_print.specs.Sources.{source}
@@ -7,7 +7,7 @@ use Rattle.fmt_print.proofs.StepLemmas.{printed_more, printed_all}
 use Rattle.fmt_print.proofs.conversions.Printer.steps.Goals as goal
 
 pub step-left-requires : goal.step-left-requires
-step-left-requires c = All-get_or (IsPlaced (length (source c.args.self.now).text)) c.steps-steps.result.now c.loop-step.step-index _ c.loop-step-test.true c.steps-steps.ensures.within
+step-left-requires c = All-get_or (IsPlaced (source c.args.self.now).text) c.steps-steps.result.now c.loop-step.step-index _ c.loop-step-test.true c.steps-steps.ensures.within
 
 pub loop-step-preserved : goal.loop-step-preserved
 loop-step-preserved c =
