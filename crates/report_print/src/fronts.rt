@@ -15,14 +15,12 @@ use crate::context::Context;
 use crate::fields::put_pair;
 use crate::show::Show;
 use crate::tasks::{TaskStart, USUAL_TASK, WIDE_TASK};
+use crate::usual::{USUAL_FRONT, write_front};
 use line_columns::{
-    BEFORE_PID, BEFORE_PLACE, Front, LONGEST_BEHIND, LONGEST_PROCESSOR, LONGEST_TASK,
-    USUAL_COLUMNS, USUAL_LABEL, USUAL_TIMES,
+    BEFORE_PID, BEFORE_PLACE, Front, LONGEST_BEHIND, LONGEST_PROCESSOR, LONGEST_TASK, USUAL_LABEL,
+    USUAL_TIMES,
 };
 use trace_base::{Common, Order, Tail};
-
-/// How long most fronts are.
-const USUAL_FRONT: usize = USUAL_COLUMNS + USUAL_LABEL;
 
 /// How long they are where the pid has six digits, and where it has seven.
 const WIDE_FRONT: usize = USUAL_FRONT + 1;
@@ -165,9 +163,50 @@ fn put_usual(
     ensures value { held into.new ≡ put_held (held into.old) (columns context.now cpu time common.now label.now) }
     ensures len { result ≡ length (columns context.now cpu time common.now label.now) }
 {
+    match context.task_start(common.pid) {
+        TaskStart::Made(task) if task.len() == USUAL_TASK => {
+            put_straight(task, cpu, time, label, into)
+        }
+        _ => put_unusual_task(context, cpu, time, common.pid, label, into),
+    }
+}
+
+/// Puts the columns of most lines: all have their usual widths, and stand at places that are known beforehand.
+#[inline(always)]
+fn put_straight(task: &[u8], cpu: u32, time: u64, label: &[u8], into: &mut Tail<'_>) -> usize
+    requires task { length task.now ≡ USUAL_TASK }
+    requires label { length label.now ≡ USUAL_LABEL }
+    requires cpu { cpu < 100 }
+    requires time { time < USUAL_TIMES }
+    ensures same_slice { lent into.new ≡ lent into.old }
+    ensures value { held into.new ≡ put_held (held into.old) (task.now ++ (spec.usual_when cpu time ++ label.now)) }
+    ensures len { result ≡ length (task.now ++ (spec.usual_when cpu time ++ label.now)) }
+{
+    let mut text = [0; USUAL_FRONT];
+    write_front(task, cpu, time, label, &mut text);
+    into.put(&text);
+    USUAL_FRONT
+}
+
+/// The same where the task's text has another length, or was not made beforehand.
+#[inline(never)]
+fn put_unusual_task(
+    context: &Context,
+    cpu: u32,
+    time: u64,
+    pid: i32,
+    label: &[u8],
+    into: &mut Tail<'_>,
+) -> usize
+    requires usual { IsUsual context.now.show cpu time }
+    requires label { length label.now ≡ USUAL_LABEL }
+    ensures same_slice { lent into.new ≡ lent into.old }
+    ensures value { held into.new ≡ put_held (held into.old) (task_front context.now.show context.now.symbols.tasks pid ++ (spec.usual_when cpu time ++ label.now)) }
+    ensures len { result ≡ length (task_front context.now.show context.now.symbols.tasks pid ++ (spec.usual_when cpu time ++ label.now)) }
+{
     let mut front = Front::new();
     put_usual_when(cpu, time, label, &mut front);
-    put_with_usual_task(context, common.pid, &mut front, into)
+    put_with_usual_task(context, pid, &mut front, into)
 }
 
 /// Puts where and when it was, in columns of their usual widths, in front of a text.

@@ -1,0 +1,163 @@
+// The front of most lines: its columns have their usual widths, so that each stands at a place that is known beforehand.
+
+ghost use Rattle.std.specs.Prelude.{◌≡◌, ◌++◌, ◌+◌, ◌%◌, ◌/◌, ◌^◌, ◌<◌, ◌≤◌, drop, length, codes, false};
+ghost use Rattle.std.specs.Fmt.{decimal};
+ghost use Rattle.trace_base.specs.Times.{micros};
+ghost use Rattle.line_columns.specs.Columns.{right, zeros, time_text};
+ghost use Rattle.report_print.specs.Prefix.{usual_when};
+
+use crate::tasks::USUAL_TASK;
+use line_columns::{USUAL_COLUMNS, USUAL_LABEL, USUAL_TIMES};
+
+/// How long most fronts are.
+pub(crate) const USUAL_FRONT: usize = USUAL_COLUMNS + USUAL_LABEL;
+
+/// Where the processor ends with its brackets, after the task.
+const PLACE_END: usize = USUAL_TASK + 7;
+
+/// Where the whole seconds end.
+const SECONDS_END: usize = PLACE_END + 5;
+
+/// Where the time ends.
+const TIME_END: usize = SECONDS_END + 7;
+
+/// Both digits of each number below 100.
+static PAIRS: [u8; 200] =
+    *b"00010203040506070809101112131415161718192021222324252627282930313233343536373839404142434445464748495051525354555657585960616263646566676869707172737475767778798081828384858687888990919293949596979899";
+
+/// Both digits of a number below 100.
+#[inline(always)]
+fn two_digits(n: u32) -> [u8; 2]
+    requires { n < 100 }
+    ensures { result ≡ zeros 2 (decimal n) }
+{
+    let from = n as usize * 2;
+    [PAIRS[from], PAIRS[from + 1]]
+}
+
+/// Puts a text in front of what stands from `to` on.
+#[inline(always)]
+fn put_at(from: usize, to: usize, piece: &[u8], text: &mut [u8; USUAL_FRONT])
+    requires whole { from + length piece.now ≡ to }
+    requires inside { to ≤ USUAL_FRONT }
+    ensures { drop from text.new ≡ piece.now ++ drop to text.old }
+{
+    text[from..to].copy_from_slice(piece);
+}
+
+/// A time as whole seconds and what is left of it in microseconds, where it is rounded to them.
+#[inline(always)]
+fn rounded(time: u64) -> (u32, u32)
+    requires { time < USUAL_TIMES }
+    ensures seconds { result.0 ≡ micros time / 10 ^ 6 }
+    ensures rest { result.1 ≡ micros time % 10 ^ 6 }
+    ensures few { result.0 < 100000 }
+    ensures small { result.1 < 1000000 }
+{
+    let time = time + 500;
+    let rest = (time % 1_000_000_000) as u32;
+    ((time / 1_000_000_000) as u32, rest / 1000)
+}
+
+/// Puts a time.
+#[inline(always)]
+#[tactic(auto, unfolding(line_columns::specs::Columns::time_text))]
+fn put_time(time: u64, text: &mut [u8; USUAL_FRONT])
+    requires { time < USUAL_TIMES }
+    ensures { drop PLACE_END text.new ≡ time_text false time ++ drop TIME_END text.old }
+{
+    let (seconds, micros) = rounded(time);
+    put_micros(micros, text);
+    put_at(SECONDS_END, SECONDS_END + 1, b".", text);
+    put_seconds(seconds, text);
+}
+
+/// Puts the six digits after the point.
+#[inline(always)]
+#[tactic(auto, using(crate::proofs::UsualFronts::six_front))]
+fn put_micros(n: u32, text: &mut [u8; USUAL_FRONT])
+    requires { n < 1000000 }
+    ensures { drop (SECONDS_END + 1) text.new ≡ zeros 6 (decimal n) ++ drop TIME_END text.old }
+{
+    let low = n % 10_000;
+    put_at(TIME_END - 2, TIME_END, &two_digits(low % 100), text);
+    put_at(TIME_END - 4, TIME_END - 2, &two_digits(low / 100), text);
+    put_at(SECONDS_END + 1, TIME_END - 4, &two_digits(n / 10_000), text);
+}
+
+/// Puts a number below 100, with a space in place of a leading zero.
+#[inline(always)]
+#[tactic(auto, using(crate::proofs::UsualFronts::wide_pair, crate::proofs::UsualFronts::narrow_pair))]
+fn put_spaced(from: usize, n: u32, text: &mut [u8; USUAL_FRONT])
+    requires small { n < 100 }
+    requires inside { from + 2 ≤ USUAL_FRONT }
+    ensures { drop from text.new ≡ right 2 (decimal n) ++ drop (from + 2) text.old }
+{
+    if n < 10 {
+        put_at(from + 1, from + 2, &[b'0' + n as u8], text);
+        put_at(from, from + 1, b" ", text);
+    } else {
+        put_at(from, from + 2, &two_digits(n), text);
+    }
+}
+
+/// Puts the seconds, at the right of their column.
+#[inline(always)]
+#[tactic(auto, using(crate::proofs::UsualFronts::two_places, crate::proofs::UsualFronts::four_places, crate::proofs::UsualFronts::five_places))]
+fn put_seconds(n: u32, text: &mut [u8; USUAL_FRONT])
+    requires { n < 100000 }
+    ensures { drop PLACE_END text.new ≡ right 5 (decimal n) ++ drop SECONDS_END text.old }
+{
+    if n < 100 {
+        put_spaced(SECONDS_END - 2, n, text);
+        put_at(PLACE_END, SECONDS_END - 2, b"   ", text);
+    } else if n < 10_000 {
+        put_at(SECONDS_END - 2, SECONDS_END, &two_digits(n % 100), text);
+        put_spaced(PLACE_END + 1, n / 100, text);
+        put_at(PLACE_END, PLACE_END + 1, b" ", text);
+    } else {
+        let high = n / 100;
+        put_at(SECONDS_END - 2, SECONDS_END, &two_digits(n % 100), text);
+        put_at(
+            PLACE_END + 1,
+            SECONDS_END - 2,
+            &two_digits(high % 100),
+            text,
+        );
+        put_at(PLACE_END, PLACE_END + 1, &[b'0' + (high / 100) as u8], text);
+    }
+}
+
+/// Puts the processor.
+#[inline(always)]
+#[tactic(auto, using(line_columns::proofs::ZeroFills::usual_between))]
+fn put_place(cpu: u32, text: &mut [u8; USUAL_FRONT])
+    requires { cpu < 100 }
+    ensures { drop USUAL_TASK text.new ≡ (codes " [" ++ (zeros 3 (decimal cpu) ++ codes "] ")) ++ drop PLACE_END text.old }
+{
+    put_at(PLACE_END - 2, PLACE_END, b"] ", text);
+    put_at(PLACE_END - 4, PLACE_END - 2, &two_digits(cpu), text);
+    put_at(USUAL_TASK, PLACE_END - 4, b" [0", text);
+}
+
+/// Writes the front of a line: the task, where and when it was, and the event's name.
+#[inline(always)]
+pub(crate) fn write_front(
+    task: &[u8],
+    cpu: u32,
+    time: u64,
+    label: &[u8],
+    text: &mut [u8; USUAL_FRONT],
+)
+    requires task { length task.now ≡ USUAL_TASK }
+    requires cpu { cpu < 100 }
+    requires time { time < USUAL_TIMES }
+    requires label { length label.now ≡ USUAL_LABEL }
+    ensures { text.new ≡ task.now ++ (usual_when cpu time ++ label.now) }
+{
+    put_at(USUAL_COLUMNS, USUAL_FRONT, label, text);
+    put_at(TIME_END, USUAL_COLUMNS, b": ", text);
+    put_time(time, text);
+    put_place(cpu, text);
+    put_at(0, USUAL_TASK, task, text);
+}
