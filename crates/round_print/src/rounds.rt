@@ -1,10 +1,8 @@
 ghost use Rattle.std.specs.Prelude.{◌≡◌, ◌<◌, ◌≤◌, [], length, map, take, IfOk};
 ghost use Rattle.trace_outside.specs.Causes.{HasCause};
 ghost use Rattle.trace_outside.specs.Pending.{Puts};
-ghost use Rattle.page_pool.specs.Moved.{KeepsUnmoved};
-ghost use Rattle.time_merge.specs.LaneRows.{parts_of};
 ghost use Rattle.round_print.specs.Prints.{ArePlain, filled_text, front_of, head_kept, last_of, printed};
-ghost use Rattle.round_print.specs.Rounds.{ArePrinted, AreRising, Gains, IsFrontDropped, KeepsMarks, MarksPrinted};
+ghost use Rattle.round_print.specs.Rounds.{AreRising, Gains, IsFrontDropped, IsRound, KeepsSlots, round_over};
 
 use crate::filling::put_front;
 use crate::heads::{drop_front, head_kept, least_due, run_of};
@@ -52,16 +50,13 @@ fn put_round<O: Sink>(
     requires marks { length moved.old ≡ length lanes.old }
     ensures puts { Puts (filled_text last.old (printed horizon.now lanes.old)) (O.written out.old) pending.old
         (O.written out.new) pending.new result }
-    ensures printed { IfOk result (λ _. ArePrinted horizon.now last.old last.new lanes.old lanes.new) }
-    ensures heads { IfOk result (λ _. heads.new ≡ map head_kept lanes.new) }
-    ensures slots { length heads.new ≡ length heads.old }
-    ensures marks { length moved.new ≡ length moved.old }
-    ensures unmoved { IfOk result (λ _. KeepsUnmoved moved.new lanes.old lanes.new) }
-    ensures marked { IfOk result (λ _. KeepsMarks moved.old moved.new) }
-    ensures anew { IfOk result (λ _. MarksPrinted lanes.old lanes.new moved.old moved.new) }
+    ensures round { IfOk result (λ _. IsRound horizon.now
+        (round_over lanes.old heads.old moved.old last.old)
+        (round_over lanes.new heads.new moved.new last.new)) }
+    ensures slots { KeepsSlots (round_over lanes.old heads.old moved.old last.old)
+        (round_over lanes.new heads.new moved.new last.new) }
     ensures name { O.name out.new ≡ O.name out.old }
     ensures cause { HasCause (O.faults out.old) (O.faults out.new) result }
-    ensures parts { parts_of lanes.new ≡ parts_of lanes.old }
 {
     // Of which lane a line went out alone just before.
     let mut alone = None;
@@ -101,17 +96,14 @@ pub fn print_round<O: Sink>(
     requires empty { pending.old ≡ [] }
     ensures written { Gains (O.written out.old) (O.written out.new)
         (filled_text last.old (printed horizon.now lanes.old)) result }
-    ensures printed { IfOk result (λ _. ArePrinted horizon.now last.old last.new lanes.old lanes.new) }
+    ensures round { IfOk result (λ _. IsRound horizon.now
+        (round_over lanes.old heads.old moved.old last.old)
+        (round_over lanes.new heads.new moved.new last.new)) }
+    ensures slots { KeepsSlots (round_over lanes.old heads.old moved.old last.old)
+        (round_over lanes.new heads.new moved.new last.new) }
     ensures name { O.name out.new ≡ O.name out.old }
     ensures cause { HasCause (O.faults out.old) (O.faults out.new) result }
-    ensures heads { IfOk result (λ _. heads.new ≡ map head_kept lanes.new) }
-    ensures slots { length heads.new ≡ length heads.old }
-    ensures marks { length moved.new ≡ length moved.old }
-    ensures unmoved { IfOk result (λ _. KeepsUnmoved moved.new lanes.old lanes.new) }
-    ensures marked { IfOk result (λ _. KeepsMarks moved.old moved.new) }
-    ensures anew { IfOk result (λ _. MarksPrinted lanes.old lanes.new moved.old moved.new) }
     ensures empty { IfOk result (λ _. pending.new ≡ []) }
-    ensures parts { parts_of lanes.new ≡ parts_of lanes.old }
 {
     put_round(horizon, lanes, heads, moved, last, pending, out)?;
     pending.flush(out)

@@ -39,19 +39,19 @@ returns-in-Ok-print_round-clause-between g c = λ goes.
     let moved = c.print_round.new.moved in
     let done = c.in-Ok-print_round.ensures in
     let long = c.print_round.auto.lanes in
-    let marks : length moved ≡ c.settle.new.work.moved.len = done.marks ∙ c.as_mut_slice.ensures.len in
+    let marks : length moved ≡ c.settle.new.work.moved.len = done.slots.marks ∙ c.as_mut_slice.ensures.len in
     let is = with_items_is c.settle.new.work.moved moved marks in
     record {
-      each = now_all (g.L.LineFormat.text c.args.form.now) c.args.layout.now (g.F.File.bytes c.args.file.now) c.args.lanes.now c.make_moved_ready.new.lanes c.format_lanes.new.lanes f c.horizon-known.result now long done.printed.lanes c.requires.between.each;
-      rise = done.printed.rising.cpus;
+      each = now_all (g.L.LineFormat.text c.args.form.now) c.args.layout.now (g.F.File.bytes c.args.file.now) c.args.lanes.now c.make_moved_ready.new.lanes c.format_lanes.new.lanes f c.horizon-known.result now long done.round.printed.lanes c.requires.between.each;
+      rise = done.round.printed.rising.cpus;
       slots = record {
-        heads = ap length done.heads ∙ length-map now head_kept;
+        heads = ap length done.round.heads ∙ length-map now head_kept;
         highs = ap length c.settle.ensures.highs ∙ length-map c.format_lanes.new.lanes high_of ∙ sym long;
-        marks = ap length is ∙ done.marks ∙ ap length c.as_mut_slice.ensures.value ∙ c.settle.ensures.marks ∙ sym long;
+        marks = ap length is ∙ done.slots.marks ∙ ap length c.as_mut_slice.ensures.value ∙ c.settle.ensures.marks ∙ sym long;
       };
-      unmoved = need_no_look (g.L.LineFormat.text c.args.form.now) c.args.layout.now c.settle.new.work.moved.items moved c.format_lanes.new.lanes now long done.unmoved
-          (subst (λ (marks : List Bool). KeepsMarks marks moved) c.as_mut_slice.ensures.value done.marked)
-          _ is done.heads c.settle.ensures.highs (λ i d lt. (c.settle.ensures.marked i d lt).0) c.format_lanes.ensures.settled;
+      unmoved = need_no_look (g.L.LineFormat.text c.args.form.now) c.args.layout.now c.settle.new.work.moved.items moved c.format_lanes.new.lanes now long done.round.unmoved
+          (subst (λ (marks : List Bool). KeepsMarks marks moved) c.as_mut_slice.ensures.value done.round.marked)
+          _ is done.round.heads c.settle.ensures.highs (λ i d lt. (c.settle.ensures.marked i d lt).0) c.format_lanes.ensures.settled;
       empty = done.empty;
     }
 
@@ -69,10 +69,10 @@ returns-in-Ok-print_round-clause-goes_on g c = λ goes.
     (subst (λ (keys : List (Option (Option ℕ))). IsLeastAt keys c.least-least.result) c.settle.ensures.highs c.least-least.ensures.least) c.outcome_at.result c.outcome_at.ensures in
     let all : ℕ = all_unread c.args.layout.now (g.F.File.size c.args.file.now) c.args.lanes.now in
     let still = unread_turned c.args.layout.now (g.F.File.size c.args.file.now) (g.L.LineFormat.text c.args.form.now) c.horizon-known.result c.make_moved_ready.new.lanes c.format_lanes.new.lanes c.print_round.new.lanes
-    c.format_lanes.ensures.count c.print_round.auto.lanes c.format_lanes.ensures.each c.in-Ok-print_round.ensures.printed.lanes in
+    c.format_lanes.ensures.count c.print_round.auto.lanes c.format_lanes.ensures.each c.in-Ok-print_round.ensures.round.printed.lanes in
     record {
-      parts = now_parts (g.L.LineFormat.text c.args.form.now) c.args.layout.now (g.F.File.bytes c.args.file.now) c.args.lanes.now c.make_moved_ready.new.lanes c.format_lanes.new.lanes f c.horizon-known.result c.print_round.new.lanes c.print_round.auto.lanes c.in-Ok-print_round.ensures.printed.lanes;
-      less = now_less (g.L.LineFormat.text c.args.form.now) c.args.layout.now (g.F.File.bytes c.args.file.now) c.args.lanes.now c.make_moved_ready.new.lanes c.format_lanes.new.lanes f c.horizon-known.result c.print_round.new.lanes c.print_round.auto.lanes c.in-Ok-print_round.ensures.printed.lanes c.outcome_at.result c.horizon-known.ensures follow c.requires.between.rise c.requires.between.each goes;
+      parts = now_parts (g.L.LineFormat.text c.args.form.now) c.args.layout.now (g.F.File.bytes c.args.file.now) c.args.lanes.now c.make_moved_ready.new.lanes c.format_lanes.new.lanes f c.horizon-known.result c.print_round.new.lanes c.print_round.auto.lanes c.in-Ok-print_round.ensures.round.printed.lanes;
+      less = now_less (g.L.LineFormat.text c.args.form.now) c.args.layout.now (g.F.File.bytes c.args.file.now) c.args.lanes.now c.make_moved_ready.new.lanes c.format_lanes.new.lanes f c.horizon-known.result c.print_round.new.lanes c.print_round.auto.lanes c.in-Ok-print_round.ensures.round.printed.lanes c.outcome_at.result c.horizon-known.ensures follow c.requires.between.rise c.requires.between.each goes;
       reads = subst (λ (n : ℕ). g.F.File.reads c.make_moved_ready.new.file ≤ raised (g.F.File.reads c.args.file.now) (all - n)) (sym still) c.in-Ok.ensures.makes_ready.reads_done;
       unread = subst (λ (n : ℕ). n ≤ all) (sym still) c.in-Ok.ensures.makes_ready.loads.unread;
     }
@@ -89,7 +89,7 @@ returns-in-Ok-print_round-clause-turned g c =
     } in
     let follow = follows c.format_lanes.new.lanes c.print_round.new.lanes c.horizon-known.result c.horizon-known.ensures c.least-least.result
     (subst (λ (keys : List (Option (Option ℕ))). IsLeastAt keys c.least-least.result) c.settle.ensures.highs c.least-least.ensures.least) c.outcome_at.result c.outcome_at.ensures in
-    turned_told (g.L.LineFormat.text c.args.form.now) c.args.layout.now (g.F.File.bytes c.args.file.now) c.args.lanes.now c.make_moved_ready.new.lanes c.format_lanes.new.lanes f c.horizon-known.result c.print_round.new.lanes c.print_round.auto.lanes c.in-Ok-print_round.ensures.printed.lanes c.outcome_at.result c.horizon-known.ensures follow c.requires.between.rise c.requires.between.each c.args.last.now c.print_round.new.last _ _ c.in-Ok-print_round.ensures.written c.in-Ok-print_round.ensures.printed.last
+    turned_told (g.L.LineFormat.text c.args.form.now) c.args.layout.now (g.F.File.bytes c.args.file.now) c.args.lanes.now c.make_moved_ready.new.lanes c.format_lanes.new.lanes f c.horizon-known.result c.print_round.new.lanes c.print_round.auto.lanes c.in-Ok-print_round.ensures.round.printed.lanes c.outcome_at.result c.horizon-known.ensures follow c.requires.between.rise c.requires.between.each c.args.last.now c.print_round.new.last _ _ c.in-Ok-print_round.ensures.written c.in-Ok-print_round.ensures.round.printed.last
 
 pub returns-in-Ok-print_round-clause-read : goal.returns-in-Ok-print_round-clause-read
 returns-in-Ok-print_round-clause-read g c = λ end.

@@ -126,13 +126,25 @@ returns-clause-puts g c = λ before text held.
     let P : List ℕ → Type 0 = λ t. Holds before (g.O.Sink.written c.loop-i.out) c.loop-i.pending (text ++ t) in
     subst P all (c.loop-i.invariant.text.1.1 before text held)
 
-pub returns-clause-printed : goal.returns-clause-printed
-returns-clause-printed g c = record {
-  last = sym (ap (last_of c.loop-i.last) (print_none c.args.horizon.now c.loop-i.lanes c.in_default.ensures.least)) ∙ c.loop-i.invariant.last;
-  lanes = printed_all c.args.horizon.now c.args.lanes.now c.loop-i.lanes c.in_default.ensures.least c.loop-i.auto.lanes c.loop-i.invariant.lanes;
-  rising = c.loop-i.invariant.rising;
+pub returns-clause-round : goal.returns-clause-round
+returns-clause-round g c = record {
+  printed = record {
+    last = sym (ap (last_of c.loop-i.last) (print_none c.args.horizon.now c.loop-i.lanes c.in_default.ensures.least)) ∙ c.loop-i.invariant.last;
+    lanes = printed_all c.args.horizon.now c.args.lanes.now c.loop-i.lanes c.in_default.ensures.least c.loop-i.auto.lanes c.loop-i.invariant.lanes;
+    rising = c.loop-i.invariant.rising;
+  };
+  heads = c.loop-i.invariant.heads;
+  unmoved = c.loop-i.invariant.unmoved;
+  marked = c.loop-i.invariant.marked;
+  anew = c.loop-i.invariant.anew;
 }
 
-pub returns-in_err-print_front-clause-parts : goal.returns-in_err-print_front-clause-parts
-returns-in_err-print_front-clause-parts g c =
-    set_parts c.loop-i.lanes c.in-Some.i c.index-lanes-i-in-Some.result c.print_front.new.lane c.in-Some.ensures.inside c.in_err-print_front.ensures.cpu c.in_err-print_front.ensures.part ∙ c.loop-i.invariant.parts
+pub returns-clause-slots : goal.returns-clause-slots
+returns-clause-slots g c = record { parts = c.loop-i.invariant.parts; heads = c.loop-i.invariant.slots; marks = c.loop-i.auto.moved }
+
+pub returns-in_err-print_front-clause-slots : goal.returns-in_err-print_front-clause-slots
+returns-in_err-print_front-clause-slots g c = record {
+  parts = set_parts c.loop-i.lanes c.in-Some.i c.index-lanes-i-in-Some.result c.print_front.new.lane c.in-Some.ensures.inside c.in_err-print_front.ensures.cpu c.in_err-print_front.ensures.part ∙ c.loop-i.invariant.parts;
+  heads = c.loop-i.invariant.slots;
+  marks = c.loop-i.auto.moved;
+}
