@@ -1,5 +1,5 @@
 -- Several files that are gone through at once, each with its lanes.
-use Rattle.std.specs.Prelude.{◌≡◌, ◌<◌, ◌≤◌, ℕ, List, [], length, slice_index_or, Option, IsSome, unwrap_or, sum_by}
+use Rattle.std.specs.Prelude.{◌≡◌, ◌<◌, ◌≤◌, ℕ, List, [], length, map, slice_index_or, Option, IsSome, unwrap_or, sum_by}
 use Rattle.std.specs.List.{All}
 use Rattle.trace_base.specs.declared.layout.Layout.{Layout}
 use Rattle.trace_outside.specs.Causes.{raised}
