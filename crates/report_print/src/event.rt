@@ -107,13 +107,19 @@ fn put_body(context: &Context, known: &Known<'_>, payload: &[u8], into: &mut Tai
 /// Puts the text of the event's print fmt, or its fields where that is unread.
 #[inline(always)]
 fn put_print(context: &Context, known: &Known<'_>, rec: &Rec<'_>, into: &mut Tail<'_>)
-    requires { rec.now.order ≡ context.now.show.order }
+    requires order { rec.now.order ≡ context.now.show.order }
+    requires commons { known.now.head.now.commons ≡ prefix_len is_common known.now.format.now.fields }
     ensures same_slice { lent into.new ≡ lent into.old }
     ensures value { held into.new ≡ put_held (held into.old) (spec.print_by context.now rec.now.payload.now known.now.format.now (option_map plan_view known.now.head.now.plan)) }
 {
     match &known.head.plan {
         Some(plan) => print(plan, rec, context.symbols(), into),
-        None => put_unread(rec, known.format.fields.as_slice(), into),
+        None => put_unread(
+            rec,
+            known.head.commons,
+            known.format.fields.as_slice(),
+            into,
+        ),
     }
 }
 
