@@ -1,4 +1,4 @@
-use Rattle.std.proofs.Common.{Bool, List, [], ap, ◌∙◌}
+use Rattle.std.proofs.Common.{Bool, [], ap, ◌∙◌}
 use Rattle.std.specs.Prelude.{codes, if◌then◌else◌}
 use Rattle.std.specs.List.{list_any}
 use Rattle.trace_base.specs.Kept.{put_held}
