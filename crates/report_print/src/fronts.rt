@@ -167,7 +167,9 @@ fn put_usual(
         TaskStart::Made(task) if task.len() == USUAL_TASK => {
             put_straight(task, cpu, time, label, into)
         }
-        _ => put_unusual_task(context, cpu, time, common.pid, label, into),
+        TaskStart::Made(task) => put_made(task, cpu, time, label, into),
+        TaskStart::Unnamed => put_unnamed(common.pid, cpu, time, label, into),
+        TaskStart::Unknown => put_unmade(context, cpu, time, common.pid, label, into),
     }
 }
 
@@ -188,9 +190,39 @@ fn put_straight(task: &[u8], cpu: u32, time: u64, label: &[u8], into: &mut Tail<
     USUAL_FRONT
 }
 
-/// The same where the task's text has another length, or was not made beforehand.
+/// The same where the task's text has another length.
 #[inline(never)]
-fn put_unusual_task(
+fn put_made(task: &[u8], cpu: u32, time: u64, label: &[u8], into: &mut Tail<'_>) -> usize
+    requires cpu { cpu < 100 }
+    requires time { time < USUAL_TIMES }
+    requires label { length label.now ≡ USUAL_LABEL }
+    ensures same_slice { lent into.new ≡ lent into.old }
+    ensures value { held into.new ≡ put_held (held into.old) (task.now ++ (spec.usual_when cpu time ++ label.now)) }
+    ensures len { result ≡ length (task.now ++ (spec.usual_when cpu time ++ label.now)) }
+{
+    let mut front = Front::new();
+    put_usual_when(cpu, time, label, &mut front);
+    put_with_made_task(task, &mut front, into)
+}
+
+/// The same where the task has no name.
+#[inline(never)]
+fn put_unnamed(pid: i32, cpu: u32, time: u64, label: &[u8], into: &mut Tail<'_>) -> usize
+    requires cpu { cpu < 100 }
+    requires time { time < USUAL_TIMES }
+    requires label { length label.now ≡ USUAL_LABEL }
+    ensures same_slice { lent into.new ≡ lent into.old }
+    ensures value { held into.new ≡ put_held (held into.old) ((right 16 unnamed ++ codes "-") ++ (left 5 (signed_decimal pid) ++ (spec.usual_when cpu time ++ label.now))) }
+    ensures len { result ≡ length ((right 16 unnamed ++ codes "-") ++ (left 5 (signed_decimal pid) ++ (spec.usual_when cpu time ++ label.now))) }
+{
+    let mut front = Front::new();
+    put_usual_when(cpu, time, label, &mut front);
+    put_without_name(pid, &mut front, into)
+}
+
+/// The same where the task's text was not made beforehand.
+#[inline(never)]
+fn put_unmade(
     context: &Context,
     cpu: u32,
     time: u64,
@@ -198,7 +230,8 @@ fn put_unusual_task(
     label: &[u8],
     into: &mut Tail<'_>,
 ) -> usize
-    requires usual { IsUsual context.now.show cpu time }
+    requires cpu { cpu < 100 }
+    requires time { time < USUAL_TIMES }
     requires label { length label.now ≡ USUAL_LABEL }
     ensures same_slice { lent into.new ≡ lent into.old }
     ensures value { held into.new ≡ put_held (held into.old) (task_front context.now.show context.now.symbols.tasks pid ++ (spec.usual_when cpu time ++ label.now)) }
@@ -206,7 +239,7 @@ fn put_unusual_task(
 {
     let mut front = Front::new();
     put_usual_when(cpu, time, label, &mut front);
-    put_with_usual_task(context, pid, &mut front, into)
+    put_with_any_task(context, pid, &mut front, into)
 }
 
 /// Puts where and when it was, in columns of their usual widths, in front of a text.
@@ -223,22 +256,6 @@ fn put_usual_when(cpu: u32, time: u64, label: &[u8], front: &mut Front)
     front.prepend_text(b": ");
     front.prepend_usual_time(time);
     front.prepend_usual_processor(cpu);
-}
-
-/// Puts a text with the task in front of it, whose column has its usual width, and gives the length of both.
-#[inline(always)]
-fn put_with_usual_task(context: &Context, pid: i32, front: &mut Front, into: &mut Tail<'_>) -> usize
-    requires room { length front.old ≤ BEFORE_PID }
-    requires usual { context.now.show.latency ≡ false }
-    ensures same_slice { lent into.new ≡ lent into.old }
-    ensures value { held into.new ≡ put_held (held into.old) (task_front context.now.show context.now.symbols.tasks pid ++ front.old) }
-    ensures len { result ≡ length (task_front context.now.show context.now.symbols.tasks pid ++ front.old) }
-{
-    match context.task_start(pid) {
-        TaskStart::Made(task) => put_with_made_task(task, front, into),
-        TaskStart::Unnamed => put_without_name(pid, front, into),
-        TaskStart::Unknown => put_with_any_task(context, pid, front, into),
-    }
 }
 
 /// Puts a text with that of a task in front of it, and gives the length of both.
