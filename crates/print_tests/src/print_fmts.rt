@@ -93,6 +93,24 @@ const OTHERS: &str = "%c\t321l\tA
 %s\t49152l\tfault %d
 %.5s\t49152l\tfault
 %p\t31l\t0x1f
+%p\t0l\t0x0
+%p\t15l\t0xf
+%p\t16l\t0x10
+%p\t255l\t0xff
+%p\t256l\t0x100
+%p\t4095l\t0xfff
+%p\t65535l\t0xffff
+%p\t65536l\t0x10000
+%p\t4294967296l\t0x100000000
+%p\t81985529216486895l\t0x123456789abcdef
+%p\t-9223372036854775807l\t0x8000000000000001
+%p\t-1l\t0xffffffffffffffff
+%pS\t8192l\tdo_idle+0x0
+%pS\t8207l\tdo_idle+0xf
+%pS\t8208l\tdo_idle+0x10
+%pS\t8447l\tdo_idle+0xff
+%pS\t8448l\tdo_idle+0x100
+%pS\t-1l\tdo_idle+0xffffffffffffdfff
 %08p\t31l\t    0x1f
 %.1p\t31l\t0x1f
 %ps\t4111l\tschedule
