@@ -5,5 +5,5 @@ pub mod CallsPrinted
 pub mod Waits
 pub mod Reports
 pub mod DueReading
-pub mod UnusedLanes
+pub mod RoundLanes
 pub mod EmptyParts

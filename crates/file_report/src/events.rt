@@ -18,11 +18,10 @@ use crate::report::{Recording, Shown};
 use cpu_workers::{SHARED_FROM, Workers};
 use report_context::{LINES_ROOM, line_buffer, put_cpus};
 use report_print::Context;
-use report_rounds::{RoundWork, report_rounds};
+use report_rounds::{RoundLanes, report_rounds};
 use run_endings::{Resources, Status, is_whole, status_of_end, status_of_pass};
 use std::thread::Threads;
-use time_merge::{End, pool_over};
-use tournament_tree::TournamentTree;
+use time_merge::End;
 use trace_outside::{Failed, File, Gate, Pending, Sink};
 use wakeup_lat::{gather, put_wakeups};
 use wakeup_pairs::Wakeups;
@@ -50,12 +49,8 @@ pub(crate) fn print_lines<R: Threads + Sync, I: File, O: Sink, G: Gate>(
 {
     let alloc = resources.alloc;
     let Recording { cpus, layout } = shown.recording;
-    let count = shown.parts.len() as u32;
-    let (Ok(mut pool), Ok(heads), Ok(highs), Ok(moved), Ok(mut pending)) = (
-        pool_over(alloc, layout.page, LINES_ROOM, shown.parts),
-        TournamentTree::new(alloc, count),
-        TournamentTree::new(alloc, count),
-        vec![in alloc; true; shown.parts.len()],
+    let (Ok(lanes), Ok(mut pending)) = (
+        RoundLanes::new(alloc, &layout, LINES_ROOM, shown.parts),
         Pending::new(alloc),
     ) else {
         return None;
@@ -70,14 +65,7 @@ pub(crate) fn print_lines<R: Threads + Sync, I: File, O: Sink, G: Gate>(
         shared_from: SHARED_FROM,
         gate: resources.gate,
     };
-    let mut work = RoundWork {
-        heads,
-        highs,
-        moved,
-        pending,
-    };
-    let lanes = pool.lanes();
-    Some(report_rounds(&workers, shown.form, &layout, file, lanes, &mut work, out))
+    Some(report_rounds(&workers, shown.form, file, lanes, pending, out))
 }
 
 /// Prints the same, and after it how long woken tasks waited. This is gathered before, in a pass of its own over the file,

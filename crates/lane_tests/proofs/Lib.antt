@@ -1,3 +1,4 @@
 pub mod FreshLanes
 pub mod FilledLanes
 pub mod GoneThrough
+pub mod RisingParts

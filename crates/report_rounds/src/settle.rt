@@ -1,6 +1,6 @@
 // Trees and dirty bits, once the lanes that moved are formatted.
 
-ghost use Rattle.std.specs.Prelude.{◌≡◌, All, true, length, map, replicate};
+ghost use Rattle.std.specs.Prelude.{◌≡◌, All, length, map};
 ghost use Rattle.page_pool.specs.Moved.{AllUnmoved};
 ghost use Rattle.event_cursor.specs.Standing.{IsInOrder};
 ghost use Rattle.time_merge.specs.Horizons.{high_of};
@@ -13,13 +13,6 @@ use page_pool::{Lane, next_dirty};
 use round_print::head_kept;
 use time_merge::{high_of, wants_load};
 use trace_base::Layout;
-
-/// Makes every lane dirty.
-pub(crate) fn mark_all(moved: &mut [bool])
-    ensures { moved.new ≡ replicate (length moved.old) true }
-{
-    moved.fill(true);
-}
 
 /// Brings both trees into step with the lanes, by a look at the dirty ones. Of these only the ones that are to be loaded stay
 /// dirty.

@@ -8,15 +8,13 @@ mod visits;
 use End::{Done, Malformed, Read, Write};
 use cpu_workers::{SHARED_FROM, Workers};
 use marks::{Marks, len_of, mark};
-use page_pool::Pool;
-use pages::{Page, bytes_of, open_lanes};
-use report_rounds::{RoundWork, report_rounds};
+use pages::{Page, bytes_of, parts_of};
+use report_rounds::{RoundLanes, report_rounds};
 use std::alloc::{AllocError, Global};
 use std::test::Fail;
 use std::thread::Threads;
 use subpage::CutPlace;
 use time_merge::End;
-use tournament_tree::TournamentTree;
 use trace_base::ByteText;
 use trace_outside::{File, Gate, MemFile, MemSink, NoGate, Pending, Sink};
 use trace_samples::layout;
@@ -61,22 +59,16 @@ fn report_behind<R: Threads + Sync, G: Gate, F: File, O: Sink>(
         return Ok(None);
     }
     let layout = layout();
-    let mut pool = Pool::new(alloc, counts.len() as u32, 4096, room)?;
-    let lanes = pool.lanes();
-    open_lanes(&layout, lanes, counts, room);
-    let mut work = RoundWork {
-        heads: TournamentTree::new(alloc, counts.len() as u32)?,
-        highs: TournamentTree::new(alloc, counts.len() as u32)?,
-        moved: vec![in alloc; false; counts.len()]?,
-        pending: Pending::new(alloc)?,
-    };
+    let parts = parts_of(alloc, counts)?;
+    let lanes = RoundLanes::new(alloc, &layout, room, parts.as_slice())?;
+    let pending = Pending::new(alloc)?;
     let workers = Workers {
         rt,
         count: workers,
         shared_from,
         gate,
     };
-    Ok(Some(report_rounds(&workers, &Marks, &layout, file, lanes, &mut work, out)))
+    Ok(Some(report_rounds(&workers, &Marks, file, lanes, pending, out)))
 }
 
 // Whether a report has this text and this end.

@@ -1,68 +1,56 @@
-use Rattle.std.proofs.Common.{◌≡◌, ◌∙◌, ℕ, true, length, replicate, refl, ap, arith}
-use Rattle.std.proofs.lemmas.List.{length-replicate, with_items_is}
-use Rattle.trace_base.proofs.Layouts.{carried}
-use Rattle.trace_outside.proofs.Keeping.{file_kept, file_still, sink_kept, sink_still}
-use Rattle.report_rounds.proofs.DueReads.{due_told}
-use Rattle.report_rounds.proofs.Reading.{less_further, reads_all, reads_ended, reads_further}
-use Rattle.report_rounds.proofs.Reporting.{first_state, going_ended, going_on, going_start}
-use Rattle.report_rounds.proofs.Settling.{look_at_all}
-use Rattle.report_rounds.proofs.Starting.{start_between}
-use Rattle.report_rounds.proofs.Turning.{round_state}
+use Rattle.std.proofs.Common.{◌≤◌, ◌∙◌, List, true, IfSome, length, replicate, ap, subst, sym}
+use Rattle.std.specs.Prelude.{sum_by}
+use Rattle.std.specs.List.{All}
+use Rattle.trace_outside.specs.Causes.{raised}
+use Rattle.subpage.specs.Arrangement.{CpusRise}
+use Rattle.page_pool.specs.declared.lane.Lane.{Lane}
+use Rattle.time_merge.specs.LaneRows.{parts_of}
+use Rattle.report_rounds.specs.Between.{HasRoom, IsAtStart}
+use Rattle.report_rounds.specs.Due.{ReadsDue}
+use Rattle.report_rounds.specs.LanesSeen.{LanesSeen}
+use Rattle.report_rounds.specs.Reports.{IsReport}
 use Rattle.report_rounds.proofs.reports.report_rounds.Goals as goal
 
-pub loop-end-init : goal.loop-end-init
-loop-end-init g c =
-    let slots : length c.as_mut_slice.result.now ≡ length c.args.lanes.now = ap length c.as_mut_slice.ensures.value ∙ c.requires.moved in
-    let marks : c.mark_all.new.moved ≡ replicate (length c.args.lanes.now) true = c.mark_all.ensures ∙ ap (λ (n : ℕ). replicate n true) slots in
-    let is = with_items_is c.args.work.now.moved c.mark_all.new.moved (ap length c.mark_all.ensures ∙ length-replicate (length c.as_mut_slice.result.now) true ∙ c.as_mut_slice.ensures.len) ∙ marks in
-    record {
-      between = record {
-        each = start_between (g.L.LineFormat.text c.args.form.now) c.args.layout.now c.args.lanes.now c.requires.start c.requires.room;
-        rise = c.requires.rise;
-        slots = record { heads = c.requires.heads; highs = c.requires.highs; marks = ap length is ∙ length-replicate (length c.args.lanes.now) true };
-        unmoved = look_at_all (g.L.LineFormat.text c.args.form.now) c.args.layout.now c.args.lanes.now _ is;
-        empty = c.requires.empty;
-      };
-      parts = refl;
-      going = going_start (g.L.LineFormat.text c.args.form.now) c.args.layout.now (g.F.File.bytes c.args.file.now) c.args.lanes.now (g.O.Sink.written c.args.out.now) c.requires.start;
-      reads = omega arith;
-      unread = omega arith;
-      keeps = file_still _ _;
-      keeps_out = sink_still _ _;
-    }
+pub go_round-requires-clause-start : goal.go_round-requires-clause-start
+go_round-requires-clause-start g c κs live =
+    subst (λ (lanes : List Lane). All (IsAtStart c.lanes.inside.layout) lanes) (sym c.lanes-all.ensures.value) c.lanes.invariant.start
 
-pub loop-end-preserved : goal.loop-end-preserved
-loop-end-preserved g c =
-    let before = c.loop-end.invariant in
-    let more = c.in_default.ensures in
-    let on = more.goes_on refl in
-    record {
-      between = more.between refl;
-      parts = on.parts ∙ before.parts;
-      going = going_on (g.L.LineFormat.text c.args.form.now) c.args.layout.now (g.F.File.bytes c.args.file.now) (g.F.File.bytes c.loop-end.file) (first_state c.args.lanes.now (g.O.Sink.written c.args.out.now))
-          (round_state c.loop-end.lanes c.loop-end.last (g.O.Sink.written c.loop-end.out)) (round_state c.turn.new.lanes c.turn.new.last (g.O.Sink.written c.turn.new.out)) before.keeps.bytes before.going more.turned;
-      reads = reads_further c.args.layout.now (g.F.File.size c.args.file.now) (g.F.File.size c.loop-end.file) _ _ _ c.args.lanes.now c.loop-end.lanes before.keeps.size before.reads before.unread
-          c.turn.new.lanes on.unread on.reads;
-      unread = less_further c.args.layout.now (g.F.File.size c.args.file.now) (g.F.File.size c.loop-end.file) _ _ 0 c.args.lanes.now c.loop-end.lanes before.keeps.size before.reads before.unread
-          c.turn.new.lanes on.unread;
-      keeps = file_kept before.keeps more.keeps;
-      keeps_out = sink_kept before.keeps_out more.keeps_out;
-    }
+pub go_round-requires-clause-room : goal.go_round-requires-clause-room
+go_round-requires-clause-room g c κs live =
+    subst (λ (lanes : List Lane). All (HasRoom (g.L.LineFormat.text c.args.form.now)) lanes) (sym c.lanes-all.ensures.value)
+    (subst (λ (seen : LanesSeen). All (HasRoom (g.L.LineFormat.text c.args.form.now)) seen.all) (sym c.lanes.view_is) c.requires.room)
 
-pub returns-in-Ends-clause-reads : goal.returns-in-Ends-clause-reads
-returns-in-Ends-clause-reads g c =
-    reads_ended c.args.layout.now (g.F.File.size c.args.file.now) (g.F.File.size c.loop-end.file) _ _ _ c.args.lanes.now c.loop-end.lanes c.loop-end.invariant.keeps.size c.loop-end.invariant.reads c.loop-end.invariant.unread
-    (reads_all c.args.layout.now _ _ c.loop-end.lanes _ _ (omega (arith, (carried c.args.layout.now).page_least)) c.turn.ensures.loaded)
+pub go_round-requires-clause-rise : goal.go_round-requires-clause-rise
+go_round-requires-clause-rise g c κs live =
+    subst (λ (lanes : List Lane). CpusRise (parts_of lanes)) (sym c.lanes-all.ensures.value) c.lanes.invariant.rise
 
-pub returns-in-Ends-clause-report : goal.returns-in-Ends-clause-report
-returns-in-Ends-clause-report g c =
-    going_ended (g.L.LineFormat.text c.args.form.now) c.args.layout.now (g.F.File.bytes c.args.file.now) (g.F.File.bytes c.loop-end.file) c.args.lanes.now (g.O.Sink.written c.args.out.now)
-    (round_state c.loop-end.lanes c.loop-end.last (g.O.Sink.written c.loop-end.out)) (round_state c.turn.new.lanes c.turn.new.last (g.O.Sink.written c.turn.new.out)) c.in-Ends.end c.requires.shown c.loop-end.invariant.keeps.bytes
-    c.requires.start c.loop-end.invariant.parts c.loop-end.invariant.going c.in-Ends.ensures.turned
+pub go_round-requires-clause-heads : goal.go_round-requires-clause-heads
+go_round-requires-clause-heads g c κs live = c.lanes.invariant.heads ∙ ap length (sym c.lanes-all.ensures.value)
 
-pub returns-in-Ends-clause-due : goal.returns-in-Ends-clause-due
-returns-in-Ends-clause-due g c =
-    due_told (g.L.LineFormat.text c.args.form.now) c.args.layout.now (g.F.File.bytes c.args.file.now) (g.F.File.bytes c.loop-end.file) (g.F.File.size c.args.file.now) (g.F.File.size c.loop-end.file)
-    c.args.lanes.now (g.O.Sink.written c.args.out.now) (round_state c.loop-end.lanes c.loop-end.last (g.O.Sink.written c.loop-end.out)) (round_state c.turn.new.lanes c.turn.new.last (g.O.Sink.written c.turn.new.out)) _ _ _ c.in-Ends.end
-    c.loop-end.invariant.keeps.bytes c.loop-end.invariant.keeps.size (g.met.F.File.size_is c.args.file.now) (omega (arith, (carried c.args.layout.now).page_least)) c.requires.start c.loop-end.invariant.between.each
-    c.loop-end.invariant.parts c.loop-end.invariant.going c.turn.ensures.loaded c.in-Ends.ensures.turned c.loop-end.invariant.unread c.loop-end.invariant.reads
+pub go_round-requires-clause-highs : goal.go_round-requires-clause-highs
+go_round-requires-clause-highs g c κs live = c.lanes.invariant.highs ∙ ap length (sym c.lanes-all.ensures.value)
+
+pub go_round-requires-clause-moved : goal.go_round-requires-clause-moved
+go_round-requires-clause-moved g c κs live =
+    c.lanes.invariant.moved ∙ ap (λ (lanes : List Lane). replicate (length lanes) true) (sym c.lanes-all.ensures.value)
+
+pub returns-clause-report : goal.returns-clause-report
+returns-clause-report g c =
+    subst (λ (seen : LanesSeen). IfSome (g.F.File.bytes c.args.file.now) (λ bytes. IsReport (g.L.LineFormat.text c.args.form.now) seen.layout bytes (parts_of seen.all)
+    (g.O.Sink.written c.args.out.now) (g.O.Sink.written c.go_round.new.out) c.go_round.result)) c.lanes.view_is
+    (subst (λ (lanes : List Lane). IfSome (g.F.File.bytes c.args.file.now) (λ bytes. IsReport (g.L.LineFormat.text c.args.form.now) c.lanes.inside.layout bytes (parts_of lanes)
+    (g.O.Sink.written c.args.out.now) (g.O.Sink.written c.go_round.new.out) c.go_round.result)) c.lanes-all.ensures.value c.go_round.ensures.report)
+
+pub returns-clause-reads : goal.returns-clause-reads
+returns-clause-reads g c =
+    subst (λ (seen : LanesSeen). g.F.File.reads c.go_round.new.file ≤ raised (g.F.File.reads c.args.file.now) (sum_by (λ part. part.1.size) (parts_of seen.all))) c.lanes.view_is
+    (subst (λ (lanes : List Lane). g.F.File.reads c.go_round.new.file ≤ raised (g.F.File.reads c.args.file.now) (sum_by (λ part. part.1.size) (parts_of lanes))) c.lanes-all.ensures.value
+    c.go_round.ensures.reads)
+
+pub returns-clause-due : goal.returns-clause-due
+returns-clause-due g c =
+    subst (λ (seen : LanesSeen). IfSome (g.F.File.bytes c.args.file.now) (λ bytes. ReadsDue (g.L.LineFormat.text c.args.form.now) seen.layout bytes (parts_of seen.all)
+    (g.O.Sink.written c.args.out.now) (g.O.Sink.written c.go_round.new.out) (g.F.File.reads c.args.file.now) (g.F.File.reads c.go_round.new.file))) c.lanes.view_is
+    (subst (λ (lanes : List Lane). IfSome (g.F.File.bytes c.args.file.now) (λ bytes. ReadsDue (g.L.LineFormat.text c.args.form.now) c.lanes.inside.layout bytes (parts_of lanes)
+    (g.O.Sink.written c.args.out.now) (g.O.Sink.written c.go_round.new.out) (g.F.File.reads c.args.file.now) (g.F.File.reads c.go_round.new.file))) c.lanes-all.ensures.value
+    c.go_round.ensures.due)

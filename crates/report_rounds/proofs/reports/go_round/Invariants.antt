@@ -8,7 +8,7 @@ use Rattle.report_rounds.specs.Between.{AreBetween, all_work}
 use Rattle.report_rounds.specs.Turns.{IsFurther}
 use Rattle.report_rounds.proofs.Reporting.{first_state}
 use Rattle.report_rounds.proofs.Turning.{round_state}
-use Rattle.report_rounds.proofs.reports.report_rounds.Given as goal
+use Rattle.report_rounds.proofs.reports.go_round.Given as goal
 
 abbrev pub invariant-loop-end : goal.invariant-loop-end
 invariant-loop-end g l = record {
