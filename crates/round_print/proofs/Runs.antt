@@ -9,6 +9,7 @@ use Rattle.line_holes.specs.declared.hole.Hole.{Hole}
 use Rattle.page_pool.specs.Lines.{Line, is_plain_up_to}
 use Rattle.page_pool.specs.declared.lane.Lane.{Lane}
 use Rattle.time_merge.specs.declared.horizons.Horizon.{Horizon}
+use Rattle.round_print.specs.Prints.{ArePlain}
 use Rattle.round_print.specs.Rounds.{IsNextAt, IsRun}
 
 pub one_run : (h : Horizon) (heads : List (Option (Option ℕ))) (i : ℕ) (lane : Lane) (n : ℕ) → n ≡ 1 → 0 < length lane.region.kept → IsRun h heads i lane n
@@ -16,7 +17,6 @@ one_run h heads i lane n one some = record {
   some = omega (arith, one);
   kept = omega (arith, one, some);
   next = λ more. absurd (omega (arith, one, more));
-  plain = λ more. absurd (omega (arith, one, more));
 }
 
 record IsPlainLine (most : ℕ) (line : Line) : Type 0 where
@@ -49,5 +49,21 @@ plain_run h heads i lane most n some next is =
       some = omega (arith, is);
       kept = omega (arith, is, some, prefix_len-le-length (is_plain_up_to most) lines);
       next = λ more. all_front (λ line. IsNextAt h heads i lane.cpu line.key) most n lines is more (λ line plain. next line.key plain.key);
-      plain = λ more. all_front (λ line. line.text.hole ≡ None) most n lines is more (λ line plain. plain.hole);
+    }
+
+pub plain_front : (lines : List Line) (most n : ℕ) → n ≡ max (prefix_len (is_plain_up_to most) lines) 1 → 1 < n → ArePlain (take n lines)
+plain_front lines most n is more = all_front (λ line. line.text.hole ≡ None) most n lines is more (λ line plain. plain.hole)
+
+-- lines with keys up to one up to which they come next
+pub early_run : (h : Horizon) (heads : List (Option (Option ℕ))) (i : ℕ) (lane : Lane) (most count n : ℕ) → 0 < length lane.region.kept → ((key : ℕ) → key ≤ most → IsNextAt h heads i lane.cpu key)
+    → count ≤ length lane.region.kept → ((k : ℕ) (d : Line) → k < count → (get_or lane.region.kept k d).key ≤ most) → n ≡ max count 1 → IsRun h heads i lane n
+early_run h heads i lane most count n some next few early is =
+    let lines : List Line = lane.region.kept in
+    let P : Line → Type 0 = λ line. IsNextAt h heads i lane.cpu line.key in
+    record {
+      some = omega (arith, is);
+      kept = omega (arith, is, some, few);
+      next = λ more k d lt.
+          let lt_n : k < n = omega (arith, lt, length-take n lines) in
+          subst P (sym (get_or-take n lines k d lt_n)) (next (get_or lines k d).key (early k d (omega (arith, is, more, lt_n))));
     }

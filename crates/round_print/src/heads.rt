@@ -1,9 +1,10 @@
-ghost use Rattle.std.specs.Prelude.{◌≡◌, ◌<◌, ◌≤◌, ℕ, length, map, option_map, true, Some, IfSome};
+ghost use Rattle.std.specs.Prelude.{◌≡◌, ◌<◌, ◌≤◌, ℕ, length, map, option_map, slice_index_or, take, true, None, Some, IfSome};
 ghost use Rattle.time_merge.specs.Nexts.{IsLeastAt};
 ghost use Rattle.subpage.specs.Arrangement.{CpusRise};
 ghost use Rattle.time_merge.specs.Horizons.{is_due};
 ghost use Rattle.time_merge.specs.LaneRows.{parts_of};
-ghost use Rattle.round_print.specs.Prints.{IsDropped, head_due, head_kept};
+ghost use Rattle.page_pool.specs.Lines.{Line};
+ghost use Rattle.round_print.specs.Prints.{ArePlain, IsDropped, head_due, head_kept};
 ghost use Rattle.round_print.specs.Rounds.{IsNextAt, IsRun};
 ghost use Rattle.tournament_tree.specs.Slots.{next_by};
 
@@ -93,9 +94,25 @@ fn run_up_to(horizon: &Horizon, cpu: u32, heads: &TournamentTree, i: usize) -> O
     }
 }
 
-/// How many lines of the lane that is next go out at once: those up to the first that has a hole or does not come next, or one.
-/// It is one where another lane's line went out alone just before, so that lanes that take turns line by line are not asked,
-/// and after a line with a hole, since the others have one too.
+/// How many of the first lines that a region keeps have keys up to this one.
+fn front_up_to(region: &Region, most: u64) -> u32
+    ensures kept { result ≤ length region.now.kept }
+    ensures early { (i : ℕ) (d : Line) → i < result → (slice_index_or region.now.kept i d).key ≤ most }
+{
+    let mut count = 0;
+    while count < region.lines() {
+        let (_, key, _) = region.line(count);
+        if most < key {
+            break;
+        }
+        count += 1;
+    }
+    count
+}
+
+/// How many lines of the lane that is next go out at once: those up to the first that does not come next, or one. Before the
+/// first line with a hole they are those without.
+/// It is one where another lane's line went out alone just before, so that lanes that take turns line by line are not asked.
 pub(crate) fn run_of(
     horizon: &Horizon,
     lane: &Lane,
@@ -106,15 +123,19 @@ pub(crate) fn run_of(
 ) -> u32
     requires slot { i < length heads.now }
     requires some { 0 < length lane.now.region.kept }
-    ensures { IsRun horizon.now heads.now i lane.now result }
+    ensures run { IsRun horizon.now heads.now i lane.now result }
+    ensures plain { last ≡ None → 1 < result → ArePlain (take result lane.now.region.kept) }
 {
-    if last.is_some() || alone.is_some_and(|other| other != i) {
+    if alone.is_some_and(|other| other != i) {
         return 1;
     }
-    match run_up_to(horizon, lane.cpu, heads, i) {
-        None => 1,
-        Some(most) => lane.region.plain_front(most).max(1),
+    let Some(most) = run_up_to(horizon, lane.cpu, heads, i) else {
+        return 1;
+    };
+    if last.is_some() {
+        return front_up_to(&lane.region, most).max(1);
     }
+    lane.region.plain_front(most).max(1)
 }
 
 /// Keeps a region's first lines no longer. Where few lines are left their room is made free again.

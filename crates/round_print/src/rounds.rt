@@ -1,4 +1,4 @@
-ghost use Rattle.std.specs.Prelude.{◌≡◌, ◌<◌, ◌≤◌, [], length, map, take, IfOk};
+ghost use Rattle.std.specs.Prelude.{◌≡◌, ◌<◌, ◌≤◌, [], length, map, take, IfOk, None};
 ghost use Rattle.trace_outside.specs.Causes.{HasCause};
 ghost use Rattle.trace_outside.specs.Pending.{Puts};
 ghost use Rattle.round_print.specs.Prints.{ArePlain, filled_text, front_of, head_kept, last_of, printed};
@@ -11,7 +11,8 @@ use time_merge::Horizon;
 use tournament_tree::TournamentTree;
 use trace_outside::{Failed, Pending, Sink};
 
-/// Puts a lane's first lines, filled from the last time, and keeps them no longer. Where there are several none has a hole.
+/// Puts a lane's first lines, filled from the last time, and keeps them no longer. Before the first time none of several has a
+/// hole.
 fn print_front<O: Sink>(
     lane: &mut Lane,
     count: u32,
@@ -20,10 +21,10 @@ fn print_front<O: Sink>(
     out: &mut O,
 ) -> Result<(), Failed>
     requires kept { (0 < count) × (count ≤ length lane.old.region.kept) }
-    requires plain { 1 < count → ArePlain (take count lane.old.region.kept) }
+    requires plain { last.old ≡ None → 1 < count → ArePlain (take count lane.old.region.kept) }
     ensures puts { Puts (filled_text last.old (front_of count lane.old)) (O.written out.old) pending.old
         (O.written out.new) pending.new result }
-    ensures last { last.new ≡ last_of last.old (front_of count lane.old) }
+    ensures last { IfOk result (λ _. last.new ≡ last_of last.old (front_of count lane.old)) }
     ensures name { O.name out.new ≡ O.name out.old }
     ensures cause { HasCause (O.faults out.old) (O.faults out.new) result }
     ensures dropped { IfOk result (λ _. IsFrontDropped count lane.old lane.new) }

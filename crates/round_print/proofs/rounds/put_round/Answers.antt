@@ -53,7 +53,7 @@ loop-i-smaller g c =
     let lane : Lane = get_or c.loop-i.lanes c.in-Some.i c.index-lanes-i-in-Some.result in
     let dropped : IsFrontDropped c.run_of-count.result lane c.print_front.new.lane = c.in_ok-print_front.ensures.dropped in
     let step : IsStep c.args.horizon.now c.loop-i.lanes c.in-Some.i c.run_of-count.result lane c.print_front.new.lane =
-    step_at c.args.horizon.now c.loop-i.lanes c.loop-i.heads c.in-Some.i c.run_of-count.result c.index-lanes-i.result c.index-lanes-i-in-Some.result c.in-Some.ensures.inside c.loop-i.invariant.heads c.run_of-count.ensures
+    step_at c.args.horizon.now c.loop-i.lanes c.loop-i.heads c.in-Some.i c.run_of-count.result c.index-lanes-i.result c.index-lanes-i-in-Some.result c.in-Some.ensures.inside c.loop-i.invariant.heads c.run_of-count.ensures.run
     c.print_front.new.lane c.in-Some.ensures.least c.loop-i.invariant.rising dropped.lane.cpu dropped.region.kept in
     omega (arith, step.fewer)
 
@@ -68,10 +68,10 @@ loop-i-preserved g c =
     let first : List Lane = c.args.lanes.now in
     let lt : i < length lanes = c.in-Some.ensures.inside in
     let at : lane ≡ get_or lanes i lane = get_or_default lanes i c.index-lanes-i-in-Some.result lane lt in
-    let run : IsRun h (map head_kept lanes) i lane n = run_at h lanes c.loop-i.heads i n c.index-lanes-i.result c.index-lanes-i-in-Some.result lt c.loop-i.invariant.heads c.run_of-count.ensures in
+    let run : IsRun h (map head_kept lanes) i lane n = run_at h lanes c.loop-i.heads i n c.index-lanes-i.result c.index-lanes-i-in-Some.result lt c.loop-i.invariant.heads c.run_of-count.ensures.run in
     let dropped : IsFrontDropped n lane now = c.in_ok-print_front.ensures.dropped in
     let step : IsStep h lanes i n lane now =
-    step_at h lanes c.loop-i.heads i n c.index-lanes-i.result c.index-lanes-i-in-Some.result lt c.loop-i.invariant.heads c.run_of-count.ensures now c.in-Some.ensures.least c.loop-i.invariant.rising dropped.lane.cpu dropped.region.kept in
+    step_at h lanes c.loop-i.heads i n c.index-lanes-i.result c.index-lanes-i-in-Some.result lt c.loop-i.invariant.heads c.run_of-count.ensures.run now c.in-Some.ensures.least c.loop-i.invariant.rising dropped.lane.cpu dropped.region.kept in
     let done : List ℕ = c.loop-i.invariant.text.0 in
     let front : List ℕ = filled_text c.loop-i.last (front_of n lane) in
     let key : next_by c.head_kept.result ≡ head_kept now = c.head_kept.ensures ∙ ap head_kept (get_or-set_same lanes i now c.index-lanes-i-in-Some-2.result lt) in
@@ -80,13 +80,13 @@ loop-i-preserved g c =
       text = (
         done ++ front,
         (
-          text_on h lanes i n lane now c.loop-i.last c.print_front.new.last done (text_of (filled c.args.last.now (printed h first))) step c.print_front.ensures.last c.loop-i.invariant.text.1.0,
+          text_on h lanes i n lane now c.loop-i.last c.print_front.new.last done (text_of (filled c.args.last.now (printed h first))) step c.in_ok-print_front.ensures.last c.loop-i.invariant.text.1.0,
           λ before text held.
               let P : List ℕ → Type 0 = λ t. Holds before (g.O.Sink.written c.print_front.new.out) c.print_front.new.pending t in
               subst P (append_assoc text done front) (c.in_ok-print_front.ensures.puts before (text ++ done) (c.loop-i.invariant.text.1.1 before text held)),
         ),
       );
-      last = last_on h lanes i n lane now c.loop-i.last c.print_front.new.last (last_of c.args.last.now (printed h first)) step c.print_front.ensures.last c.loop-i.invariant.last;
+      last = last_on h lanes i n lane now c.loop-i.last c.print_front.new.last (last_of c.args.last.now (printed h first)) step c.in_ok-print_front.ensures.last c.loop-i.invariant.last;
       name = c.in_ok-print_front.ensures.name ∙ c.loop-i.invariant.name;
       faults = c.in_ok-print_front.ensures.cause.kept ∙ c.loop-i.invariant.faults;
       parts = set_parts lanes i c.index-lanes-i-in-Some.result now lt c.in_ok-print_front.ensures.cpu c.in_ok-print_front.ensures.part ∙ c.loop-i.invariant.parts;
@@ -107,7 +107,7 @@ returns-in_err-print_front-clause-puts g c =
     let n : ℕ = c.run_of-count.result in
     let lane : Lane = get_or c.loop-i.lanes c.in-Some.i c.index-lanes-i-in-Some.result in
     let step : IsStep c.args.horizon.now c.loop-i.lanes c.in-Some.i n lane (without n lane) =
-    step_at c.args.horizon.now c.loop-i.lanes c.loop-i.heads c.in-Some.i n c.index-lanes-i.result c.index-lanes-i-in-Some.result c.in-Some.ensures.inside c.loop-i.invariant.heads c.run_of-count.ensures
+    step_at c.args.horizon.now c.loop-i.lanes c.loop-i.heads c.in-Some.i n c.index-lanes-i.result c.index-lanes-i-in-Some.result c.in-Some.ensures.inside c.loop-i.invariant.heads c.run_of-count.ensures.run
     (without n lane) c.in-Some.ensures.least c.loop-i.invariant.rising refl refl in
     let done : List ℕ = c.loop-i.invariant.text.0 in
     let front : List ℕ = filled_text c.loop-i.last (front_of n lane) in
