@@ -28,7 +28,7 @@ use Rattle.fmt_print.specs.Steps.{literal_directive, literal_start, literal_text
 
 -- steps that were made of the first of some directives
 abbrev made : Option Literal → List ℕ → Shown → Step
-made l front s = record { literal = l; front = front; shown = s }
+made l front s = record { front = front; literal = l; shown = s }
 
 pub steps_more : (steps : List Step) (left behind rest ds : List Directive) (l : Option Literal) (front : List ℕ) (s : Shown) → option_to_list (literal_directive l) ++ behind ≡ left → option_to_list (shown_directive s) ++ rest ≡ behind → flat_map directives_of steps ++ left ≡ ds
     → flat_map directives_of (steps ++ made l front s ∷ []) ++ rest ≡ ds

@@ -68,25 +68,24 @@ impl<'a> Printer<'a> {
     /// Shows a literal of any length.
     #[inline(never)]
     #[tactic(auto, using(fmt_forms::proofs::Gathering::put_shown))]
-    fn any_literal(&self, literal: Literal, into: &mut Tail<'_>)
-        requires { IsWithin (length (source self.now).text) (a_literal literal) }
-        ensures { Shows into.old into.new (literal_text (source self.now).text (Some literal)) }
+    fn any_literal(&self, literal: &Literal, into: &mut Tail<'_>)
+        requires { IsWithin (length (source self.now).text) (a_literal literal.now) }
+        ensures { Shows into.old into.new (literal_text (source self.now).text (Some literal.now)) }
     {
         into.put(&self.plan.text()[literal.start as usize..literal.end as usize]);
     }
 
-    /// Shows a literal, if there is one. Most have up to sixteen bytes, which their step keeps.
+    /// Shows the literal of a step, if there is one. Most have up to sixteen bytes, which the step keeps.
     #[inline(always)]
-    fn literal(&self, literal: Option<Literal>, front: &[u8; 16], into: &mut Tail<'_>)
-        requires placed { IfSome (literal_directive literal) (IsWithin (length (source self.now).text)) }
-        requires copied { front.now ≡ sixteen_at (literal_start literal) (source self.now).text }
-        ensures { Shows into.old into.new (literal_text (source self.now).text literal) }
+    fn literal(&self, step: &Step, into: &mut Tail<'_>)
+        requires { IsPlaced (source self.now).text step.now }
+        ensures { Shows into.old into.new (literal_text (source self.now).text step.now.literal) }
     {
-        match literal {
+        match &step.literal {
             Some(literal) => {
                 let len = literal.end - literal.start;
                 if len <= 16 {
-                    into.put_front(front, len as usize);
+                    into.put_front(&step.front, len as usize);
                 } else {
                     self.any_literal(literal, into);
                 }
@@ -105,7 +104,7 @@ impl<'a> Printer<'a> {
         match shown {
             Shown::Nothing => args,
             Shown::Again(literal) => {
-                self.any_literal(*literal, into);
+                self.any_literal(literal, into);
                 args
             }
             Shown::Signed(length) => {
@@ -136,7 +135,7 @@ impl<'a> Printer<'a> {
         requires { IsPlaced (source self.now).text step.now }
         ensures { Takes into.old into.new result.now (printed_step (source self.now) step.now (trees args.now)) }
     {
-        self.literal(step.literal, &step.front, into);
+        self.literal(step, into);
         self.shown(&step.shown, args, into)
     }
 

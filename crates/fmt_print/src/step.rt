@@ -49,9 +49,9 @@ pub enum Shown {
 /// One literal or none, and what is shown after it.
 #[derive(Clone, Copy)]
 pub struct Step {
-    pub literal: Option<Literal>,
     /// The first bytes of the literal. Most literals have no more.
     pub front: [u8; 16],
+    pub literal: Option<Literal>,
     pub shown: Shown,
 }
 
@@ -169,8 +169,8 @@ pub fn steps_of(
         let (shown, rest) = first_shown(behind);
         let front = front_of(text, literal);
         steps.push(Step {
-            literal,
             front,
+            literal,
             shown,
         })?;
         left = rest;

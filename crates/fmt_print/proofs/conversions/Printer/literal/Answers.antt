@@ -11,7 +11,7 @@ returns-then-len-le16 c =
     put_shown c.args.into.now c.put_front.new.self _ c.put_front.ensures.same_slice
     (c.put_front.ensures.held
     ∙ ap (put_held (held c.args.into.now))
-    (front_shown (source c.args.self.now).text c.args.front.now c.args.literal c.in-Some.literal c.in-Some.is c.if-len-le16.true c.requires.placed c.requires.copied))
+    (front_shown (source c.args.self.now).text c.args.step.now.front c.args.step.now.literal c.in-Some.literal c.in-Some.is c.if-len-le16.true c.requires.0.0 c.requires.1))
 
 pub returns-in-None : goal.returns-in-None
 returns-in-None c = rw c.in-None.is (nothing_joined c.args.into.now)
