@@ -206,7 +206,7 @@ fn put_made(task: &[u8], cpu: u32, time: u64, label: &[u8], into: &mut Tail<'_>)
 }
 
 /// The same where the task has no name.
-#[inline(never)]
+#[inline(always)]
 fn put_unnamed(pid: i32, cpu: u32, time: u64, label: &[u8], into: &mut Tail<'_>) -> usize
     requires cpu { cpu < 100 }
     requires time { time < USUAL_TIMES }
