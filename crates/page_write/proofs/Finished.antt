@@ -1,8 +1,7 @@
 -- The whole sub-buffer around its records.
-use Rattle.std.proofs.Common.{◌≡◌, ℕ, ◌+◌, ◌-◌, ◌≤◌, List, [], ◌∷◌, ◌++◌, length, take, drop, Some, None, refl, sym, ap, subst, ◌∙◌, append_assoc, append-nil, arith}
-use Rattle.std.proofs.lemmas.List.{length-append, length-drop, length-take-le, take_at, drop_at, drop_all, take-append-drop, length-replicate}
+use Rattle.std.proofs.Common.{◌≡◌, ℕ, ◌+◌, ◌-◌, List, [], ◌∷◌, ◌++◌, length, take, drop, Some, None, refl, sym, ap, subst, ◌∙◌, append_assoc, append-nil, arith}
+use Rattle.std.proofs.lemmas.List.{length-append, length-drop, take_at, drop_at, drop_all, take-append-drop, length-replicate}
 use Rattle.std.proofs.lemmas.List.Elements.{All-head}
-use Rattle.std.proofs.Math.Seq.{take-add}
 use Rattle.trace_base.specs.declared.layout.Layout.{Layout}
 use Rattle.trace_base.specs.Layout.{IsLayout}
 use Rattle.trace_base.specs.Number.{bytes_of}
@@ -73,38 +72,6 @@ finished l page bytes x xs front area allowed whole h front_is area_is =
     ∙ sym (append_assoc (records l (x ∷ xs)) (number_text l (x ∷ xs)) (zeros (area_len l - length (data_text l (x ∷ xs))))) in
     ap (λ (t : List ℕ). t ++ area) front_same ∙ ap (λ (t : List ℕ). front_text l (x ∷ xs) ++ t) area_same
 
--- a front that was put, and what was put into the area behind it
-put_front : (at : ℕ) (piece bytes : List ℕ) → at + length piece ≤ length bytes → take (at + length piece) (put_at at piece bytes) ≡ take at bytes ++ piece
-unfolding put_at
-put_front at piece bytes fits =
-    let rest = drop (at + length piece) bytes in
-    let long : length (take at bytes ++ piece) ≡ at + length piece = omega (arith, length-append (take at bytes) piece, length-take-le at bytes (omega (arith, fits))) in
-    ap (take (at + length piece)) (sym (append_assoc (take at bytes) piece rest)) ∙ take_at (take at bytes ++ piece) rest (at + length piece) long
-
--- the text in front of the zero bytes at the end
-pub finished_text : (l : Layout) (page : OpenPage) (bytes : List ℕ) (x : ItemData) (xs : List ItemData) (front area : List ℕ) (behind : ℕ) → IsLayout l → length bytes ≡ l.page → HoldsAll l page bytes x xs
-    → front ≡ put_at l.commit_at (bytes_of l.order l.commit_size (page.used + lost_bits page.lost)) (put_at l.time_at (bytes_of l.order 8 page.start) (zeros l.data_at))
-    → length front ≡ l.data_at → area ≡ put_at page.used (lost_text l page.lost) (drop l.data_at bytes) → behind ≡ page.used + length (lost_text l page.lost)
-    → length area ≡ length (drop l.data_at bytes) → behind ≤ length area → l.data_at ≤ l.page
-    → take (l.page - (length area - behind)) (front ++ area) ++ zeros (length area - behind) ≡ page_of l (x ∷ xs)
-finished_text l page bytes x xs front area behind allowed whole h front_is long area_is is same fits inside =
-    let old = drop l.data_at bytes in
-    let lost = lost_text l page.lost in
-    let records_put = take page.used old in
-    let place : l.page - (length area - behind) ≡ l.data_at + behind = omega (arith, same, length-drop l.data_at bytes, whole, fits, inside) in
-    let count : length area - behind ≡ length old - (page.used + length lost) = omega (arith, same, is) in
-    let room : page.used + length lost ≤ length old = omega (arith, fits, is, same) in
-    let text : take behind area ≡ records_put ++ lost = ap (λ (n : ℕ). take n area) is ∙ ap (take (page.used + length lost)) area_is ∙ put_front page.used lost old room in
-    let both : take (l.page - (length area - behind)) (front ++ area) ≡ front ++ (records_put ++ lost) =
-    ap (λ (n : ℕ). take n (front ++ area)) place ∙ take-add l.data_at behind (front ++ area)
-    ∙ ap (λ (t : List ℕ). t ++ take behind (drop l.data_at (front ++ area))) (take_at front area l.data_at long)
-    ∙ ap (λ (t : List ℕ). front ++ take behind t) (drop_at front area l.data_at long) ∙ ap (λ (t : List ℕ). front ++ t) text in
-    ap (λ (t : List ℕ). t ++ zeros (length area - behind)) both
-    ∙ ap (λ (n : ℕ). (front ++ (records_put ++ lost)) ++ zeros n) count
-    ∙ append_assoc front (records_put ++ lost) (zeros (length old - (page.used + length lost)))
-    ∙ ap (λ (t : List ℕ). front ++ t) (append_assoc records_put lost (zeros (length old - (page.used + length lost))))
-    ∙ finished l page bytes x xs front (records_put ++ (lost ++ zeros (length old - (page.used + length lost)))) allowed whole h front_is refl
-
 -- a finished sub-buffer still holds its items
 pub holds_finished : (l : Layout) (page : OpenPage) (bytes : List ℕ) (x : ItemData) (xs : List ItemData) → IsLayout l → HoldsAll l page bytes x xs → HoldsAll l page (page_of l (x ∷ xs)) x xs
 unfolding page_of
@@ -146,16 +113,3 @@ pub sealed : (l : Layout) (page : OpenPage) (bytes new : List ℕ) (xs : List It
     → ((x : ItemData) (ys : List ItemData) → HoldsAll l page bytes x ys → new ≡ page_of l (x ∷ ys)) → Holds l (Some page) new xs
 sealed l page bytes new [] allowed h is = absurd h
 sealed l page bytes new (x ∷ xs) allowed h is = subst (λ (t : List ℕ). HoldsAll l page t x xs) (sym (is x xs h)) (holds_finished l page bytes x xs allowed h)
-
--- the text of an open sub-buffer that was ended
-pub ended : (l : Layout) (page : OpenPage) (bytes new : List ℕ) (count : ℕ) (xs : List ItemData) → Holds l (Some page) bytes xs
-    → ((x : ItemData) (ys : List ItemData) → HoldsAll l page bytes x ys → take (l.page - count) new ++ zeros count ≡ page_of l (x ∷ ys)) → take (l.page - count) new ++ zeros count ≡ page_of l xs
-ended l page bytes new count [] h is = absurd h
-ended l page bytes new count (x ∷ xs) h is = is x xs h
-
--- that text, as it is taken from the buffer
-pub ended_text : (l : Layout) (text page last : List ℕ) (count : ℕ) (held : List ItemData) → text ≡ take (length page - count) page → page ≡ last → length last ≡ l.page
-    → take (l.page - count) last ++ zeros count ≡ page_of l held → text ++ zeros count ≡ page_of l held
-ended_text l text page last count held front same whole is =
-    let text_is : text ≡ take (l.page - count) last = front ∙ ap (λ (t : List ℕ). take (length t - count) t) same ∙ ap (λ (n : ℕ). take (n - count) last) whole in
-    ap (λ (t : List ℕ). t ++ zeros count) text_is ∙ is

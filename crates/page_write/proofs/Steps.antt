@@ -1,5 +1,5 @@
 -- One item more, in the pass for the size and in the pass for the bytes.
-use Rattle.std.proofs.Common.{◌≡◌, ℕ, ◌+◌, true, false, List, [], ◌∷◌, ◌++◌, length, Option, None, Some, Result, Ok, Err, OnOk, OnErr, refl, sym, ap, subst, ◌∙◌, append-nil, arith}
+use Rattle.std.proofs.Common.{◌≡◌, ℕ, ◌+◌, true, false, List, [], ◌∷◌, ◌++◌, length, Option, None, Some, refl, sym, ap, subst, ◌∙◌, append-nil, arith}
 use Rattle.std.specs.List.{flat_map}
 use Rattle.std.specs.Io.KnownBytes.{append_known}
 use Rattle.std.proofs.lemmas.List.{length-append}
@@ -153,12 +153,3 @@ nothing_yet l told = record { closed = []; so_far = nothing_so_far l; gained = g
 
 pub no_pages : (l : Layout) (told : Option (List ℕ)) (held : List ItemData) → held ≡ [] → HasPages l told told [] held
 no_pages l told held none = subst (λ (h : List ItemData). HasPages l told told [] h) (sym none) (nothing_yet l told)
-
--- what follows from what holds at a success, and at an error
-pub when_ok : {T E : Type 0} (result : Result T E) (P Q : Type 0) → (P → Q) → OnOk result P → OnOk result Q
-when_ok (Ok value) P Q f holds = f holds
-when_ok (Err error) P Q f holds = holds
-
-pub when_err : {T E : Type 0} (result : Result T E) (P Q : Type 0) → (P → Q) → OnErr result P → OnErr result Q
-when_err (Ok value) P Q f holds = holds
-when_err (Err error) P Q f holds = f holds

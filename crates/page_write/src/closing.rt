@@ -71,22 +71,6 @@ fn fill_behind(layout: &Layout, lost: Lost, at: usize, area: &mut [u8])
     put_zeros(behind, area.len() - behind, area);
 }
 
-/// Puts everything that is not a record, but for the zero bytes at the end, and gives their number.
-pub fn finish_text(layout: &Layout, page: OpenPage, into: &mut [u8]) -> u32
-    requires whole { length into.old ≡ layout.now.page }
-    requires fits { LostFits layout.now page.lost }
-    requires room { page.used + length (lost_text layout.now page.lost) ≤ area_len layout.now }
-    ensures few { result ≤ layout.now.page }
-    ensures text { (x : ItemData) (xs : List ItemData) → HoldsAll layout.now page into.old x xs
-        → take (layout.now.page - result) into.new ++ zeros result ≡ page_of layout.now (x ∷ xs) }
-{
-    let word = page.used as u64 + bits_of(page.lost);
-    let (front, area) = into.split_at_mut(layout.data_at as usize);
-    fill_front(layout, page.start, word, front);
-    let behind = put_lost(layout, page.lost, page.used, area);
-    (area.len() - behind) as u32
-}
-
 /// Puts everything that is not a record.
 pub fn finish(layout: &Layout, page: OpenPage, into: &mut [u8])
     requires whole { length into.old ≡ layout.now.page }

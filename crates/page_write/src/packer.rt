@@ -1,15 +1,14 @@
-ghost use Rattle.std.specs.Prelude.{◌≡◌, ◌≢◌, ◌↔◌, ◌+◌, ◌-◌, ◌≤◌, ◌++◌, IsTrue, List, [], Some, length, take, true};
+ghost use Rattle.std.specs.Prelude.{◌≡◌, ◌≢◌, ◌↔◌, ◌+◌, ◌++◌, IsTrue, List, [], Some, length, true};
 ghost use Rattle.subpage.specs.ItemData.{ItemData, last_time};
 ghost use Rattle.subpage.specs.ItemView.{item_view};
 ghost use Rattle.subpage.specs.Page.{items};
 ghost use Rattle.page_write.specs.Adding.{Adds, HasRoom, HasRunAfter, IsRunAfter};
 ghost use Rattle.page_write.specs.Held.{LostFits, HoldsAll};
-ghost use Rattle.page_write.specs.Record.{zeros};
 ghost use Rattle.page_write.specs.PageBytes.{area_len, data_text, one_page, page_of, IsPackable};
 
 use crate::added::Added;
 use crate::adding::{add_run_to, add_to, len_of_lost};
-use crate::closing::{finish, finish_text};
+use crate::closing::finish;
 use crate::open_page::OpenPage;
 use std::marker::Model;
 use subpage::Item;
@@ -143,24 +142,8 @@ impl<'a> Packer<'a> {
         }
     }
 
-    // Ends the open sub-buffer, and gives the number of zero bytes at its end, which are not put. No sub-buffer is open any more.
-    pub(crate) fn end(&mut self) -> u32
-        requires { self.old.held ≢ [] }
-        ensures layout { self.new.layout ≡ self.old.layout }
-        ensures empty { self.new.held ≡ [] }
-        ensures whole { length self.new.bytes ≡ self.old.layout.page }
-        ensures few { result ≤ self.old.layout.page }
-        ensures text { take (self.old.layout.page - result) self.new.bytes ++ zeros result ≡ page_of self.old.layout self.old.held }
-    {
-        let Some(page) = self.page else {
-            return 0;
-        };
-        self.page = None;
-        finish_text(&self.layout, page, self.into)
-    }
-
     // What stands in the buffer.
-    pub(crate) fn bytes(&self) -> &[u8]
+    fn bytes(&self) -> &[u8]
         ensures { result.now ≡ self.now.bytes }
     {
         self.into

@@ -8,7 +8,6 @@ ghost use Rattle.page_write.specs.Passes.{GoesOn, StopsAt, Ends, EndsShort};
 
 use crate::added::Added;
 use crate::packer::Packer;
-use new_files::write_zeros;
 use subpage::Item;
 use trace_outside::{Failed, Sink, write_all};
 
@@ -56,9 +55,7 @@ pub fn write_last<O: Sink>(packer: &mut Packer<'_>, out: &mut O) -> Result<(), F
     if packer.is_empty() {
         return Ok(());
     }
-    let zeros = packer.end();
-    let page = packer.bytes();
-    let (text, _) = page.split_at(page.len() - zeros as usize);
-    write_all(out, text)?;
-    write_zeros(zeros, out)
+    write_all(out, packer.close())?;
+    packer.restart();
+    Ok(())
 }
