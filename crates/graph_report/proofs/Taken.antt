@@ -4,7 +4,8 @@ use Rattle.std.specs.List.{filter}
 use Rattle.std.proofs.lemmas.List.{reverse-reverse}
 use Rattle.std.proofs.lemmas.List.Concat.{flat_map-append}
 use Rattle.subpage.specs.Arrangement.{Keyed}
-use Rattle.item_pass.specs.Skipping.{and_item, by_item}
+use Rattle.time_merge.specs.Skipping.{by_item}
+use Rattle.item_pass.specs.Gathering.{and_item}
 use Rattle.report_print.specs.ContextData.{ContextData}
 use Rattle.call_pairs.specs.declared.graph_item.GraphItem.{GraphItem}
 use Rattle.call_pairs.specs.declared.call.Call.{Call}

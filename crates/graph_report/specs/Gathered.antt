@@ -5,7 +5,7 @@ use Rattle.trace_base.specs.declared.layout.Layout.{Layout}
 use Rattle.trace_base.specs.declared.part.Part.{Part}
 use Rattle.subpage.specs.Arrangement.{Keyed}
 use Rattle.subpage.specs.Cut.{reached_of}
-pub use Rattle.item_pass.specs.Skipping.{cut_place}
+pub use Rattle.item_pass.specs.Gathering.{cut_place}
 use Rattle.report_print.specs.ContextData.{ContextData}
 use Rattle.call_pairs.specs.declared.graph_item.GraphItem.{GraphItem}
 use Rattle.call_pairs.specs.declared.call.Call.{Call}

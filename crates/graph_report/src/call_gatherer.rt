@@ -15,6 +15,7 @@ use item_pass::Gatherer;
 use report_print::Context;
 use std::alloc::AllocError;
 use subpage::Item;
+use time_merge::Others;
 
 /// What items are for the calls. The roles are those of the context's formats.
 #[derive(Drop)]
@@ -71,9 +72,7 @@ impl CallGatherer<'_> {
     }
 }
 
-impl Gatherer for CallGatherer<'_> {
-    type Gathered = Tracing;
-
+impl Others for CallGatherer<'_> {
     // In a trace of calls there is little else.
     const LOOKS_AHEAD: bool = false;
 
@@ -81,12 +80,16 @@ impl Gatherer for CallGatherer<'_> {
 
     ghost matters = { λ _ _ _. true };
 
-    ghost holds = { λ gatherer xs tracing. HasSeen (seen_in gatherer.context.now xs) tracing };
-
     #[inline(always)]
     fn is_other(&self, _cpu: u32, _item: &Item<'_>) -> bool {
         false
     }
+}
+
+impl Gatherer for CallGatherer<'_> {
+    type Gathered = Tracing;
+
+    ghost holds = { λ gatherer xs tracing. HasSeen (seen_in gatherer.context.now xs) tracing };
 
     #[inline(always)]
     fn take(&self, cpu: u32, item: &Item<'_>, tracing: &mut Tracing) -> Result<(), AllocError> {

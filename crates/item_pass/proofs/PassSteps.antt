@@ -1,40 +1,53 @@
 -- A pass, item by item.
-use Rattle.std.proofs.Common.{◌≡◌, ℕ, ◌<◌, List, [], ◌∷◌, ◌++◌, Bool, length, get_or, set, Option, Some, None, refl, sym, ap, subst, ◌∙◌, append_assoc, append-nil, arith}
+use Rattle.std.proofs.Common.{◌≡◌, ℕ, ◌<◌, List, [], ◌∷◌, ◌++◌, Bool, length, get_or, set, sum_by, Option, Some, None, refl, sym, ap, subst, ◌∙◌, append_assoc, append-nil, arith}
 use Rattle.std.specs.Option.{IfSome}
 use Rattle.std.specs.List.{All, filter}
 use Rattle.std.proofs.lemmas.List.{get_or-set_same, length-set, set-set}
+use Rattle.std.proofs.lemmas.List.Sums.{sum_by-set}
 use Rattle.std.proofs.lemmas.List.Elements.{All-set, All-get_or, All-weaker}
 use Rattle.trace_base.specs.declared.layout.Layout.{Layout}
 use Rattle.subpage.specs.ItemData.{ItemData}
 use Rattle.subpage.specs.Arrangement.{Keyed, key_of, cpu_of}
-use Rattle.subpage.specs.Cut.{reached_of, cut_of}
-use Rattle.subpage.specs.CutPlaces.{cut_at}
-use Rattle.subpage.specs.declared.cut_place.CutPlace.{CutPlace}
+use Rattle.subpage.specs.Cut.{Cut, reached_of, cut_of}
+use Rattle.subpage.specs.CutPlaces.{place_of}
 use Rattle.subpage.proofs.Filters.{filter-append}
 use Rattle.page_pool.specs.Fresh.{IsFresh}
 use Rattle.page_pool.specs.declared.lane.Lane.{Lane}
 use Rattle.event_cursor.specs.Stepping.{IsStepped}
 use Rattle.event_cursor.specs.Keys.{first_of}
-use Rattle.event_cursor.specs.Standing.{Stands, keyed_held}
+use Rattle.event_cursor.specs.Standing.{Stands, keyed_held, most_left}
 use Rattle.event_cursor.proofs.Standing.{stands_stepped}
 use Rattle.time_merge.specs.Rows.{coming, least_cut}
 use Rattle.time_merge.specs.LaneRows.{parts_of, rows_of, to_come}
-use Rattle.time_merge.specs.Nexts.{IsNextLane, IsNext}
+use Rattle.time_merge.specs.Nexts.{IsNextLane}
 use Rattle.time_merge.specs.Reads.{all_unread}
-use Rattle.time_merge.specs.declared.next_lanes.Next.{Next}
 use Rattle.time_merge.proofs.Starting.{fresh_stands, fresh_come, cut_of_rows}
 use Rattle.time_merge.proofs.PartReads.{same_unread, set_unread}
-use Rattle.time_merge.proofs.Readying.{set_parts}
-use Rattle.item_pass.specs.Skipping.{IsSkipped, IsUsedUp, and_item, by_item, cut_place}
-use Rattle.item_pass.proofs.Skips.{skipped_come}
+use Rattle.time_merge.specs.Skipping.{IsLaneUsedUp, IsSkipped, by_item}
+use Rattle.time_merge.proofs.Skips.{skipped_come, used_parts}
+use Rattle.item_pass.specs.Gathering.{and_item, cut_place}
 
--- items that are used up read nothing, and their lane keeps its part
-pub using_unread : (m : ℕ → ItemData → Bool) (l : Layout) (len : ℕ) (lanes : List Lane) (i : ℕ) (d now : Lane) → i < length lanes → IsUsedUp m l (get_or lanes i d) now → all_unread l len (set lanes i now) ≡ all_unread l len lanes
-using_unread m l len lanes i d now lt s =
-    set_unread l len lanes i d now lt (same_unread l len (get_or lanes i d) now (s.skipped.part ∙ s.stepped.page.part) (s.skipped.state ∙ s.stepped.page.state) (s.skipped.next ∙ s.stepped.page.next))
+-- one of several lanes
+pub a_lane : (lanes : List Lane) (i : ℕ) → i < length lanes → Lane
+a_lane [] i lt = absurd (omega (arith, lt))
+a_lane (a ∷ lanes) i lt = a
 
-pub used_parts : (m : ℕ → ItemData → Bool) (l : Layout) (lanes : List Lane) (i : ℕ) (d now : Lane) → i < length lanes → IsUsedUp m l (get_or lanes i d) now → parts_of (set lanes i now) ≡ parts_of lanes
-used_parts m l lanes i d now lt s = set_parts lanes i d now lt (s.skipped.cpu ∙ s.stepped.page.cpu) (s.skipped.part ∙ s.stepped.page.part)
+module _ (m : ℕ → ItemData → Bool) (l : Layout) (lanes : List Lane) (i : ℕ) (now : List Lane) (lt : i < length lanes) (u : IsLaneUsedUp m l lanes i now) where
+  -- items that are used up read nothing, and their lane keeps its part
+  pub using_unread : (len : ℕ) → all_unread l len now ≡ all_unread l len lanes
+  using_unread len =
+      let s = u.used u.lane in
+      ap (all_unread l len) u.set
+      ∙ set_unread l len lanes i u.lane u.lane lt (same_unread l len (get_or lanes i u.lane) u.lane (s.skipped.part ∙ s.stepped.page.part) (s.skipped.state ∙ s.stepped.page.state) (s.skipped.next ∙ s.stepped.page.next))
+
+  pub using_parts : parts_of now ≡ parts_of lanes
+  using_parts = ap parts_of u.set ∙ used_parts m l lanes i u.lane u.lane lt (u.used u.lane)
+
+  -- and are fewer then
+  pub using_fewer : sum_by (most_left l) now < sum_by (most_left l) lanes
+  using_fewer =
+      let same : sum_by (most_left l) now ≡ sum_by (most_left l) (set lanes i u.lane) = ap (sum_by (most_left l)) u.set in
+      omega (arith, same, sum_by-set (most_left l) lanes i u.lane u.lane lt, u.most u.lane)
 
 -- These items matter, and were taken from the front of what lanes have to come.
 pub record Passed (m : ℕ → ItemData → Bool) (H : List Keyed → Type 0) (layout : Layout) (file : List ℕ) (first now : List Lane) : Type 0 where
@@ -61,18 +74,16 @@ module _ (m : ℕ → ItemData → Bool) (l : Layout) where
     holds = p.holds;
   }
 
-  pub loaded : (H : List Keyed → Type 0) (told now_told : Option (List ℕ)) (first lanes lanes1 : List Lane) (end : Next) → now_told ≡ told
+  pub loaded : (H : List Keyed → Type 0) (told now_told : Option (List ℕ)) (first lanes lanes1 : List Lane) → now_told ≡ told
       → IfSome told (λ file. Passed m H l file first lanes)
       → IfSome now_told (λ file. rows_of l file lanes1 ≡ rows_of l file lanes)
       → IfSome now_told (λ file. All (Stands l file) lanes → All (Stands l file) lanes1)
-      → IfSome now_told (λ file. All (Stands l file) lanes → IsNext l file lanes1 end)
-      → IfSome told (λ file. Passed m H l file first lanes1 × IsNext l file lanes1 end)
-  loaded H None now_told first lanes lanes1 end e p rows stands next = tt
-  loaded H (Some file) now_told first lanes lanes1 end e p rows stands next =
+      → IfSome told (λ file. Passed m H l file first lanes1)
+  loaded H None now_told first lanes lanes1 e p rows stands = tt
+  loaded H (Some file) now_told first lanes lanes1 e p rows stands =
       let rows_are : rows_of l file lanes1 ≡ rows_of l file lanes = subst (λ (o : Option (List ℕ)). IfSome o (λ file. rows_of l file lanes1 ≡ rows_of l file lanes)) e rows in
       let stand : All (Stands l file) lanes → All (Stands l file) lanes1 = subst (λ (o : Option (List ℕ)). IfSome o (λ file. All (Stands l file) lanes → All (Stands l file) lanes1)) e stands in
-      let comes : All (Stands l file) lanes → IsNext l file lanes1 end = subst (λ (o : Option (List ℕ)). IfSome o (λ file. All (Stands l file) lanes → IsNext l file lanes1 end)) e next in
-      (on_loaded H file first lanes lanes1 rows_are (stand p.stands) p, comes p.stands)
+      on_loaded H file first lanes lanes1 rows_are (stand p.stands) p
 
   -- an item is taken of lane i, and it is used up
   stepped : (H K : List Keyed → Type 0) (file : List ℕ) (first lanes : List Lane) (i : ℕ) (d now : Lane) → Passed m H l file first lanes → i < length lanes → IsStepped l (get_or lanes i d) now
@@ -101,10 +112,13 @@ module _ (m : ℕ → ItemData → Bool) (l : Layout) where
         holds = p.holds;
       }
 
-  pub goes_on : (H K : List Keyed → Type 0) (file : List ℕ) (first lanes : List Lane) (i : ℕ) (d now : Lane) → i < length lanes → IsUsedUp m l (get_or lanes i d) now
-      → ((xs : List Keyed) (x : Keyed) → first_of (keyed_held l (get_or lanes i d)) ≡ Some x → H xs → K (and_item m xs x))
-      → Passed m H l file first lanes × IsNextLane l file lanes i → Passed m K l file first (set lanes i now)
-  goes_on H K file first lanes i d now lt s taken p = skipped K file first lanes i s.mid now (stepped H K file first lanes i d s.mid p.0 lt s.stepped p.1 taken) lt s.skipped
+  pub goes_on : (H K : List Keyed → Type 0) (file : List ℕ) (first lanes : List Lane) (i : ℕ) (now : List Lane) → i < length lanes → IsLaneUsedUp m l lanes i now
+      → ((d : Lane) (xs : List Keyed) (x : Keyed) → first_of (keyed_held l (get_or lanes i d)) ≡ Some x → H xs → K (and_item m xs x))
+      → IsNextLane l file lanes i → Passed m H l file first lanes → Passed m K l file first now
+  goes_on H K file first lanes i now lt u taken next p =
+      let s = u.used u.lane in
+      subst (Passed m K l file first) (sym u.set)
+      (skipped K file first lanes i s.mid u.lane (stepped H K file first lanes i u.lane s.mid p lt s.stepped next (taken u.lane)) lt s.skipped)
 
   -- nothing is to come
   pub all_passed : (H : List Keyed → Type 0) (file : List ℕ) (first now : List Lane) → All (λ (a : Lane). IsFresh a.cursor) first → to_come l file now ≡ [] → Passed m H l file first now
@@ -117,6 +131,6 @@ module _ (m : ℕ → ItemData → Bool) (l : Layout) where
 pub no_cut : (l : Layout) (file : List ℕ) (first now : List Lane) → parts_of now ≡ parts_of first → least_cut (rows_of l file now) ≡ None → None ≡ cut_place (cut_of l file (parts_of first))
 no_cut l file first now parts is = ap cut_place (sym is ∙ cut_of_rows l file now ∙ ap (cut_of l file) parts)
 
-pub one_cut : (l : Layout) (file : List ℕ) (first now : List Lane) (place : CutPlace) → parts_of now ≡ parts_of first
-    → (key : Option ℕ) × (least_cut (rows_of l file now) ≡ Some (cut_at key place)) → Some place ≡ cut_place (cut_of l file (parts_of first))
-one_cut l file first now place parts is = ap cut_place (sym is.1 ∙ cut_of_rows l file now ∙ ap (cut_of l file) parts)
+pub one_cut : (l : Layout) (file : List ℕ) (first now : List Lane) (cut : Cut) → parts_of now ≡ parts_of first
+    → least_cut (rows_of l file now) ≡ Some cut → Some (place_of cut) ≡ cut_place (cut_of l file (parts_of first))
+one_cut l file first now cut parts is = ap cut_place (sym is ∙ cut_of_rows l file now ∙ ap (cut_of l file) parts)

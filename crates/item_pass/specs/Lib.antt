@@ -1,2 +1,2 @@
-pub mod Skipping
+pub mod Gathering
 pub mod Faults

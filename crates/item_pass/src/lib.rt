@@ -6,7 +6,6 @@
 
 mod gatherer;
 mod passing;
-mod skipping;
 mod taking;
 
 pub use gatherer::Gatherer;

@@ -1,24 +1,24 @@
-ghost use Rattle.std.specs.Prelude.{◌≡◌, ◌≤◌, [], Err, All, IfOk, IfSome, OnOk, length, filter, sum_by};
+ghost use Rattle.std.specs.Prelude.{◌≡◌, ◌<◌, ◌≤◌, [], Err, All, IfOk, IfSome, OnOk, length, filter, sum_by};
 ghost use Rattle.trace_outside.specs.Causes.{Rose, raised};
 ghost use Rattle.trace_outside.specs.Keeping.{KeepsFile};
 ghost use Rattle.subpage.specs.Arrangement.{CpusRise};
 ghost use Rattle.subpage.specs.Cut.{cut_of, reached_of};
+ghost use Rattle.subpage.specs.CutPlaces.{place_of};
 ghost use Rattle.page_pool.specs.Fresh.{IsFresh};
-ghost use Rattle.event_cursor.specs.Standing.{IsInOrder};
+ghost use Rattle.page_pool.specs.declared.lane.Lane.{Lane};
+ghost use Rattle.time_merge.specs.LaneNexts.{cut_at};
 ghost use Rattle.time_merge.specs.LaneRows.{parts_of};
+ghost use Rattle.time_merge.specs.Skipping.{by_item};
 ghost use Rattle.item_pass.specs.Faults.{KeptUnlessRead};
-ghost use Rattle.item_pass.specs.Skipping.{by_item, cut_place};
+ghost use Rattle.item_pass.specs.Gathering.{cut_place};
 ghost use Rattle.item_pass.specs.declared.passing.PassFault.TheVariants.{Read};
 
 use crate::gatherer::Gatherer;
-use crate::skipping::use_up;
 use crate::taking::take_head;
-use page_pool::Lane;
 use std::alloc::Global;
 use subpage::CutPlace;
 use thiserror::Error;
-use time_merge::{Next, next_lane_by, pool_over};
-use tournament_tree::TournamentTree;
+use time_merge::{LaneNext, Lanes};
 use trace_base::{Layout, Part};
 use trace_outside::{Failed, File};
 
@@ -66,53 +66,53 @@ pub fn pass<G: Gatherer, F: File>(
     ensures kept { KeptUnlessRead (F.faults file.old) (F.faults file.new) result }
     ensures keeps { KeepsFile F.File file.old file.new }
 {
-    // The lanes keep no lines.
-    let (Ok(mut pool), Ok(mut nexts)) = (
-        pool_over(alloc, layout.page, 0, parts),
-        TournamentTree::new(alloc, parts.len() as u32),
-    ) else {
+    let Ok(mut lanes) = Lanes::new(alloc, layout, parts) else {
         return Err(PassFault::Memory);
     };
-    pass_lanes(gatherer, layout, file, pool.lanes(), &mut nexts, gathered)
+    pass_lanes(gatherer, file, &mut lanes, gathered)
 }
 
 // The same over lanes before their first items.
 fn pass_lanes<G: Gatherer, F: File>(
     gatherer: &G,
-    layout: &Layout,
     file: &mut F,
-    lanes: &mut [Lane],
-    nexts: &mut TournamentTree,
+    lanes: &mut Lanes,
     gathered: &mut G::Gathered,
 ) -> Result<Option<CutPlace>, PassFault>
-    requires fresh { All (λ lane. IsFresh lane.cursor) lanes.old }
-    requires in_order { All (IsInOrder layout.now) lanes.old }
-    requires rise { CpusRise (parts_of lanes.old) }
-    requires slots { length nexts.old ≡ length lanes.old }
+    requires fresh { All (λ lane. IsFresh lane.cursor) lanes.old.all }
     requires sound { G.is_sound gatherer.now }
     requires none { G.holds gatherer.now [] gathered.old }
     ensures gathered { OnOk result (IfSome (F.bytes file.old) (λ bytes. G.holds gatherer.now
-        (filter (by_item (G.matters gatherer.now)) (reached_of layout.now bytes (parts_of lanes.old))) gathered.new)) }
+        (filter (by_item (G.matters gatherer.now)) (reached_of lanes.old.layout bytes (parts_of lanes.old.all))) gathered.new)) }
     ensures cut { IfOk result (λ cut. IfSome (F.bytes file.old) (λ bytes.
-        cut ≡ cut_place (cut_of layout.now bytes (parts_of lanes.old)))) }
+        cut ≡ cut_place (cut_of lanes.old.layout bytes (parts_of lanes.old.all)))) }
     ensures reads { F.reads file.new
-        ≤ raised (F.reads file.old) (sum_by (λ part. part.1.size) (parts_of lanes.old)) }
+        ≤ raised (F.reads file.old) (sum_by (λ part. part.1.size) (parts_of lanes.old.all)) }
     ensures read { result ≡ Err PassFault.Read → Rose (F.faults file.old) (F.faults file.new) }
     ensures kept { KeptUnlessRead (F.faults file.old) (F.faults file.new) result }
     ensures keeps { KeepsFile F.File file.old file.new }
 {
-    let mut used = None;
     loop {
-        match next_lane_by(layout, file, lanes, nexts, used)? {
-            Next::Lane(i) => match take_head(gatherer, layout, &lanes[i], gathered) {
-                Ok(()) => {
-                    use_up(gatherer, layout, &mut lanes[i]);
-                    used = Some(i);
-                }
+        lanes.make_ready(file)?;
+        match lanes.next() {
+            LaneNext::Item(i) => match take_head(gatherer, lanes, i, gathered) {
+                Ok(()) => lanes.use_up(i, gatherer),
                 Err(_) => return Err(PassFault::Memory),
             },
-            Next::Done => return Ok(None),
-            Next::Malformed(cut) => return Ok(Some(cut)),
+            LaneNext::Cut(i) => return Ok(Some(place_before(lanes, i))),
+            LaneNext::Done => return Ok(None),
         }
+    }
+}
+
+// Which sub-buffer a lane stands before.
+fn place_before(lanes: &Lanes, i: usize) -> CutPlace
+    requires { i < length lanes.now.all }
+    ensures { (d : Lane) → result ≡ place_of (cut_at lanes.now.all i d) }
+{
+    let lane = &lanes.all()[i];
+    CutPlace {
+        cpu: lane.cpu,
+        page: lane.cursor.next,
     }
 }

@@ -1,7 +1,7 @@
 -- What a run, or a command of it, means: what it writes, how it ends, and which files it makes.
 use Rattle.std.specs.Prelude.{Option, ℕ, List, []}
 use Rattle.subpage.specs.Cut.{Cut}
-use Rattle.item_pass.specs.Skipping.{cut_place}
+use Rattle.item_pass.specs.Gathering.{cut_place}
 use Rattle.run_endings.specs.declared.status.Status.{Status}
 use Rattle.run_endings.specs.Ends.{status_of_cut}
 use Rattle.new_files.specs.Stored.{NewFile}

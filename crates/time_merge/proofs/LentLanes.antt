@@ -1,15 +1,17 @@
 -- Lanes that were lent as a whole.
-use Rattle.std.proofs.Common.{◌≡◌, arith, ℕ, ◌+◌, ◌<◌, List, ◌++◌, length, take, set, get_or, sym, ap, subst, ◌∙◌}
+use Rattle.std.proofs.Common.{◌≡◌, arith, ℕ, ◌+◌, ◌<◌, Bool, List, ◌++◌, length, take, set, get_or, sym, ap, subst, ◌∙◌}
 use Rattle.std.proofs.lemmas.List.{append-nil, drop_all, take_all}
 use Rattle.std.proofs.lemmas.List.{get_or_default, length-set}
 use Rattle.trace_base.specs.declared.layout.Layout.{Layout}
 use Rattle.trace_outside.specs.declared.outside.File as file
+use Rattle.subpage.specs.ItemData.{ItemData}
 use Rattle.page_pool.specs.Lending.{written}
 use Rattle.page_pool.specs.declared.lane.Lane.{Lane}
 use Rattle.event_cursor.specs.Standing.{most_left}
 use Rattle.event_cursor.specs.Stepping.{IsStepped}
 use Rattle.time_merge.specs.LaneSteps.{IsLaneStep}
 use Rattle.time_merge.specs.Loading.{LoadsLanes}
+use Rattle.time_merge.specs.Skipping.{IsLaneUsedUp, IsUsedUp}
 use Rattle.time_merge.proofs.Advancing.{same_length}
 
 pub all_written : (lanes now : List Lane) → length now ≡ length lanes → written lanes now ≡ now
@@ -36,4 +38,17 @@ lent_step layout lanes given i d lane same lt stepped most =
       set = all_written lanes (set given i lane) (length-set given i lane ∙ ap length same) ∙ ap (λ (ls : List Lane). set ls i lane) same;
       stepped = λ x. subst (λ (a : Lane). IsStepped layout a lane) (there x) stepped;
       most = λ x. most ∙ ap (most_left layout) (there x);
+    }
+
+-- and maybe some more that do not matter
+pub lent_used : (m : ℕ → ItemData → Bool) (layout : Layout) (lanes given : List Lane) (i : ℕ) (d lane : Lane) → given ≡ lanes → i < length lanes
+    → IsUsedUp m layout (get_or given i d) lane → most_left layout lane < most_left layout (get_or given i d)
+    → IsLaneUsedUp m layout lanes i (written lanes (set given i lane))
+lent_used m layout lanes given i d lane same lt used most =
+    let there : (x : Lane) → get_or given i d ≡ get_or lanes i x = λ x. ap (λ (ls : List Lane). get_or ls i d) same ∙ get_or_default lanes i d x lt in
+    record {
+      lane = lane;
+      set = all_written lanes (set given i lane) (length-set given i lane ∙ ap length same) ∙ ap (λ (ls : List Lane). set ls i lane) same;
+      used = λ x. subst (λ (a : Lane). IsUsedUp m layout a lane) (there x) used;
+      most = λ x. subst (λ (a : Lane). most_left layout lane < most_left layout a) (there x) most;
     }

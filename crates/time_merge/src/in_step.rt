@@ -39,6 +39,44 @@ fn next_in(layout: &Layout, lanes: &[Lane], nexts: &TournamentTree) -> Next
     next_at(layout, lanes, nexts.least())
 }
 
+/// Makes every lane ready, and brings a tree into step with them. Where it was so but for one lane, of which an item was used, it
+/// looks at that one alone.
+///
+/// # Errors
+/// `Failed` where a read failed. The lanes are not to be used again then.
+#[inline]
+pub(crate) fn make_ready_by<F: File>(
+    layout: &Layout,
+    file: &mut F,
+    lanes: &mut [Lane],
+    nexts: &mut TournamentTree,
+    used: Option<usize>,
+) -> Result<(), Failed>
+    requires in_order { All (IsInOrder layout.now) lanes.old }
+    requires slots { length nexts.old ≡ length lanes.old }
+    requires in_step { IsInStep layout.now lanes.old nexts.old used }
+    ensures loads { LoadsLanes F.File layout.now file.old file.new lanes.old lanes.new }
+    ensures nexts { OnOk result (nexts.new ≡ map (next_of layout.now) lanes.new) }
+    ensures slots { length nexts.new ≡ length nexts.old }
+    ensures ready { OnOk result (All (IsReady layout.now) lanes.new) }
+    ensures cause { HasCause (F.faults file.old) (F.faults file.new) result }
+    ensures stops { OnErr result (HasStopped layout.now (F.size file.old) lanes.old lanes.new (F.reads file.old)
+        (F.reads file.new)) }
+{
+    match used {
+        None => {
+            make_all_ready(layout, file, lanes)?;
+            take_nexts(layout, lanes, nexts);
+            Ok(())
+        }
+        Some(used) => {
+            make_one_ready(layout, file, lanes, used)?;
+            nexts.set(used, next_of(layout, &lanes[used]));
+            Ok(())
+        }
+    }
+}
+
 /// What [`crate::next_lane`] tells, by a tree that is in step with the lanes: after the first call it looks at one lane
 /// alone, however many there are.
 ///
@@ -70,18 +108,8 @@ pub fn next_lane_by<F: File>(
     ensures stops { OnErr result (HasStopped layout.now (F.size file.old) lanes.old lanes.new (F.reads file.old)
         (F.reads file.new)) }
 {
-    match used {
-        None => {
-            make_all_ready(layout, file, lanes)?;
-            take_nexts(layout, lanes, nexts);
-            Ok(next_in(layout, lanes, nexts))
-        }
-        Some(used) => {
-            make_one_ready(layout, file, lanes, used)?;
-            nexts.set(used, next_of(layout, &lanes[used]));
-            Ok(next_in(layout, lanes, nexts))
-        }
-    }
+    make_ready_by(layout, file, lanes, nexts, used)?;
+    Ok(next_in(layout, lanes, nexts))
 }
 
 /// The greatest key of items of a lane that come before those of all other lanes: its items up to this key come next, one after

@@ -11,10 +11,12 @@ ghost use Rattle.time_merge.specs.LaneRows.{IsReady, next_of, parts_of};
 ghost use Rattle.time_merge.specs.LaneSteps.{IsLaneStep};
 ghost use Rattle.time_merge.specs.Loading.{LoadsLanes};
 ghost use Rattle.time_merge.specs.Nexts.{IsInStep};
+ghost use Rattle.time_merge.specs.Skipping.{IsLaneUsedUp};
 ghost use Rattle.time_merge.specs.Unused.{IsUnused};
 
-use crate::in_step::next_lane_by;
+use crate::in_step::make_ready_by;
 use crate::lane_nexts::{LaneNext, lane_next};
+use crate::others::{Others, use_up};
 use crate::readiness::Readiness;
 use crate::setting::pool_over;
 use event_cursor::{head, step};
@@ -132,6 +134,20 @@ impl Lanes {
         step_in(&self.layout, &mut self.pool, i);
         self.readiness = Readiness::AllBut(i);
     }
+
+    /// Uses up the item that a lane holds, where all are ready, and after it those that do not matter.
+    pub fn use_up<O: Others>(&mut self, i: usize, others: &O)
+        requires sound { O.is_sound others.now }
+        requires ready { self.old.readiness ≡ Readiness.Ready }
+        requires inside { i < length self.old.all }
+        requires held { (d : Lane) → ((slice_index_or self.old.all i d).cursor.state ≡ state.Held)
+            × (0 < length (held_left self.old.layout (slice_index_or self.old.all i d))) }
+        ensures layout { self.new.layout ≡ self.old.layout }
+        ensures used { IsLaneUsedUp (O.matters others.now) self.old.layout self.old.all i self.new.all }
+    {
+        use_up_in(&self.layout, &mut self.pool, i, others);
+        self.readiness = Readiness::AllBut(i);
+    }
 }
 
 // Makes the lanes of a pool ready, by a tree that is in step with them but for the lane of which an item was used up.
@@ -143,7 +159,6 @@ fn make_pool_ready<F: File>(
     used: Option<usize>,
 ) -> Result<(), Failed>
     requires in_order { All (IsInOrder layout.now) pool.old }
-    requires rise { CpusRise (parts_of pool.old) }
     requires slots { length nexts.old ≡ length pool.old }
     requires in_step { IsInStep layout.now pool.old nexts.old used }
     ensures loads { LoadsLanes F.File layout.now file.old file.new pool.old pool.new }
@@ -152,7 +167,7 @@ fn make_pool_ready<F: File>(
     ensures ready { OnOk result (All (IsReady layout.now) pool.new) }
     ensures cause { HasCause (F.faults file.old) (F.faults file.new) result }
 {
-    next_lane_by(layout, file, pool.lanes(), nexts, used)?;
+    make_ready_by(layout, file, pool.lanes(), nexts, used)?;
     Ok(())
 }
 
@@ -168,4 +183,18 @@ fn step_in(layout: &Layout, pool: &mut Pool, i: usize)
 {
     let lanes = pool.lanes();
     step(layout, &mut lanes[i]);
+}
+
+// Uses up the item that a lane of a pool holds, and after it those that do not matter.
+fn use_up_in<O: Others>(layout: &Layout, pool: &mut Pool, i: usize, others: &O)
+    requires sound { O.is_sound others.now }
+    requires in_order { All (IsInOrder layout.now) pool.old }
+    requires inside { i < length pool.old }
+    requires held { (d : Lane) → ((slice_index_or pool.old i d).cursor.state ≡ state.Held)
+        × (0 < length (held_left layout.now (slice_index_or pool.old i d))) }
+    ensures in_order { All (IsInOrder layout.now) pool.new }
+    ensures used { IsLaneUsedUp (O.matters others.now) layout.now pool.old i pool.new }
+{
+    let lanes = pool.lanes();
+    use_up(others, layout, &mut lanes[i]);
 }

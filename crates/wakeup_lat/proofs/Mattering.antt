@@ -4,7 +4,8 @@ use Rattle.std.specs.List.{filter}
 use Rattle.std.proofs.lemmas.Bool.{cases_Bool}
 use Rattle.subpage.specs.Arrangement.{Keyed}
 use Rattle.subpage.proofs.Filters.{filter-not, filter-yes}
-use Rattle.item_pass.specs.Skipping.{and_item, by_item}
+use Rattle.time_merge.specs.Skipping.{by_item}
+use Rattle.item_pass.specs.Gathering.{and_item}
 use Rattle.report_print.specs.ContextData.{ContextData}
 use Rattle.wakeup_pairs.specs.declared.wakeup_item.WakeupItem.{WakeupItem}
 use Rattle.wakeup_pairs.specs.declared.wakeup_item.WakeupItem.TheVariants.{Wakes, Switches, Lost, Other}

@@ -11,6 +11,7 @@ use item_pass::Gatherer;
 use report_print::Context;
 use std::alloc::AllocError;
 use subpage::Item;
+use time_merge::Others;
 use wakeup_pairs::{WakeupItem, Wakeups};
 
 /// What items are for the latencies. The roles are those of the context's formats.
@@ -29,9 +30,7 @@ fn is_other(seen: WakeupItem) -> bool
     }
 }
 
-impl Gatherer for WakeupGatherer<'_> {
-    type Gathered = Wakeups;
-
+impl Others for WakeupGatherer<'_> {
     // In most traces few events are wake-ups and switches.
     const LOOKS_AHEAD: bool = true;
 
@@ -39,11 +38,15 @@ impl Gatherer for WakeupGatherer<'_> {
 
     ghost matters = { λ gatherer. matters gatherer.context.now };
 
-    ghost holds = { λ gatherer xs wakeups. wakeups ≡ gathered (all_seen gatherer.context.now xs) };
-
     fn is_other(&self, cpu: u32, item: &Item<'_>) -> bool {
         is_other(self.see(cpu, item))
     }
+}
+
+impl Gatherer for WakeupGatherer<'_> {
+    type Gathered = Wakeups;
+
+    ghost holds = { λ gatherer xs wakeups. wakeups ≡ gathered (all_seen gatherer.context.now xs) };
 
     fn take(&self, cpu: u32, item: &Item<'_>, wakeups: &mut Wakeups) -> Result<(), AllocError> {
         let seen = self.see(cpu, item);

@@ -3,7 +3,7 @@ use Rattle.std.specs.Prelude.{true}
 use Rattle.std.proofs.lemmas.Result.{on_ok_weaker}
 use Rattle.subpage.specs.Arrangement.{Keyed}
 use Rattle.subpage.specs.ItemView.{item_view}
-use Rattle.item_pass.specs.Skipping.{and_item}
+use Rattle.item_pass.specs.Gathering.{and_item}
 use Rattle.call_pairs.specs.declared.graph_item.GraphItem.{GraphItem}
 use Rattle.graph_report.specs.Gathered.{HasSeen, seen_in}
 use Rattle.graph_report.proofs.Taken.{one_more}

@@ -5,7 +5,8 @@ use Rattle.std.specs.Prelude.{slice_index_or}
 use Rattle.event_cursor.specs.Standing.{held_left}
 use Rattle.time_merge.specs.LaneSteps.{IsLaneStep}
 use Rattle.time_merge.specs.LanesSeen.{LanesSeen}
-use Rattle.time_merge.proofs.LanesKept.{all_known, known_stepped, rise_stepped, slots_stepped}
+use Rattle.time_merge.proofs.Going.{still_parts}
+use Rattle.time_merge.proofs.LanesKept.{all_known, known_set, rise_set, slots_set}
 use Rattle.time_merge.proofs.lanes.Lanes.step.Goals as goal
 
 pub step_in-requires-clause-inside : goal.step_in-requires-clause-inside
@@ -25,9 +26,9 @@ invariant_of-self c =
     let s = c.step_in.ensures.stepped in
     record {
       in_order = c.step_in.ensures.in_order;
-      rise = rise_stepped a.layout a.pool c.args.i now lt s v.rise;
-      slots = slots_stepped a.layout a.pool c.args.i now lt s a.nexts v.slots;
-      known = known_stepped a.layout a.pool c.args.i now lt s a.nexts known;
+      rise = rise_set a.layout a.pool c.args.i s.lane now s.set (still_parts a.layout a.pool c.args.i s.lane s.lane lt (s.stepped s.lane)) v.rise;
+      slots = slots_set a.layout a.pool c.args.i s.lane now s.set a.nexts v.slots;
+      known = known_set a.layout a.pool c.args.i s.lane now s.set a.nexts lt known;
     }
 
 pub returns-clause-stepped : goal.returns-clause-stepped

@@ -1,7 +1,7 @@
 use Rattle.std.proofs.lemmas.Result.{on_ok_weaker}
 use Rattle.subpage.specs.Arrangement.{Keyed}
 use Rattle.subpage.specs.ItemView.{item_view}
-use Rattle.item_pass.specs.Skipping.{and_item}
+use Rattle.item_pass.specs.Gathering.{and_item}
 use Rattle.wakeup_lat.specs.Matter.{matters}
 use Rattle.wakeup_lat.proofs.Mattering.{and_gathered}
 use Rattle.wakeup_lat.proofs.wakeup_gatherer.WakeupGathererGatherer.take.Goals as goal

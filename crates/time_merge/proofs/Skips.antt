@@ -1,5 +1,5 @@
 -- Items that do not matter may be used up before their turn.
-use Rattle.std.proofs.Common.{◌≡◌, ℕ, ◌+◌, ◌<◌, eqb, Bool, false, List, [], ◌∷◌, ◌++◌, length, set, take, drop, fold, Option, Some, None, refl, sym, ap, ◌∙◌, arith}
+use Rattle.std.proofs.Common.{◌≡◌, ℕ, ◌+◌, ◌<◌, eqb, Bool, false, List, [], ◌∷◌, ◌++◌, length, get_or, set, take, drop, fold, Option, Some, None, refl, sym, ap, ◌∙◌, arith}
 use Rattle.std.specs.List.{filter, filter_map, cons_option}
 use Rattle.std.proofs.lemmas.List.{map-append}
 use Rattle.std.proofs.lemmas.List.Concat.{flat_map-cons}
@@ -17,10 +17,11 @@ use Rattle.event_cursor.specs.Standing.{held_left, if_held, keyed_held}
 use Rattle.event_cursor.specs.Stepping.{IsStepped}
 use Rattle.event_cursor.proofs.Standing.{stands_stepped}
 use Rattle.time_merge.specs.Rows.{Row, coming, least_cut, together, up_to}
-use Rattle.time_merge.specs.LaneRows.{row_of, rows_of, to_come}
+use Rattle.time_merge.specs.LaneRows.{parts_of, row_of, rows_of, to_come}
 use Rattle.time_merge.proofs.Choosing.{set_around}
 use Rattle.time_merge.proofs.LaneLaws.{stepped_row}
-use Rattle.item_pass.specs.Skipping.{IsOtherFirst, IsSkipped, by_item}
+use Rattle.time_merge.proofs.Readying.{set_parts}
+use Rattle.time_merge.specs.Skipping.{IsOtherFirst, IsSkipped, IsUsedUp, by_item}
 
 -- a lane with a first item holds a sub-buffer
 first_held : (s : LaneState) (cpu : ℕ) (high : Option ℕ) (xs : List ItemData) (x : Keyed) → first_of (keyed_behind cpu high (if_held s xs)) ≡ Some x → (s ≡ Held) × (0 < length (if_held s xs))
@@ -108,3 +109,7 @@ other_first m l a x e other = λ y first. ap (by_item m) (same_of y x (sym first
   where
     same_of : (y z : Keyed) → Some y ≡ Some z → y ≡ z
     same_of y z e = cc
+
+-- items that are used up leave their lane its processor and its part
+pub used_parts : (m : ℕ → ItemData → Bool) (l : Layout) (lanes : List Lane) (i : ℕ) (d now : Lane) → i < length lanes → IsUsedUp m l (get_or lanes i d) now → parts_of (set lanes i now) ≡ parts_of lanes
+used_parts m l lanes i d now lt s = set_parts lanes i d now lt (s.skipped.cpu ∙ s.stepped.page.cpu) (s.skipped.part ∙ s.stepped.page.part)

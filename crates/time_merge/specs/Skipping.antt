@@ -1,28 +1,17 @@
--- Items that matter, and those that may be used up before their turn since they do not.
-use Rattle.std.specs.Prelude.{◌≡◌, ℕ, Bool, false, List, [], ◌∷◌, ◌++◌, filter, Option, Some, option_map}
+-- Items that do not matter, which may be used up before their turn.
+use Rattle.std.specs.Prelude.{◌≡◌, ℕ, ◌<◌, Bool, false, List, filter, slice_index_or, slice_set, Some}
 use Rattle.trace_base.specs.declared.layout.Layout.{Layout}
 use Rattle.subpage.specs.ItemData.{ItemData}
 use Rattle.subpage.specs.Arrangement.{Keyed}
-use Rattle.subpage.specs.Cut.{Cut}
-use Rattle.subpage.specs.CutPlaces.{place_of}
-use Rattle.subpage.specs.declared.cut_place.CutPlace.{CutPlace}
 use Rattle.page_pool.specs.declared.lane.Lane.{Lane}
 use Rattle.event_cursor.specs.Keys.{first_of}
-use Rattle.event_cursor.specs.Standing.{Stands, keyed_held}
+use Rattle.event_cursor.specs.Standing.{Stands, keyed_held, most_left}
 use Rattle.event_cursor.specs.Stepping.{IsStepped}
 use Rattle.time_merge.specs.LaneRows.{row_of}
 
 -- an item with its key matters or not by its processor and what it is
 abbrev pub by_item : (ℕ → ItemData → Bool) → Keyed → Bool
 by_item matters x = matters x.cpu x.item
-
--- one more item, if it matters
-abbrev pub and_item : (ℕ → ItemData → Bool) → List Keyed → Keyed → List Keyed
-and_item matters xs x = xs ++ filter (by_item matters) (x ∷ [])
-
--- the processor and the sub-buffer of a cut
-abbrev pub cut_place : Option Cut → Option CutPlace
-cut_place cut = option_map place_of cut
 
 -- the first item of a lane that is not used up does not matter
 abbrev pub IsOtherFirst : (ℕ → ItemData → Bool) → Layout → Lane → Type 0
@@ -42,3 +31,10 @@ pub record IsUsedUp (matters : ℕ → ItemData → Bool) (layout : Layout) (bef
   pub mid : Lane
   pub stepped : IsStepped layout before mid
   pub skipped : IsSkipped matters layout mid now
+
+-- So it was of one lane of several. The others are as they were.
+pub record IsLaneUsedUp (matters : ℕ → ItemData → Bool) (layout : Layout) (before : List Lane) (i : ℕ) (now : List Lane) : Type 0 where
+  pub lane : Lane
+  pub set : now ≡ slice_set before i lane
+  pub used : (d : Lane) → IsUsedUp matters layout (slice_index_or before i d) lane
+  pub most : (d : Lane) → most_left layout lane < most_left layout (slice_index_or before i d)

@@ -1,6 +1,6 @@
 use Rattle.std.proofs.Common.{arith}
-use Rattle.item_pass.proofs.Skips.{skipped_more, skipped_none}
-use Rattle.item_pass.proofs.skipping.skip_others.Goals as goal
+use Rattle.time_merge.proofs.Skips.{skipped_more, skipped_none}
+use Rattle.time_merge.proofs.others.skip_others.Goals as goal
 
 pub loop-lane-init : goal.loop-lane-init
 loop-lane-init g c = record {

@@ -1,12 +1,12 @@
 use Rattle.std.proofs.Common.{◌≤◌}
 use Rattle.event_cursor.specs.Standing.{IsInOrder, most_left}
-use Rattle.item_pass.specs.Skipping.{IsSkipped}
-use Rattle.item_pass.proofs.skipping.skip_others.Given as goal
+use Rattle.time_merge.specs.Skipping.{IsSkipped}
+use Rattle.time_merge.proofs.others.skip_others.Given as goal
 
 abbrev pub invariant-loop-lane : goal.invariant-loop-lane
 invariant-loop-lane g l = record {
   in_order : IsInOrder l.layout l.lane;
-  skipped : IsSkipped (g.G.Gatherer.matters l.gatherer) l.layout l.initial.lane l.lane;
+  skipped : IsSkipped (g.O.Others.matters l.others) l.layout l.initial.lane l.lane;
   most : most_left l.layout l.lane ≤ most_left l.layout l.initial.lane;
 }
 

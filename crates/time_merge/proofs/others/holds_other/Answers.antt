@@ -2,8 +2,8 @@ use Rattle.std.proofs.Common.{ℕ, Option, sym, ap, ◌∙◌}
 use Rattle.std.specs.Option.{option_map}
 use Rattle.subpage.specs.declared.item.Item.{Item}
 use Rattle.event_cursor.specs.Stepping.{head_view}
-use Rattle.item_pass.proofs.Skips.{held_of_first, other_first}
-use Rattle.item_pass.proofs.skipping.holds_other.Goals as goal
+use Rattle.time_merge.proofs.Skips.{held_of_first, other_first}
+use Rattle.time_merge.proofs.others.holds_other.Goals as goal
 
 pub returns-in-Some-clause-other : goal.returns-in-Some-clause-other
 returns-in-Some-clause-other g c = λ yes.
