@@ -9,10 +9,10 @@ use Rattle.line_columns.specs.Columns.{right, zeros}
 use Rattle.line_columns.proofs.ZeroFills as fills
 
 -- the digits of a number of two
-two_digits : (n : ℕ) → 10 ≤ n → n < 100 → decimal n ≡ (48 + n / 10) ∷ (48 + n % 10) ∷ []
+pub two_digits : (n : ℕ) → 10 ≤ n → n < 100 → decimal n ≡ (48 + n / 10) ∷ (48 + n % 10) ∷ []
 two_digits n le small = decimal_step n le (omega (arith, small)) ∙ ap (λ (l : List ℕ). l ++ ((48 + n % 10) ∷ [])) (decimal_digit (n / 10) (omega (arith, small)))
 
-filled : (n : ℕ) → n < 100 → zeros 2 (decimal n) ≡ (48 + n / 10) ∷ (48 + n % 10) ∷ []
+pub filled : (n : ℕ) → n < 100 → zeros 2 (decimal n) ≡ (48 + n / 10) ∷ (48 + n % 10) ∷ []
 filled n small = elim (cases_lt n 10) as (λ _. zeros 2 (decimal n) ≡ (48 + n / 10) ∷ (48 + n % 10) ∷ []) [
   | inl one ↦
       let none : n / 10 ≡ 0 = omega (arith, one) in
@@ -59,7 +59,7 @@ behind width digits last more =
     (append_assoc (replicate (width - length digits) 32) digits last ∙ ap (λ (k : ℕ). replicate k 32 ++ (digits ++ last)) same)
 
 -- a number by its hundreds
-by_hundreds : (n : ℕ) → 100 ≤ n → n < 2 ^ 64 → decimal n ≡ decimal (n / 100) ++ zeros 2 (decimal (n % 100))
+pub by_hundreds : (n : ℕ) → 100 ≤ n → n < 2 ^ 64 → decimal n ≡ decimal (n / 100) ++ zeros 2 (decimal (n % 100))
 by_hundreds n le less =
     let front : n / 10 / 10 ≡ n / 100 = omega arith in
     let tens : n / 10 % 10 ≡ n % 100 / 10 = omega arith in
@@ -99,14 +99,18 @@ five_places n more le small =
     ∙ hundreds 1 (n / 100) last (omega (arith, le)) (omega (arith, small))
     ∙ hundreds 3 n more (omega (arith, le)) (omega (arith, small))
 
+-- what is between brackets
+pub in_brackets : (digits more : List ℕ) → codes " [" ++ ((digits ++ codes "]") ++ (codes " " ++ more)) ≡ (codes " [" ++ (digits ++ codes "] ")) ++ more
+in_brackets digits more =
+    ap (λ (l : List ℕ). codes " [" ++ l) (append_assoc digits (codes "]") (codes " " ++ more) ∙ sym (append_assoc digits (codes "] ") more))
+
 -- the columns of a front that was written from the right
-pub joined : (zero label_in colon_in time_in place_in task_in task place clock label : List ℕ) → length zero ≡ 65
+pub joined : (zero label_in colon_in time_in place_in place clock label : List ℕ) → length zero ≡ 65
     → drop 43 label_in ≡ label ++ drop 65 zero → drop 41 colon_in ≡ codes ": " ++ drop 43 label_in → drop 29 time_in ≡ clock ++ drop 41 colon_in
-    → drop 22 place_in ≡ place ++ drop 29 time_in → task_in ≡ task ++ drop 22 place_in
-    → task_in ≡ task ++ ((place ++ (clock ++ codes ": ")) ++ label)
-joined zero label_in colon_in time_in place_in task_in task place clock label len at_label at_colon at_time at_place at_task =
-    at_task ∙ ap (λ (l : List ℕ). task ++ l)
-    (at_place ∙ ap (λ (l : List ℕ). place ++ l) (at_time ∙ ap (λ (l : List ℕ). clock ++ l) (at_colon ∙ ap (λ (l : List ℕ). codes ": " ++ l)
+    → drop 22 place_in ≡ place ++ drop 29 time_in
+    → drop 22 place_in ≡ (place ++ (clock ++ codes ": ")) ++ label
+joined zero label_in colon_in time_in place_in place clock label len at_label at_colon at_time at_place =
+    at_place ∙ ap (λ (l : List ℕ). place ++ l) (at_time ∙ ap (λ (l : List ℕ). clock ++ l) (at_colon ∙ ap (λ (l : List ℕ). codes ": " ++ l)
     (at_label ∙ ap (λ (l : List ℕ). label ++ l) (drop_all 65 zero (omega (arith, len))) ∙ append-nil label)))
     ∙ ap (λ (l : List ℕ). place ++ l) (sym (append_assoc clock (codes ": ") label))
-    ∙ sym (append_assoc place (clock ++ codes ": ") label))
+    ∙ sym (append_assoc place (clock ++ codes ": ") label)

@@ -1,11 +1,10 @@
 // The front of a line: the columns before what is said.
 
 ghost use Rattle.std.specs.Prelude.{◌≡◌, ◌<◌, ◌≤◌, ◌+◌, ◌++◌, [], ℕ, codes, length, true, false};
-ghost use Rattle.std.specs.Fmt.{signed_decimal};
+ghost use Rattle.std.specs.Fmt.{decimal};
 ghost use Rattle.trace_base.specs.Kept.{put_held};
 ghost use Rattle.trace_base.specs.TailView.{held, lent};
-ghost use Rattle.symbols.specs.Maps.{unnamed};
-ghost use Rattle.line_columns.specs.Columns.{left, right};
+ghost use Rattle.line_columns.specs.Columns.{zeros};
 ghost use Rattle.report_print.specs.Line as line;
 ghost use Rattle.report_print.specs.Prefix as spec;
 ghost use Rattle.report_print.specs.Prefix.{columns, IsUsual};
@@ -15,7 +14,8 @@ use crate::context::Context;
 use crate::fields::put_pair;
 use crate::show::Show;
 use crate::tasks::{TaskStart, USUAL_TASK, WIDE_TASK};
-use crate::usual::{USUAL_FRONT, write_front};
+use crate::unnamed::put_unnamed;
+use crate::usual::{USUAL_CPUS, USUAL_FRONT, write_front};
 use line_columns::{
     BEFORE_PID, BEFORE_PLACE, Front, LONGEST_BEHIND, LONGEST_PROCESSOR, LONGEST_TASK, USUAL_LABEL,
     USUAL_TIMES,
@@ -144,7 +144,7 @@ fn put_columns(
 fn are_usual(show: &Show, cpu: u32, time: u64) -> bool
     ensures { result ≡ true → IsUsual show.now cpu time }
 {
-    !show.latency && !show.full && cpu < 100 && time < USUAL_TIMES
+    !show.latency && !show.full && cpu < USUAL_CPUS && time < USUAL_TIMES
 }
 
 /// Puts the columns where those of the time and the processor have their usual widths.
@@ -178,7 +178,7 @@ fn put_usual(
 fn put_straight(task: &[u8], cpu: u32, time: u64, label: &[u8], into: &mut Tail<'_>) -> usize
     requires task { length task.now ≡ USUAL_TASK }
     requires label { length label.now ≡ USUAL_LABEL }
-    requires cpu { cpu < 100 }
+    requires cpu { cpu < USUAL_CPUS }
     requires time { time < USUAL_TIMES }
     ensures same_slice { lent into.new ≡ lent into.old }
     ensures value { held into.new ≡ put_held (held into.old) (task.now ++ (spec.usual_when cpu time ++ label.now)) }
@@ -193,7 +193,7 @@ fn put_straight(task: &[u8], cpu: u32, time: u64, label: &[u8], into: &mut Tail<
 /// The same where the task's text has another length.
 #[inline(never)]
 fn put_made(task: &[u8], cpu: u32, time: u64, label: &[u8], into: &mut Tail<'_>) -> usize
-    requires cpu { cpu < 100 }
+    requires cpu { cpu < USUAL_CPUS }
     requires time { time < USUAL_TIMES }
     requires label { length label.now ≡ USUAL_LABEL }
     ensures same_slice { lent into.new ≡ lent into.old }
@@ -203,21 +203,6 @@ fn put_made(task: &[u8], cpu: u32, time: u64, label: &[u8], into: &mut Tail<'_>)
     let mut front = Front::new();
     put_usual_when(cpu, time, label, &mut front);
     put_with_made_task(task, &mut front, into)
-}
-
-/// The same where the task has no name.
-#[inline(always)]
-fn put_unnamed(pid: i32, cpu: u32, time: u64, label: &[u8], into: &mut Tail<'_>) -> usize
-    requires cpu { cpu < 100 }
-    requires time { time < USUAL_TIMES }
-    requires label { length label.now ≡ USUAL_LABEL }
-    ensures same_slice { lent into.new ≡ lent into.old }
-    ensures value { held into.new ≡ put_held (held into.old) ((right 16 unnamed ++ codes "-") ++ (left 5 (signed_decimal pid) ++ (spec.usual_when cpu time ++ label.now))) }
-    ensures len { result ≡ length ((right 16 unnamed ++ codes "-") ++ (left 5 (signed_decimal pid) ++ (spec.usual_when cpu time ++ label.now))) }
-{
-    let mut front = Front::new();
-    put_usual_when(cpu, time, label, &mut front);
-    put_without_name(pid, &mut front, into)
 }
 
 /// The same where the task's text was not made beforehand.
@@ -230,7 +215,7 @@ fn put_unmade(
     label: &[u8],
     into: &mut Tail<'_>,
 ) -> usize
-    requires cpu { cpu < 100 }
+    requires cpu { cpu < USUAL_CPUS }
     requires time { time < USUAL_TIMES }
     requires label { length label.now ≡ USUAL_LABEL }
     ensures same_slice { lent into.new ≡ lent into.old }
@@ -244,9 +229,9 @@ fn put_unmade(
 
 /// Puts where and when it was, in columns of their usual widths, in front of a text.
 #[inline(always)]
-fn put_usual_when(cpu: u32, time: u64, label: &[u8], front: &mut Front)
+pub(crate) fn put_usual_when(cpu: u32, time: u64, label: &[u8], front: &mut Front)
     requires empty { front.old ≡ [] }
-    requires cpu { cpu < 100 }
+    requires cpu { cpu < USUAL_CPUS }
     requires time { time < USUAL_TIMES }
     requires label { length label.now ≡ USUAL_LABEL }
     ensures value { front.new ≡ spec.usual_when cpu time ++ label.now }
@@ -255,7 +240,21 @@ fn put_usual_when(cpu: u32, time: u64, label: &[u8], front: &mut Front)
     front.start(label);
     front.prepend_text(b": ");
     front.prepend_usual_time(time);
-    front.prepend_usual_processor(cpu);
+    put_usual_place(cpu, front);
+}
+
+/// Puts the processor in front. Most machines have fewer than a hundred.
+#[inline(always)]
+fn put_usual_place(cpu: u32, front: &mut Front)
+    requires { length front.old ≤ BEFORE_PLACE }
+    ensures longer { length front.new ≤ length front.old + LONGEST_PROCESSOR }
+    ensures value { front.new ≡ (codes " [" ++ (zeros 3 (decimal cpu) ++ codes "] ")) ++ front.old }
+{
+    if cpu < 100 {
+        front.prepend_usual_processor(cpu);
+    } else {
+        front.prepend_processor(cpu);
+    }
 }
 
 /// Puts a text with that of a task in front of it, and gives the length of both.
@@ -288,28 +287,6 @@ fn put_task(task: &[u8], front: &mut Front)
     } else {
         front.prepend_text(task);
     }
-}
-
-/// How a line begins that tells of a task without a name, up to its pid.
-fn no_name() -> &'static [u8; 17]
-    ensures value { result.now ≡ right 16 unnamed ++ codes "-" }
-    ensures len { length result.now ≡ 17 }
-{
-    b"           <...>-"
-}
-
-/// Puts a text with a task without a name in front of it, and gives the length of both.
-#[inline(always)]
-fn put_without_name(pid: i32, front: &mut Front, into: &mut Tail<'_>) -> usize
-    requires { length front.old ≤ BEFORE_PID }
-    ensures same_slice { lent into.new ≡ lent into.old }
-    ensures value { held into.new ≡ put_held (held into.old) ((right 16 unnamed ++ codes "-") ++ (left 5 (signed_decimal pid) ++ front.old)) }
-    ensures len { result ≡ length ((right 16 unnamed ++ codes "-") ++ (left 5 (signed_decimal pid) ++ front.old)) }
-{
-    front.prepend_pid(pid);
-    front.prepend_text(no_name());
-    put_known_length(front.as_bytes(), into);
-    front.len()
 }
 
 /// Puts the columns of any widths.

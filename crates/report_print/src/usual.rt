@@ -6,11 +6,15 @@ ghost use Rattle.trace_base.specs.Times.{micros};
 ghost use Rattle.line_columns.specs.Columns.{right, zeros, time_text};
 ghost use Rattle.report_print.specs.Prefix.{usual_when};
 
+use crate::places::place;
 use crate::tasks::USUAL_TASK;
 use line_columns::{USUAL_COLUMNS, USUAL_LABEL, USUAL_TIMES};
 
 /// How long most fronts are.
 pub(crate) const USUAL_FRONT: usize = USUAL_COLUMNS + USUAL_LABEL;
+
+/// Processors before this one have no more digits than their column is wide.
+pub(crate) const USUAL_CPUS: u32 = 1000;
 
 /// Where the processor ends with its brackets, after the task.
 const PLACE_END: usize = USUAL_TASK + 7;
@@ -27,7 +31,7 @@ static PAIRS: [u8; 200] =
 
 /// Both digits of a number below 100.
 #[inline(always)]
-fn two_digits(n: u32) -> [u8; 2]
+pub(crate) fn two_digits(n: u32) -> [u8; 2]
     requires { n < 100 }
     ensures { result ≡ zeros 2 (decimal n) }
 {
@@ -37,7 +41,7 @@ fn two_digits(n: u32) -> [u8; 2]
 
 /// Puts a text in front of what stands from `to` on.
 #[inline(always)]
-fn put_at(from: usize, to: usize, piece: &[u8], text: &mut [u8; USUAL_FRONT])
+pub(crate) fn put_at(from: usize, to: usize, piece: &[u8], text: &mut [u8; USUAL_FRONT])
     requires whole { from + length piece.now ≡ to }
     requires inside { to ≤ USUAL_FRONT }
     ensures { drop from text.new ≡ piece.now ++ drop to text.old }
@@ -67,22 +71,23 @@ fn put_time(time: u64, text: &mut [u8; USUAL_FRONT])
     ensures { drop PLACE_END text.new ≡ time_text false time ++ drop TIME_END text.old }
 {
     let (seconds, micros) = rounded(time);
-    put_micros(micros, text);
+    put_six(SECONDS_END + 1, micros, text);
     put_at(SECONDS_END, SECONDS_END + 1, b".", text);
     put_seconds(seconds, text);
 }
 
-/// Puts the six digits after the point.
+/// Puts a number as six digits.
 #[inline(always)]
 #[tactic(auto, using(crate::proofs::UsualFronts::six_front))]
-fn put_micros(n: u32, text: &mut [u8; USUAL_FRONT])
-    requires { n < 1000000 }
-    ensures { drop (SECONDS_END + 1) text.new ≡ zeros 6 (decimal n) ++ drop TIME_END text.old }
+pub(crate) fn put_six(from: usize, n: u32, text: &mut [u8; USUAL_FRONT])
+    requires small { n < 1000000 }
+    requires inside { from + 6 ≤ USUAL_FRONT }
+    ensures { drop from text.new ≡ zeros 6 (decimal n) ++ drop (from + 6) text.old }
 {
     let low = n % 10_000;
-    put_at(TIME_END - 2, TIME_END, &two_digits(low % 100), text);
-    put_at(TIME_END - 4, TIME_END - 2, &two_digits(low / 100), text);
-    put_at(SECONDS_END + 1, TIME_END - 4, &two_digits(n / 10_000), text);
+    put_at(from + 4, from + 6, &two_digits(low % 100), text);
+    put_at(from + 2, from + 4, &two_digits(low / 100), text);
+    put_at(from, from + 2, &two_digits(n / 10_000), text);
 }
 
 /// Puts a number below 100, with a space in place of a leading zero.
@@ -130,14 +135,28 @@ fn put_seconds(n: u32, text: &mut [u8; USUAL_FRONT])
 
 /// Puts the processor.
 #[inline(always)]
-#[tactic(auto, using(line_columns::proofs::ZeroFills::usual_between))]
+#[tactic(auto, using(crate::proofs::UsualFronts::in_brackets))]
 fn put_place(cpu: u32, text: &mut [u8; USUAL_FRONT])
-    requires { cpu < 100 }
+    requires { cpu < USUAL_CPUS }
     ensures { drop USUAL_TASK text.new ≡ (codes " [" ++ (zeros 3 (decimal cpu) ++ codes "] ")) ++ drop PLACE_END text.old }
 {
-    put_at(PLACE_END - 2, PLACE_END, b"] ", text);
-    put_at(PLACE_END - 4, PLACE_END - 2, &two_digits(cpu), text);
-    put_at(USUAL_TASK, PLACE_END - 4, b" [0", text);
+    put_at(PLACE_END - 1, PLACE_END, b" ", text);
+    put_at(USUAL_TASK + 2, PLACE_END - 1, place(cpu), text);
+    put_at(USUAL_TASK, USUAL_TASK + 2, b" [", text);
+}
+
+/// Writes the end of a front: where and when it was, and the event's name.
+#[inline(always)]
+pub(crate) fn write_when(cpu: u32, time: u64, label: &[u8], text: &mut [u8; USUAL_FRONT])
+    requires cpu { cpu < USUAL_CPUS }
+    requires time { time < USUAL_TIMES }
+    requires label { length label.now ≡ USUAL_LABEL }
+    ensures { drop USUAL_TASK text.new ≡ usual_when cpu time ++ label.now }
+{
+    put_at(USUAL_COLUMNS, USUAL_FRONT, label, text);
+    put_at(TIME_END, USUAL_COLUMNS, b": ", text);
+    put_time(time, text);
+    put_place(cpu, text);
 }
 
 /// Writes the front of a line: the task, where and when it was, and the event's name.
@@ -150,14 +169,11 @@ pub(crate) fn write_front(
     text: &mut [u8; USUAL_FRONT],
 )
     requires task { length task.now ≡ USUAL_TASK }
-    requires cpu { cpu < 100 }
+    requires cpu { cpu < USUAL_CPUS }
     requires time { time < USUAL_TIMES }
     requires label { length label.now ≡ USUAL_LABEL }
     ensures { text.new ≡ task.now ++ (usual_when cpu time ++ label.now) }
 {
-    put_at(USUAL_COLUMNS, USUAL_FRONT, label, text);
-    put_at(TIME_END, USUAL_COLUMNS, b": ", text);
-    put_time(time, text);
-    put_place(cpu, text);
+    write_when(cpu, time, label, text);
     put_at(0, USUAL_TASK, task, text);
 }
