@@ -1,15 +1,16 @@
 //! Arguments, and what is known of them before any record is read.
 
-ghost use Rattle.std.specs.Prelude.{◌≡◌, IfSome};
+ghost use Rattle.std.specs.Prelude.{◌≡◌, true, IfSome};
 ghost use Rattle.std.proofs.Props.{props};
 ghost use Rattle.fmt_expr.specs.Kinds.{kind_of};
+ghost use Rattle.fmt_expr.specs.declared.kinds.Kind.TheVariants.{Number, Text};
 ghost use Rattle.fmt_expr.specs.Tree as tree;
 ghost use Rattle.fmt_expr.specs.TreeView.{tree_of};
 ghost use Rattle.fmt_eval.specs.Reads.{ReadsAs, TestsAs};
 ghost use Rattle.trace_base.specs.Kept.{until_nul};
 ghost use Rattle.fmt_eval.specs.Texts.{text_of};
 ghost use Rattle.fmt_eval.specs.Values.{given, number_of};
-ghost use Rattle.fmt_print.specs.Known.{test_in, StandsAt};
+ghost use Rattle.fmt_print.specs.Known.{is_whole, test_in, StandsAt};
 
 use fmt_eval::{Num, Read, Test, holds, holds_by, number_by, read_of, test_of};
 use fmt_expr::{Expr, Kind, kind};
@@ -35,8 +36,21 @@ pub struct Argument {
     place: Option<TextSlot>,
     ghost kinds: { kind ≡ kind_of (tree_of tree) } by { Prim.hlevel props },
     ghost reads: { ReadsAs read (tree_of tree) } by { Prim.hlevel props },
+    ghost wholes: { is_whole read ≡ true → kind ≡ Number } by { Prim.hlevel props },
     ghost tests: { TestsAs test (test_in (tree_of tree)) } by { Prim.hlevel props },
     ghost stands: { IfSome place (StandsAt (tree_of tree)) } by { Prim.hlevel props },
+}
+
+/// How the number of a tree of a kind is read. What is no number is not read at once.
+fn number_read(kind: Kind, tree: &Expr) -> Read
+    requires { kind ≡ kind_of (tree_of tree.now) }
+    ensures reads { ReadsAs result (tree_of tree.now) }
+    ensures wholes { is_whole result ≡ true → kind ≡ Number }
+{
+    match kind {
+        Kind::Number => read_of(tree),
+        Kind::Text | Kind::Bytes => Read::Walk,
+    }
 }
 
 /// How the test of a choice is made.
@@ -101,7 +115,6 @@ fn arm_source<'a>(arm: &'a Expr, rec: &Rec<'_>) -> &'a Expr
 }
 
 impl Argument {
-    ghost use Rattle.fmt_expr.specs.declared.kinds.Kind.TheVariants as kinds;
     ghost use Rattle.fmt_eval.specs.NumView.{num_view};
     ghost use Rattle.fmt_print.specs.ArgumentView.{argument_tree};
     ghost use Rattle.fmt_print.specs.Strings.{address_of};
@@ -111,7 +124,7 @@ impl Argument {
         ensures { argument_tree result ≡ tree_of tree }
     {
         let kind = kind(&tree);
-        let read = read_of(&tree);
+        let read = number_read(kind, &tree);
         let test = choice_test(&tree);
         let place = text_place(&tree);
         Argument {
@@ -142,6 +155,18 @@ impl Argument {
         }
     }
 
+    /// Its number over a record, where it is read from eight bytes.
+    #[inline(always)]
+    pub fn whole(&self, rec: &Rec<'_>) -> Option<Num>
+        ensures number { IfSome result (λ n. num_view n ≡ number_of (given rec.now) (argument_tree self.now)) }
+        ensures kind { IfSome result (λ _. kind_of (argument_tree self.now) ≡ Number) }
+    {
+        match self.read {
+            Read::Whole { .. } => Some(self.number(rec)),
+            Read::Half { .. } | Read::Walk => None,
+        }
+    }
+
     /// Its number over a record, as 64 bits; 0 where it is none.
     #[inline(always)]
     pub fn address(&self, rec: &Rec<'_>) -> u64
@@ -155,7 +180,7 @@ impl Argument {
     #[tactic(auto, using(crate::proofs::KnownLemmas::stands_text))]
     pub fn placed_text<'a>(&self, rec: &Rec<'a>) -> Option<&'a [u8]>
         ensures value { IfSome result (λ text. until_nul text.now ≡ until_nul (text_of (given rec.now) (argument_tree self.now))) }
-        ensures kind { IfSome result (λ _. kind_of (argument_tree self.now) ≡ kinds.Text) }
+        ensures kind { IfSome result (λ _. kind_of (argument_tree self.now) ≡ Text) }
     {
         let place = self.place.as_ref()?;
         let start = place.at as usize;

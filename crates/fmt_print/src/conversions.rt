@@ -13,7 +13,7 @@ ghost use Rattle.fmt_forms.specs.Texts.{cut_to, padded};
 ghost use Rattle.fmt_print.specs.Addresses.{number_address, bytes_address, pointer_text};
 ghost use Rattle.fmt_print.specs.ArgumentView.{argument_tree};
 ghost use Rattle.fmt_print.specs.Printed.{bits_of, number_text};
-ghost use Rattle.fmt_print.specs.Strings.{string_text};
+ghost use Rattle.fmt_print.specs.Strings.{letter_text, string_text};
 
 use crate::argument::Argument;
 use crate::flow::{Flow, flowing};
@@ -109,6 +109,42 @@ impl<'a> Printer<'a> {
         show_integer(base, form, shown.is_negative(), shown.magnitude(), into);
     }
 
+    /// Shows a number of any length. Most that are no ints are read from eight bytes, and are shown as 64 bits.
+    #[inline(always)]
+    fn long_number(
+        &self,
+        base: Base,
+        length: Length,
+        form: &Form,
+        argument: &Argument,
+        into: &mut Tail<'_>,
+    )
+        ensures { Shows into.old into.new (number_text (given self.now.rec.now) (source self.now).long length base form.now (argument_tree argument.now)) }
+    {
+        let bits = bits_of(length, self.plan.long());
+        match argument.whole(self.rec) {
+            Some(whole) if bits == 64 => {
+                let shown = cast_bits(bits, is_signed(base), whole);
+                show_integer(base, form, shown.is_negative(), shown.magnitude(), into);
+            }
+            _ => self.any_number(base, length, form, argument, into),
+        }
+    }
+
+    #[inline(never)]
+    fn long_signed(&self, length: Length, form: &Form, argument: &Argument, into: &mut Tail<'_>)
+        ensures { Shows into.old into.new (number_text (given self.now.rec.now) (source self.now).long length Base.Signed form.now (argument_tree argument.now)) }
+    {
+        self.long_number(Base::Signed, length, form, argument, into);
+    }
+
+    #[inline(never)]
+    fn long_unsigned(&self, length: Length, form: &Form, argument: &Argument, into: &mut Tail<'_>)
+        ensures { Shows into.old into.new (number_text (given self.now.rec.now) (source self.now).long length Base.Unsigned form.now (argument_tree argument.now)) }
+    {
+        self.long_number(Base::Unsigned, length, form, argument, into);
+    }
+
     /// Shows a number. Most are ints that are read from four bytes, whose kind is known when this is compiled.
     #[inline(always)]
     fn number(
@@ -126,7 +162,11 @@ impl<'a> Printer<'a> {
                 let shown = cast_bits(32, is_signed(base), half);
                 show_integer(base, form, shown.is_negative(), shown.magnitude(), into);
             }
-            _ => self.any_number(base, length, form, argument, into),
+            _ => match base {
+                Base::Signed => self.long_signed(length, form, argument, into),
+                Base::Unsigned => self.long_unsigned(length, form, argument, into),
+                _ => self.any_number(base, length, form, argument, into),
+            },
         }
     }
 
@@ -229,10 +269,10 @@ impl<'a> Printer<'a> {
         self.bytes_address(show, form, tail.kept(), into);
     }
 
-    /// Shows what `p` shows of an argument.
-    #[inline(always)]
+    /// Shows what `p` shows of an argument, however it is read.
+    #[inline(never)]
     #[tactic(auto, using(crate::proofs::Contents::address_of_number, crate::proofs::Contents::address_of_text, crate::proofs::Contents::address_of_bytes))]
-    fn pointer(&self, show: PointerForm, form: &Form, argument: &Argument, into: &mut Tail<'_>)
+    fn any_pointer(&self, show: PointerForm, form: &Form, argument: &Argument, into: &mut Tail<'_>)
         ensures { Shows into.old into.new (pointer_text show (given self.now.rec.now) self.now.symbols.now form.now (argument_tree argument.now)) }
     {
         let rec = self.rec;
@@ -242,6 +282,26 @@ impl<'a> Printer<'a> {
             Kind::Text => self.text_address(show, form, tree, into),
             Kind::Bytes => self.bytes_address(show, form, bytes(tree, rec), into),
         }
+    }
+
+    /// Shows what `p` shows of an argument. Most are addresses that are read from eight bytes.
+    #[inline(always)]
+    #[tactic(auto, using(crate::proofs::Contents::address_of_number))]
+    fn pointer(&self, show: PointerForm, form: &Form, argument: &Argument, into: &mut Tail<'_>)
+        ensures { Shows into.old into.new (pointer_text show (given self.now.rec.now) self.now.symbols.now form.now (argument_tree argument.now)) }
+    {
+        match argument.whole(self.rec) {
+            Some(whole) => self.number_address(show, form, whole.pattern(), into),
+            None => self.any_pointer(show, form, argument, into),
+        }
+    }
+
+    /// Shows what `c` shows of an argument.
+    #[inline(never)]
+    fn letter(&self, form: &Form, argument: &Argument, into: &mut Tail<'_>)
+        ensures { Shows into.old into.new (letter_text (given self.now.rec.now) form.now (argument_tree argument.now)) }
+    {
+        show_text(form, &[(argument.address(self.rec) % 256) as u8], into);
     }
 
     /// Shows what a conversion shows of its argument.
@@ -258,7 +318,7 @@ impl<'a> Printer<'a> {
     {
         match what {
             Content::Number(base) => self.number(base, length, form, argument, into),
-            Content::Letter => show_text(form, &[(argument.address(self.rec) % 256) as u8], into),
+            Content::Letter => self.letter(form, argument, into),
             Content::Text => self.text(form, argument, into),
             Content::Pointer(show) => self.pointer(show, form, argument, into),
         }
