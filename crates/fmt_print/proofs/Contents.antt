@@ -16,7 +16,7 @@ use Rattle.trace_base.specs.Kept.{until_nul}
 use Rattle.fmt_eval.specs.Texts.{text_of}
 use Rattle.fmt_eval.specs.Values.{RecData}
 use Rattle.fmt_forms.specs.declared.form.Form.{Form}
-use Rattle.fmt_forms.specs.Texts.{cut_to}
+use Rattle.fmt_forms.specs.Texts.{cut_to, padded}
 use Rattle.fmt_forms.proofs.PlainLemmas.{padded_bare}
 use Rattle.fmt_print.specs.Addresses.{number_address, bytes_address, address_by}
 use Rattle.fmt_print.specs.Strings.{address_of, string_by, string_text}
@@ -46,3 +46,10 @@ placed_text g maps form t text n kind is width none is_n =
     ap (λ (m : ℕ). take m text) is_n ∙ is ∙ sym (string_of_text (kind_of t) g maps t kind)
     ∙ ap (λ (p : Option ℕ). cut_to p (string_by (kind_of t) g maps t)) (sym none)
     ∙ padded_bare form.left form.width (cut_to form.precision (string_by (kind_of t) g maps t)) width
+
+-- a text that is shown as it is
+pub named_text : (form : Form) (text shown : List ℕ) → text ≡ shown → form.width ≡ 0 → form.precision ≡ None → text ≡ padded form.left form.width (cut_to form.precision shown)
+named_text form text shown is width none =
+    is
+    ∙ ap (λ (p : Option ℕ). cut_to p shown) (sym none)
+    ∙ padded_bare form.left form.width (cut_to form.precision shown) width

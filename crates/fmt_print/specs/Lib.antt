@@ -12,3 +12,4 @@ pub mod Flows
 pub mod Contents
 pub mod Takes
 pub mod Sources
+pub mod Names

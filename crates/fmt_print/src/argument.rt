@@ -11,7 +11,9 @@ ghost use Rattle.trace_base.specs.Kept.{until_nul};
 ghost use Rattle.fmt_eval.specs.Texts.{text_of};
 ghost use Rattle.fmt_eval.specs.Values.{given, number_of};
 ghost use Rattle.fmt_print.specs.Known.{is_whole, test_in, StandsAt};
+ghost use Rattle.fmt_print.specs.Names.{name_text, yes_in, no_in, IsNamed};
 
+use crate::name::Name;
 use fmt_eval::{Num, Read, Test, holds, holds_by, number_by, read_of, test_of};
 use fmt_expr::{Expr, Kind, kind};
 use trace_base::{Field, FieldPlace, Rec};
@@ -21,6 +23,15 @@ use trace_base::{Field, FieldPlace, Rec};
 pub struct TextSlot {
     pub at: u32,
     pub len: u32,
+}
+
+/// What gives the text of an argument over a record.
+#[derive(Clone, Copy)]
+pub struct Source<'a> {
+    /// The name that it is, if it is known to be one.
+    pub name: Option<&'a Name>,
+    /// A tree whose text it is.
+    pub tree: &'a Expr,
 }
 
 /// An argument: its tree, and what is known of it before any record is read.
@@ -34,11 +45,16 @@ pub struct Argument {
     test: Test,
     /// Where its text stands.
     place: Option<TextSlot>,
+    /// What its text is where the test of a choice holds, and where it does not, if these are names.
+    yes: Option<Name>,
+    no: Option<Name>,
     ghost kinds: { kind ≡ kind_of (tree_of tree) } by { Prim.hlevel props },
     ghost reads: { ReadsAs read (tree_of tree) } by { Prim.hlevel props },
     ghost wholes: { is_whole read ≡ true → kind ≡ Number } by { Prim.hlevel props },
     ghost tests: { TestsAs test (test_in (tree_of tree)) } by { Prim.hlevel props },
     ghost stands: { IfSome place (StandsAt (tree_of tree)) } by { Prim.hlevel props },
+    ghost yes_named: { IfSome yes (IsNamed (yes_in (tree_of tree))) } by { Prim.hlevel props },
+    ghost no_named: { IfSome no (IsNamed (no_in (tree_of tree))) } by { Prim.hlevel props },
 }
 
 /// How the number of a tree of a kind is read. What is no number is not read at once.
@@ -86,31 +102,61 @@ fn text_place(tree: &Expr) -> Option<TextSlot>
     }
 }
 
+/// The name that the text of a tree is over every record, if it is one.
+fn name_of(tree: &Expr) -> Option<Name>
+    ensures { IfSome result (IsNamed (tree_of tree.now)) }
+{
+    match tree {
+        Expr::Literal { text } => Name::of(text.as_bytes()),
+        _ => None,
+    }
+}
+
+/// The name that the first arm of a choice is.
+fn yes_name(tree: &Expr) -> Option<Name>
+    ensures { IfSome result (IsNamed (yes_in (tree_of tree.now))) }
+{
+    match tree {
+        Expr::Choice { yes, .. } => name_of(yes),
+        _ => None,
+    }
+}
+
+/// The name that the second arm of a choice is.
+fn no_name(tree: &Expr) -> Option<Name>
+    ensures { IfSome result (IsNamed (no_in (tree_of tree.now))) }
+{
+    match tree {
+        Expr::Choice { no, .. } => name_of(no),
+        _ => None,
+    }
+}
+
 /// The tree that gives the text of a tree: that under a cast, and of a choice the arm that is taken.
-fn source_of<'a>(expr: &'a Expr, rec: &Rec<'_>) -> &'a Expr
+fn deep_source<'a>(expr: &'a Expr, rec: &Rec<'_>) -> &'a Expr
     ensures { text_of (given rec.now) (tree_of result.now) ≡ text_of (given rec.now) (tree_of expr.now) }
 {
     match expr {
-        Expr::Cast { of, .. } => source_of(of, rec),
+        Expr::Cast { of, .. } => deep_source(of, rec),
         Expr::Choice { test, yes, no } => {
             if holds(test, rec) {
-                source_of(yes, rec)
+                deep_source(yes, rec)
             } else {
-                source_of(no, rec)
+                deep_source(no, rec)
             }
         }
         _ => expr,
     }
 }
 
-/// The tree that gives the text of an arm of a choice. Most arms are that tree themselves.
+/// The same. Most trees are that tree themselves.
 #[inline(always)]
-fn arm_source<'a>(arm: &'a Expr, rec: &Rec<'_>) -> &'a Expr
-    ensures { text_of (given rec.now) (tree_of result.now) ≡ text_of (given rec.now) (tree_of arm.now) }
+pub fn source_of<'a>(tree: &'a Expr, rec: &Rec<'_>) -> &'a Expr
+    ensures { text_of (given rec.now) (tree_of result.now) ≡ text_of (given rec.now) (tree_of tree.now) }
 {
-    match arm {
-        Expr::Cast { .. } | Expr::Choice { .. } => source_of(arm, rec),
-        _ => arm,
+    match tree {
+        Expr::Cast { .. } | Expr::Choice { .. } => deep_source(tree, rec),
+        _ => tree,
     }
 }
 
@@ -127,12 +173,16 @@ impl Argument {
         let read = number_read(kind, &tree);
         let test = choice_test(&tree);
         let place = text_place(&tree);
+        let yes = yes_name(&tree);
+        let no = no_name(&tree);
         Argument {
             tree,
             kind,
             read,
             test,
             place,
+            yes,
+            no,
         }
     }
 
@@ -191,20 +241,27 @@ impl Argument {
         Some(&rec.payload[start..end])
     }
 
-    /// The tree that gives its text: that under a cast, and of a choice the arm that is taken.
+    /// What gives its text: of a choice the arm that is taken.
     #[inline(always)]
-    pub fn source(&self, rec: &Rec<'_>) -> &Expr
-        ensures { text_of (given rec.now) (tree_of result.now) ≡ text_of (given rec.now) (argument_tree self.now) }
+    pub fn source(&self, rec: &Rec<'_>) -> Source<'_>
+        ensures name { IfSome result.name (λ name. name_text name.now ≡ until_nul (text_of (given rec.now) (argument_tree self.now))) }
+        ensures tree { text_of (given rec.now) (tree_of result.tree.now) ≡ text_of (given rec.now) (argument_tree self.now) }
     {
         match &self.tree {
             Expr::Choice { test, yes, no } => {
                 if holds_by(self.test, test, rec) {
-                    arm_source(yes, rec)
+                    Source {
+                        name: self.yes.as_ref(),
+                        tree: yes,
+                    }
                 } else {
-                    arm_source(no, rec)
+                    Source {
+                        name: self.no.as_ref(),
+                        tree: no,
+                    }
                 }
             }
-            tree => source_of(tree, rec),
+            tree => Source { name: None, tree },
         }
     }
 }

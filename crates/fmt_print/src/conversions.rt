@@ -15,7 +15,7 @@ ghost use Rattle.fmt_print.specs.ArgumentView.{argument_tree};
 ghost use Rattle.fmt_print.specs.Printed.{bits_of, number_text};
 ghost use Rattle.fmt_print.specs.Strings.{letter_text, string_text};
 
-use crate::argument::Argument;
+use crate::argument::{Argument, source_of};
 use crate::flow::{Flow, flowing};
 use crate::plan::PrintPlan;
 use crate::step::Content;
@@ -181,6 +181,32 @@ impl<'a> Printer<'a> {
         }
     }
 
+    /// Shows the text of a tree.
+    #[inline(never)]
+    fn tree_text(&self, form: &Form, tree: &Expr, into: &mut Tail<'_>)
+        ensures { Shows into.old into.new (padded form.now.left form.now.width (cut_to form.now.precision (until_nul (text_of (given self.now.rec.now) (tree_of tree.now))))) }
+    {
+        let tree = source_of(tree, self.rec);
+        match text_at_once(tree, self.rec) {
+            Some(text) => show_short(form, text, into),
+            None => flowing(form, Flow::Text(tree, form.precision), self.rec, into),
+        }
+    }
+
+    /// Shows the text of an argument that is none at a known place. Most are names, and are shown as they are.
+    #[inline(always)]
+    #[tactic(auto, using(crate::proofs::Contents::named_text))]
+    fn source_text(&self, form: &Form, argument: &Argument, into: &mut Tail<'_>)
+        ensures { Shows into.old into.new (padded form.now.left form.now.width (cut_to form.now.precision (until_nul (text_of (given self.now.rec.now) (argument_tree argument.now))))) }
+    {
+        let bare = form.width == 0 && form.precision.is_none();
+        let source = argument.source(self.rec);
+        match source.name {
+            Some(name) if bare => name.show(into),
+            _ => self.tree_text(form, source.tree, into),
+        }
+    }
+
     /// Shows what `s` shows of any argument.
     #[inline(always)]
     #[tactic(auto, using(crate::proofs::Contents::string_of_number, crate::proofs::Contents::string_of_text, crate::proofs::Contents::string_of_bytes))]
@@ -190,13 +216,7 @@ impl<'a> Printer<'a> {
         let rec = self.rec;
         match argument.kind {
             Kind::Number => self.number_string(form, argument.address(rec), into),
-            Kind::Text => {
-                let tree = argument.source(rec);
-                match text_at_once(tree, rec) {
-                    Some(text) => show_short(form, text, into),
-                    None => flowing(form, Flow::Text(tree, form.precision), rec, into),
-                }
-            }
+            Kind::Text => self.source_text(form, argument, into),
             Kind::Bytes => show_until_nul(form, bytes(&argument.tree, rec), into),
         }
     }

@@ -9,6 +9,7 @@ mod argument;
 mod arguments;
 mod conversions;
 mod flow;
+mod name;
 mod plan;
 mod printing;
 mod reading;

@@ -124,7 +124,7 @@ fn first_shown(directives: &[Directive]) -> (Shown, &[Directive])
 }
 
 /// Sets the first bytes to others.
-fn put_first(into: &mut [u8], bytes: &[u8])
+pub fn put_first(into: &mut [u8], bytes: &[u8])
     requires { length bytes.now ≤ length into.old }
     ensures { into.new ≡ bytes.now ++ drop (length bytes.now) into.old }
 {
