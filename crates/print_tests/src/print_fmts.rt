@@ -180,12 +180,23 @@ none\tREC->a, REC->a, REC->a\tnone
 %pM\tREC->T\t61:62:00:00:00:00
 [%s]\tREC->a ? \"yes\" : \"no\"\t[yes]
 [%s]\t0 ? REC->t : REC->T\t[ab]
+[%s]\tREC->n & 1 ? \"sixteen letters.\" : \"no\"\t[sixteen letters.]
+[%s]\tREC->n & 1 ? \"seventeen letters\" : \"no\"\t[seventeen letters]
+[%s]\tREC->n & 128 ? \"yes\" : \"\"\t[]
+[%s]\tREC->n & 128 ? \"yes\" : \"n\\0o\"\t[n]
+[%s]\tREC->n & 128 ? \"yes\" : REC->T\t[ab]
+[%5s|%-5s|%.1s]\tREC->a ? \"yes\" : \"\", REC->a ? \"yes\" : \"\", REC->a ? \"yes\" : \"\"\t[  yes|yes  |y]
+%ld|%lu|%d|%hd|%lx\tREC->w, REC->w, REC->w, REC->w, REC->w\t-30064771030|18446744043644780586|42|42|fffffff90000002a
+%ld|%lu|%d|%hd|%lx\tREC->W, REC->W, REC->W, REC->W, REC->W\t-30064771030|18446744043644780586|42|42|fffffff90000002a
+%14ld|%+ld|%lld|%zu\tREC->w, REC->s, REC->s, REC->s\t  -30064771030|+200|200|200
+%p|%ps|%pS|%6p|%ps|%pS\tREC->s, REC->s, REC->s, REC->s, REC->w, REC->W\t0xc8|zero|zero+0xc8|  0xc8|do_idle|do_idle+0xfffffff8ffffe02a
 ";
 
-/// The payload of the record: a text with a NUL in it, four bytes of an address, 42, and -7.
-const PAYLOAD: [u8; 16] = *b"ab\0d\x7f\x00\x00\x01\x2a\0\0\0\xf9\xff\xff\xff";
+/// The payload of the record: a text with a NUL in it, four bytes of an address, 42, -7, and 200 in eight bytes.
+const PAYLOAD: [u8; 24] = *b"ab\0d\x7f\x00\x00\x01\x2a\0\0\0\xf9\xff\xff\xff\xc8\0\0\0\0\0\0\0";
 
-/// The fields of the payload: 42, the address in three kinds, the text in two, and -7.
+/// The fields of the payload: 42, the address in three kinds, the text in two, -7, both numbers as eight bytes with a sign and
+/// without, and 200.
 const FORMAT: &[u8] = b"name: payload
 ID: 1
 \tfield:int a;\toffset:8;\tsize:4;\tsigned:1;
@@ -195,6 +206,9 @@ ID: 1
 \tfield:char T[4];\toffset:0;\tsize:4;\tsigned:1;
 \tfield:u8 B[4];\toffset:0;\tsize:4;\tsigned:0;
 \tfield:int v;\toffset:12;\tsize:4;\tsigned:1;
+\tfield:long w;\toffset:8;\tsize:8;\tsigned:1;
+\tfield:unsigned long W;\toffset:8;\tsize:8;\tsigned:0;
+\tfield:long s;\toffset:16;\tsize:8;\tsigned:1;
 ";
 
 fn format(alloc: Global) -> Result<EventFormat, Fail> {
