@@ -1,4 +1,4 @@
-ghost use Rattle.std.specs.Prelude.{◌≡◌, ℕ, List, OnOk};
+ghost use Rattle.std.specs.Prelude.{ℕ, List, OnOk};
 ghost use Rattle.subpage.specs.Arrangement.{Keyed};
 ghost use Rattle.subpage.specs.ItemView.{item_view};
 ghost use Rattle.item_pass.specs.Gathering.{and_item};

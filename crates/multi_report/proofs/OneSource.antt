@@ -1,5 +1,5 @@
 -- One file of several, made ready or with an item used up.
-use Rattle.std.proofs.Common.{◌≡◌, ℕ, ◌+◌, ◌<◌, ◌≤◌, List, length, get_or, set, Option, Some, None, refl, sym, ap, subst, ◌∙◌, arith, sum_by}
+use Rattle.std.proofs.Common.{◌≡◌, ℕ, ◌+◌, ◌<◌, List, length, get_or, set, Option, Some, None, refl, sym, ap, subst, arith}
 use Rattle.std.specs.Option.{IfSome}
 use Rattle.std.specs.List.{All}
 use Rattle.std.proofs.lemmas.List.Sums.{sum_by-set}
@@ -12,10 +12,9 @@ use Rattle.subpage.specs.ItemData.{ItemData}
 use Rattle.page_pool.specs.declared.lane.Lane.{Lane}
 use Rattle.event_cursor.specs.Standing.{Stands, most_left}
 use Rattle.event_cursor.specs.Stepping.{IsStepped}
-use Rattle.time_merge.specs.LaneRows.{IsReady, parts_of, rows_of}
+use Rattle.time_merge.specs.LaneRows.{IsReady, rows_of}
 use Rattle.time_merge.specs.LaneSteps.{IsLaneStep}
 use Rattle.time_merge.specs.Loading.{LoadsLanes}
-use Rattle.time_merge.specs.Reads.{all_unread}
 use Rattle.time_merge.specs.declared.readiness.Readiness.{Readiness}
 use Rattle.time_merge.specs.declared.readiness.Readiness.TheVariants.{Ready}
 use Rattle.time_merge.proofs.PartReads.{all_reading_in, none_reading, stepping_unread}

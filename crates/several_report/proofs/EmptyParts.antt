@@ -5,8 +5,8 @@ use Rattle.std.specs.List.{cons_option}
 use Rattle.std.specs.Option.{option_map}
 use Rattle.std.proofs.lemmas.List.Concat.{flat_map-cons}
 use Rattle.std.proofs.lemmas.Option.{slice_get-map}
-use Rattle.subpage.specs.Arrangement.{Keyed, all_keyed, by_key}
-use Rattle.subpage.specs.Cut.{Cut, lists_of}
+use Rattle.subpage.specs.Arrangement.{Keyed, by_key}
+use Rattle.subpage.specs.Cut.{Cut}
 use Rattle.subpage.proofs.EmptyParts as parts
 use Rattle.multi_report.specs.Order.{FileCut, FileItem, ShownFile, arranged, cut_in, cut_of_files, in_file, is_up_to, items_of, key_in, numbered_from, own_cut, own_cut_in, reached, sooner}
 use Rattle.multi_report.specs.Reports.{head_line, line_in, line_of, lines, pieces}

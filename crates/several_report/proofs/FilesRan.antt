@@ -12,12 +12,10 @@ use Rattle.trace_args.specs.Command.{ReportData}
 use Rattle.run_endings.specs.declared.status.Status.{Status}
 use Rattle.run_endings.specs.declared.status.Status.TheVariants.{NoMemory}
 use Rattle.several_report.specs.Inputs.{input_share, NamedInput, WrongInput, inputs_in, names_in}
-use Rattle.run_endings.specs.Progress.{progress}
 use Rattle.several_report.specs.Meaning.{files_meaning}
 use Rattle.run_endings.specs.Meaning.{on_out}
 use Rattle.run_endings.specs.Outside.{FolderSeen, Outside, SinkSeen, beside}
 use Rattle.run_endings.specs.Ran.{MissesNothingElse}
-use Rattle.run_endings.specs.Ran.{JobRan}
 use Rattle.several_report.specs.Ran.{FilesRan}
 use Rattle.several_report.specs.Reported.{FilesReported}
 use Rattle.run_endings.proofs.Endings.{Around, CleanAround, ended_around, ended_complete, no_memory_map, not_usage, unbegun}

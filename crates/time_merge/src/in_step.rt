@@ -39,8 +39,8 @@ fn next_in(layout: &Layout, lanes: &[Lane], nexts: &TournamentTree) -> Next
     next_at(layout, lanes, nexts.least())
 }
 
-/// Makes every lane ready, and brings a tree into step with them. Where it was so but for one lane, of which an item was used, it
-/// looks at that one alone.
+/// Makes every lane ready, and brings a tree into step with them. Where it was so but for one lane, of which an item was
+/// used, it looks at that one alone.
 ///
 /// # Errors
 /// `Failed` where a read failed. The lanes are not to be used again then.
