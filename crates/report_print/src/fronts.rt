@@ -15,17 +15,17 @@ use crate::fields::put_pair;
 use crate::show::Show;
 use crate::tasks::{TaskStart, USUAL_TASK, WIDE_TASK};
 use crate::unnamed::put_unnamed;
-use crate::usual::{USUAL_CPUS, USUAL_FRONT, write_front};
+use crate::usual::{USUAL_CPUS, USUAL_FRONT, write_front, write_when};
 use line_columns::{
     BEFORE_PID, BEFORE_PLACE, Front, LONGEST_BEHIND, LONGEST_PROCESSOR, LONGEST_TASK, USUAL_LABEL,
     USUAL_TIMES,
 };
 use trace_base::{Common, Order, Tail};
 
-/// How long they are where the pid has six digits, and where it has seven.
-const WIDE_FRONT: usize = USUAL_FRONT + 1;
+/// How long a task's text is where its pid has six digits, and where it has seven.
+const SIX_DIGITS: usize = USUAL_TASK + 1;
 
-const WIDER_FRONT: usize = USUAL_FRONT + 2;
+const SEVEN_DIGITS: usize = USUAL_TASK + 2;
 
 impl Context {
     /// The order of the numbers in the file's events.
@@ -200,9 +200,12 @@ fn put_made(task: &[u8], cpu: u32, time: u64, label: &[u8], into: &mut Tail<'_>)
     ensures value { held into.new ≡ put_held (held into.old) (task.now ++ (spec.usual_when cpu time ++ label.now)) }
     ensures len { result ≡ length (task.now ++ (spec.usual_when cpu time ++ label.now)) }
 {
-    let mut front = Front::new();
-    put_usual_when(cpu, time, label, &mut front);
-    put_with_made_task(task, &mut front, into)
+    let mut text = [0; USUAL_FRONT];
+    write_when(cpu, time, &label[..USUAL_LABEL], &mut text);
+    put_known_length(task, into);
+    let when = &text[USUAL_TASK..];
+    into.put(when);
+    task.len() + when.len()
 }
 
 /// The same where the task's text was not made beforehand.
@@ -267,7 +270,7 @@ fn put_with_made_task(task: &[u8], front: &mut Front, into: &mut Tail<'_>) -> us
 {
     if task.len() <= WIDE_TASK {
         put_task(task, front);
-        put_known_length(front.as_bytes(), into);
+        into.put(front.as_bytes());
         front.len()
     } else {
         put_pair(task, front.as_bytes(), into);
@@ -346,18 +349,17 @@ fn put_with_any_task(context: &Context, pid: i32, front: &mut Front, into: &mut 
     }
 }
 
-/// Puts the front of a line. Most have one of three lengths, since most pids have no more than seven digits: a text of a length
-/// that is known beforehand needs no call.
+/// Puts the text of a task. Most that have not the usual length have one of two others, since most pids have no more than seven
+/// digits: a text of a length that is known beforehand needs no call.
 #[inline(always)]
-fn put_known_length(front: &[u8], into: &mut Tail<'_>)
+fn put_known_length(task: &[u8], into: &mut Tail<'_>)
     ensures same_slice { lent into.new ≡ lent into.old }
-    ensures value { held into.new ≡ put_held (held into.old) front.now }
+    ensures value { held into.new ≡ put_held (held into.old) task.now }
 {
-    match front.len() {
-        USUAL_FRONT => into.put(&front[..USUAL_FRONT]),
-        WIDE_FRONT => into.put(&front[..WIDE_FRONT]),
-        WIDER_FRONT => into.put(&front[..WIDER_FRONT]),
-        _ => put_piece(front, into),
+    match task.len() {
+        SIX_DIGITS => into.put(&task[..SIX_DIGITS]),
+        SEVEN_DIGITS => into.put(&task[..SEVEN_DIGITS]),
+        _ => put_piece(task, into),
     }
 }
 
