@@ -102,18 +102,23 @@ fn context(alloc: Global, filters: Vec<FilterUse>, letters: &str) -> Result<Cont
     context_of(alloc, formats, "kworker/0:1", filters, letters)
 }
 
-/// The item on processor 1 has this line, or none.
-fn shows(rt: &impl Abort, context: &Context, item: &Item<'_>, text: &str) {
+/// The item on this processor has this line, or none.
+fn shows_on(rt: &impl Abort, context: &Context, cpu: u32, item: &Item<'_>, text: &str) {
     let mut room = [0; 256];
     let mut into = Tail::new(&mut room);
-    let (len, _) = line(context, 1, item, &mut into);
+    let (len, _) = line(context, cpu, item, &mut into);
     let kept = into.kept();
     let front = &kept[..kept.len().saturating_sub(1)];
-    let ends = kept.ends_with(b"\n") && selected(context, 1, item);
+    let ends = kept.ends_with(b"\n") && selected(context, cpu, item);
     assert!(rt;
         len as usize == kept.len() && front == text.as_bytes() && ends == !text.is_empty(),
         "{text}"
     );
+}
+
+/// The same on processor 1.
+fn shows(rt: &impl Abort, context: &Context, item: &Item<'_>, text: &str) {
+    shows_on(rt, context, 1, item, text);
 }
 
 /// An event of this payload in hexadecimal has this line.
@@ -153,6 +158,13 @@ tlI\t1000250000\t0900080000000000\t
 \t1000250000\t04000000ca8601002a0000000000000000000000\t            wide-100042 [001]     1.000250: prints:                  42|42   |00042|+42|2a 0 1
 \t1000250000\t040000006a420f002a0000000000000000000000\t           wider-1000042 [001]     1.000250: prints:                  42|42   |00042|+42|2a 0 1
 \t1000250000\t040000006a0000002a0000000000000000000000\t           <...>-106   [001]     1.000250: prints:                  42|42   |00042|+42|2a 0 1
+\t1000250000\t04000000070000002a0000000000000000000000\t           <...>-7     [001]     1.000250: prints:                  42|42   |00042|+42|2a 0 1
+\t1000250000\t040000000f2700002a0000000000000000000000\t           <...>-9999  [001]     1.000250: prints:                  42|42   |00042|+42|2a 0 1
+\t1000250000\t04000000102700002a0000000000000000000000\t           <...>-10000 [001]     1.000250: prints:                  42|42   |00042|+42|2a 0 1
+\t1000250000\t040000003f420f002a0000000000000000000000\t           <...>-999999 [001]     1.000250: prints:                  42|42   |00042|+42|2a 0 1
+\t1000250000\t0400000040420f002a0000000000000000000000\t           <...>-1000000 [001]     1.000250: prints:                  42|42   |00042|+42|2a 0 1
+\t1000250000\t040000007f9698002a0000000000000000000000\t           <...>-9999999 [001]     1.000250: prints:                  42|42   |00042|+42|2a 0 1
+\t1000250000\t04000000809698002a0000000000000000000000\t           <...>-10000000 [001]     1.000250: prints:                  42|42   |00042|+42|2a 0 1
 \t1000250000\t04000000ffffff7f2a0000000000000000000000\t           <...>-2147483647 [001]     1.000250: prints:                  42|42   |00042|+42|2a 0 1
 \t1000250000\t04000000feffff7f2a0000000000000000000000\tabcdefghijklmnop-2147483646 [001]     1.000250: prints:                  42|42   |00042|+42|2a 0 1
 \t1000250000\t04000000d6ffffff2a0000000000000000000000\t           <...>--42   [001]     1.000250: prints:                  42|42   |00042|+42|2a 0 1
@@ -179,6 +191,75 @@ fn events_have_these_lines(rt: HostRuntime) -> Result<(), Fail> {
     for row in LINES.lines() {
         shows_row(&rt, rt.alloc(), row)?;
     }
+    Ok(())
+}
+
+/// Processors, and the lines of events that tell a text, at the time 0: of the task 42, of one without a name, and of one with a
+/// wide pid.
+const PLACES: &[(u32, &[u8], &str)] = &[
+    (
+        9,
+        b"\x03\0\0\0\x2a\0\0\0x",
+        "     kworker/0:1-42    [009]     0.000000: text:                 [FAILED TO PARSE] text=x",
+    ),
+    (
+        10,
+        b"\x03\0\0\0\x2a\0\0\0x",
+        "     kworker/0:1-42    [010]     0.000000: text:                 [FAILED TO PARSE] text=x",
+    ),
+    (
+        99,
+        b"\x03\0\0\0\x2a\0\0\0x",
+        "     kworker/0:1-42    [099]     0.000000: text:                 [FAILED TO PARSE] text=x",
+    ),
+    (
+        100,
+        b"\x03\0\0\0\x2a\0\0\0x",
+        "     kworker/0:1-42    [100]     0.000000: text:                 [FAILED TO PARSE] text=x",
+    ),
+    (
+        999,
+        b"\x03\0\0\0\x2a\0\0\0x",
+        "     kworker/0:1-42    [999]     0.000000: text:                 [FAILED TO PARSE] text=x",
+    ),
+    (
+        1000,
+        b"\x03\0\0\0\x2a\0\0\0x",
+        "     kworker/0:1-42    [1000]     0.000000: text:                 [FAILED TO PARSE] text=x",
+    ),
+    (
+        205,
+        b"\x03\0\0\0\x2b\0\0\0x",
+        "           <...>-43    [205]     0.000000: text:                 [FAILED TO PARSE] text=x",
+    ),
+    (
+        210,
+        b"\x03\0\0\0\xff\xff\xff\xffx",
+        "           <...>--1    [210]     0.000000: text:                 [FAILED TO PARSE] text=x",
+    ),
+    (
+        100,
+        b"\x03\0\0\0\x6a\x42\x0f\0x",
+        "           wider-1000042 [100]     0.000000: text:                 [FAILED TO PARSE] text=x",
+    ),
+    (
+        1000,
+        b"\x03\0\0\0\x6a\x42\x0f\0x",
+        "           wider-1000042 [1000]     0.000000: text:                 [FAILED TO PARSE] text=x",
+    ),
+];
+
+fn are_shown_on(rt: &impl Abort, context: &Context) {
+    for (cpu, payload, text) in PLACES {
+        let item = Item::Event { time: 0, payload };
+        shows_on(rt, context, *cpu, &item, text);
+    }
+}
+
+#[test]
+fn processors_have_three_digits(rt: HostRuntime) -> Result<(), Fail> {
+    let context = context(rt.alloc(), Vec::new(rt.alloc()), "")?;
+    are_shown_on(&rt, &context);
     Ok(())
 }
 
