@@ -44,16 +44,16 @@ fn put_event(context: &Context, cpu: u32, time: u64, payload: &[u8], into: &mut 
     ensures value { held into.new ≡ put_held (held into.old) (spec.event_text context.now cpu time payload.now) }
     ensures until { result ≡ spec.time_end context.now cpu time payload.now }
 {
-    let id = context.id(payload);
+    let (id, pid) = context.id_and_pid(payload);
+    let common = context.shown_common(pid, payload);
     match context.known(id) {
         Some(known) => {
-            let common = context.shown_common(payload);
             let label = known.head.label.as_bytes();
             let until = put_start(context, cpu, time, &common, label, into);
             put_body(context, &known, payload, into);
             until
         }
-        None => { put_unknown(context, cpu, time, &context.shown_common(payload), id, into) }
+        None => put_unknown(context, cpu, time, &common, id, into),
     }
 }
 

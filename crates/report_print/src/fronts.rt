@@ -56,9 +56,11 @@ impl Context {
         }
     }
 
-    /// The same as far as an event's line shows them.
+    /// The same as far as an event's line shows them, where the task was read already.
+    #[inline(always)]
     #[tactic(auto, using(crate::proofs::FrontLemmas::shown_prefix))]
-    pub(crate) fn shown_common(&self, payload: &[u8]) -> Common
+    pub(crate) fn shown_common(&self, pid: i32, payload: &[u8]) -> Common
+        requires { pid ≡ line.pid_of self.now payload.now }
         ensures { (cpu : ℕ) (time : ℕ) → line.prefix_text self.now cpu time result ≡ line.front_text self.now cpu time payload.now }
     {
         let (flags, preempt) = self.shown_marks(payload);
@@ -66,7 +68,7 @@ impl Context {
             id: 0,
             flags,
             preempt,
-            pid: self.pid(payload),
+            pid,
         }
     }
 

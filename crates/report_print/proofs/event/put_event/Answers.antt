@@ -9,8 +9,8 @@ use Rattle.report_print.proofs.event.put_event.Goals as goal
 
 pub returns-in-Some-clause-value : goal.returns-in-Some-clause-value
 returns-in-Some-clause-value c =
-    known_put c.args.context.now c.args.cpu c.args.time c.args.payload.now (prefix_text c.args.context.now c.args.cpu c.args.time c.shown_common-common.result) c.id-id.result
-    (c.shown_common-common.ensures c.args.cpu c.args.time) c.id-id.ensures
+    known_put c.args.context.now c.args.cpu c.args.time c.args.payload.now (prefix_text c.args.context.now c.args.cpu c.args.time c.shown_common-common.result) c.id_and_pid-id.result.0
+    (c.shown_common-common.ensures c.args.cpu c.args.time) c.id_and_pid-id.ensures.id
     (held c.args.into.now) (held c.put_start-until.new.into) (held c.put_body.new.into) c.as_bytes-label.result.now (known_view c.in-Some.known) c.as_bytes-label.ensures
     (ap (option_map known_view) (sym c.in-Some.is) ∙ c.known.ensures) c.put_start-until.ensures.value c.put_body.ensures.value
 
@@ -21,12 +21,12 @@ returns-in-Some-clause-until c =
 
 pub returns-in-None-clause-value : goal.returns-in-None-clause-value
 returns-in-None-clause-value c =
-    unknown_put c.args.context.now c.args.cpu c.args.time c.args.payload.now (prefix_text c.args.context.now c.args.cpu c.args.time c.shown_common.result) c.id-id.result
-    (c.shown_common.ensures c.args.cpu c.args.time) c.id-id.ensures
-    (held c.args.into.now) (held c.put_unknown.new.into) (unknown_text c.id-id.result) refl
+    unknown_put c.args.context.now c.args.cpu c.args.time c.args.payload.now (prefix_text c.args.context.now c.args.cpu c.args.time c.shown_common-common.result) c.id_and_pid-id.result.0
+    (c.shown_common-common.ensures c.args.cpu c.args.time) c.id_and_pid-id.ensures.id
+    (held c.args.into.now) (held c.put_unknown.new.into) (unknown_text c.id_and_pid-id.result.0) refl
     (ap (option_map known_view) (sym c.in-None.is) ∙ c.known.ensures) c.put_unknown.ensures.value
 
 pub returns-in-None-clause-until : goal.returns-in-None-clause-until
 returns-in-None-clause-until c =
-    end_is c.args.context.now c.args.cpu c.args.time c.args.payload.now (prefix_text c.args.context.now c.args.cpu c.args.time c.shown_common.result) c.put_unknown.result
-    (c.shown_common.ensures c.args.cpu c.args.time) c.put_unknown.ensures.until
+    end_is c.args.context.now c.args.cpu c.args.time c.args.payload.now (prefix_text c.args.context.now c.args.cpu c.args.time c.shown_common-common.result) c.put_unknown.result
+    (c.shown_common-common.ensures c.args.cpu c.args.time) c.put_unknown.ensures.until
