@@ -9,7 +9,7 @@ ghost use Rattle.std.specs.Option.{option_map};
 ghost use Rattle.fmt_print.specs.PlanView.{plan_view};
 ghost use Rattle.report_print.specs.FieldTexts.{is_common};
 ghost use Rattle.report_print.specs.Line as spec;
-ghost use Rattle.report_print.specs.Line.{IsTimeEnd, prefix_text};
+ghost use Rattle.report_print.specs.Line.{IsTimeEnd, front_text, pid_of};
 
 use crate::context::Context;
 use crate::fields::{put_fields_behind, put_unread};
@@ -19,7 +19,7 @@ use fmt_print::print;
 use itoa::Buffer;
 use line_columns::{Front, LONGEST_BEHIND};
 use subpage::Item;
-use trace_base::{Common, Rec, Tail};
+use trace_base::{Rec, Tail};
 
 /// Puts the text of an item. Gives where an event's time ends.
 #[inline(always)]
@@ -45,39 +45,14 @@ fn put_event(context: &Context, cpu: u32, time: u64, payload: &[u8], into: &mut 
     ensures until { result ≡ spec.time_end context.now cpu time payload.now }
 {
     let (id, pid) = context.id_and_pid(payload);
-    let common = context.shown_common(pid, payload);
     match context.known(id) {
         Some(known) => {
             let label = known.head.label.as_bytes();
-            let until = put_start(context, cpu, time, &common, label, into);
+            let until = put_front(context, cpu, time, pid, payload, label, into);
             put_body(context, &known, payload, into);
             until
         }
-        None => put_unknown(context, cpu, time, &common, id, into),
-    }
-}
-
-/// Puts the columns before the event's name, and the name in its column. Gives where the time ends.
-#[inline(always)]
-#[tactic(auto, using(trace_base::proofs::TailJoins::put_held_twice))]
-fn put_start(
-    context: &Context,
-    cpu: u32,
-    time: u64,
-    common: &Common,
-    label: &[u8],
-    into: &mut Tail<'_>,
-) -> usize
-    ensures same_slice { lent into.new ≡ lent into.old }
-    ensures value { held into.new ≡ put_held (put_held (held into.old) (prefix_text context.now cpu time common.now)) label.now }
-    ensures until { result + 2 ≡ length (prefix_text context.now cpu time common.now) }
-{
-    if label.len() <= LONGEST_BEHIND {
-        put_front(context, cpu, time, common, label, into)
-    } else {
-        let until = put_front(context, cpu, time, common, b"", into);
-        into.put(label);
-        until
+        None => put_unknown(context, cpu, time, pid, payload, id, into),
     }
 }
 
@@ -129,16 +104,18 @@ fn put_unknown(
     context: &Context,
     cpu: u32,
     time: u64,
-    common: &Common,
+    pid: i32,
+    payload: &[u8],
     id: u32,
     into: &mut Tail<'_>,
 ) -> usize
+    requires { pid ≡ pid_of context.now payload.now }
     ensures same_slice { lent into.new ≡ lent into.old }
-    ensures value { held into.new ≡ put_held (put_held (held into.old) (prefix_text context.now cpu time common.now)) (spec.unknown_text id) }
-    ensures until { result + 2 ≡ length (prefix_text context.now cpu time common.now) }
+    ensures value { held into.new ≡ put_held (put_held (held into.old) (front_text context.now cpu time payload.now)) (spec.unknown_text id) }
+    ensures until { result + 2 ≡ length (front_text context.now cpu time payload.now) }
 {
     let text = unknown(id);
-    put_front(context, cpu, time, common, text.as_bytes(), into)
+    put_front(context, cpu, time, pid, payload, text.as_bytes(), into)
 }
 
 /// What is said of an event whose format is not known.

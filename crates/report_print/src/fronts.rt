@@ -59,7 +59,7 @@ impl Context {
     /// The same as far as an event's line shows them, where the task was read already.
     #[inline(always)]
     #[tactic(auto, using(crate::proofs::FrontLemmas::shown_prefix))]
-    pub(crate) fn shown_common(&self, pid: i32, payload: &[u8]) -> Common
+    fn shown_common(&self, pid: i32, payload: &[u8]) -> Common
         requires { pid ≡ line.pid_of self.now payload.now }
         ensures { (cpu : ℕ) (time : ℕ) → line.prefix_text self.now cpu time result ≡ line.front_text self.now cpu time payload.now }
     {
@@ -97,48 +97,31 @@ pub fn prefix(context: &Context, cpu: u32, time: u64, common: &Common, into: &mu
     ensures same_slice { lent into.new ≡ lent into.old }
     ensures value { held into.new ≡ put_held (held into.old) (line.prefix_text context.now cpu time common.now) }
 {
-    put_any(context, cpu, time, *common, b"", into);
+    put_columns(context, cpu, time, common, b"", into);
 }
 
-/// Puts the columns of a line, and a short text after them. Gives where the time ends: a colon and a space follow it.
+/// Puts the columns of an event's line, and a text after them. Gives where the time ends: a colon and a space follow it. Most
+/// lines have columns of the usual widths: they are put together at places that are known beforehand.
 #[inline(always)]
 pub(crate) fn put_front(
     context: &Context,
     cpu: u32,
     time: u64,
-    common: &Common,
+    pid: i32,
+    payload: &[u8],
     behind: &[u8],
     into: &mut Tail<'_>,
 ) -> usize
-    requires short { length behind.now ≤ LONGEST_BEHIND }
+    requires { pid ≡ line.pid_of context.now payload.now }
     ensures same_slice { lent into.new ≡ lent into.old }
-    ensures value { held into.new ≡ put_held (put_held (held into.old) (line.prefix_text context.now cpu time common.now)) behind.now }
-    ensures until { result + 2 ≡ length (line.prefix_text context.now cpu time common.now) }
-{
-    let len = put_columns(context, cpu, time, common, behind, into);
-    len - (behind.len() + 2)
-}
-
-/// The same, and gives the length of all that was put. Most lines have columns of the usual widths: they are put together at
-/// places that are known beforehand.
-#[inline(always)]
-fn put_columns(
-    context: &Context,
-    cpu: u32,
-    time: u64,
-    common: &Common,
-    behind: &[u8],
-    into: &mut Tail<'_>,
-) -> usize
-    requires short { length behind.now ≤ LONGEST_BEHIND }
-    ensures same_slice { lent into.new ≡ lent into.old }
-    ensures value { held into.new ≡ put_held (held into.old) (columns context.now cpu time common.now behind.now) }
-    ensures len { result ≡ length (columns context.now cpu time common.now behind.now) }
+    ensures value { held into.new ≡ put_held (put_held (held into.old) (line.front_text context.now cpu time payload.now)) behind.now }
+    ensures until { result + 2 ≡ length (line.front_text context.now cpu time payload.now) }
 {
     if behind.len() == USUAL_LABEL && are_usual(context.show(), cpu, time) {
-        return put_usual(context, cpu, time, common, behind, into);
+        let len = put_usual(context, cpu, time, pid, behind, into);
+        return len - (behind.len() + 2);
     }
-    put_any(context, cpu, time, *common, behind, into)
+    put_unusual(context, cpu, time, pid, payload, behind, into)
 }
 
 /// Whether the columns of the time and the processor have their usual widths.
@@ -155,23 +138,23 @@ fn put_usual(
     context: &Context,
     cpu: u32,
     time: u64,
-    common: &Common,
+    pid: i32,
     label: &[u8],
     into: &mut Tail<'_>,
 ) -> usize
     requires usual { IsUsual context.now.show cpu time }
     requires label { length label.now ≡ USUAL_LABEL }
     ensures same_slice { lent into.new ≡ lent into.old }
-    ensures value { held into.new ≡ put_held (held into.old) (columns context.now cpu time common.now label.now) }
-    ensures len { result ≡ length (columns context.now cpu time common.now label.now) }
+    ensures value { held into.new ≡ put_held (held into.old) (task_front context.now.show context.now.symbols.tasks pid ++ (spec.usual_when cpu time ++ label.now)) }
+    ensures len { result ≡ length (task_front context.now.show context.now.symbols.tasks pid ++ (spec.usual_when cpu time ++ label.now)) }
 {
-    match context.task_start(common.pid) {
+    match context.task_start(pid) {
         TaskStart::Made(task) if task.len() == USUAL_TASK => {
             put_straight(task, cpu, time, label, into)
         }
         TaskStart::Made(task) => put_made(task, cpu, time, label, into),
-        TaskStart::Unnamed => put_unnamed(common.pid, cpu, time, label, into),
-        TaskStart::Unknown => put_unmade(context, cpu, time, common.pid, label, into),
+        TaskStart::Unnamed => put_unnamed(pid, cpu, time, label, into),
+        TaskStart::Unknown => put_unmade(context, cpu, time, pid, label, into),
     }
 }
 
@@ -294,24 +277,69 @@ fn put_task(task: &[u8], front: &mut Front)
     }
 }
 
-/// Puts the columns of any widths.
+/// The same where the columns have any widths. What the latency columns show is read here, since most lines have none.
 #[inline(never)]
+#[tactic(auto, using(trace_base::proofs::TailJoins::put_held_twice))]
+fn put_unusual(
+    context: &Context,
+    cpu: u32,
+    time: u64,
+    pid: i32,
+    payload: &[u8],
+    behind: &[u8],
+    into: &mut Tail<'_>,
+) -> usize
+    requires { pid ≡ line.pid_of context.now payload.now }
+    ensures same_slice { lent into.new ≡ lent into.old }
+    ensures value { held into.new ≡ put_held (put_held (held into.old) (line.front_text context.now cpu time payload.now)) behind.now }
+    ensures until { result + 2 ≡ length (line.front_text context.now cpu time payload.now) }
+{
+    let common = context.shown_common(pid, payload);
+    if behind.len() > LONGEST_BEHIND {
+        let until = put_columns(context, cpu, time, &common, b"", into);
+        into.put(behind);
+        return until;
+    }
+    put_columns(context, cpu, time, &common, behind, into)
+}
+
+/// Puts the columns of any widths, and a short text after them. Gives where the time ends.
+#[inline(always)]
+fn put_columns(
+    context: &Context,
+    cpu: u32,
+    time: u64,
+    common: &Common,
+    behind: &[u8],
+    into: &mut Tail<'_>,
+) -> usize
+    requires { length behind.now ≤ LONGEST_BEHIND }
+    ensures same_slice { lent into.new ≡ lent into.old }
+    ensures value { held into.new ≡ put_held (put_held (held into.old) (line.prefix_text context.now cpu time common.now)) behind.now }
+    ensures until { result + 2 ≡ length (line.prefix_text context.now cpu time common.now) }
+{
+    let len = put_any(context, cpu, time, common, behind, into);
+    len - (behind.len() + 2)
+}
+
+/// Puts the columns of any widths.
+#[inline(always)]
 fn put_any(
     context: &Context,
     cpu: u32,
     time: u64,
-    common: Common,
+    common: &Common,
     behind: &[u8],
     into: &mut Tail<'_>,
 ) -> usize
     requires short { length behind.now ≤ LONGEST_BEHIND }
     ensures same_slice { lent into.new ≡ lent into.old }
-    ensures value { held into.new ≡ put_held (held into.old) (columns context.now cpu time common behind.now) }
-    ensures len { result ≡ length (columns context.now cpu time common behind.now) }
+    ensures value { held into.new ≡ put_held (held into.old) (columns context.now cpu time common.now behind.now) }
+    ensures len { result ≡ length (columns context.now cpu time common.now behind.now) }
 {
     let mut front = Front::new();
     front.start(behind);
-    put_when(context.show(), cpu, time, &common, &mut front);
+    put_when(context.show(), cpu, time, common, &mut front);
     put_with_task(context, common.pid, &mut front, into)
 }
 

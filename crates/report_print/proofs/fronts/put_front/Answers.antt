@@ -1,13 +1,32 @@
-use Rattle.std.proofs.Common.{◌∙◌}
+use Rattle.std.proofs.Common.{◌≡◌, ◌∙◌, subst}
+use Rattle.std.specs.Int.{w32}
+use Rattle.std.proofs.lemmas.Int.{to_z-of_z}
 use Rattle.trace_base.specs.TailView.{held}
-use Rattle.report_print.proofs.FrontLemmas.{front_room, front_put, time_ends}
+use Rattle.report_print.specs.declared.show.Show.{Show}
+use Rattle.report_print.specs.Prefix.{IsUsual}
+use Rattle.report_print.proofs.FrontLemmas.{usual_put, usual_room, usual_end}
 use Rattle.report_print.proofs.fronts.put_front.Goals as goal
 
+pub put_usual-len-requires-clause-usual : goal.put_usual-len-requires-clause-usual
+put_usual-len-requires-clause-usual c = subst (λ (show : Show). IsUsual show c.args.cpu c.args.time) c.show.ensures (c.are_usual.ensures c.if-are_usual.true)
+
+pub put_unusual-requires : goal.put_unusual-requires
+put_unusual-requires c = to_z-of_z w32 c.args.pid c.ranges.pid ∙ c.requires
+
 pub overflow_sub-result : goal.overflow_sub-result
-overflow_sub-result c = front_room c.args.context.now c.args.cpu c.args.time c.args.common.now c.args.behind.now c.put_columns-len.result c.put_columns-len.ensures.len
+overflow_sub-result c =
+    let usual = subst (λ (show : Show). IsUsual show c.args.cpu c.args.time) c.show.ensures (c.are_usual.ensures c.if-are_usual.true) in
+    usual_room c.args.context.now c.args.cpu c.args.time c.args.payload.now c.args.behind.now _ usual (to_z-of_z w32 c.args.pid c.ranges.pid ∙ c.requires)
+    c.put_usual-len.result c.put_usual-len.ensures.len
 
-pub returns-clause-value : goal.returns-clause-value
-returns-clause-value c = c.put_columns-len.ensures.value ∙ front_put c.args.context.now c.args.cpu c.args.time c.args.common.now c.args.behind.now (held c.args.into.now)
+pub returns-then-are_usual-clause-value : goal.returns-then-are_usual-clause-value
+returns-then-are_usual-clause-value c =
+    let usual = subst (λ (show : Show). IsUsual show c.args.cpu c.args.time) c.show.ensures (c.are_usual.ensures c.if-are_usual.true) in
+    c.put_usual-len.ensures.value
+    ∙ usual_put c.args.context.now c.args.cpu c.args.time c.args.payload.now c.args.behind.now _ usual (to_z-of_z w32 c.args.pid c.ranges.pid ∙ c.requires) (held c.args.into.now)
 
-pub returns-clause-until : goal.returns-clause-until
-returns-clause-until c = time_ends c.args.context.now c.args.cpu c.args.time c.args.common.now c.args.behind.now c.put_columns-len.result c.put_columns-len.ensures.len
+pub returns-then-are_usual-clause-until : goal.returns-then-are_usual-clause-until
+returns-then-are_usual-clause-until c =
+    let usual = subst (λ (show : Show). IsUsual show c.args.cpu c.args.time) c.show.ensures (c.are_usual.ensures c.if-are_usual.true) in
+    usual_end c.args.context.now c.args.cpu c.args.time c.args.payload.now c.args.behind.now _ usual (to_z-of_z w32 c.args.pid c.ranges.pid ∙ c.requires)
+    c.put_usual-len.result c.put_usual-len.ensures.len

@@ -5,96 +5,71 @@ use Rattle.trace_base.specs.Kept.{put_held}
 use Rattle.trace_base.specs.TailView.{held}
 use Rattle.report_print.specs.Prefix.{usual_when}
 use Rattle.report_print.specs.Tasks.{task_front}
-use Rattle.report_print.proofs.FrontLemmas.{usual_is}
 use Rattle.report_print.proofs.TaskTexts.{unnamed_front}
 use Rattle.report_print.proofs.fronts.put_usual.Goals as goal
 
 pub returns-in-Made-clause-value : goal.returns-in-Made-clause-value
 returns-in-Made-clause-value c =
     let given = c.args.context.now in
-    let in_range : FitsSigned w32 c.args.common.now.pid = search rules in
     let behind : List ℕ = usual_when c.args.cpu c.args.time ++ c.args.label.now in
-    let task = c.in-Made.ensures ∙ ap (task_front given.show given.symbols.tasks) (to_z-of_z w32 c.args.common.now.pid in_range) in
-    let when = usual_is given.show c.args.cpu c.args.time c.args.common.now c.requires.usual in
+    let task = c.in-Made.ensures ∙ ap (task_front given.show given.symbols.tasks) (to_z-of_z w32 c.args.pid c.ranges.pid) in
     c.put_straight.ensures.value
     ∙ ap (λ (l : List ℕ). put_held (held c.args.into.now) (l ++ behind)) task
-    ∙ ap (λ (l : List ℕ). put_held (held c.args.into.now) (task_front given.show given.symbols.tasks c.args.common.now.pid ++ (l ++ c.args.label.now))) when
 
 pub returns-in-Made-clause-len : goal.returns-in-Made-clause-len
 returns-in-Made-clause-len c =
     let given = c.args.context.now in
-    let in_range : FitsSigned w32 c.args.common.now.pid = search rules in
     let behind : List ℕ = usual_when c.args.cpu c.args.time ++ c.args.label.now in
-    let task = c.in-Made.ensures ∙ ap (task_front given.show given.symbols.tasks) (to_z-of_z w32 c.args.common.now.pid in_range) in
-    let when = usual_is given.show c.args.cpu c.args.time c.args.common.now c.requires.usual in
+    let task = c.in-Made.ensures ∙ ap (task_front given.show given.symbols.tasks) (to_z-of_z w32 c.args.pid c.ranges.pid) in
     c.put_straight.ensures.len
     ∙ ap (λ (l : List ℕ). length (l ++ behind)) task
-    ∙ ap (λ (l : List ℕ). length (task_front given.show given.symbols.tasks c.args.common.now.pid ++ (l ++ c.args.label.now))) when
 
 pub returns-in-Made-2-clause-value : goal.returns-in-Made-2-clause-value
 returns-in-Made-2-clause-value c =
     let given = c.args.context.now in
-    let in_range : FitsSigned w32 c.args.common.now.pid = search rules in
     let behind : List ℕ = usual_when c.args.cpu c.args.time ++ c.args.label.now in
-    let task = c.in-Made.ensures ∙ ap (task_front given.show given.symbols.tasks) (to_z-of_z w32 c.args.common.now.pid in_range) in
-    let when = usual_is given.show c.args.cpu c.args.time c.args.common.now c.requires.usual in
+    let task = c.in-Made.ensures ∙ ap (task_front given.show given.symbols.tasks) (to_z-of_z w32 c.args.pid c.ranges.pid) in
     c.put_made.ensures.value
     ∙ ap (λ (l : List ℕ). put_held (held c.args.into.now) (l ++ behind)) task
-    ∙ ap (λ (l : List ℕ). put_held (held c.args.into.now) (task_front given.show given.symbols.tasks c.args.common.now.pid ++ (l ++ c.args.label.now))) when
 
 pub returns-in-Made-2-clause-len : goal.returns-in-Made-2-clause-len
 returns-in-Made-2-clause-len c =
     let given = c.args.context.now in
-    let in_range : FitsSigned w32 c.args.common.now.pid = search rules in
     let behind : List ℕ = usual_when c.args.cpu c.args.time ++ c.args.label.now in
-    let task = c.in-Made.ensures ∙ ap (task_front given.show given.symbols.tasks) (to_z-of_z w32 c.args.common.now.pid in_range) in
-    let when = usual_is given.show c.args.cpu c.args.time c.args.common.now c.requires.usual in
+    let task = c.in-Made.ensures ∙ ap (task_front given.show given.symbols.tasks) (to_z-of_z w32 c.args.pid c.ranges.pid) in
     c.put_made.ensures.len
     ∙ ap (λ (l : List ℕ). length (l ++ behind)) task
-    ∙ ap (λ (l : List ℕ). length (task_front given.show given.symbols.tasks c.args.common.now.pid ++ (l ++ c.args.label.now))) when
 
 pub returns-in-Unnamed-clause-value : goal.returns-in-Unnamed-clause-value
 returns-in-Unnamed-clause-value c =
     let given = c.args.context.now in
-    let in_range : FitsSigned w32 c.args.common.now.pid = search rules in
-    let pid : ℤ = to_z w32 (of_z w32 c.args.common.now.pid) in
+    let pid : ℤ = to_z w32 (of_z w32 c.args.pid) in
     let behind : List ℕ = usual_when c.args.cpu c.args.time ++ c.args.label.now in
     let text = unnamed_front given.show given.symbols.tasks pid behind c.requires.usual.0 c.in-Unnamed.ensures
-    ∙ ap (λ (p : ℤ). task_front given.show given.symbols.tasks p ++ behind) (to_z-of_z w32 c.args.common.now.pid in_range) in
-    let when = usual_is given.show c.args.cpu c.args.time c.args.common.now c.requires.usual in
+    ∙ ap (λ (p : ℤ). task_front given.show given.symbols.tasks p ++ behind) (to_z-of_z w32 c.args.pid c.ranges.pid) in
     c.put_unnamed.ensures.value
     ∙ ap (put_held (held c.args.into.now)) text
-    ∙ ap (λ (l : List ℕ). put_held (held c.args.into.now) (task_front given.show given.symbols.tasks c.args.common.now.pid ++ (l ++ c.args.label.now))) when
 
 pub returns-in-Unnamed-clause-len : goal.returns-in-Unnamed-clause-len
 returns-in-Unnamed-clause-len c =
     let given = c.args.context.now in
-    let in_range : FitsSigned w32 c.args.common.now.pid = search rules in
-    let pid : ℤ = to_z w32 (of_z w32 c.args.common.now.pid) in
+    let pid : ℤ = to_z w32 (of_z w32 c.args.pid) in
     let behind : List ℕ = usual_when c.args.cpu c.args.time ++ c.args.label.now in
     let text = unnamed_front given.show given.symbols.tasks pid behind c.requires.usual.0 c.in-Unnamed.ensures
-    ∙ ap (λ (p : ℤ). task_front given.show given.symbols.tasks p ++ behind) (to_z-of_z w32 c.args.common.now.pid in_range) in
-    let when = usual_is given.show c.args.cpu c.args.time c.args.common.now c.requires.usual in
+    ∙ ap (λ (p : ℤ). task_front given.show given.symbols.tasks p ++ behind) (to_z-of_z w32 c.args.pid c.ranges.pid) in
     c.put_unnamed.ensures.len
     ∙ ap length text
-    ∙ ap (λ (l : List ℕ). length (task_front given.show given.symbols.tasks c.args.common.now.pid ++ (l ++ c.args.label.now))) when
 
 pub returns-in-Unknown-clause-value : goal.returns-in-Unknown-clause-value
 returns-in-Unknown-clause-value c =
     let given = c.args.context.now in
-    let in_range : FitsSigned w32 c.args.common.now.pid = search rules in
     let behind : List ℕ = usual_when c.args.cpu c.args.time ++ c.args.label.now in
-    let when = usual_is given.show c.args.cpu c.args.time c.args.common.now c.requires.usual in
     c.put_unmade.ensures.value
-    ∙ ap (λ (pid : ℤ). put_held (held c.args.into.now) (task_front given.show given.symbols.tasks pid ++ behind)) (to_z-of_z w32 c.args.common.now.pid in_range)
-    ∙ ap (λ (l : List ℕ). put_held (held c.args.into.now) (task_front given.show given.symbols.tasks c.args.common.now.pid ++ (l ++ c.args.label.now))) when
+    ∙ ap (λ (pid : ℤ). put_held (held c.args.into.now) (task_front given.show given.symbols.tasks pid ++ behind)) (to_z-of_z w32 c.args.pid c.ranges.pid)
 
 pub returns-in-Unknown-clause-len : goal.returns-in-Unknown-clause-len
 returns-in-Unknown-clause-len c =
     let given = c.args.context.now in
-    let in_range : FitsSigned w32 c.args.common.now.pid = search rules in
     let behind : List ℕ = usual_when c.args.cpu c.args.time ++ c.args.label.now in
-    let when = usual_is given.show c.args.cpu c.args.time c.args.common.now c.requires.usual in
     c.put_unmade.ensures.len
-    ∙ ap (λ (pid : ℤ). length (task_front given.show given.symbols.tasks pid ++ behind)) (to_z-of_z w32 c.args.common.now.pid in_range)
-    ∙ ap (λ (l : List ℕ). length (task_front given.show given.symbols.tasks c.args.common.now.pid ++ (l ++ c.args.label.now))) when
+    ∙ ap (λ (pid : ℤ). length (task_front given.show given.symbols.tasks pid ++ behind)) (to_z-of_z w32 c.args.pid c.ranges.pid)
