@@ -1,7 +1,8 @@
 -- How far a lane holds all its items.
-use Rattle.std.proofs.Common.{◌≡◌, ℕ, ◌+◌, ◌<◌, ◌≤◌, List, [], ◌∷◌, ◌++◌, length, Option, Some, None, refl, sym, ap, subst, ◌∙◌, append_assoc, arith}
+use Rattle.std.proofs.Common.{◌≡◌, ℕ, ◌+◌, ◌<◌, ◌≤◌, List, [], ◌∷◌, ◌++◌, length, get_or, Option, Some, None, inl, inr, refl, sym, ap, subst, ◌∙◌, append_assoc, arith}
 use Rattle.std.specs.Option.{IfSome}
 use Rattle.std.specs.List.{All}
+use Rattle.std.proofs.lemmas.Bool.{cases_eq}
 use Rattle.std.proofs.lemmas.List.{length-append, take-append-le, take_all}
 use Rattle.std.proofs.lemmas.List.Elements.{All-nil, All-cons, All-take}
 use Rattle.trace_base.specs.declared.layout.Layout.{Layout}
@@ -18,6 +19,8 @@ use Rattle.page_pool.specs.declared.cursor.LaneState.TheVariants.{Fresh, Held, E
 use Rattle.event_cursor.specs.Standing.{HasAhead, held_left, if_held, keyed_held}
 use Rattle.time_merge.specs.LaneRows.{next_of, next_in}
 use Rattle.time_merge.specs.Rows.{NotBefore}
+use Rattle.split_passes.specs.declared.horizon.LaneHorizon.{LaneHorizon}
+use Rattle.split_passes.specs.declared.taking.FoundRun.{FoundRun}
 use Rattle.split_passes.specs.Rounds.{HasLater, HoldsLater, IsEventItem, ReachesPast, ReachesPastIn}
 
 -- RUNS
@@ -134,18 +137,24 @@ module _ (l : Layout) (a : Lane) (held : a.cursor.state ≡ Held) where
       }
 
 -- a key that was found below another one
-pub below_key : (found : Option ℕ) (key until : ℕ) (P : ℕ → Type 0) → IfSome found (λ n. (n < key) × (n ≤ until)) → ((n : ℕ) → n < key → P n) → IfSome found (λ n. (n ≤ until) × P n)
+pub below_key : (found : Option LaneHorizon) (key until : ℕ) (P : ℕ → Type 0) → IfSome found (λ h. (h.until < key) × (h.until ≤ until)) → ((n : ℕ) → n < key → P n) → IfSome found (λ h. (h.until ≤ until) × P h.until)
 below_key None key until P found holds = tt
-below_key (Some n) key until P found holds = (found.1, holds n found.0)
+below_key (Some h) key until P found holds = (found.1, holds h.until found.0)
+
+-- no run was found with it
+pub below_run : (found : Option LaneHorizon) (P : FoundRun → Type 0) → IfSome found (λ h. h.run ≡ None) → IfSome found (λ h. IfSome h.run P)
+below_run None P none = tt
+below_run (Some h) P none = subst (λ (o : Option FoundRun). IfSome o P) (sym none) tt
 
 -- ANY LANE
 
 reaches_held : (l : Layout) (until most : ℕ) (a : Lane) → a.cursor.state ≡ Held → HoldsLater l until most a → ReachesPast l until most a
 reaches_held l until most a is h = subst (λ (s : LaneState). ReachesPastIn s l until most a) (sym is) h
 
-pub reaches_found : (l : Layout) (most until : ℕ) (a : Lane) → a.cursor.state ≡ Held → (found : Option ℕ) → IfSome found (λ n. (n ≤ until) × HoldsLater l n most a) → IfSome found (λ n. (n ≤ until) × ReachesPast l n most a)
+pub reaches_found : (l : Layout) (most until : ℕ) (a : Lane) → a.cursor.state ≡ Held → (found : Option LaneHorizon) → IfSome found (λ f. (f.until ≤ until) × HoldsLater l f.until most a)
+    → IfSome found (λ f. (f.until ≤ until) × ReachesPast l f.until most a)
 reaches_found l most until a is None h = tt
-reaches_found l most until a is (Some n) h = (h.0, reaches_held l n most a is h.1)
+reaches_found l most until a is (Some f) h = (h.0, reaches_held l f.until most a is h.1)
 
 pub reaches_ended : (l : Layout) (until most : ℕ) (a : Lane) → a.cursor.state ≡ Ended → ReachesPast l until most a
 reaches_ended l until most a is = subst (λ (s : LaneState). ReachesPastIn s l until most a) (sym is) tt
@@ -177,3 +186,11 @@ reaches_sooner l until most n a le h = by_state a.cursor.state h
     }
     by_state Ended h = tt
     by_state Malformed h = sooner_next until n (next_of l a) le h
+
+-- one lane more
+pub reaches_more : (l : Layout) (most until now i : ℕ) (lanes : List Lane) → now ≤ until → ((j : ℕ) (d : Lane) → j < i → ReachesPast l until most (get_or lanes j d)) → ((d : Lane) → ReachesPast l now most (get_or lanes i d))
+    → (j : ℕ) (d : Lane) → j < i + 1 → ReachesPast l now most (get_or lanes j d)
+reaches_more l most until now i lanes le before here j d lt = elim (cases_eq j i) [
+  | inl same ↦ subst (λ (k : ℕ). ReachesPast l now most (get_or lanes k d)) (sym same) (here d)
+  | inr other ↦ reaches_sooner l until most now (get_or lanes j d) le (before j d (omega (arith, lt, other)))
+]

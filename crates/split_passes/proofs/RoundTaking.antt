@@ -1,5 +1,6 @@
 -- A round, lane after lane.
-use Rattle.std.proofs.Common.{◌≡◌, ℕ, ◌+◌, ◌*◌, ◌/◌, ◌<◌, ◌≤◌, List, [], ◌∷◌, ◌++◌, length, get_or, set, sum_by, Option, refl, sym, ap, subst, ◌∙◌, inl, inr, arith}
+use Rattle.std.proofs.Common.{◌≡◌, ℕ, ◌+◌, ◌*◌, ◌/◌, ◌<◌, ◌≤◌, List, [], ◌∷◌, ◌++◌, length, get_or, set, sum_by, Option, Some, None, refl, sym, ap, subst, ◌∙◌, inl, inr, arith}
+use Rattle.std.specs.Option.{IfSome}
 use Rattle.std.proofs.lemmas.Bool.{cases_eq}
 use Rattle.std.proofs.lemmas.List.{get_or-set_same, get_or-set_other, get_or_append_left, get_or_push, get_or_default, length-set, length-append}
 use Rattle.std.proofs.lemmas.List.Sums.{sum_by-append}
@@ -12,7 +13,9 @@ use Rattle.split_pieces.specs.declared.gauge.Gauge.{Gauge}
 use Rattle.split_pieces.specs.Allowing.{after_events, TakesItems}
 use Rattle.split_passes.specs.declared.rounds.Reach.{Reach}
 use Rattle.split_passes.specs.declared.tally.Tally.{Tally}
+use Rattle.split_passes.specs.declared.taking.FoundRun.{FoundRun}
 use Rattle.split_passes.specs.Rounds.{IsReach, RoundTaken, TakesUpTo}
+use Rattle.split_passes.specs.Takings.{HasRun}
 
 -- equal shares of a number are together no more than it
 pub shares_fit : (lanes most events : ℕ) → most ≤ events / lanes → lanes * most ≤ events
@@ -20,6 +23,14 @@ shares_fit lanes most events le =
     let all : lanes * (events / lanes) ≤ events = mul-div-le events lanes in
     let some : lanes * most ≤ lanes * (events / lanes) = mul-le-mul_left lanes le in
     omega (arith, some, all)
+
+-- what was found at the place of one lane stands at that of the lane with this number
+pub found_of : (l : Layout) (lanes : List Lane) (i lane : ℕ) (d a : Lane) (kept found : Option FoundRun) → IfSome found (λ run. (i ≡ lane) × (kept ≡ Some run)) → ((e : Lane) → IfSome kept (HasRun l (get_or lanes lane e)))
+    → a ≡ get_or lanes i d → IfSome found (HasRun l a)
+found_of l lanes i lane d a kept None is has same = tt
+found_of l lanes i lane d a kept (Some run) is has same =
+    let there : HasRun l (get_or lanes lane d) run = subst (λ (o : Option FoundRun). IfSome o (HasRun l (get_or lanes lane d))) is.1 (has d) in
+    subst (λ (b : Lane). HasRun l b run) (sym (same ∙ ap (λ (k : ℕ). get_or lanes k d) is.0)) there
 
 -- The first few lanes were gone through, the others are as they were.
 pub record RoundTo (l : Layout) (until most i : ℕ) (lanes now : List Lane) (tallies tallies_now : List Tally) (count : ℕ) : Type 0 where

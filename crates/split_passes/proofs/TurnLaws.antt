@@ -32,7 +32,7 @@ use Rattle.split_pieces.specs.Allowing.{after_events, IsEventUpTo, TakesItems}
 use Rattle.split_passes.specs.declared.tally.Tally.{Tally}
 use Rattle.split_passes.specs.Choices.{past_end, Counting}
 use Rattle.split_passes.specs.Tallies.{Tallies}
-use Rattle.split_passes.specs.Takings.{IsRunTaken, IsTurnTaken, LimitsAllow, RunAllowed, TakesRun}
+use Rattle.split_passes.specs.Takings.{IsRunTaken, IsTurnTaken, LimitsAllow, RunAllowed, RunWithin, TakesRun}
 use Rattle.split_passes.proofs.Running.{Runs, runs_over, same_tallies}
 
 -- times do not fall within a run
@@ -59,6 +59,19 @@ pub run_allowed : (l : Layout) (a : Lane) (limits : RunLimits) (tally : Tally) (
     → IfSome found (λ run. RunAllowed l a limits tally run.0 run.1)
 run_allowed l a limits tally ahead None has soon last found = tt
 run_allowed l a limits tally ahead (Some run) has soon last found = record {
+  run = found.run;
+  some = found.some;
+  few = found.few;
+  fits = found.fits;
+  in_time = found.in_time;
+  high = omega (arith, has.key, soon);
+  last = last;
+}
+
+-- a run that was found before is, where it goes no further
+pub run_within : (l : Layout) (a : Lane) (limits : RunLimits) (tally : Tally) (ahead : Ahead) (next : Mark) (count : ℕ) → TellsAhead l a.page a.cursor.mark a.cursor.high (Some ahead) → ahead.key ≤ limits.until
+    → ((xs : List ItemData) → (count : IsPageCount l tally.pages xs) → last_time count.held ≡ Some (time_at a.cursor.mark)) → RunWithin l a limits next count → RunAllowed l a limits tally next count
+run_within l a limits tally ahead next count has soon last found = record {
   run = found.run;
   some = found.some;
   few = found.few;

@@ -1,5 +1,5 @@
 -- What a piece takes lane by lane: the items of all lanes up to a horizon, a key up to which each lane holds all that it has.
-use Rattle.std.specs.Prelude.{◌≡◌, ℕ, ◌+◌, ◌*◌, ◌^◌, ◌<◌, ◌≤◌, ◌⊎◌, All, Bool, true, false, List, [], ◌∷◌, ◌++◌, length, slice_index_or, slice_set, sum_by, Option, Some, None}
+use Rattle.std.specs.Prelude.{◌≡◌, ℕ, ◌+◌, ◌*◌, ◌^◌, ◌<◌, ◌≤◌, ◌⊎◌, All, Bool, true, false, List, [], ◌∷◌, ◌++◌, length, slice_index_or, slice_set, sum_by, IfSome, Option, Some, None}
 use Rattle.trace_base.specs.declared.layout.Layout.{Layout}
 use Rattle.subpage.specs.ItemData.{ItemData, item_time}
 use Rattle.subpage.specs.Arrangement.{Keyed}
@@ -21,7 +21,7 @@ use Rattle.split_pieces.specs.Pieces.{event_item}
 use Rattle.split_passes.specs.declared.rounds.Reach.{Reach}
 use Rattle.split_passes.specs.declared.tally.Tally.{Tally}
 use Rattle.split_passes.specs.Choices.{past_key}
-use Rattle.split_passes.specs.Takings.{IsTurnTaken}
+use Rattle.split_passes.specs.Takings.{HasRun, IsTurnTaken}
 use Rattle.split_passes.specs.Tallies.{IsTally}
 
 -- HOW FAR
@@ -105,6 +105,7 @@ pub record IsReach (layout : Layout) (stop : Option Moment) (gauge : Gauge) (lan
       → TakesItems gauge (after_events gauge (length xs)) xs
   pub inside : (key : ℕ) → key ≤ reach.until → past_key stop key ≡ false
   pub few : length lanes * reach.most < 2 ^ 64
+  pub run : (d : Lane) → IfSome reach.run (HasRun layout (slice_index_or lanes reach.lane d))
 
 -- what a round goes on: the gauge, lanes, and their tallies
 pub record Counts : Type 0 where

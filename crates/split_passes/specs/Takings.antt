@@ -17,6 +17,7 @@ use Rattle.time_merge.specs.Turns.{keyed_used}
 use Rattle.word_values.specs.declared.moment.Moment.{Moment}
 use Rattle.split_pieces.specs.declared.gauge.Gauge.{Gauge}
 use Rattle.split_pieces.specs.Allowing.{after_events, IsEventUpTo, TakesItems}
+use Rattle.split_passes.specs.declared.taking.FoundRun.{FoundRun}
 use Rattle.split_passes.specs.declared.tally.Tally.{Tally}
 use Rattle.split_passes.specs.Choices.{past_end, past_key, Counting}
 use Rattle.split_passes.specs.Tallies.{IsTally}
@@ -29,6 +30,18 @@ pub record LimitsAllow (layout : Layout) (turn : ℕ) (stop : Option Moment) (ga
   pub inside : (key : ℕ) → key ≤ limits.until → past_key stop key ≡ false
   pub room : (xs : List ItemData) → (count : IsPageCount layout tally.pages xs)
       → length (data_text layout count.held) + limits.bytes ≡ area_len layout
+
+-- a run of plain records stands at the lane's place
+abbrev pub HasRun : Layout → Lane → FoundRun → Type 0
+HasRun layout lane found = IsRunTo layout lane.page lane.cursor.mark found.next found.count × (0 < found.count)
+
+-- It goes no further than the limits.
+pub record RunWithin (layout : Layout) (lane : Lane) (limits : RunLimits) (next : Mark) (count : ℕ) : Type 0 where
+  pub run : IsRunTo layout lane.page lane.cursor.mark next count
+  pub some : 0 < count
+  pub few : count ≤ limits.events
+  pub fits : length (run_bytes lane.page lane.cursor.mark next) ≤ limits.bytes
+  pub in_time : time_at next ≤ limits.until
 
 -- A run at a lane's place within them, which follows the item that was counted last.
 pub record RunAllowed (layout : Layout) (lane : Lane) (limits : RunLimits) (tally : Tally) (next : Mark) (count : ℕ) : Type 0 where

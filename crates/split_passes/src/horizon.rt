@@ -1,22 +1,43 @@
 // How far all lanes of a piece can be gone through one by one.
 
-ghost use Rattle.std.specs.Prelude.{◌≡◌, ◌<◌, ◌≤◌, ℕ, All, IfSome, IsTrue, length, slice_index_or};
+ghost use Rattle.std.specs.Prelude.{◌≡◌, ◌<◌, ◌≤◌, ℕ, All, IfSome, IsTrue, None, length, slice_index_or};
 ghost use Rattle.subpage.specs.Marks.{IsMark};
 ghost use Rattle.page_pool.specs.declared.lane.Lane.{Lane};
 ghost use Rattle.event_cursor.specs.Standing.{IsInOrder};
 ghost use Rattle.split_passes.specs.Rounds.{HasLater, HoldsLater, ReachesPast};
+ghost use Rattle.split_passes.specs.Takings.{HasRun};
 
+use crate::taking::FoundRun;
 use page_pool::{Lane, LaneState};
 use subpage::{Mark, RunLimits, plain_run};
 use trace_base::Layout;
 
-// The greatest key up to another that is less than this one.
-fn below(key: u64, until: u64) -> Option<u64>
-    ensures { IfSome result (λ n. (n < key) × (n ≤ until)) }
+// How far a lane holds all its items, and the run at its place, where one was found that comes by then.
+#[derive(Clone, Copy, Debug)]
+struct LaneHorizon {
+    until: u64,
+    run: Option<FoundRun>,
+}
+
+/// How far all lanes hold all their items, and the run at the place of the last one of which a run was found.
+#[derive(Clone, Copy, Debug)]
+pub(crate) struct CommonHorizon {
+    pub(crate) until: u64,
+    pub(crate) lane: usize,
+    pub(crate) run: Option<FoundRun>,
+}
+
+// The greatest key up to another that is less than this one. No run is known to end there.
+fn below(key: u64, until: u64) -> Option<LaneHorizon>
+    ensures until { IfSome result (λ found. (found.until < key) × (found.until ≤ until)) }
+    ensures run { IfSome result (λ found. found.run ≡ None) }
 {
     match key.checked_sub(1) {
         None => None,
-        Some(last) => Some(last.min(until)),
+        Some(last) => Some(LaneHorizon {
+            until: last.min(until),
+            run: None,
+        }),
     }
 }
 
@@ -37,16 +58,17 @@ fn is_later(layout: &Layout, page: &[u8], mark: Mark, until: u64) -> bool
 }
 
 // Of a lane that holds a sub-buffer: a run of plain records is looked at, and no further.
-fn held_horizon(layout: &Layout, lane: &Lane, most: u32, until: u64) -> Option<u64>
+fn held_horizon(layout: &Layout, lane: &Lane, most: u32, until: u64) -> Option<LaneHorizon>
     requires in_order { IsInOrder layout.now lane.now }
     requires held { lane.now.cursor.state ≡ LaneState.Held }
-    ensures { IfSome result (λ n. (n ≤ until) × HoldsLater layout.now n most lane.now) }
+    ensures holds { IfSome result (λ found. (found.until ≤ until) × HoldsLater layout.now found.until most lane.now) }
+    ensures run { IfSome result (λ found. IfSome found.run (HasRun layout.now lane.now)) }
 {
     let Some(ahead) = lane.cursor.ahead else {
         return None;
     };
     if until < ahead.key {
-        return Some(until);
+        return Some(LaneHorizon { until, run: None });
     }
     let limits = RunLimits {
         bytes: u32::MAX,
@@ -54,23 +76,25 @@ fn held_horizon(layout: &Layout, lane: &Lane, most: u32, until: u64) -> Option<u
         until,
     };
     let page = lane.page.bytes();
-    let Some((next, _)) = plain_run(layout, page, lane.cursor.mark, &limits) else {
+    let Some((next, count)) = plain_run(layout, page, lane.cursor.mark, &limits) else {
         return below(ahead.key, until);
     };
     if is_later(layout, page, next, until) {
-        return Some(until);
+        let run = Some(FoundRun { next, count });
+        return Some(LaneHorizon { until, run });
     }
     below(next.time(), until)
 }
 
-fn lane_horizon(layout: &Layout, lane: &Lane, most: u32, until: u64) -> Option<u64>
+fn lane_horizon(layout: &Layout, lane: &Lane, most: u32, until: u64) -> Option<LaneHorizon>
     requires { IsInOrder layout.now lane.now }
-    ensures { IfSome result (λ n. (n ≤ until) × ReachesPast layout.now n most lane.now) }
+    ensures reaches { IfSome result (λ found. (found.until ≤ until) × ReachesPast layout.now found.until most lane.now) }
+    ensures run { IfSome result (λ found. IfSome found.run (HasRun layout.now lane.now)) }
 {
     match lane.cursor.state {
         LaneState::Fresh => None,
         LaneState::Held => held_horizon(layout, lane, most, until),
-        LaneState::Ended => Some(until),
+        LaneState::Ended => Some(LaneHorizon { until, run: None }),
         LaneState::Malformed => match lane.cursor.high {
             None => None,
             Some(high) => below(high, until),
@@ -92,26 +116,71 @@ fn furthest(lanes: &[Lane]) -> usize
     first
 }
 
-/// A key up to `until` up to which each lane holds all its items, at most so many, all of them events. `None` where no such key is
-/// found.
-pub(crate) fn horizon(layout: &Layout, lanes: &[Lane], most: u32, until: u64) -> Option<u64>
+// The horizon with lane `i` too, which is looked at no further than the others go. Lane `first` is one of these.
+fn with_lane(
+    layout: &Layout,
+    lanes: &[Lane],
+    i: usize,
+    first: usize,
+    most: u32,
+    least: CommonHorizon,
+) -> Option<CommonHorizon>
     requires in_order { All (IsInOrder layout.now) lanes.now }
-    requires some { 0 < length lanes.now }
-    ensures { IfSome result (λ n. (n ≤ until)
-        × ((i : ℕ) (d : Lane) → i < length lanes.now → ReachesPast layout.now n most (slice_index_or lanes.now i d))) }
+    requires inside { i < length lanes.now }
+    requires first { (d : Lane) → ReachesPast layout.now least.until most (slice_index_or lanes.now first d) }
+    requires run { (d : Lane) → IfSome least.run (HasRun layout.now (slice_index_or lanes.now least.lane d)) }
+    ensures reaches { IfSome result (λ now. (now.until ≤ least.until)
+        × ((d : Lane) → ReachesPast layout.now now.until most (slice_index_or lanes.now i d))) }
+    ensures run { IfSome result (λ now. (d : Lane) → IfSome now.run (HasRun layout.now (slice_index_or lanes.now now.lane d))) }
 {
-    // The others are looked at no further than it goes.
-    let first = furthest(lanes);
-    let Some(mut least) = lane_horizon(layout, &lanes[first], most, until) else {
+    if i == first {
+        return Some(least);
+    }
+    let Some(found) = lane_horizon(layout, &lanes[i], most, least.until) else {
         return None;
     };
+    if found.run.is_none() {
+        return Some(CommonHorizon {
+            until: found.until,
+            lane: least.lane,
+            run: least.run,
+        });
+    }
+    Some(CommonHorizon {
+        until: found.until,
+        lane: i,
+        run: found.run,
+    })
+}
+
+/// A key up to `until` up to which each lane holds all its items, at most so many, all of them events. `None` where no such key is
+/// found.
+pub(crate) fn horizon(
+    layout: &Layout,
+    lanes: &[Lane],
+    most: u32,
+    until: u64,
+) -> Option<CommonHorizon>
+    requires in_order { All (IsInOrder layout.now) lanes.now }
+    requires some { 0 < length lanes.now }
+    ensures reaches { IfSome result (λ found. (found.until ≤ until)
+        × ((i : ℕ) (d : Lane) → i < length lanes.now → ReachesPast layout.now found.until most (slice_index_or lanes.now i d))) }
+    ensures run { IfSome result (λ found. (d : Lane) → IfSome found.run (HasRun layout.now (slice_index_or lanes.now found.lane d))) }
+{
+    let first = furthest(lanes);
+    let Some(found) = lane_horizon(layout, &lanes[first], most, until) else {
+        return None;
+    };
+    let mut least = CommonHorizon {
+        until: found.until,
+        lane: first,
+        run: found.run,
+    };
     for i in 0..lanes.len() {
-        if i != first {
-            match lane_horizon(layout, &lanes[i], most, least) {
-                None => return None,
-                Some(n) => least = n,
-            }
-        }
+        let Some(now) = with_lane(layout, lanes, i, first, most, least) else {
+            return None;
+        };
+        least = now;
     }
     Some(least)
 }

@@ -1,13 +1,14 @@
 // Rounds: what a piece takes lane by lane, since all of it stands before a horizon.
 
-ghost use Rattle.std.specs.Prelude.{◌≡◌, ◌<◌, ℕ, All, IfSome, true, length};
+ghost use Rattle.std.specs.Prelude.{◌≡◌, ◌<◌, ℕ, All, IfSome, Some, true, length};
 ghost use Rattle.trace_base.specs.declared.layout.Layout.{Layout};
 ghost use Rattle.event_cursor.specs.Standing.{IsInOrder, held_left};
 ghost use Rattle.split_passes.specs.Rounds.{ComesBy, HeadTaken, IsLaneTaken, IsReach, IsRoundTaken, IsSomeTaken, ReachesPast};
+ghost use Rattle.split_passes.specs.Takings.{HasRun};
 
 use crate::heads::packable_head;
 use crate::horizon::horizon;
-use crate::taking::{MOST, take_run, until_of};
+use crate::taking::{FoundRun, MOST, take_run, until_of};
 use crate::tally::Tally;
 use event_cursor::{head_key, step};
 use page_pool::{Lane, LaneState};
@@ -15,11 +16,25 @@ use split_pieces::Gauge;
 use trace_base::Layout;
 use word_values::Moment;
 
-// How far a round goes: to the items with this key, and to so many events of a lane.
+// How far a round goes: to the items with this key, and to so many events of a lane. A run may have been found at a lane's place.
 #[derive(Clone, Copy, Debug)]
 struct Reach {
     until: u64,
     most: u32,
+    lane: usize,
+    run: Option<FoundRun>,
+}
+
+impl Reach {
+    // The run that was found at the place of lane `i`.
+    fn run_of(&self, i: usize) -> Option<FoundRun>
+        ensures { IfSome result (λ run. (i ≡ self.now.lane) × (self.now.run ≡ Some run)) }
+    {
+        if i == self.lane {
+            return self.run;
+        }
+        None
+    }
 }
 
 // Whether the next item of a lane has a key up to this one.
@@ -47,28 +62,44 @@ fn take_head(layout: &Layout, lane: &mut Lane, tally: &mut Tally)
 }
 
 // Takes some items of a lane with keys up to this one: a run, and where there is none, the next item.
-fn take_some(layout: &Layout, lane: &mut Lane, until: u64, tally: &mut Tally)
+fn take_some(
+    layout: &Layout,
+    lane: &mut Lane,
+    until: u64,
+    found: Option<FoundRun>,
+    tally: &mut Tally,
+)
     requires in_order { IsInOrder layout.now lane.old }
     requires comes { ComesBy layout.now until lane.old true }
+    requires found { IfSome found (HasRun layout.now lane.old) }
     ensures in_order { IsInOrder layout.now lane.new }
     ensures taken { IsSomeTaken layout.now until lane.old lane.new tally.old tally.new }
 {
-    take_run(layout, lane, until, None, &mut Gauge::All, tally);
+    take_run(layout, lane, until, None, found, &mut Gauge::All, tally);
     if comes_by(lane, until) {
         take_head(layout, lane, tally);
     }
 }
 
 // Takes all items of a lane with keys up to this one, and gives their number.
-fn take_lane(layout: &Layout, lane: &mut Lane, until: u64, tally: &mut Tally) -> u64
+fn take_lane(
+    layout: &Layout,
+    lane: &mut Lane,
+    until: u64,
+    found: Option<FoundRun>,
+    tally: &mut Tally,
+) -> u64
     requires in_order { IsInOrder layout.now lane.old }
+    requires found { IfSome found (HasRun layout.now lane.old) }
     ensures in_order { IsInOrder layout.now lane.new }
     ensures taken { (most : ℕ) → ReachesPast layout.now until most lane.old
         → IsLaneTaken layout.now until most lane.old lane.new tally.old tally.new result }
 {
     let from = lane.cursor.at;
+    let mut run = found;
     while comes_by(lane, until) {
-        take_some(layout, lane, until, tally);
+        take_some(layout, lane, until, run, tally);
+        run = None;
     }
     u64::from(lane.cursor.at - from)
 }
@@ -92,7 +123,12 @@ fn reach_of(layout: &Layout, lanes: &[Lane], stop: Option<Moment>, gauge: &Gauge
         until_of(u64::MAX, allowance.until, stop),
     ) {
         None => None,
-        Some(until) => Some(Reach { until, most }),
+        Some(found) => Some(Reach {
+            until: found.until,
+            most,
+            lane: found.lane,
+            run: found.run,
+        }),
     }
 }
 
@@ -116,7 +152,8 @@ pub fn take_round(
     };
     let mut count = 0;
     for i in 0..lanes.len() {
-        count += take_lane(layout, &mut lanes[i], reach.until, &mut tallies[i]);
+        let run = reach.run_of(i);
+        count += take_lane(layout, &mut lanes[i], reach.until, run, &mut tallies[i]);
     }
     gauge.takes_events(count);
     Some(count)

@@ -8,7 +8,7 @@ ghost use Rattle.event_cursor.specs.Standing.{IsInOrder};
 ghost use Rattle.time_merge.specs.LaneRows.{parts_of};
 ghost use Rattle.time_merge.specs.Nexts.{IsInStepBut};
 ghost use Rattle.split_passes.specs.Choices.{past_key};
-ghost use Rattle.split_passes.specs.Takings.{IsRunTaken, IsTurnTaken, LimitsAllow, RunAllowed};
+ghost use Rattle.split_passes.specs.Takings.{HasRun, IsRunTaken, IsTurnTaken, LimitsAllow, RunAllowed, RunWithin};
 
 use crate::tally::Tally;
 use event_cursor::step_run;
@@ -19,6 +19,13 @@ use time_merge::turn_of;
 use tournament_tree::TournamentTree;
 use trace_base::Layout;
 use word_values::Moment;
+
+/// A run of plain records that was found at a lane's place: the position after it, and how many events it has.
+#[derive(Clone, Copy, Debug)]
+pub(crate) struct FoundRun {
+    pub(crate) next: Mark,
+    pub(crate) count: u32,
+}
 
 /// More events no sub-buffer has.
 pub(crate) const MOST: u64 = 1 << 31;
@@ -58,15 +65,43 @@ fn limits_of(
     })
 }
 
-// The run of plain records at a lane's place that goes no further, where the item counted last stands right before it.
+// A run that was found at a lane's place, where it goes no further than these limits.
+fn found_within(
+    layout: &Layout,
+    lane: &Lane,
+    limits: &RunLimits,
+    found: Option<FoundRun>,
+) -> Option<(Mark, u32)>
+    requires in_order { IsInOrder layout.now lane.now }
+    requires held { lane.now.cursor.state ≡ LaneState.Held }
+    requires found { IfSome found (HasRun layout.now lane.now) }
+    ensures { IfSome result (λ run. RunWithin layout.now lane.now limits.now run.0 run.1) }
+{
+    let Some(run) = found else {
+        return None;
+    };
+    if limits.events < run.count || limits.until < run.next.time() {
+        return None;
+    }
+    let bytes = run_between(lane.page.bytes(), &lane.cursor.mark, &run.next);
+    if (limits.bytes as usize) < bytes.len() {
+        return None;
+    }
+    Some((run.next, run.count))
+}
+
+// The run of plain records at a lane's place that goes no further, where the item counted last stands right before it. One
+// that was found there is not looked for again.
 fn next_taken(
     layout: &Layout,
     lane: &Lane,
     limits: &RunLimits,
+    found: Option<FoundRun>,
     tally: &Tally,
 ) -> Option<(Mark, u32)>
     requires in_order { IsInOrder layout.now lane.now }
     requires held { lane.now.cursor.state ≡ LaneState.Held }
+    requires found { IfSome found (HasRun layout.now lane.now) }
     ensures { IfSome result (λ run. RunAllowed layout.now lane.now limits.now tally.now run.0 run.1) }
 {
     let Some(ahead) = lane.cursor.ahead else {
@@ -81,20 +116,26 @@ fn next_taken(
     if time != lane.cursor.mark.time() {
         return None;
     }
+    if let Some(known) = found_within(layout, lane, limits, found) {
+        return Some(known);
+    }
     plain_run(layout, lane.page.bytes(), lane.cursor.mark, limits)
 }
 
-/// Takes the run of plain records at a lane's place into a piece and its tally, no further than to the key `turn`.
+/// Takes the run of plain records at a lane's place into a piece and its tally, no further than to the key `turn`. `found` is one
+/// that was found there, if it is known.
 pub(crate) fn take_run(
     layout: &Layout,
     lane: &mut Lane,
     turn: u64,
     stop: Option<Moment>,
+    found: Option<FoundRun>,
     gauge: &mut Gauge,
     tally: &mut Tally,
 )
     requires in_order { IsInOrder layout.now lane.old }
     requires held { lane.old.cursor.state ≡ LaneState.Held }
+    requires found { IfSome found (HasRun layout.now lane.old) }
     ensures in_order { IsInOrder layout.now lane.new }
     ensures lane { KeepsLane stepping lane.old lane.new }
     ensures taken { IsRunTaken layout.now stop turn (record { gauge = gauge.old; tally = tally.old })
@@ -103,7 +144,7 @@ pub(crate) fn take_run(
     let Some(limits) = limits_of(layout, turn, stop, gauge, tally) else {
         return;
     };
-    let Some((next, count)) = next_taken(layout, lane, &limits, tally) else {
+    let Some((next, count)) = next_taken(layout, lane, &limits, found, tally) else {
         return;
     };
     let run = run_between(lane.page.bytes(), &lane.cursor.mark, &next);
@@ -133,6 +174,6 @@ pub(crate) fn take_turn(
         (record { gauge = gauge.new; tally = tally.new }) lanes.old i d lanes.new }
 {
     if let Some(turn) = turn_of(layout, lanes, nexts, i) {
-        take_run(layout, &mut lanes[i], turn, stop, gauge, tally);
+        take_run(layout, &mut lanes[i], turn, stop, None, gauge, tally);
     }
 }

@@ -2,7 +2,7 @@ use Rattle.std.proofs.Common.{ℕ, get_or, sym, subst, arith}
 use Rattle.std.proofs.lemmas.List.Elements.{All-set}
 use Rattle.event_cursor.specs.Standing.{IsInOrder}
 use Rattle.split_passes.specs.Rounds.{ReachesPast}
-use Rattle.split_passes.proofs.RoundTaking.{round_done, round_more, round_none}
+use Rattle.split_passes.proofs.RoundTaking.{found_of, round_done, round_more, round_none}
 use Rattle.split_passes.proofs.rounds.take_round.Goals as goal
 
 pub loop-i-init : goal.loop-i-init
@@ -10,6 +10,14 @@ loop-i-init c = record {
   in_order = c.requires.in_order;
   taken = round_none c.args.layout.now c.in-Some.reach.until c.in-Some.reach.most c.args.lanes.now c.args.tallies.now;
 }
+
+pub take_lane-count-requires-clause-found : goal.take_lane-count-requires-clause-found
+take_lane-count-requires-clause-found c =
+    let lanes = c.loop-i.lanes in
+    let i : ℕ = c.loop-i.i in
+    let reach = c.in-Some.reach in
+    found_of c.args.layout.now c.args.lanes.now i reach.lane c.index-lanes-i.result (get_or lanes i c.index-lanes-i.result) reach.run c.run_of-run.result c.run_of-run.ensures c.in-Some.ensures.run
+    (c.loop-i.invariant.taken.rest i c.index-lanes-i.result (omega arith))
 
 pub loop-i-preserved : goal.loop-i-preserved
 loop-i-preserved c =
