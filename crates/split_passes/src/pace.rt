@@ -24,6 +24,10 @@ const FEW: u32 = 8;
 /// After so many such turns a round is tried.
 const SHORT_TURNS: usize = 2;
 
+/// After a round so many items are taken by themselves before the next. The first of them is likely the last of its sub-buffer,
+/// so that the lane's next one has to be loaded.
+const AFTER_ROUND: usize = 1;
+
 /// Which lane gave the last item, and how many short turns and single items are to be taken before the next round. It changes no
 /// result, only what it costs.
 #[derive(Drop)]
@@ -61,7 +65,7 @@ impl Pace {
         self.wait = if count / 2 < lanes as u64 {
             lanes
         } else {
-            SHORT_TURNS
+            AFTER_ROUND
         };
     }
 
