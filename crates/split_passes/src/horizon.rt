@@ -86,6 +86,7 @@ fn held_horizon(layout: &Layout, lane: &Lane, most: u32, until: u64) -> Option<L
     below(next.time(), until)
 }
 
+#[inline(always)]
 fn lane_horizon(layout: &Layout, lane: &Lane, most: u32, until: u64) -> Option<LaneHorizon>
     requires { IsInOrder layout.now lane.now }
     ensures reaches { IfSome result (λ found. (found.until ≤ until) × ReachesPast layout.now found.until most lane.now) }

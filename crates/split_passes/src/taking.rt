@@ -124,6 +124,7 @@ fn next_taken(
 
 /// Takes the run of plain records at a lane's place into a piece and its tally, no further than to the key `turn`. `found` is one
 /// that was found there, if it is known.
+#[inline(always)]
 pub(crate) fn take_run(
     layout: &Layout,
     lane: &mut Lane,
