@@ -49,6 +49,19 @@ pub(crate) fn put_at(from: usize, to: usize, piece: &[u8], text: &mut [u8; USUAL
     text[from..to].copy_from_slice(piece);
 }
 
+/// The same of a text of a known length that is not the program's own: a copy by way of a place of its own needs no test whether
+/// the texts overlap.
+#[inline(always)]
+fn put_copy<const N: usize>(from: usize, piece: &[u8], text: &mut [u8; USUAL_FRONT])
+    requires whole { length piece.now ≡ N }
+    requires inside { from + N ≤ USUAL_FRONT }
+    ensures { drop from text.new ≡ piece.now ++ drop (from + N) text.old }
+{
+    let mut copy = [0; N];
+    copy.copy_from_slice(piece);
+    put_at(from, from + N, &copy, text);
+}
+
 /// A time as whole seconds and what is left of it in microseconds, where it is rounded to them.
 #[inline(always)]
 fn rounded(time: u64) -> (u32, u32)
@@ -153,7 +166,7 @@ pub(crate) fn write_when(cpu: u32, time: u64, label: &[u8], text: &mut [u8; USUA
     requires label { length label.now ≡ USUAL_LABEL }
     ensures { drop USUAL_TASK text.new ≡ usual_when cpu time ++ label.now }
 {
-    put_at(USUAL_COLUMNS, USUAL_FRONT, label, text);
+    put_copy::<USUAL_LABEL>(USUAL_COLUMNS, label, text);
     put_at(TIME_END, USUAL_COLUMNS, b": ", text);
     put_time(time, text);
     put_place(cpu, text);
@@ -175,5 +188,5 @@ pub(crate) fn write_front(
     ensures { text.new ≡ task.now ++ (usual_when cpu time ++ label.now) }
 {
     write_when(cpu, time, label, text);
-    put_at(0, USUAL_TASK, task, text);
+    put_copy::<USUAL_TASK>(0, task, text);
 }

@@ -6,6 +6,6 @@ use Rattle.report_print.proofs.usual.write_when.Goals as goal
 
 pub returns : goal.returns
 returns c =
-    joined c.args.text.now c.put_at.new.text c.put_at-2.new.text c.put_time.new.text c.put_place.new.text
+    joined c.args.text.now c.put_copy.new.text c.put_at.new.text c.put_time.new.text c.put_place.new.text
     (codes " [" ++ (zeros 3 (decimal c.args.cpu) ++ codes "] ")) (time_text false c.args.time) c.args.label.now
-    (search rules) c.put_at.ensures c.put_at-2.ensures c.put_time.ensures c.put_place.ensures
+    (search rules) c.put_copy.ensures c.put_at.ensures c.put_time.ensures c.put_place.ensures
