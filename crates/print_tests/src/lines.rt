@@ -194,8 +194,8 @@ fn events_have_these_lines(rt: HostRuntime) -> Result<(), Fail> {
     Ok(())
 }
 
-/// Processors, and the lines of events that tell a text, at the time 0: of the task 42, of one without a name, and of one with a
-/// wide pid.
+/// Processors, and the lines of events that tell a text, at the time 0: of the task 42, of tasks without a name, the second of
+/// which shares its entry with it, and of one with a wide pid.
 const PLACES: &[(u32, &[u8], &str)] = &[
     (
         9,
@@ -231,6 +231,11 @@ const PLACES: &[(u32, &[u8], &str)] = &[
         205,
         b"\x03\0\0\0\x2b\0\0\0x",
         "           <...>-43    [205]     0.000000: text:                 [FAILED TO PARSE] text=x",
+    ),
+    (
+        208,
+        b"\x03\0\0\0\x6a\0\0\0x",
+        "           <...>-106   [208]     0.000000: text:                 [FAILED TO PARSE] text=x",
     ),
     (
         210,
