@@ -48,6 +48,9 @@ use Rattle.split_tool.specs.declared.lists.Ends.{Ends}
 use Rattle.split_tool.specs.Counted.{lists_of}
 use Rattle.split_tool.specs.Lists.{files_of, files_behind, lists_left, bad_left}
 use Rattle.split_tool.specs.Made.{Prepared, Written, Made, IsMade, LeavesFile}
+use Rattle.split_tool.specs.Unmaking.{ending_of}
+use Rattle.split_tool.specs.declared.unmade.Unmade.{Unmade}
+use Rattle.split_tool.specs.declared.unmade.Unmade.TheVariants as unmade
 use Rattle.split_tool.specs.Measured.{taken_of}
 use Rattle.split_tool.specs.NewFiles.{Creates, files_from, new_files, end_by, IsSplit}
 use Rattle.split_tool.specs.Started.{Started}
@@ -229,24 +232,33 @@ module _ (header : Header) (base : List ℕ) (file : List ℕ) (rules : Rules) (
       by_bad None result is e = subst (λ (r : End). Creates (length news) first after r) (sym is) e
       by_bad (Some place) result is e = subst (λ (r : End). Creates (length news) first after r) (sym is) e
 
-  pub created_stops : (end result : End) (first before after : ℕ) → result ≡ end → IsMade (record { header = header; rules = rules; name = file_name base number }) file (record { lanes = now; files = mid }) (record { lanes = later; files = new }) (Err end)
+  pub created_stops : (kind : Unmade) (result : End) (first before after : ℕ) → result ≡ ending_of kind → IsMade (record { header = header; rules = rules; name = file_name base number }) file (record { lanes = now; files = mid }) (record { lanes = later; files = new }) (Err kind)
       → 1 ≤ number → before ≡ raised first (number - 1) → after ≤ raised before 1
       → Progress header base file rules news bad number now old mid → Creates (length news) first after result
-  created_stops code.Done result first before after is m least so_far one p = absurd m
-  created_stops (code.Malformed cut) result first before after is m least so_far one p = absurd m
-  created_stops code.Read result first before after is m least so_far one p = subst (λ (r : End). Creates (length news) first after r) (sym is) (omega (arith, some_counted p, least, so_far, one))
-  created_stops code.Write result first before after is m least so_far one p = subst (λ (r : End). Creates (length news) first after r) (sym is) (omega (arith, some_counted p, least, so_far, one))
+  created_stops (unmade.Malformed cut) result first before after is m least so_far one p = absurd m
+  created_stops unmade.Read result first before after is m least so_far one p = subst (λ (r : End). Creates (length news) first after r) (sym is) (omega (arith, some_counted p, least, so_far, one))
+  created_stops unmade.Write result first before after is m least so_far one p = subst (λ (r : End). Creates (length news) first after r) (sym is) (omega (arith, some_counted p, least, so_far, one))
 
-  pub progress_stops : (end result : End) (counts between now_counts : Counts) (first_asked asked asked_now : List (List ℕ)) → result ≡ end → counts.unfinished ≤ between.unfinished
-      → IsMade (record { header = header; rules = rules; name = file_name base number }) file (record { lanes = now; files = mid }) (record { lanes = later; files = new }) (Err end)
-      → LeavesFile (file_name base number) later (record { files = mid; counts = between; requested = asked }) (record { files = new; counts = now_counts; requested = asked_now }) (Err end)
+  pub progress_stops : (kind : Unmade) (result : End) (counts between now_counts : Counts) (first_asked asked asked_now : List (List ℕ)) → result ≡ ending_of kind → counts.unfinished ≤ between.unfinished
+      → IsMade (record { header = header; rules = rules; name = file_name base number }) file (record { lanes = now; files = mid }) (record { lanes = later; files = new }) (Err kind)
+      → LeavesFile (file_name base number) later (record { files = mid; counts = between; requested = asked }) (record { files = new; counts = now_counts; requested = asked_now }) (Err kind)
       → Progress header base file rules news bad number now old mid → IsSplit news (end_by bad) (record { files = old; counts = counts; requested = first_asked }) (record { files = new; counts = now_counts; requested = asked_now }) result
-  progress_stops code.Done result counts between now_counts first_asked asked asked_now is since m leaves p = absurd m
-  progress_stops (code.Malformed cut) result counts between now_counts first_asked asked asked_now is since m leaves p = absurd m
-  progress_stops code.Read result counts between now_counts first_asked asked asked_now is since m leaves p = subst (λ (e : End). IsSplit news (end_by bad) (record { files = old; counts = counts; requested = first_asked }) (record { files = new; counts = now_counts; requested = asked_now }) e) (sym is) (some_stored news _ old mid new leaves p.stage)
-  progress_stops code.Write result counts between now_counts first_asked asked asked_now is since m leaves p =
+  progress_stops (unmade.Malformed cut) result counts between now_counts first_asked asked asked_now is since m leaves p = absurd m
+  progress_stops unmade.Read result counts between now_counts first_asked asked asked_now is since m leaves p = subst (λ (e : End). IsSplit news (end_by bad) (record { files = old; counts = counts; requested = first_asked }) (record { files = new; counts = now_counts; requested = asked_now }) e) (sym is) (some_stored news _ old mid new leaves p.stage)
+  progress_stops unmade.Write result counts between now_counts first_asked asked asked_now is since m leaves p =
       subst (λ (e : End). IsSplit news (end_by bad) (record { files = old; counts = counts; requested = first_asked }) (record { files = new; counts = now_counts; requested = asked_now }) e) (sym is)
       (first_stored news _ _ counts now_counts old mid new (unmade_since counts.unfinished between.unfinished now_counts.unfinished (file_name base number) mid new since leaves) p.stage)
+
+-- a failed read or write is told as one
+pub read_is : (kind : Unmade) (result : End) → result ≡ ending_of kind → result ≡ code.Read → kind ≡ unmade.Read
+read_is (unmade.Malformed cut) result is was = let never : code.Malformed cut ≡ code.Read = sym is ∙ was in absurd cc
+read_is unmade.Read result is was = refl
+read_is unmade.Write result is was = let never : code.Write ≡ code.Read = sym is ∙ was in absurd cc
+
+pub write_is : (kind : Unmade) (result : End) → result ≡ ending_of kind → result ≡ code.Write → kind ≡ unmade.Write
+write_is (unmade.Malformed cut) result is was = let never : code.Malformed cut ≡ code.Write = sym is ∙ was in absurd cc
+write_is unmade.Read result is was = let never : code.Read ≡ code.Write = sym is ∙ was in absurd cc
+write_is unmade.Write result is was = refl
 
 -- lanes of the same processors
 pub same_cpus : (n : ℕ) (first now : List Lane) → parts_of now ≡ parts_of first → All (λ (a : Lane). a.cpu < n) first → All (λ (a : Lane). a.cpu < n) now

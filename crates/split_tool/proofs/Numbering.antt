@@ -1,5 +1,5 @@
 -- Files in the order of their numbers, of an input whose bytes may change.
-use Rattle.std.proofs.Common.{◌≡◌, ◌≤◌, ℕ, ◌+◌, List, [], ◌∷◌, ◌++◌, inl, inr, length, map, take, Option, Some, None, Err, refl, sym, ap, subst, ◌∙◌, append_assoc, append-nil, arith}
+use Rattle.std.proofs.Common.{◌≡◌, ◌≤◌, ℕ, ◌+◌, List, [], ◌∷◌, ◌++◌, inl, inr, length, map, take, Option, Some, None, Result, Err, refl, sym, ap, subst, ◌∙◌, append_assoc, append-nil, arith}
 use Rattle.std.specs.List.{range_with_len}
 use Rattle.std.specs.Option.{IfSome, IsSomeAnd}
 use Rattle.std.specs.FinMap.{insert}
@@ -15,7 +15,6 @@ use Rattle.subpage.specs.Arrangement.{Keyed}
 use Rattle.subpage.specs.declared.cut_place.CutPlace.{CutPlace}
 use Rattle.page_pool.specs.declared.lane.Lane.{Lane}
 use Rattle.time_merge.specs.declared.ending.End.{End}
-use Rattle.time_merge.specs.declared.ending.End.TheVariants as code
 use Rattle.new_files.specs.Requested.{AskedAll, AskedFirst, names_of}
 use Rattle.new_files.specs.Stored.{FilesStored, IsUnmade, NewFile, Stored}
 use Rattle.split_tool.specs.Names.{file_name}
@@ -25,6 +24,9 @@ use Rattle.split_passes.specs.Packs.{GainsSome}
 use Rattle.split_tool.specs.Made.{AsksForIt, FilePlan, IsFinished, IsMade, IsWritten, LanesFiles, LeavesFile}
 use Rattle.split_tool.specs.NewFiles.{AsksFor, end_by, files_from}
 use Rattle.split_tool.specs.Numbered.{LeavesFiles, Numbered, first_names, numbered}
+use Rattle.split_tool.specs.Unmaking.{ending_of}
+use Rattle.split_tool.specs.declared.unmade.Unmade.{Unmade}
+use Rattle.split_tool.specs.declared.unmade.Unmade.TheVariants as unmade
 use Rattle.split_tool.proofs.Making.{stored_is}
 use Rattle.split_tool.proofs.Storing.{stored_push, unmade_since}
 
@@ -33,28 +35,25 @@ use Rattle.split_tool.proofs.Storing.{stored_push, unmade_since}
 pub finished_is : (old old1 new : Option NamedFiles) (w0 w : Option (List ℕ)) (name name1 : List ℕ) → old1 ≡ old → name1 ≡ name → IsEmptySink old w0 → GainsSome w0 w → Stores old1 new name1 w → IsFinished name old new
 finished_is old old1 new w0 w name name1 e n empty gains stores = (gains.0, stored_is old1 old new w0 w name name1 gains.0 e n empty gains.1 stores)
 
-pub cut_off : (name : List ℕ) (lanes : List Lane) (before now : FolderSeen) (end : End) → (end ≡ code.Done → ⊥) → TellsHeld lanes end → now.files ≡ before.files → LeavesFile name lanes before now (Err end)
-cut_off name lanes before now code.Done some held same = absurd (some refl)
-cut_off name lanes before now (code.Malformed cut) some held same = (same, held)
-cut_off name lanes before now code.Read some held same = same
-cut_off name lanes before now code.Write some held same = inl same
+pub cut_off : (name : List ℕ) (lanes : List Lane) (before now : FolderSeen) (kind : Unmade) → TellsHeld lanes (ending_of kind) → now.files ≡ before.files → LeavesFile name lanes before now (Err kind)
+cut_off name lanes before now (unmade.Malformed cut) held same = (same, held)
+cut_off name lanes before now unmade.Read held same = same
+cut_off name lanes before now unmade.Write held same = inl same
 
-pub asks_for_it : (name : List ℕ) (before now : List (List ℕ)) (end : End) → AskedAll (name ∷ []) before now → AsksForIt name before now (Err end)
-asks_for_it name before now code.Done asked = asked
-asks_for_it name before now (code.Malformed cut) asked = asked
-asks_for_it name before now code.Read asked = inr asked
-asks_for_it name before now code.Write asked = asked
+pub asks_for_it : (name : List ℕ) (before now : List (List ℕ)) (kind : Unmade) → AskedAll (name ∷ []) before now → AsksForIt name before now (Err kind)
+asks_for_it name before now (unmade.Malformed cut) asked = asked
+asks_for_it name before now unmade.Read asked = inr asked
+asks_for_it name before now unmade.Write asked = asked
 
 pub asked_by : (name own : List ℕ) (old mid new : List (List ℕ)) → own ≡ name → mid ≡ old ++ own ∷ [] → new ≡ mid → AskedAll (name ∷ []) old new
 asked_by name own old mid new named one same = same ∙ one ∙ ap (λ (n : List ℕ). old ++ n ∷ []) named
 
 -- over a file with these bytes
-pub stopped_by : (plan : FilePlan) (header : Header) (file : List ℕ) (table : List Part) (lists : List (List ItemData)) (before after : LanesOutput) (old new : LanesFiles) (end : End) → (end ≡ code.Done → ⊥)
-    → IsWritten header file table lists before after end → IsMade plan file old new (Err end)
-stopped_by plan header file table lists before after old new code.Done some written = absurd (some refl)
-stopped_by plan header file table lists before after old new (code.Malformed cut) some written = written
-stopped_by plan header file table lists before after old new code.Read some written = tt
-stopped_by plan header file table lists before after old new code.Write some written = tt
+pub stopped_by : {T : Type 0} (plan : FilePlan) (header : Header) (file : List ℕ) (table : List Part) (lists : List (List ItemData)) (before after : LanesOutput) (old new : LanesFiles) (result : Result T Unmade) (kind : Unmade)
+    → result ≡ Err kind → IsWritten header file table lists before after result → IsMade plan file old new (Err kind)
+stopped_by plan header file table lists before after old new result (unmade.Malformed cut) is written = subst (IsWritten header file table lists before after) is written
+stopped_by plan header file table lists before after old new result unmade.Read is written = tt
+stopped_by plan header file table lists before after old new result unmade.Write is written = tt
 
 -- NAMES BY THEIR NUMBERS
 
@@ -128,9 +127,10 @@ pub finished_all : (base : List ℕ) (lanes : List Lane) (count : ℕ) (before n
 finished_all base lanes count before now None result is all = subst (LeavesFiles base lanes before now) (sym is) (count, all)
 finished_all base lanes count before now (Some bad) result is all = subst (LeavesFiles base lanes before now) (sym is) (inl (count, all))
 
-pub stops_there : (base : List ℕ) (lanes : List Lane) (count number : ℕ) (before mid now : FolderSeen) (end : End) → count + 1 ≡ number → before.counts.unfinished ≤ mid.counts.unfinished → Numbered base count 0 before mid
-    → LeavesFile (file_name base number) lanes mid now (Err end) → AsksForIt (file_name base number) mid.requested now.requested (Err end) → LeavesFiles base lanes before now end
-stops_there base lanes count number before mid now end next since so_far leaves asks = by_end end leaves asks
+pub stops_there : (base : List ℕ) (lanes : List Lane) (count number : ℕ) (before mid now : FolderSeen) (kind : Unmade) (result : End) → result ≡ ending_of kind → count + 1 ≡ number
+    → before.counts.unfinished ≤ mid.counts.unfinished → Numbered base count 0 before mid
+    → LeavesFile (file_name base number) lanes mid now (Err kind) → AsksForIt (file_name base number) mid.requested now.requested (Err kind) → LeavesFiles base lanes before now result
+stops_there base lanes count number before mid now kind result is next since so_far leaves asks = subst (LeavesFiles base lanes before now) (sym is) (by_kind kind leaves asks)
   where
     begun : (seen : FolderSeen) → seen.files ≡ mid.files → AskedAll (file_name base number ∷ []) mid.requested seen.requested → Numbered base count 1 before seen
     begun seen same asked = record {
@@ -148,12 +148,11 @@ stops_there base lanes count number before mid now end next since so_far leaves 
       requested = asked ∙ so_far.requested;
     }
 
-    by_end : (e : End) → LeavesFile (file_name base number) lanes mid now (Err e) → AsksForIt (file_name base number) mid.requested now.requested (Err e) → LeavesFiles base lanes before now e
-    by_end code.Done leaves asks = absurd leaves
-    by_end (code.Malformed cut) leaves asks = inr ((count, begun now leaves.0 asks), leaves.1)
-    by_end code.Read leaves (inl none) = inl (count, still leaves none)
-    by_end code.Read leaves (inr asked) = inr (count, begun now leaves asked)
-    by_end code.Write leaves asks = record {
+    by_kind : (k : Unmade) → LeavesFile (file_name base number) lanes mid now (Err k) → AsksForIt (file_name base number) mid.requested now.requested (Err k) → LeavesFiles base lanes before now (ending_of k)
+    by_kind (unmade.Malformed cut) leaves asks = inr ((count, begun now leaves.0 asks), leaves.1)
+    by_kind unmade.Read leaves (inl none) = inl (count, still leaves none)
+    by_kind unmade.Read leaves (inr asked) = inr (count, begun now leaves asked)
+    by_kind unmade.Write leaves asks = record {
       count = count;
       files = mid.files;
       others = begun (record now { files = mid.files }) refl asks;
@@ -181,17 +180,16 @@ asked_all base news count before now bad result is names long asked = by_bad bad
     by_bad None is = subst (AsksFor news before now) (sym is) all
     by_bad (Some place) is = subst (AsksFor news before now) (sym is) all
 
-pub asked_stops : (plan : FilePlan) (file : List ℕ) (old new : LanesFiles) (base : List ℕ) (news : List NewFile) (count number : ℕ) (before mid now : List (List ℕ)) (end : End)
-    → IsMade plan file old new (Err end) → names_of news ≡ first_names base (length news) → count + 1 ≡ number → number ≤ length news → mid ≡ before ++ first_names base (count + 0)
-    → AsksForIt (file_name base number) mid now (Err end) → AsksFor news before now end
-asked_stops plan file old new base news count number before mid now end made names next few so_far asks = by_end end made asks
+pub asked_stops : (plan : FilePlan) (file : List ℕ) (old new : LanesFiles) (base : List ℕ) (news : List NewFile) (count number : ℕ) (before mid now : List (List ℕ)) (kind : Unmade) (result : End) → result ≡ ending_of kind
+    → IsMade plan file old new (Err kind) → names_of news ≡ first_names base (length news) → count + 1 ≡ number → number ≤ length news → mid ≡ before ++ first_names base (count + 0)
+    → AsksForIt (file_name base number) mid now (Err kind) → AsksFor news before now result
+asked_stops plan file old new base news count number before mid now kind result is made names next few so_far asks = subst (AsksFor news before now) (sym is) (by_kind kind made asks)
   where
     begun : AskedAll (file_name base number ∷ []) mid now → AskedFirst (names_of news) before now
     begun asked = asked_few base news number before now names few (asked_more base count (count + 0) number number before mid now (omega arith) next refl so_far asked)
 
-    by_end : (e : End) → IsMade plan file old new (Err e) → AsksForIt (file_name base number) mid now (Err e) → AsksFor news before now e
-    by_end code.Done made asks = absurd made
-    by_end (code.Malformed cut) made asks = absurd made
-    by_end code.Read made (inl none) = asked_few base news (count + 0) before now names (omega (arith, next, few)) (none ∙ so_far)
-    by_end code.Read made (inr asked) = begun asked
-    by_end code.Write made asks = begun asks
+    by_kind : (k : Unmade) → IsMade plan file old new (Err k) → AsksForIt (file_name base number) mid now (Err k) → AsksFor news before now (ending_of k)
+    by_kind (unmade.Malformed cut) made asks = absurd made
+    by_kind unmade.Read made (inl none) = asked_few base news (count + 0) before now names (omega (arith, next, few)) (none ∙ so_far)
+    by_kind unmade.Read made (inr asked) = begun asked
+    by_kind unmade.Write made asks = begun asks

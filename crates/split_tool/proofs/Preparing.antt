@@ -1,6 +1,7 @@
 -- A file between its two passes.
-use Rattle.std.proofs.Common.{◌≡◌, ℕ, ◌%◌, ◌^◌, ◌<◌, List, [], ◌∷◌, ◌++◌, length, get_or, map, Option, Some, None, refl, sym, ap, subst, ◌∙◌, arith}
+use Rattle.std.proofs.Common.{◌≡◌, ℕ, ◌%◌, ◌^◌, ◌<◌, List, [], ◌∷◌, ◌++◌, length, get_or, map, Option, Some, None, Result, Ok, Err, refl, sym, ap, subst, ◌∙◌, arith}
 use Rattle.std.specs.Option.{IfSome}
+use Rattle.std.specs.Prelude.{IfErr, OnOk}
 use Rattle.std.specs.List.{All, filter_map, slice_get}
 use Rattle.std.proofs.lemmas.List.{length-append, length-map, get_or-map}
 use Rattle.std.proofs.lemmas.List.Elements.{All-get_or}
@@ -43,6 +44,9 @@ use Rattle.split_tool.specs.Counted.{lists_of, AreCounted}
 use Rattle.split_tool.specs.Lists.{groups, left_in_rows, bad_in_rows, lists_left, bad_left}
 use Rattle.split_tool.specs.Measured.{taken_of, FileLeft, FileMeasured}
 use Rattle.split_tool.specs.Made.{Prepared, IsWritten}
+use Rattle.split_tool.specs.Unmaking.{IsMadeBy, ending_of}
+use Rattle.split_tool.specs.declared.unmade.Unmade.{Unmade}
+use Rattle.split_tool.specs.declared.unmade.Unmade.TheVariants as unmade
 use Rattle.split_tool.proofs.FewItems.{few_in_list}
 use Rattle.split_tool.proofs.Owning.{IsNotLane, none_else}
 use Rattle.split_tool.proofs.Tables.{same_data}
@@ -204,11 +208,26 @@ prepared_back header rules first now fronts fronts1 tallies tallies1 table table
 
 -- WRITING
 
-pub written_all : (header : Header) (file : List ℕ) (table : List Part) (lists : List (List ItemData)) (before now : List Lane) (old mid new : Option (List ℕ)) (end : End) → Gained old mid (front_text header table)
+pub written_all : {T : Type 0} (header : Header) (file : List ℕ) (table : List Part) (lists : List (List ItemData)) (before now : List Lane) (old mid new : Option (List ℕ)) (end : End) (result : Result T Unmade) → IsMadeBy end result → Gained old mid (front_text header table)
     → IsPackedAll header.layout file lists (record { lanes = before; written = mid }) (record { lanes = now; written = new }) end
-    → IsWritten header file table lists (record { lanes = before; written = old }) (record { lanes = now; written = new }) end
-written_all header file table lists before now old mid new code.Done front p =
+    → IsWritten header file table lists (record { lanes = before; written = old }) (record { lanes = now; written = new }) result
+written_all header file table lists before now old mid new end (Ok done) is front packed =
+    let p = subst (λ (e : End). IsPackedAll header.layout file lists (record { lanes = before; written = mid }) (record { lanes = now; written = new }) e) is packed in
     record { stands = p.stands; rows = p.rows; gained = gained_both old mid new (front_text header table) (data_of header.layout lists) front p.gained }
-written_all header file table lists before now old mid new (code.Malformed cut) front p = p
-written_all header file table lists before now old mid new code.Read front p = tt
-written_all header file table lists before now old mid new code.Write front p = tt
+written_all header file table lists before now old mid new end (Err (unmade.Malformed cut)) is front packed =
+    subst (λ (e : End). IsPackedAll header.layout file lists (record { lanes = before; written = mid }) (record { lanes = now; written = new }) e) is packed
+written_all header file table lists before now old mid new end (Err unmade.Read) is front packed = tt
+written_all header file table lists before now old mid new end (Err unmade.Write) is front packed = tt
+
+-- what is said of an end is said of the answer that it makes
+pub stops_by : {T : Type 0} (P : End → Type 0) (end : End) (result : Result T Unmade) → IsMadeBy end result → P end → IfErr result (λ kind. P (ending_of kind))
+stops_by P end (Ok done) is p = tt
+stops_by P end (Err kind) is p = subst P is p
+
+pub fails_by : {T : Type 0} (X : Type 0) (kind : Unmade) (end : End) (result : Result T Unmade) → IsMadeBy end result → (end ≡ ending_of kind → X) → IfErr result (λ one. one ≡ kind → X)
+fails_by X kind end (Ok done) is x = tt
+fails_by X kind end (Err one) is x = λ same. x (is ∙ ap ending_of same)
+
+pub done_by : {T : Type 0} (X : Type 0) (end : End) (result : Result T Unmade) → IsMadeBy end result → (end ≡ code.Done → X) → OnOk result X
+done_by X end (Ok done) is x = x is
+done_by X end (Err kind) is x = tt

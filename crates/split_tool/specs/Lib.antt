@@ -9,3 +9,4 @@ pub mod Numbered
 pub mod Reads
 pub mod Started
 pub mod Work
+pub mod Unmaking

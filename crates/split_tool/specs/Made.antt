@@ -15,7 +15,6 @@ use Rattle.page_write.specs.Placed.{data_of}
 use Rattle.event_cursor.specs.Standing.{Stands}
 use Rattle.event_cursor.specs.declared.places.Place.{Place}
 use Rattle.time_merge.specs.LaneRows.{rows_of}
-use Rattle.time_merge.specs.declared.ending.End.{End}
 use Rattle.time_merge.specs.declared.ending.End.TheVariants as code
 use Rattle.split_pieces.specs.declared.rules.Rules.{Rules}
 use Rattle.split_passes.specs.AllAgain.{AreFronts, TellsHeld, owns}
@@ -26,9 +25,12 @@ use Rattle.new_files.specs.Requested.{AskedAll}
 use Rattle.new_files.specs.Stored.{IsUnmade, KeepsCounts}
 use Rattle.split_tool.specs.NewFile.{file_text, front_text, table_of}
 use Rattle.split_tool.specs.declared.lists.Ends.{Ends}
+use Rattle.split_tool.specs.declared.unmade.Unmade.{Unmade}
+use Rattle.split_tool.specs.declared.unmade.Unmade.TheVariants as unmade
 use Rattle.split_tool.specs.Counted.{lists_of}
 use Rattle.split_tool.specs.Measured.{FileLeft, taken_of}
 use Rattle.split_tool.specs.NewFiles.{LeavesUnfinished}
+use Rattle.split_tool.specs.Unmaking.{ending_of}
 
 -- the bytes of the next file
 abbrev pub next_text : Header → List ℕ → Rules → List Lane → List ℕ
@@ -54,11 +56,11 @@ pub record Written (header : Header) (file : List ℕ) (table : List Part) (list
   pub rows : rows_of header.layout file now.lanes ≡ rows_of header.layout file before.lanes
   pub gained : Gained before.written now.written (front_text header table ++ data_of header.layout lists)
 
-abbrev pub IsWritten : Header → List ℕ → List Part → List (List ItemData) → LanesOutput → LanesOutput → End → Type 0
-IsWritten header file table lists before now code.Done = Written header file table lists before now
-IsWritten header file table lists before now (code.Malformed cut) = ⊥
-IsWritten header file table lists before now code.Read = Unit {0}
-IsWritten header file table lists before now code.Write = Unit {0}
+abbrev pub IsWritten : {T : Type 0} → Header → List ℕ → List Part → List (List ItemData) → LanesOutput → LanesOutput → Result T Unmade → Type 0
+IsWritten header file table lists before now (Ok done) = Written header file table lists before now
+IsWritten header file table lists before now (Err (unmade.Malformed cut)) = ⊥
+IsWritten header file table lists before now (Err unmade.Read) = Unit {0}
+IsWritten header file table lists before now (Err unmade.Write) = Unit {0}
 
 -- what a new file is made by
 pub record FilePlan : Type 0 where
@@ -77,12 +79,11 @@ pub record Made (plan : FilePlan) (file : List ℕ) (before now : LanesFiles) (e
   pub stored : IfSome before.files (λ files. now.files ≡ Some (insert files plan.name (next_text plan.header file plan.rules before.lanes)))
 
 -- Over an input with these bytes: the new file was finished, or a call of the outside failed.
-abbrev pub IsMade : FilePlan → List ℕ → LanesFiles → LanesFiles → Result Ends End → Type 0
+abbrev pub IsMade : FilePlan → List ℕ → LanesFiles → LanesFiles → Result Ends Unmade → Type 0
 IsMade plan file before now (Ok ends) = Made plan file before now ends
-IsMade plan file before now (Err code.Done) = ⊥
-IsMade plan file before now (Err (code.Malformed cut)) = ⊥
-IsMade plan file before now (Err code.Read) = Unit {0}
-IsMade plan file before now (Err code.Write) = Unit {0}
+IsMade plan file before now (Err (unmade.Malformed cut)) = ⊥
+IsMade plan file before now (Err unmade.Read) = Unit {0}
+IsMade plan file before now (Err unmade.Write) = Unit {0}
 
 -- some file of this name was finished, and every other name is as before
 abbrev pub IsFinished : List ℕ → Option NamedFiles → Option NamedFiles → Type 0
@@ -90,24 +91,23 @@ IsFinished name old new = (content : List ℕ) × IfSome old (λ files. new ≡ 
 
 -- What making one file leaves, whatever the bytes of the input are: it is finished, or it is cut off and every name is as it
 -- was, unless finishing it failed. A malformed sub-buffer that is told is the one that a lane holds.
-abbrev pub LeavesFile : List ℕ → List Lane → FolderSeen → FolderSeen → Result Ends End → Type 0
+abbrev pub LeavesFile : List ℕ → List Lane → FolderSeen → FolderSeen → Result Ends Unmade → Type 0
 LeavesFile name lanes before now (Ok ends) = IsFinished name before.files now.files
-LeavesFile name lanes before now (Err code.Done) = ⊥
-LeavesFile name lanes before now (Err (code.Malformed cut)) =
+LeavesFile name lanes before now (Err (unmade.Malformed cut)) =
     (now.files ≡ before.files) × TellsHeld lanes (code.Malformed cut)
-LeavesFile name lanes before now (Err code.Read) = now.files ≡ before.files
-LeavesFile name lanes before now (Err code.Write) =
+LeavesFile name lanes before now (Err unmade.Read) = now.files ≡ before.files
+LeavesFile name lanes before now (Err unmade.Write) =
     IsUnmade before.counts.unfinished now.counts.unfinished name before.files now.files
 
 -- its name was asked for, unless a read failed before
-abbrev pub AsksForIt : List ℕ → List (List ℕ) → List (List ℕ) → Result Ends End → Type 0
-AsksForIt name before now (Err code.Read) = (now ≡ before) ⊎ AskedAll (name ∷ []) before now
+abbrev pub AsksForIt : List ℕ → List (List ℕ) → List (List ℕ) → Result Ends Unmade → Type 0
+AsksForIt name before now (Err unmade.Read) = (now ≡ before) ⊎ AskedAll (name ∷ []) before now
 AsksForIt name before now result = AskedAll (name ∷ []) before now
 
 -- What making one file does to the counts of a folder: a file is created, or after a fault maybe none, and only a fault of
 -- writing leaves one unfinished.
-pub record CountsOne (before now : Counts) (result : Result Ends End) : Type 0 where
+pub record CountsOne (before now : Counts) (result : Result Ends Unmade) : Type 0 where
   pub keeps : KeepsCounts before now
   pub created : MatchResult result (λ _. now.created ≡ raised before.created 1) (λ _. now.created ≤ raised before.created 1)
-  pub unfinished : MatchResult result (λ _. now.unfinished ≡ before.unfinished) (λ end. LeavesUnfinished before.unfinished now.unfinished end)
-  pub writing : IfErr result (λ end. end ≡ code.Write → Rose before.writing now.writing)
+  pub unfinished : MatchResult result (λ _. now.unfinished ≡ before.unfinished) (λ kind. LeavesUnfinished before.unfinished now.unfinished (ending_of kind))
+  pub writing : IfErr result (λ kind. kind ≡ unmade.Write → Rose before.writing now.writing)

@@ -1,6 +1,6 @@
 // One new file.
 
-ghost use Rattle.std.specs.Prelude.{◌≡◌, ◌+◌, ◌<◌, ◌≤◌, ◌^◌, All, IfErr, IfOk, IfSome, List, length};
+ghost use Rattle.std.specs.Prelude.{◌≡◌, ◌+◌, ◌<◌, ◌≤◌, ◌^◌, All, IfErr, IfOk, IfSome, List, OnOk, length};
 ghost use Rattle.trace_outside.specs.Causes.{HasCause, Rose, raised};
 ghost use Rattle.trace_outside.specs.Keeping.{KeepsFile, KeepsSink};
 ghost use Rattle.trace_outside.specs.Seen.{folder_seen};
@@ -13,6 +13,7 @@ ghost use Rattle.split_passes.specs.Reads.{all_packing};
 ghost use Rattle.split_tool.specs.Names.{file_name};
 ghost use Rattle.split_tool.specs.Made.{AsksForIt, CountsOne, IsMade, IsWritten, LeavesFile, Prepared};
 ghost use Rattle.split_tool.specs.Reads.{Spends, to_read};
+ghost use Rattle.split_tool.specs.Unmaking.{ending_of};
 ghost use Rattle.split_tool.specs.Work.{CanCut, IsWorkFor};
 
 use crate::front::write_front;
@@ -20,10 +21,11 @@ use crate::lists::{Ends, measure_lists};
 use crate::names::{FileName, put_name};
 use crate::splitting::SplitPlan;
 use crate::table::fill_table;
+use crate::unmade::{Unmade, made_by};
 use crate::work::SplitWork;
 use page_pool::Lane;
 use split_passes::{clear, note_fronts, pack_all};
-use time_merge::{End, make_all_ready};
+use time_merge::make_all_ready;
 use trace_outside::{Failed, File, Folder, Sink};
 
 // Goes through the file's pieces, and leaves what the second pass needs in the work.
@@ -79,7 +81,7 @@ fn write_file<F: File, O: Sink>(
     lanes: &mut [Lane],
     work: &mut SplitWork,
     out: &mut O,
-) -> End
+) -> Result<(), Unmade>
     requires { CanCut plan.now.header.now lanes.old work.old }
     ensures in_order { All (IsInOrder plan.now.header.now.layout) lanes.new }
     ensures parts { parts_of lanes.new ≡ parts_of lanes.old }
@@ -88,22 +90,22 @@ fn write_file<F: File, O: Sink>(
         → (lists : List (List ItemData)) → AreFronts plan.now.header.now.layout bytes lanes.old work.old.fronts.items work.old.tallies.items lists
         → IsWritten plan.now.header.now bytes work.old.table.items lists
         (record { lanes = lanes.old; written = O.written out.old }) (record { lanes = lanes.new; written = O.written out.new }) result) }
-    ensures malformed { TellsStop lanes.old lanes.new result }
-    ensures gains { result ≡ End.Done → GainsSome (O.written out.old) (O.written out.new) }
+    ensures malformed { IfErr result (λ unmade. TellsStop lanes.old lanes.new (ending_of unmade)) }
+    ensures gains { OnOk result (GainsSome (O.written out.old) (O.written out.new)) }
     ensures reads { F.reads file.new ≤ raised (F.reads file.old)
         (all_packing plan.now.header.now.layout (F.size file.old) lanes.old work.old.fronts.items work.old.tallies.items) }
-    ensures left { result ≡ End.Done → to_read plan.now.header.now.layout (F.size file.old) lanes.new
-        ≡ to_read plan.now.header.now.layout (F.size file.old) lanes.old }
+    ensures left { OnOk result (to_read plan.now.header.now.layout (F.size file.old) lanes.new
+        ≡ to_read plan.now.header.now.layout (F.size file.old) lanes.old) }
     ensures keeps_out { KeepsSink O.Sink out.old out.new }
-    ensures read { result ≡ End.Read → Rose (F.faults file.old) (F.faults file.new) }
-    ensures write { result ≡ End.Write → Rose (O.faults out.old) (O.faults out.new) }
+    ensures read { IfErr result (λ unmade. unmade ≡ Unmade.Read → Rose (F.faults file.old) (F.faults file.new)) }
+    ensures write { IfErr result (λ unmade. unmade ≡ Unmade.Write → Rose (O.faults out.old) (O.faults out.new)) }
     ensures keeps { KeepsFile F.File file.old file.new }
 {
     match write_front(plan.header, &work.before, work.table.as_slice(), out) {
         Ok(()) => {}
-        Err(Failed) => return End::Write,
+        Err(Failed) => return Err(Unmade::Write),
     }
-    pack_all(
+    made_by(pack_all(
         &plan.header.layout,
         file,
         lanes,
@@ -111,13 +113,13 @@ fn write_file<F: File, O: Sink>(
         work.tallies.as_slice(),
         work.page.as_mut_slice(),
         out,
-    )
+    ))
 }
 
 /// Makes the file of this number, and tells what is left after it. `name` is room for its name.
 ///
 /// # Errors
-/// Why the split ends here: the file has no name then, unless finishing it failed.
+/// Why it is not made: the file has no name then, unless finishing it failed.
 #[tactic(auto, using(crate::proofs::Making::still_cut))]
 pub(crate) fn make_file<F: File, D: Folder>(
     plan: &SplitPlan<'_>,
@@ -127,7 +129,7 @@ pub(crate) fn make_file<F: File, D: Folder>(
     lanes: &mut [Lane],
     work: &mut SplitWork,
     folder: &mut D,
-) -> Result<Ends, End>
+) -> Result<Ends, Unmade>
     requires base { length plan.now.base.now ≤ 4096 }
     requires cut { CanCut plan.now.header.now lanes.old work.old }
     ensures cut { CanCut plan.now.header.now lanes.new work.new }
@@ -142,24 +144,24 @@ pub(crate) fn make_file<F: File, D: Folder>(
     ensures counts { CountsOne (D.counts folder.old) (D.counts folder.new) result }
     ensures reads { Spends (to_read plan.now.header.now.layout (F.size file.old) lanes.old)
         (to_read plan.now.header.now.layout (F.size file.old) lanes.new) (F.reads file.old) (F.reads file.new) result }
-    ensures read { IfErr result (λ end. end ≡ End.Read → Rose (F.faults file.old) (F.faults file.new)) }
+    ensures read { IfErr result (λ unmade. unmade ≡ Unmade.Read → Rose (F.faults file.old) (F.faults file.new)) }
     ensures keeps { KeepsFile F.File file.old file.new }
 {
     let Ok(ends) = measure_file(plan, file, lanes, work) else {
-        return Err(End::Read);
+        return Err(Unmade::Read);
     };
     put_name(plan.base, number, name);
     let Ok(mut out) = folder.create_file(name.as_str()) else {
-        return Err(End::Write);
+        return Err(Unmade::Write);
     };
     match write_file(plan, file, lanes, work, &mut out) {
-        End::Done => match folder.finish_file(out) {
+        Ok(()) => match folder.finish_file(out) {
             Ok(()) => Ok(ends),
-            Err(Failed) => Err(End::Write),
+            Err(Failed) => Err(Unmade::Write),
         },
-        end => {
+        Err(unmade) => {
             folder.drop_file(out);
-            Err(end)
+            Err(unmade)
         }
     }
 }

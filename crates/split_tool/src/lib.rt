@@ -16,6 +16,7 @@ mod names;
 mod splitting;
 mod start;
 mod table;
+mod unmade;
 mod work;
 
 pub use front::{data_place, write_front};

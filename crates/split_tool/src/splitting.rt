@@ -118,7 +118,7 @@ pub fn split<F: File, D: Folder>(
                     return end_by(ends);
                 }
             }
-            Err(end) => return end,
+            Err(unmade) => return unmade.ending(),
         }
     }
     End::Done

@@ -7,11 +7,12 @@ use Rattle.event_cursor.proofs.Told.{told_all, told_both, told_map, told_again}
 use Rattle.split_pieces.specs.Cuts.{bad_reached, file_items}
 use Rattle.split_tool.specs.Names.{file_name}
 use Rattle.new_files.specs.Requested.{names_of}
-use Rattle.split_tool.specs.NewFiles.{new_files}
+use Rattle.split_tool.specs.NewFiles.{LeavesUnfinished, new_files}
 use Rattle.time_merge.proofs.Advancing.{same_length}
 use Rattle.time_merge.specs.LaneRows.{parts_of}
+use Rattle.time_merge.specs.declared.ending.End.{End}
 use Rattle.split_tool.proofs.Budget.{loaded_stops, passed_spent, same_spent, spent_all, spent_more, spent_stops, start_less}
-use Rattle.split_tool.proofs.Making.{created_last, created_stops, last_counted, progress_none, progress_more, progress_last, progress_stops, same_cpus, some_counted, fresh_stand}
+use Rattle.split_tool.proofs.Making.{created_last, created_stops, last_counted, progress_none, progress_more, progress_last, progress_stops, read_is, same_cpus, some_counted, fresh_stand, write_is}
 use Rattle.split_tool.proofs.Numbering.{asked_all, asked_none, asked_stops, finished_all, names_new, numbered_more, numbered_none, stops_there}
 use Rattle.split_tool.proofs.Storing.{kept_twice, leaves_none, leaves_since, some_stored, stages_none}
 use Rattle.split_tool.proofs.splitting.split.Goals as goal
@@ -113,15 +114,15 @@ returns-in-Err-clause-told g c =
     told_again _ _ _ (g.F.File.bytes c.args.file.now) (g.F.File.bytes c.loop-number.file) c.loop-number.invariant.keeps.bytes (λ file p m.
     let news = new_files rules base header file (parts_of c.args.lanes.now) in
     let bad = bad_reached rules header.layout file (parts_of c.args.lanes.now) in
-    progress_stops header base file rules news bad c.loop-number.number c.loop-number.lanes c.make_file.new.lanes old mid new c.in-Err.end c.in-Err.end (g.D.Folder.counts c.args.folder.now) (g.D.Folder.counts c.loop-number.folder) (g.D.Folder.counts c.make_file.new.folder)
-    (g.D.Folder.requested c.args.folder.now) (g.D.Folder.requested c.loop-number.folder) (g.D.Folder.requested c.make_file.new.folder) refl c.loop-number.invariant.counts.unfinished (m p.stands p.small) c.in-Err.ensures.leaves p)
+    progress_stops header base file rules news bad c.loop-number.number c.loop-number.lanes c.make_file.new.lanes old mid new c.in-Err.unmade c.ending.result (g.D.Folder.counts c.args.folder.now) (g.D.Folder.counts c.loop-number.folder) (g.D.Folder.counts c.make_file.new.folder)
+    (g.D.Folder.requested c.args.folder.now) (g.D.Folder.requested c.loop-number.folder) (g.D.Folder.requested c.make_file.new.folder) c.ending.ensures c.loop-number.invariant.counts.unfinished (m p.stands p.small) c.in-Err.ensures.leaves p)
     c.loop-number.invariant.progress c.in-Err.ensures.told
 
 pub returns-in-Err-clause-read : goal.returns-in-Err-clause-read
-returns-in-Err-clause-read g c = λ is. let rose = c.in-Err.ensures.read is in omega (arith, rose, c.loop-number.invariant.keeps.later)
+returns-in-Err-clause-read g c = λ is. let rose = c.in-Err.ensures.read (read_is c.in-Err.unmade c.ending.result c.ending.ensures is) in omega (arith, rose, c.loop-number.invariant.keeps.later)
 
 pub returns-in-Err-clause-write : goal.returns-in-Err-clause-write
-returns-in-Err-clause-write g c = λ is. let rose = c.in-Err.ensures.counts.writing is in omega (arith, rose, c.loop-number.invariant.counts.writing)
+returns-in-Err-clause-write g c = λ is. let rose = c.in-Err.ensures.counts.writing (write_is c.in-Err.unmade c.ending.result c.ending.ensures is) in omega (arith, rose, c.loop-number.invariant.counts.writing)
 
 pub returns-clause-told : goal.returns-clause-told
 returns-clause-told g c =
@@ -160,8 +161,8 @@ returns-in-Err-clause-created g c =
     told_again _ _ _ (g.F.File.bytes c.args.file.now) (g.F.File.bytes c.loop-number.file) c.loop-number.invariant.keeps.bytes (λ file p m.
     let news = new_files rules base header file (parts_of c.args.lanes.now) in
     let bad = bad_reached rules header.layout file (parts_of c.args.lanes.now) in
-    created_stops header base file rules news bad c.loop-number.number c.loop-number.lanes c.make_file.new.lanes old mid new c.in-Err.end c.in-Err.end
-    (g.D.Folder.counts c.args.folder.now).created (g.D.Folder.counts c.loop-number.folder).created (g.D.Folder.counts c.make_file.new.folder).created refl
+    created_stops header base file rules news bad c.loop-number.number c.loop-number.lanes c.make_file.new.lanes old mid new c.in-Err.unmade c.ending.result
+    (g.D.Folder.counts c.args.folder.now).created (g.D.Folder.counts c.loop-number.folder).created (g.D.Folder.counts c.make_file.new.folder).created c.ending.ensures
     (m p.stands p.small)
     c.loop-number.invariant.least c.loop-number.invariant.created c.in-Err.ensures.counts.created p)
     c.loop-number.invariant.progress c.in-Err.ensures.told
@@ -175,7 +176,8 @@ pub returns-then-not-goes_on-clause-unfinished : goal.returns-then-not-goes_on-c
 returns-then-not-goes_on-clause-unfinished g c = leaves_none c.in-Ok-make_file.ends.bad c.end_by.result _ _ c.end_by.ensures (c.in-Ok-make_file.ensures.counts.unfinished ∙ c.loop-number.invariant.unfinished)
 
 pub returns-in-Err-clause-unfinished : goal.returns-in-Err-clause-unfinished
-returns-in-Err-clause-unfinished g c = leaves_since c.in-Err.end _ _ _ c.loop-number.invariant.unfinished c.in-Err.ensures.counts.unfinished
+returns-in-Err-clause-unfinished g c = leaves_since c.ending.result _ _ _ c.loop-number.invariant.unfinished
+    (subst (λ (end : End). LeavesUnfinished (g.D.Folder.counts c.loop-number.folder).unfinished (g.D.Folder.counts c.make_file.new.folder).unfinished end) (sym c.ending.ensures) c.in-Err.ensures.counts.unfinished)
 
 pub returns-in-Err-clause-counts : goal.returns-in-Err-clause-counts
 returns-in-Err-clause-counts g c = kept_twice _ _ _ c.loop-number.invariant.counts c.make_file.ensures.counts.keeps
@@ -243,7 +245,7 @@ returns-in-Err-clause-requested g c =
     let news = new_files rules base header file (parts_of c.args.lanes.now) in
     let bad = bad_reached rules header.layout file (parts_of c.args.lanes.now) in
     asked_stops (record { header = header; rules = rules; name = file_name base c.loop-number.number }) file (record { lanes = c.loop-number.lanes; files = mid }) (record { lanes = c.make_file.new.lanes; files = new }) base news (c.loop-number.number - 1) c.loop-number.number
-    (g.D.Folder.requested c.args.folder.now) (g.D.Folder.requested c.loop-number.folder) (g.D.Folder.requested c.make_file.new.folder) c.in-Err.end (m p.stands p.small)
+    (g.D.Folder.requested c.args.folder.now) (g.D.Folder.requested c.loop-number.folder) (g.D.Folder.requested c.make_file.new.folder) c.in-Err.unmade c.ending.result c.ending.ensures (m p.stands p.small)
     (names_new header base (file_items rules header.layout file (parts_of c.args.lanes.now))) (omega (arith, c.loop-number.invariant.least))
     (some_counted header base file rules news bad c.loop-number.number c.loop-number.lanes c.make_file.new.lanes old mid new p)
     c.loop-number.invariant.numbered.requested c.in-Err.ensures.requested)
@@ -269,7 +271,7 @@ returns-then-not-goes_on-clause-leaves g c =
 pub returns-in-Err-clause-leaves : goal.returns-in-Err-clause-leaves
 returns-in-Err-clause-leaves g c =
     stops_there c.args.plan.now.base.now c.make_file.new.lanes (c.loop-number.number - 1) c.loop-number.number (folder_seen g.D.Folder c.args.folder.now) (folder_seen g.D.Folder c.loop-number.folder) (folder_seen g.D.Folder c.make_file.new.folder)
-    c.in-Err.end (omega (arith, c.loop-number.invariant.least)) c.loop-number.invariant.counts.unfinished c.loop-number.invariant.numbered c.in-Err.ensures.leaves c.in-Err.ensures.requested
+    c.in-Err.unmade c.ending.result c.ending.ensures (omega (arith, c.loop-number.invariant.least)) c.loop-number.invariant.counts.unfinished c.loop-number.invariant.numbered c.in-Err.ensures.leaves c.in-Err.ensures.requested
 
 pub returns-clause-leaves : goal.returns-clause-leaves
 returns-clause-leaves g c = (c.loop-number.number - 1, c.loop-number.invariant.numbered)
