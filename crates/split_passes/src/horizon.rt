@@ -117,41 +117,37 @@ fn furthest(lanes: &[Lane]) -> usize
     first
 }
 
-// The horizon with lane `i` too, which is looked at no further than the others go. Lane `first` is one of these.
+// Lowers the horizon to that of lane `i`, which is looked at no further than the others go, if one is found. Lane `first` is one of
+// these.
 fn with_lane(
     layout: &Layout,
     lanes: &[Lane],
     i: usize,
     first: usize,
     most: u32,
-    least: CommonHorizon,
-) -> Option<CommonHorizon>
+    least: &mut CommonHorizon,
+) -> bool
     requires in_order { All (IsInOrder layout.now) lanes.now }
     requires inside { i < length lanes.now }
-    requires first { (d : Lane) → ReachesPast layout.now least.until most (slice_index_or lanes.now first d) }
-    requires run { (d : Lane) → IfSome least.run (HasRun layout.now (slice_index_or lanes.now least.lane d)) }
-    ensures reaches { IfSome result (λ now. (now.until ≤ least.until)
-        × ((d : Lane) → ReachesPast layout.now now.until most (slice_index_or lanes.now i d))) }
-    ensures run { IfSome result (λ now. (d : Lane) → IfSome now.run (HasRun layout.now (slice_index_or lanes.now now.lane d))) }
+    requires first { (d : Lane) → ReachesPast layout.now least.old.until most (slice_index_or lanes.now first d) }
+    requires run { (d : Lane) → IfSome least.old.run (HasRun layout.now (slice_index_or lanes.now least.old.lane d)) }
+    ensures reaches { IsTrue result → (least.new.until ≤ least.old.until)
+        × ((d : Lane) → ReachesPast layout.now least.new.until most (slice_index_or lanes.now i d)) }
+    ensures run { (d : Lane) → IfSome least.new.run (HasRun layout.now (slice_index_or lanes.now least.new.lane d)) }
 {
     if i == first {
-        return Some(least);
+        return true;
     }
     let Some(found) = lane_horizon(layout, &lanes[i], most, least.until) else {
-        return None;
+        return false;
     };
+    least.until = found.until;
     if found.run.is_none() {
-        return Some(CommonHorizon {
-            until: found.until,
-            lane: least.lane,
-            run: least.run,
-        });
+        return true;
     }
-    Some(CommonHorizon {
-        until: found.until,
-        lane: i,
-        run: found.run,
-    })
+    least.lane = i;
+    least.run = found.run;
+    true
 }
 
 /// A key up to `until` up to which each lane holds all its items, at most so many, all of them events. `None` where no such key is
@@ -178,10 +174,9 @@ pub(crate) fn horizon(
         run: found.run,
     };
     for i in 0..lanes.len() {
-        let Some(now) = with_lane(layout, lanes, i, first, most, least) else {
+        if !with_lane(layout, lanes, i, first, most, &mut least) {
             return None;
-        };
-        least = now;
+        }
     }
     Some(least)
 }
