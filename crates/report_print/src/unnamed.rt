@@ -63,10 +63,8 @@ fn put_spaces(count: usize, into: &mut Tail<'_>)
     ensures same_slice { lent into.new ≡ lent into.old }
     ensures value { held into.new ≡ put_held (held into.old) (replicate count 32) }
 {
-    match count {
-        0 => {}
-        1 => into.put(b" "),
-        _ => into.put(b"  "),
+    if count > 0 {
+        into.put_front(b"                ", count);
     }
 }
 
