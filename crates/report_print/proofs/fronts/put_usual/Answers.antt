@@ -1,4 +1,4 @@
-use Rattle.std.proofs.Common.{◌++◌, ◌∙◌, ℤ, List, ℕ, FitsSigned, length, to_z, of_z, ap, rules}
+use Rattle.std.proofs.Common.{◌++◌, ◌∙◌, ℤ, List, ℕ, length, to_z, of_z, ap}
 use Rattle.std.specs.Int.{w32}
 use Rattle.std.proofs.lemmas.Int.{to_z-of_z}
 use Rattle.trace_base.specs.Kept.{put_held}
