@@ -142,7 +142,8 @@ fn with_lane(
         return false;
     };
     least.until = found.until;
-    if found.run.is_none() {
+    // The last run is kept: that of the last lane, or of the one before it where the last is `first`.
+    if found.run.is_none() || 2 < lanes.len() - i {
         return true;
     }
     least.lane = i;
