@@ -9,6 +9,7 @@ use Rattle.page_pool.specs.declared.lane.Lane.{Lane}
 use Rattle.time_merge.specs.declared.ending.End.{End}
 use Rattle.time_merge.specs.declared.ending.End.TheVariants as end
 use Rattle.split_pieces.specs.Cuts.{file_items}
+use Rattle.split_pieces.specs.declared.rules.Rules.{Rules}
 use Rattle.new_files.specs.Requested.{AskedFirst, names_of}
 use Rattle.new_files.specs.Stored.{NewFile}
 use Rattle.split_tool.specs.NewFiles as new
@@ -56,17 +57,17 @@ asked_told news before now (end.Malformed cut) asked = asked_few (names_of news)
 asked_told news before now end.Read asked = asked
 asked_told news before now end.Write asked = asked
 
-pub asks_cut : (words : SplitData) (header dropped : Header) (parts : List (ℕ × Part)) (told : Option (List ℕ)) (lanes : List Lane) (before now : FolderSeen) (answer : End)
-    → dropped ≡ without_instances header → parts ≡ taken_of words.cpu header.body
-    → IfSome told (λ bytes. new.AsksFor (new_files (rules_of words) words.base dropped bytes parts) before.requested now.requested answer) → LeavesFiles words.base lanes before now answer
+pub asks_cut : (words : SplitData) (rules : Rules) (header dropped : Header) (parts : List (ℕ × Part)) (told : Option (List ℕ)) (lanes : List Lane) (before now : FolderSeen) (answer : End)
+    → rules ≡ rules_of words → dropped ≡ without_instances header → parts ≡ taken_of words.cpu header.body
+    → IfSome told (λ bytes. new.AsksFor (new_files rules words.base dropped bytes parts) before.requested now.requested answer) → LeavesFiles words.base lanes before now answer
     → AsksFor (first_names words.base) (option_map (split_by words header) told) before.requested now.requested
-asks_cut words header dropped parts None lanes before now answer dropped_is parts_are asks leaves =
+asks_cut words rules header dropped parts None lanes before now answer rules_are dropped_is parts_are asks leaves =
     let some = asked_some words.base lanes before now answer leaves in
     record { news = some.0; meant = tt; asked = asked_few (first_names words.base some.0) before.requested now.requested some.1 }
-asks_cut words header dropped parts (Some bytes) lanes before now answer dropped_is parts_are asks leaves = record {
+asks_cut words rules header dropped parts (Some bytes) lanes before now answer rules_are dropped_is parts_are asks leaves = record {
   news = length (split_files words header bytes);
   meant = refl;
-  asked = cut_told words header dropped parts bytes (λ news last. AskedFirst (first_names words.base (length news)) before.requested now.requested) dropped_is parts_are
-      (subst (λ (names : List (List ℕ)). AskedFirst names before.requested now.requested) (names_new dropped words.base (file_items (rules_of words) dropped.layout bytes parts))
-      (asked_told (new_files (rules_of words) words.base dropped bytes parts) before.requested now.requested answer asks));
+  asked = cut_told words rules header dropped parts bytes (λ news last. AskedFirst (first_names words.base (length news)) before.requested now.requested) rules_are dropped_is parts_are
+      (subst (λ (names : List (List ℕ)). AskedFirst names before.requested now.requested) (names_new dropped words.base (file_items rules dropped.layout bytes parts))
+      (asked_told (new_files rules words.base dropped bytes parts) before.requested now.requested answer asks));
 }

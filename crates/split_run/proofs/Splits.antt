@@ -9,6 +9,7 @@ use Rattle.dat_header.specs.declared.header.Header.{Header}
 use Rattle.dat_header.specs.Written.{without_instances}
 use Rattle.time_merge.specs.declared.ending.End.{End}
 use Rattle.time_merge.specs.declared.ending.End.TheVariants as end
+use Rattle.split_pieces.specs.declared.rules.Rules.{Rules}
 use Rattle.split_tool.specs.NewFiles.{Creates, IsSplit, end_of, new_files}
 use Rattle.new_files.specs.Stored.{NewFile}
 use Rattle.run_endings.specs.Ending.{Ends, IsCaused, LeavesAll, MakesFiles}
@@ -43,20 +44,21 @@ module _ (words : SplitData) (header : Header) (before now : FolderSeen) (out : 
   split_caused unread end.Write read write = write refl
 
 -- a split of the header that was read, and of the parts that are taken
-pub cut_told : (words : SplitData) (header dropped : Header) (parts : List (ℕ × Part)) (bytes : List ℕ) (fact : List NewFile → End → Type 0)
-    → dropped ≡ without_instances header → parts ≡ taken_of words.cpu header.body
-    → fact (new_files (rules_of words) words.base dropped bytes parts) (end_of (rules_of words) dropped bytes parts) → fact (split_files words header bytes) (split_end words header bytes)
-cut_told words header dropped parts bytes fact dropped_is parts_are told =
+pub cut_told : (words : SplitData) (rules : Rules) (header dropped : Header) (parts : List (ℕ × Part)) (bytes : List ℕ) (fact : List NewFile → End → Type 0)
+    → rules ≡ rules_of words → dropped ≡ without_instances header → parts ≡ taken_of words.cpu header.body
+    → fact (new_files rules words.base dropped bytes parts) (end_of rules dropped bytes parts) → fact (split_files words header bytes) (split_end words header bytes)
+cut_told words rules header dropped parts bytes fact rules_are dropped_is parts_are told =
     subst (λ (ps : List (ℕ × Part)). fact (new_files (rules_of words) words.base (without_instances header) bytes ps) (end_of (rules_of words) (without_instances header) bytes ps)) parts_are
-    (subst (λ (h : Header). fact (new_files (rules_of words) words.base h bytes parts) (end_of (rules_of words) h bytes parts)) dropped_is told)
+    (subst (λ (h : Header). fact (new_files (rules_of words) words.base h bytes parts) (end_of (rules_of words) h bytes parts)) dropped_is
+    (subst (λ (r : Rules). fact (new_files r words.base dropped bytes parts) (end_of r dropped bytes parts)) rules_are told))
 
-pub cut : (unread : Type 0) (words : SplitData) (header dropped : Header) (parts : List (ℕ × Part)) (told : Option (List ℕ)) (before now : FolderSeen)
-    (answer : End) → dropped ≡ without_instances header → parts ≡ taken_of words.cpu header.body
-    → IfSome told (λ bytes. IsSplit (new_files (rules_of words) words.base dropped bytes parts) (end_of (rules_of words) dropped bytes parts) before now answer)
-    → IfSome told (λ bytes. Creates (length (new_files (rules_of words) words.base dropped bytes parts)) before.counts.created now.counts.created answer)
+pub cut : (unread : Type 0) (words : SplitData) (rules : Rules) (header dropped : Header) (parts : List (ℕ × Part)) (told : Option (List ℕ)) (before now : FolderSeen)
+    (answer : End) → rules ≡ rules_of words → dropped ≡ without_instances header → parts ≡ taken_of words.cpu header.body
+    → IfSome told (λ bytes. IsSplit (new_files rules words.base dropped bytes parts) (end_of rules dropped bytes parts) before now answer)
+    → IfSome told (λ bytes. Creates (length (new_files rules words.base dropped bytes parts)) before.counts.created now.counts.created answer)
     → (answer ≡ end.Read → unread) → (answer ≡ end.Write → Rose before.counts.writing now.counts.writing)
     → MakesFiles unread (option_map (split_by words header) told) (status_of_end answer) before now
-cut unread words header dropped parts told before now answer dropped_is parts_are split creates read write = λ out. record {
+cut unread words rules header dropped parts told before now answer rules_are dropped_is parts_are split creates read write = λ out. record {
   ends = by_told told out split creates;
   untouched = split_leaves words header before now out answer;
   causes = split_caused words header before now out unread answer read write;
@@ -64,11 +66,11 @@ cut unread words header dropped parts told before now answer dropped_is parts_ar
 }
   where
     by_told : (known : Option (List ℕ)) (out : SinkSeen)
-        → IfSome known (λ bytes. IsSplit (new_files (rules_of words) words.base dropped bytes parts) (end_of (rules_of words) dropped bytes parts) before now answer)
-        → IfSome known (λ bytes. Creates (length (new_files (rules_of words) words.base dropped bytes parts)) before.counts.created now.counts.created answer)
+        → IfSome known (λ bytes. IsSplit (new_files rules words.base dropped bytes parts) (end_of rules dropped bytes parts) before now answer)
+        → IfSome known (λ bytes. Creates (length (new_files rules words.base dropped bytes parts)) before.counts.created now.counts.created answer)
         → IfSome (option_map (split_by words header) known) (λ m. Ends m (status_of_end answer) (beside before out) (beside now out))
     by_told None out told made = tt
     by_told (Some bytes) out told made =
         split_ends words header before now out bytes answer
-        (cut_told words header dropped parts bytes (λ news last. IsSplit news last before now answer) dropped_is parts_are told)
-        (cut_told words header dropped parts bytes (λ news last. Creates (length news) before.counts.created now.counts.created answer) dropped_is parts_are made)
+        (cut_told words rules header dropped parts bytes (λ news last. IsSplit news last before now answer) rules_are dropped_is parts_are told)
+        (cut_told words rules header dropped parts bytes (λ news last. Creates (length news) before.counts.created now.counts.created answer) rules_are dropped_is parts_are made)

@@ -12,10 +12,8 @@ ghost use Rattle.split_tool.specs.Numbered.{first_names};
 ghost use Rattle.run_endings.specs.Ending.{IfNoMemory, MakesFiles};
 ghost use Rattle.run_endings.specs.Requested.{AsksFor};
 ghost use Rattle.split_run.specs.Leaves.{LeavesFolder};
-ghost use Rattle.split_run.specs.Split.{split_share};
-ghost use Rattle.split_run.specs.Split.{split_by};
 ghost use Rattle.run_endings.specs.Outside.{folder_seen};
-ghost use Rattle.split_run.specs.Split.{taken_of};
+ghost use Rattle.split_run.specs.Split.{rules_of, split_by, split_share, taken_of};
 
 use dat_header::{Body, Header};
 use run_endings::{Selection, Status, status_of_end};
@@ -62,16 +60,23 @@ pub fn cut_file<F: Folder>(
     };
     let plan = SplitPlan {
         header: &header,
-        rules: Rules {
-            unit: words.unit,
-            repeat: words.repeat,
-            per_cpu: words.per_cpu,
-            start: words.start,
-            stop: words.stop,
-        },
+        rules: rules_of(words),
         base: words.base,
     };
     status_of_end(split(&plan, file, pool.lanes(), &mut work, folder))
+}
+
+// How the words cut a trace.
+fn rules_of(words: &SplitWords<'_>) -> Rules
+    ensures { result ≡ rules_of (split_view words.now) }
+{
+    Rules {
+        unit: words.unit,
+        repeat: words.repeat,
+        per_cpu: words.per_cpu,
+        start: words.start,
+        stop: words.stop,
+    }
 }
 
 // The processors that a split takes, with their numbers.

@@ -8,6 +8,8 @@ use Rattle.dat_header.specs.declared.header.Header.{Header}
 use Rattle.subpage.specs.Arrangement.{CpusRise}
 use Rattle.page_pool.specs.declared.lane.Lane.{Lane}
 use Rattle.time_merge.specs.LaneRows.{parts_of}
+use Rattle.split_pieces.specs.Pieces.{IsUnit}
+use Rattle.split_pieces.specs.declared.rules.Rules.{Rules}
 use Rattle.time_merge.proofs.UnusedLanes.{lent_unused, unused_fresh, unused_in_order}
 use Rattle.run_endings.proofs.Faultless.{end_kept}
 use Rattle.run_endings.specs.Outside.{folder_seen}
@@ -29,6 +31,9 @@ split-requires-clause-rise g c =
     let are = ap parts_of c.lanes.ensures.value ∙ c.in-Ok-Ok.ensures.parts ∙ c.deref.ensures.value ∙ c.in-Ok.ensures.taken in
     subst (λ (ps : List (ℕ × Part)). CpusRise ps) (sym are) (taken_rise c.args.words.now.cpu c.args.header.body)
 
+pub split-requires-clause-unit : goal.split-requires-clause-unit
+split-requires-clause-unit g c = subst (λ (rules : Rules). IsUnit rules.unit) (sym c.rules_of.ensures) c.requires.words.unit
+
 pub split-requires-clause-cpus : goal.split-requires-clause-cpus
 split-requires-clause-cpus g c =
     let are = ap parts_of c.lanes.ensures.value ∙ c.in-Ok-Ok.ensures.parts ∙ c.deref.ensures.value ∙ c.in-Ok.ensures.taken in
@@ -39,8 +44,8 @@ pub returns-clause-makes : goal.returns-clause-makes
 returns-clause-makes g c =
     let are = ap parts_of c.lanes.ensures.value ∙ c.in-Ok-Ok.ensures.parts ∙ c.deref.ensures.value ∙ c.in-Ok.ensures.taken in
     rw c.status_of_end.ensures
-    (cut _ (split_view c.args.words.now) c.args.header c.drop_instances.new.self _ _ _ _ c.split.result
-    c.drop_instances.ensures.dropped are c.split.ensures.told c.split.ensures.created c.split.ensures.read c.split.ensures.write)
+    (cut _ (split_view c.args.words.now) c.rules_of.result c.args.header c.drop_instances.new.self _ _ _ _ c.split.result
+    c.rules_of.ensures c.drop_instances.ensures.dropped are c.split.ensures.told c.split.ensures.created c.split.ensures.read c.split.ensures.write)
 
 pub returns-clause-kept : goal.returns-clause-kept
 returns-clause-kept g c = rw c.status_of_end.ensures (end_kept _ c.split.result)
@@ -57,8 +62,8 @@ returns-in_default-2-clause-requested g c = unbegun c.args.words.now.base.now _ 
 pub returns-clause-requested : goal.returns-clause-requested
 returns-clause-requested g c =
     let are = ap parts_of c.lanes.ensures.value ∙ c.in-Ok-Ok.ensures.parts ∙ c.deref.ensures.value ∙ c.in-Ok.ensures.taken in
-    asks_cut (split_view c.args.words.now) c.args.header c.drop_instances.new.self _ _ _ (folder_seen g.F.Folder c.args.folder.now) (folder_seen g.F.Folder c.split.new.folder) c.split.result
-    c.drop_instances.ensures.dropped are c.split.ensures.requested c.split.ensures.leaves
+    asks_cut (split_view c.args.words.now) c.rules_of.result c.args.header c.drop_instances.new.self _ _ _ (folder_seen g.F.Folder c.args.folder.now) (folder_seen g.F.Folder c.split.new.folder) c.split.result
+    c.rules_of.ensures c.drop_instances.ensures.dropped are c.split.ensures.requested c.split.ensures.leaves
 
 pub returns-clause-reads : goal.returns-clause-reads
 returns-clause-reads g c =
