@@ -142,8 +142,7 @@ fn with_lane(
         return false;
     };
     least.until = found.until;
-    // The last run is kept: that of the last lane, or of the one before it where the last is `first`.
-    if found.run.is_none() || 2 < lanes.len() - i {
+    if found.run.is_none() {
         return true;
     }
     least.lane = i;
