@@ -15,6 +15,8 @@ use Rattle.report_print.below.fmt_eval.proofs.read.Test.TheSendSync as test
 use Rattle.report_print.below.fmt_print.proofs.argument.TextSlot.TheSendSync as place
 use Rattle.report_print.below.fmt_print.specs.contracts.argument.Argument.{the_row as argument_row, the_type as argument_type}
 use Rattle.report_print.below.fmt_print.specs.contracts.argument.TextSlot.{the_row as place_row}
+use Rattle.report_print.below.fmt_print.proofs.name.Name.TheSendSync as name
+use Rattle.report_print.below.fmt_print.specs.contracts.name.Name.{the_row as name_row}
 use Rattle.report_print.below.fmt_print.proofs.step.Step.TheSendSync as step
 use Rattle.report_print.below.fmt_print.specs.contracts.plan.PrintPlan.{the_row as plan_row}
 use Rattle.format_parse.proofs.table.FormatTable.TheSendSync as table
@@ -35,8 +37,11 @@ expr_sync = search (expr.crosses, crosses, text.the_sync, sendable) depth 60 fit
 place_sync : IsSync place_row
 place_sync = search (place.the_sync, sendable) depth 60 fits 20000
 
+name_sync : IsSync name_row
+name_sync = search (name.the_sync, sendable) depth 60 fits 20000
+
 argument_sync : IsSync argument_row
-argument_sync = declared_sync argument_type (search (expr_sync, sendable), (search (kind.the_field_sync, sendable), (search (read.the_field_sync, sendable), (search (test.the_field_sync, sendable), (search (place_sync, crosses, sendable) depth 60 fits 20000, tt)))))
+argument_sync = declared_sync argument_type (search (expr_sync, sendable), (search (kind.the_field_sync, sendable), (search (read.the_field_sync, sendable), (search (test.the_field_sync, sendable), (search (place_sync, crosses, sendable) depth 60 fits 20000, (search (name_sync, crosses, sendable) depth 60 fits 20000, (search (name_sync, crosses, sendable) depth 60 fits 20000, tt)))))))
 
 plan_sync : IsSync plan_row
 plan_sync = search (expr_sync, argument_sync, Vec-sync, directive.the_sync, step.the_sync, text.the_sync, sendable) depth 60 fits 20000
