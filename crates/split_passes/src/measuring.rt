@@ -36,7 +36,7 @@ pub enum PieceEnd {
 ///
 /// # Errors
 /// `Failed` where a read failed.
-pub fn measure<F: File>(
+pub(crate) fn measure<F: File>(
     layout: &Layout,
     file: &mut F,
     lanes: &mut [Lane],

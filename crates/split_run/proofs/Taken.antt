@@ -9,8 +9,6 @@ use Rattle.dat_header.specs.declared.header.Body.{Body}
 use Rattle.dat_header.specs.declared.header.Body.TheVariants.{Latency, Fly}
 use Rattle.dat_header.specs.Allowed.{IsBody}
 use Rattle.subpage.specs.Arrangement.{CpusRise}
-use Rattle.page_pool.specs.declared.lane.Lane.{Lane}
-use Rattle.time_merge.specs.LaneRows.{parts_of}
 use Rattle.run_endings.specs.Selection.{Selection, chosen, has, one_or_all}
 use Rattle.split_run.specs.Split.{taken_of}
 use Rattle.run_endings.proofs.Chosen.{chosen_few, chosen_rise}
@@ -42,14 +40,6 @@ chosen_below p n end (x ∷ xs) within = by_test (p (n, x)) (chosen_below p (n +
     by_test true rest = All-cons (λ y. y.0 < end) (n, x) (filter p (enumerate_from (n + 1) xs)) (omega (arith, within)) rest
     by_test false rest = rest
 
-taken_below : (one : Option ℕ) (cpus : ℕ) (body : Body) → IsBody cpus body → All (λ (part : ℕ × Part). part.0 < cpus) (taken_of one body)
+pub taken_below : (one : Option ℕ) (cpus : ℕ) (body : Body) → IsBody cpus body → All (λ (part : ℕ × Part). part.0 < cpus) (taken_of one body)
 taken_below one cpus Latency allowed = All-nil (λ (part : ℕ × Part). part.0 < cpus)
 taken_below one cpus (Fly parts) allowed = chosen_below (λ (part : ℕ × Part). has (one_or_all one) part.0) 0 cpus parts (omega (arith, allowed.0))
-
-pub lanes_below : (one : Option ℕ) (cpus : ℕ) (body : Body) (lanes : List Lane) → IsBody cpus body → parts_of lanes ≡ taken_of one body
-    → All (λ (lane : Lane). lane.cpu < cpus) lanes
-lanes_below one cpus body lanes allowed is i d inside =
-    let all = subst (λ (ps : List (ℕ × Part)). All (λ (part : ℕ × Part). part.0 < cpus) ps) (sym is) (taken_below one cpus body allowed) in
-    let numbered : Lane → ℕ × Part = λ a. (a.cpu, a.part) in
-    let there : i < length (parts_of lanes) = omega (arith, inside, length-map lanes numbered) in
-    subst (λ (p : ℕ × Part). p.0 < cpus) (get_or-map numbered lanes i d (d.cpu, d.part) inside) (all i (d.cpu, d.part) there)

@@ -18,9 +18,8 @@ ghost use Rattle.split_run.specs.Split.{rules_of, split_by, split_share, taken_o
 use dat_header::{Body, Header};
 use run_endings::{Selection, Status, status_of_end};
 use split_pieces::Rules;
-use split_tool::{SplitPlan, SplitWork, split};
+use split_tool::{SplitPlan, SplitWork, lists_over, split};
 use std::alloc::{AllocError, Global};
-use time_merge::pool_over;
 use trace_args::SplitWords;
 use trace_base::Part;
 use trace_outside::Folder;
@@ -51,19 +50,19 @@ pub fn cut_file<F: Folder>(
         return Status::NoMemory;
     };
     header.drop_instances();
-    let count = parts.len() as u32;
-    let (Ok(mut pool), Ok(mut work)) = (
-        pool_over(alloc, header.layout.page, 0, &parts),
-        SplitWork::new(alloc, &header, count),
+    let rules = rules_of(words);
+    let (Ok(mut lists), Ok(mut work)) = (
+        lists_over(alloc, &rules, &header, &parts),
+        SplitWork::new(alloc, &header),
     ) else {
         return Status::NoMemory;
     };
     let plan = SplitPlan {
         header: &header,
-        rules: rules_of(words),
+        rules,
         base: words.base,
     };
-    status_of_end(split(&plan, file, pool.lanes(), &mut work, folder))
+    status_of_end(split(&plan, file, lists.as_mut_slice(), &mut work, folder))
 }
 
 // How the words cut a trace.

@@ -1,10 +1,11 @@
 -- Lanes that are numbered one after another.
-use Rattle.std.proofs.Common.{◌≡◌, ℕ, ◌+◌, ◌<◌, ◌≤◌, List, [], ◌∷◌, length, get_or, set, sym, ap, subst, ◌∙◌, inl, inr, suc, arith, get_or-set_same, get_or-set_other}
-use Rattle.std.specs.List.{All}
+use Rattle.std.proofs.Common.{◌≡◌, ℕ, ◌+◌, ◌<◌, ◌≤◌, List, [], ◌∷◌, ◌++◌, length, get_or, set, take, sym, ap, subst, ◌∙◌, inl, inr, refl, zero, suc, arith, get_or-set_same, get_or-set_other}
+use Rattle.std.specs.List.{All, enumerate_from}
 use Rattle.std.proofs.lemmas.Bool.{cases_lt}
 use Rattle.std.proofs.lemmas.List.{length-replicate}
 use Rattle.std.proofs.lemmas.List.Elements.{All-set, All-get_or, All-weaker, All-nil, All-cons}
 use Rattle.trace_base.specs.declared.layout.Layout.{Layout}
+use Rattle.trace_base.specs.declared.part.Part.{Part}
 use Rattle.subpage.specs.Arrangement.{CpusRise}
 use Rattle.page_pool.specs.Fresh.{IsFresh, IsNew}
 use Rattle.page_pool.specs.declared.lane.Lane.{Lane}
@@ -42,9 +43,6 @@ set_numbered from i lanes a inside is before j d lt = elim (cases_lt j i) [
       ∙ ap (λ (k : ℕ). from + k) (sym e)
 ]
 
-pub ready_fresh : (len : ℕ) (lanes : List Lane) → All (IsReady len) lanes → All (λ (a : Lane). IsFresh a.cursor) lanes
-ready_fresh len lanes ready = All-weaker (IsReady len) (λ (a : Lane). IsFresh a.cursor) (λ a r. r.fresh) lanes ready
-
 pub ready_in_order : (l : Layout) (lanes : List Lane) → All (IsReady l.page) lanes → All (IsInOrder l) lanes
 ready_in_order l lanes ready = All-weaker (IsReady l.page) (IsInOrder l) (λ a r. fresh_in_order l a r.fresh r.long) lanes ready
 
@@ -57,9 +55,29 @@ numbered_rise from (a ∷ b ∷ lanes) numbered =
     let more : AreNumbered (from + 1) (length (b ∷ lanes)) (b ∷ lanes) = λ j d lt. numbered (suc j) d (omega (arith, lt)) ∙ omega arith in
     (omega (arith, one, two), numbered_rise (from + 1) (b ∷ lanes) more)
 
-pub numbered_below : (from n : ℕ) (lanes : List Lane) → AreNumbered from (length lanes) lanes → from + length lanes ≤ n → All (λ (a : Lane). a.cpu < n) lanes
-numbered_below from n [] numbered le = All-nil (λ (a : Lane). a.cpu < n)
-numbered_below from n (a ∷ lanes) numbered le =
-    let one : a.cpu ≡ from + 0 = numbered 0 a (omega arith) in
-    let more : AreNumbered (from + 1) (length lanes) lanes = λ j d lt. numbered (suc j) d (omega (arith, lt)) ∙ omega arith in
-    All-cons (λ (x : Lane). x.cpu < n) a lanes (omega (arith, one, le)) (numbered_below (from + 1) n lanes more (omega (arith, le)))
+-- PARTS THAT ARE NUMBERED
+
+pub numbered_push : (from i : ℕ) (parts : List Part) (d : Part) → i < length parts → enumerate_from from (take (i + 1) parts) ≡ enumerate_from from (take i parts) ++ (from + i, get_or parts i d) ∷ []
+numbered_push from i [] d lt = absurd (omega (arith, lt))
+numbered_push from zero (p ∷ parts) d lt = ap (λ (n : ℕ). (n, p) ∷ []) (omega arith)
+numbered_push from (suc i) (p ∷ parts) d lt =
+    let further : suc i + 1 ≡ suc (i + 1) = omega arith in
+    ap (λ (n : ℕ). enumerate_from from (take n (p ∷ parts))) further
+    ∙ ap (λ (ps : List (ℕ × Part)). (from, p) ∷ ps) (numbered_push (from + 1) i parts d (omega (arith, lt)))
+    ∙ ap (λ (n : ℕ). (from, p) ∷ enumerate_from (from + 1) (take i parts) ++ (n, get_or parts i d) ∷ []) (omega arith)
+
+pub parts_rise : (from : ℕ) (parts : List Part) → CpusRise (enumerate_from from parts)
+parts_rise from [] = tt
+parts_rise from (p ∷ []) = tt
+parts_rise from (p ∷ q ∷ parts) = (omega arith, parts_rise (from + 1) (q ∷ parts))
+
+pub parts_below : (from n : ℕ) (parts : List Part) → from + length parts ≤ n → All (λ (part : ℕ × Part). part.0 < n) (enumerate_from from parts)
+parts_below from n [] le = All-nil (λ (part : ℕ × Part). part.0 < n)
+parts_below from n (p ∷ parts) le = All-cons (λ (part : ℕ × Part). part.0 < n) (from, p) (enumerate_from (from + 1) parts) (omega (arith, le)) (parts_below (from + 1) n parts (omega (arith, le)))
+
+pub parts_length : (from : ℕ) (parts : List Part) → length (enumerate_from from parts) ≡ length parts
+parts_length from [] = refl
+parts_length from (p ∷ parts) = let more = parts_length (from + 1) parts in omega (arith, more)
+
+pub numbered_on : (from i : ℕ) (parts : List Part) (d : Part) (all pushed : List (ℕ × Part)) → i < length parts → all ≡ enumerate_from from (take i parts) → pushed ≡ all ++ (from + i, get_or parts i d) ∷ [] → pushed ≡ enumerate_from from (take (i + 1) parts)
+numbered_on from i parts d all pushed lt so_far is = is ∙ ap (λ (xs : List (ℕ × Part)). xs ++ (from + i, get_or parts i d) ∷ []) so_far ∙ sym (numbered_push from i parts d lt)

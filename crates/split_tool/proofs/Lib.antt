@@ -8,10 +8,12 @@ pub mod FileAfterFile
 pub mod Storing
 pub mod FewItems
 pub mod Spending
-pub mod OneLaneOn
-pub mod Through
+pub mod Flat
+pub mod Begun
+pub mod Packing
+pub mod NewLists
+pub mod Gone
 pub mod Budget
-pub mod Starting
 pub mod Owning
 pub mod Tables
 pub mod Beginning

@@ -27,7 +27,6 @@ use Rattle.page_pool.specs.Fresh.{IsFresh}
 use Rattle.page_pool.specs.declared.lane.Lane.{Lane}
 use Rattle.page_write.specs.Placed.{data_of}
 use Rattle.event_cursor.specs.Standing.{IsInOrder, Stands}
-use Rattle.event_cursor.specs.declared.places.Place.{Place}
 use Rattle.time_merge.specs.LaneRows.{parts_of}
 use Rattle.time_merge.proofs.LaneLaws.{after_above}
 use Rattle.time_merge.proofs.Starting.{fresh_stands}
@@ -40,13 +39,13 @@ use Rattle.split_pieces.specs.Cuts.{is_apart, own_list, lists_to_cut, bad_reache
 use Rattle.split_pieces.specs.Pieces.{IsUnit, is_some_left, joined_lists, behind_file, from_start, up_to_end, left_in}
 use Rattle.split_pieces.proofs.Cutting.{front_whole}
 use Rattle.split_passes.specs.AllAgain.{owns}
-use Rattle.split_passes.specs.declared.tally.Tally.{Tally}
+use Rattle.split_passes.specs.ListSeen.{ListSeen}
 use Rattle.split_tool.specs.Names.{file_name}
 use Rattle.split_tool.specs.NewFile.{file_text, front_text, table_of}
 use Rattle.split_tool.proofs.Wrapped.{front_wrapped}
 use Rattle.split_tool.specs.declared.lists.Ends.{Ends}
 use Rattle.split_tool.specs.Counted.{lists_of}
-use Rattle.split_tool.specs.Lists.{files_of, files_behind, lists_left, bad_left}
+use Rattle.split_tool.specs.Lists.{EachList, lanes_of, files_of, files_behind, lists_left, bad_left}
 use Rattle.split_tool.specs.Made.{Prepared, Written, Made, IsMade, LeavesFile}
 use Rattle.split_tool.specs.Unmaking.{ending_of}
 use Rattle.split_tool.specs.declared.unmade.Unmade.{Unmade}
@@ -54,14 +53,15 @@ use Rattle.split_tool.specs.declared.unmade.Unmade.TheVariants as unmade
 use Rattle.split_tool.specs.Measured.{taken_of}
 use Rattle.split_tool.specs.NewFiles.{Creates, files_from, new_files, end_by, IsSplit}
 use Rattle.split_tool.specs.Started.{Started}
-use Rattle.split_tool.specs.Work.{CanCut, IsWorkFor}
+use Rattle.split_tool.specs.Work.{AreLists, CanCut, IsWorkFor}
 use Rattle.split_tool.specs.declared.work.SplitWork.{SplitWork}
 use Rattle.new_files.specs.Stored.{NewFile, FilesStored}
 use Rattle.split_tool.proofs.Beginning.{started_lists, started_bad}
 use Rattle.split_tool.proofs.FewItems.{Few, few_keyed, few_reached}
 use Rattle.split_tool.proofs.FileAfterFile.{goes_on, ends as no_files, fewer_left, some_length}
 use Rattle.split_tool.proofs.Owning.{IsAfter}
-use Rattle.split_tool.proofs.Preparing.{left_still, first_cpu, other_parts}
+use Rattle.split_tool.proofs.Preparing.{left_still, same_cpus}
+use Rattle.split_tool.proofs.Flat.{Kept, groups_kept, parts_kept}
 use Rattle.split_tool.proofs.Tables.{IsBelow, IsFrom}
 use Rattle.split_tool.proofs.Storing.{Stages, stages_none, stages_more, all_stored, some_stored, first_stored, unmade_since}
 use Rattle.split_passes.proofs.PieceLaws.{filter_few}
@@ -76,18 +76,18 @@ stored_is old1 (Some files) new w0 w name name1 content e n empty gained stores 
     let s : new ≡ stored old1 name1 content = subst (λ (o : Option (List ℕ)). IfSome o (λ bytes. new ≡ stored old1 name1 bytes)) is stores in
     s ∙ ap (λ (o : Option NamedFiles). stored o name1 content) e ∙ ap (λ (m : List ℕ). stored (Some files) m content) n
 
-pub finished : (header : Header) (file : List ℕ) (rules : Rules) (name name1 : List ℕ) (first mid now : List Lane) (fronts : List Place) (tallies : List Tally) (table : List Part) (old old1 new : Option NamedFiles) (w0 w : Option (List ℕ)) (ends : Ends)
-    → old1 ≡ old → name1 ≡ name → IsEmptySink old w0 → Stores old1 new name1 w → Prepared header file rules first mid (record { fronts = fronts; tallies = tallies; table = table }) ends
-    → Written header file table (owns first (taken_of header.layout file rules first)) (record { lanes = mid; written = w0 }) (record { lanes = now; written = w })
-    → Made (record { header = header; rules = rules; name = name }) file (record { lanes = first; files = old }) (record { lanes = now; files = new }) ends
+pub finished : (header : Header) (file : List ℕ) (rules : Rules) (name name1 : List ℕ) (first mid now : List ListSeen) (table : List Part) (old old1 new : Option NamedFiles) (w0 w : Option (List ℕ)) (ends : Ends)
+    → old1 ≡ old → name1 ≡ name → IsEmptySink old w0 → Stores old1 new name1 w → Prepared header file rules first mid table ends
+    → Written header file table (owns (lanes_of mid) (taken_of header.layout file rules (lanes_of first))) (record { lanes = lanes_of mid; written = w0 }) (record { lanes = lanes_of now; written = w })
+    → Made (record { header = header; rules = rules; name = name }) file (record { lanes = lanes_of first; files = old }) (record { lanes = lanes_of now; files = new }) ends
 unfolding file_text
-finished header file rules name name1 first mid now fronts tallies table old old1 new w0 w ends e n empty stores p written =
-    let lists = lists_of header.cpus (taken_of header.layout file rules first) in
-    let content : front_text header table ++ data_of header.layout (owns first (taken_of header.layout file rules first)) ≡ front_text header (table_of header lists) ++ data_of header.layout lists =
+finished header file rules name name1 first mid now table old old1 new w0 w ends e n empty stores p written =
+    let lists = lists_of header.cpus (taken_of header.layout file rules (lanes_of first)) in
+    let content : front_text header table ++ data_of header.layout (owns (lanes_of mid) (taken_of header.layout file rules (lanes_of first))) ≡ front_text header (table_of header lists) ++ data_of header.layout lists =
     ap (λ (bytes : List ℕ). front_text header table ++ bytes) p.bytes ∙ ap (λ (ps : List Part). front_text header ps ++ data_of header.layout lists) p.table_is
     ∙ ap (λ (front : List ℕ). front ++ data_of header.layout lists) (front_wrapped header (table_of header lists)) in
     record {
-      left = left_still header.layout file rules first first mid now ends refl written.rows written.stands p.left;
+      left = left_still header.layout file rules (lanes_of first) (lanes_of first) (lanes_of mid) (lanes_of now) ends refl written.rows written.stands p.left;
       stored = stored_is old1 old new w0 w name name1 _ e n empty (subst (Gained w0 w) content written.gained) stores;
     }
 
@@ -260,25 +260,21 @@ write_is (unmade.Malformed cut) result is was = let never : code.Malformed cut �
 write_is unmade.Read result is was = let never : code.Read ≡ code.Write = sym is ∙ was in absurd cc
 write_is unmade.Write result is was = refl
 
--- lanes of the same processors
-pub same_cpus : (n : ℕ) (first now : List Lane) → parts_of now ≡ parts_of first → All (λ (a : Lane). a.cpu < n) first → All (λ (a : Lane). a.cpu < n) now
-same_cpus n [] [] e a = All-nil (λ (x : Lane). x.cpu < n)
-same_cpus n [] (b ∷ now) e a = absurd cc
-same_cpus n (f ∷ first) [] e a = absurd cc
-same_cpus n (f ∷ first) (b ∷ now) e a =
-    let cpu : b.cpu ≡ f.cpu = ap first_cpu e in
-    let more : parts_of now ≡ parts_of first = ap other_parts e in
-    let lt : f.cpu < n = All-head (λ (x : Lane). x.cpu < n) f first a in
-    All-cons (λ (x : Lane). x.cpu < n) b now (omega (arith, cpu, lt)) (same_cpus n first now more (All-tail (λ (x : Lane). x.cpu < n) f first a))
+-- lists that went on
+pub still_lists : (rules : Rules) (header : Header) (first now : List ListSeen) → length now ≡ length first → EachList Kept first now → AreLists rules header first → AreLists rules header now
+still_lists rules header first now long goes are =
+    let parts = parts_kept first now long goes in
+    record {
+      layouts = λ k e lt. let inside : k < length first = omega (arith, lt, long) in (goes k e inside).0 ∙ are.layouts k e inside;
+      groups = groups_kept (is_apart rules) first now long goes are.groups;
+      rise = subst CpusRise (sym parts) are.rise;
+      cpus = same_cpus header.cpus (lanes_of first) (lanes_of now) parts are.cpus;
+    }
 
--- lanes that went on
-pub still_cut : (header : Header) (first now : List Lane) (work work_now : SplitWork) → CanCut header first work → parts_of now ≡ parts_of first → All (IsInOrder header.layout) now → IsWorkFor header (length now) work_now
-    → CanCut header now work_now
-still_cut header first now work work_now can parts in_order for = record {
+pub still_cut : (rules : Rules) (header : Header) (first now : List ListSeen) (work work_now : SplitWork) → length now ≡ length first → EachList Kept first now → IsWorkFor header work_now → CanCut rules header first work → CanCut rules header now work_now
+still_cut rules header first now work work_now long goes for can = record {
   allowed = can.allowed;
-  in_order = in_order;
-  rise = subst CpusRise (sym parts) can.rise;
-  cpus = same_cpus header.cpus first now parts can.cpus;
+  are = still_lists rules header first now long goes can.are;
   lent = for;
 }
 

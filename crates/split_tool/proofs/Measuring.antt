@@ -1,10 +1,9 @@
 -- The pieces of a file, list by list.
-use Rattle.std.proofs.Common.{◌≡◌, ◌≢◌, ℕ, ◌+◌, ◌-◌, ◌<◌, ◌≤◌, Bool, true, false, ◌&&◌, ◌||◌, not, if◌then◌else◌, List, [], ◌∷◌, ◌++◌, length, get_or, take, drop, map, Option, Some, None, refl, sym, ap, subst, ◌∙◌, append-nil, append_assoc, arith}
+use Rattle.std.proofs.Common.{◌≡◌, ◌≢◌, ℕ, zero, suc, ◌+◌, ◌-◌, ◌<◌, ◌≤◌, Bool, true, false, ◌&&◌, ◌||◌, not, if◌then◌else◌, List, [], ◌∷◌, ◌++◌, length, get_or, set, take, drop, map, Option, Some, None, refl, sym, ap, subst, ◌∙◌, append-nil, append_assoc, arith}
 use Rattle.std.specs.Option.{option_map, option_or}
 use Rattle.std.specs.List.{All, filter_map, slice_get, cons_option}
-use Rattle.std.proofs.lemmas.List.{take_all, drop_at}
-use Rattle.std.proofs.lemmas.List.Elements.{All-nil, All-cons, All-head}
-use borrow.Rule.Slice.PartMut.{mid_of, put_mid}
+use Rattle.std.proofs.lemmas.List.{drop_at, length-append, set-get_or, take_all, take_more_set}
+use Rattle.std.proofs.lemmas.List.Elements.{All-head, All-tail}
 use Rattle.trace_base.specs.declared.layout.Layout.{Layout}
 use Rattle.subpage.specs.ItemData.{ItemData}
 use Rattle.subpage.specs.Arrangement.{Keyed, CpusRise}
@@ -14,7 +13,7 @@ use Rattle.subpage.specs.declared.cut_place.CutPlace.{CutPlace}
 use Rattle.page_pool.specs.declared.lane.Lane.{Lane}
 use Rattle.event_cursor.specs.Standing.{Stands, left_of}
 use Rattle.time_merge.specs.Rows.{Row, least_cut}
-use Rattle.time_merge.specs.LaneRows.{parts_of, row_of, rows_of, to_come}
+use Rattle.time_merge.specs.LaneRows.{IsReady, parts_of, row_of, rows_of, to_come}
 use Rattle.time_merge.proofs.Starting.{cut_of_rows}
 use Rattle.word_values.specs.declared.moment.Moment.{Moment}
 use Rattle.split_pieces.specs.declared.gauge.Gauge.{Gauge}
@@ -22,18 +21,21 @@ use Rattle.split_pieces.specs.declared.rules.Rules.{Rules}
 use Rattle.split_pieces.specs.Cuts.{is_apart, items_of_cpu}
 use Rattle.split_pieces.specs.Pieces.{up_to_end, has_end, unit_closes, is_some_left, piece, rest, joined_lists, next_file, behind_file}
 use Rattle.split_pieces.specs.Gauging.{piece_by, closes_by}
+use Rattle.split_passes.specs.ListSeen.{ListSeen}
 use Rattle.split_passes.specs.declared.tally.Tally.{Tally}
 use Rattle.split_passes.specs.declared.measuring.PieceEnd.{PieceEnd}
 use Rattle.split_passes.specs.declared.measuring.PieceEnd.TheVariants as code
 use Rattle.split_passes.specs.Tallies.{IsTally}
-use Rattle.split_passes.specs.Measures.{Tallied, Measured, IsMeasured, list_left}
+use Rattle.split_passes.specs.Measures.{Tallied, Measured, IsMeasured, SkipsOver, list_left}
 use Rattle.time_merge.proofs.Advancing.{same_length}
 use Rattle.split_tool.specs.declared.lists.Ends.{Ends}
-use Rattle.split_tool.specs.Lists.{come_of, left_in_rows, bad_in_rows, lists_left, bad_left}
+use Rattle.split_tool.specs.Going.{ListBegun, ListDone, ListGoes}
+use Rattle.split_tool.specs.Lists.{AreGroups, EachList, come_of, groups, lanes_of, left_in_rows, bad_in_rows, lists_left, bad_left}
 use Rattle.split_tool.specs.Measured.{is_full, bad_of_end, PieceTaken, ListMeasured, taken_of, FileMeasured}
 use Rattle.split_tool.proofs.Beginning.{single, one_bad}
 use Rattle.split_tool.proofs.Owning.{own_apart}
-use Rattle.split_tool.proofs.OneByOne.{all_mid, still_mid, one_of, one_in_mid, first_more, put_more, put_others, Trios, trios_push, trio_at, trio_some}
+use Rattle.split_tool.proofs.Flat.{AllIn, all_flat, each_tail, groups_are, groups_stay, rows_in, single_at}
+use Rattle.split_tool.proofs.Gone.{first_more, stands_there}
 
 -- ONE LIST
 
@@ -176,90 +178,60 @@ list_measured l file rules gauge after first now tallies before ends (code.Malfo
     ∙ end_bad rules.repeat (closes_by after []) cut
     ∙ ap (bad_of_end (code.Malformed cut)) (sym close)))
 
--- GROUPS
+-- LIST BY LIST
 
-if_false : {A : Type 0} (b : Bool) (x y : A) → b ≡ false → (if b then x else y) ≡ y
-if_false true x y e = absurd cc
-if_false false x y e = refl
+abbrev pub left_seen : Layout → List ℕ → Rules → ListSeen → List Keyed
+left_seen l file rules x = left_in_rows rules.stop (rows_in l file x)
 
-if_true : {A : Type 0} (b : Bool) (x y : A) → b ≡ true → (if b then x else y) ≡ x
-if_true true x y e = refl
-if_true false x y e = absurd cc
+abbrev pub bad_seen : Layout → List ℕ → Rules → ListSeen → Option CutPlace
+bad_seen l file rules x = bad_in_rows rules (rows_in l file x)
 
-module _ (l : Layout) (file : List ℕ) (rules : Rules) where
-  lists_whole : (lanes : List Lane) → is_apart rules ≡ false → lists_left l file rules lanes ≡ left_in_rows rules.stop (rows_of l file lanes) ∷ []
-  lists_whole lanes e = ap (map (left_in_rows rules.stop)) (if_false (is_apart rules) (map single (rows_of l file lanes)) (rows_of l file lanes ∷ []) e)
+abbrev pub first_bad_seen : Layout → List ℕ → Rules → List ListSeen → Option CutPlace
+first_bad_seen l file rules lists = slice_get (filter_map (bad_seen l file rules) lists) 0
 
-  bad_whole : (lanes : List Lane) → is_apart rules ≡ false → bad_left l file rules lanes ≡ bad_in_rows rules (rows_of l file lanes)
-  bad_whole lanes e = ap (λ (gs : List (List (Row Keyed))). slice_get (filter_map (bad_in_rows rules) gs) 0) (if_false (is_apart rules) (map single (rows_of l file lanes)) (rows_of l file lanes ∷ []) e) ∙ one_bad (bad_in_rows rules (rows_of l file lanes))
+lefts_seen : (l : Layout) (file : List ℕ) (rules : Rules) (lists : List ListSeen) → map (left_in_rows rules.stop) (map (rows_in l file) lists) ≡ map (left_seen l file rules) lists
+lefts_seen l file rules [] = refl
+lefts_seen l file rules (x ∷ lists) = ap (λ (xss : List (List Keyed)). left_seen l file rules x ∷ xss) (lefts_seen l file rules lists)
 
-  lists_apart : (lanes : List Lane) → is_apart rules ≡ true → lists_left l file rules lanes ≡ map (left_in_rows rules.stop) (map single (rows_of l file lanes))
-  lists_apart lanes e = ap (map (left_in_rows rules.stop)) (if_true (is_apart rules) (map single (rows_of l file lanes)) (rows_of l file lanes ∷ []) e)
+bads_seen : (l : Layout) (file : List ℕ) (rules : Rules) (lists : List ListSeen) → filter_map (bad_in_rows rules) (map (rows_in l file) lists) ≡ filter_map (bad_seen l file rules) lists
+bads_seen l file rules [] = refl
+bads_seen l file rules (x ∷ lists) = ap (cons_option (bad_seen l file rules x)) (bads_seen l file rules lists)
 
-  bad_apart : (lanes : List Lane) → is_apart rules ≡ true → bad_left l file rules lanes ≡ slice_get (filter_map (bad_in_rows rules) (map single (rows_of l file lanes))) 0
-  bad_apart lanes e = ap (λ (gs : List (List (Row Keyed))). slice_get (filter_map (bad_in_rows rules) gs) 0) (if_true (is_apart rules) (map single (rows_of l file lanes)) (rows_of l file lanes ∷ []) e)
+-- what all lists have left
+left_of_lists : (l : Layout) (file : List ℕ) (rules : Rules) (lists : List ListSeen) → AreGroups (is_apart rules) lists → lists_left l file rules (lanes_of lists) ≡ map (left_seen l file rules) lists
+left_of_lists l file rules lists g = ap (map (left_in_rows rules.stop)) (groups_are l file (is_apart rules) lists g) ∙ lefts_seen l file rules lists
 
--- ALL LANES AS ONE LIST
+bad_of_lists : (l : Layout) (file : List ℕ) (rules : Rules) (lists : List ListSeen) → AreGroups (is_apart rules) lists → bad_left l file rules (lanes_of lists) ≡ first_bad_seen l file rules lists
+bad_of_lists l file rules lists g =
+    ap (λ (gs : List (List (Row Keyed))). slice_get (filter_map (bad_in_rows rules) gs) 0) (groups_are l file (is_apart rules) lists g)
+    ∙ ap (λ (bads : List CutPlace). slice_get bads 0) (bads_seen l file rules lists)
 
-pub whole_measured : (l : Layout) (file : List ℕ) (rules : Rules) (first now : List Lane) (tallies : List Tally) (before ends : Ends) → is_apart rules ≡ false → before.more ≡ false → before.bad ≡ None
-    → ListMeasured l file rules (record { lanes = first; ends = before }) (record { lanes = now; ends = ends }) tallies → FileMeasured l file rules first now tallies ends
-whole_measured l file rules first now tallies before ends whole more bad m =
-    let p = m.taken in
-    let left = left_in_rows rules.stop (rows_of l file first) in
-    let firsts = lists_whole l file rules first whole in
-    let nows = lists_whole l file rules now whole in
-    let taken_is : p.taken ≡ taken_of l file rules first = p.piece ∙ sym (append-nil (piece rules.unit left)) ∙ ap (next_file rules.unit) (sym firsts) in
-    record {
-      left = record {
-        stands = p.passed.stands;
-        left = nows ∙ ap (λ (xs : List Keyed). xs ∷ []) p.left ∙ ap (behind_file rules.unit) (sym firsts);
-        more = m.more ∙ ap (λ (b : Bool). b || is_some_left (left_in_rows rules.stop (rows_of l file now))) more
-            ∙ ap is_some_left (sym (append-nil (left_in_rows rules.stop (rows_of l file now)))) ∙ ap (λ (xss : List (List Keyed)). is_some_left (joined_lists xss)) (sym nows);
-        bad_ends = λ last. m.bad last ∙ ap (λ (o : Option CutPlace). option_or o (bad_in_rows rules (rows_of l file first))) bad ∙ sym (bad_whole l file rules first whole);
-        bad = λ again. bad_whole l file rules now whole ∙ p.bad again ∙ sym (bad_whole l file rules first whole);
-      };
-      lefts = λ i d lt. subst (λ (ts : List Keyed). left_of l file (get_or first i d) ≡ items_of_cpu (get_or first i d).cpu ts ++ left_of l file (get_or now i d)) taken_is (p.passed.lefts i d lt);
-      tallied = subst (λ (ts : List Keyed). Tallied l first ts tallies) taken_is p.tallied;
-    }
-
--- EACH LANE AS A LIST
-
-abbrev LaneTaken : Layout → List ℕ → Rules → Lane → Lane → Tally → Type 0
-LaneTaken l file rules a b t = PieceTaken l file rules (a ∷ []) (b ∷ []) (t ∷ [])
-
-abbrev all_left : Layout → List ℕ → Rules → List Lane → List (List Keyed)
-all_left l file rules lanes = map (left_in_rows rules.stop) (map single (rows_of l file lanes))
-
-abbrev all_bad : Layout → List ℕ → Rules → List Lane → Option CutPlace
-all_bad l file rules lanes = slice_get (filter_map (bad_in_rows rules) (map single (rows_of l file lanes))) 0
+abbrev pub ListTaken : Layout → List ℕ → Rules → ListSeen → ListSeen → Type 0
+ListTaken l file rules x y = PieceTaken l file rules x.all y.all y.tallies
 
 -- the first n lists are measured
-pub record MeasuredTo (l : Layout) (file : List ℕ) (rules : Rules) (n : ℕ) (first now : List Lane) (tallies0 tallies : List Tally) (ends : Ends) : Type 0 where
-  pub each : Trios (LaneTaken l file rules) (take n first) (take n now) (take n tallies)
-  pub others : drop n now ≡ drop n first
-  pub still : drop n tallies ≡ drop n tallies0
-  pub more : ends.more ≡ is_some_left (joined_lists (all_left l file rules (take n now)))
-  pub bad : (ends.more && rules.repeat) ≡ false → ends.bad ≡ all_bad l file rules (take n first)
+pub record MeasuredTo (l : Layout) (file : List ℕ) (rules : Rules) (n : ℕ) (first now : List ListSeen) (ends : Ends) : Type 0 where
+  pub each : (j : ℕ) (d : ListSeen) → j < n → ListTaken l file rules (get_or first j d) (get_or now j d)
+  pub more : ends.more ≡ is_some_left (joined_lists (map (left_seen l file rules) (take n now)))
+  pub bad : (ends.more && rules.repeat) ≡ false → ends.bad ≡ first_bad_seen l file rules (take n first)
 
-pub measured_none : (l : Layout) (file : List ℕ) (rules : Rules) (lanes : List Lane) (tallies : List Tally) (ends : Ends) → ends.more ≡ false → ends.bad ≡ None → MeasuredTo l file rules 0 lanes lanes tallies tallies ends
-measured_none l file rules lanes tallies ends more bad = record { each = tt; others = refl; still = refl; more = more; bad = λ last. bad }
+pub measured_none : (l : Layout) (file : List ℕ) (rules : Rules) (lists : List ListSeen) (ends : Ends) → ends.more ≡ false → ends.bad ≡ None → MeasuredTo l file rules 0 lists lists ends
+measured_none l file rules lists ends more bad = record { each = λ j d lt. absurd (omega (arith, lt)); more = more; bad = λ last. bad }
 
 some_append : (xs ys : List Keyed) → is_some_left (xs ++ ys) ≡ (is_some_left xs || is_some_left ys)
 some_append [] ys = refl
 some_append (x ∷ xs) ys = refl
 
-joined_push : (l : Layout) (file : List ℕ) (rules : Rules) (lanes : List Lane) (b : Lane) → joined_lists (all_left l file rules (lanes ++ b ∷ [])) ≡ joined_lists (all_left l file rules lanes) ++ left_in_rows rules.stop (row_of l file b ∷ [])
-joined_push l file rules [] b = append-nil (left_in_rows rules.stop (row_of l file b ∷ []))
-joined_push l file rules (a ∷ lanes) b =
-    let mine = left_in_rows rules.stop (row_of l file a ∷ []) in
-    ap (λ (xs : List Keyed). mine ++ xs) (joined_push l file rules lanes b) ∙ sym (append_assoc mine (joined_lists (all_left l file rules lanes)) (left_in_rows rules.stop (row_of l file b ∷ [])))
+joined_push : (h : ListSeen → List Keyed) (lists : List ListSeen) (b : ListSeen) → joined_lists (map h (lists ++ b ∷ [])) ≡ joined_lists (map h lists) ++ h b
+joined_push h [] b = append-nil (h b)
+joined_push h (a ∷ lists) b = ap (λ (xs : List Keyed). h a ++ xs) (joined_push h lists b) ∙ sym (append_assoc (h a) (joined_lists (map h lists)) (h b))
 
-bads_push : (l : Layout) (file : List ℕ) (rules : Rules) (lanes : List Lane) (b : Lane) → all_bad l file rules (lanes ++ b ∷ []) ≡ option_or (all_bad l file rules lanes) (bad_in_rows rules (row_of l file b ∷ []))
-bads_push l file rules [] b = one_bad (bad_in_rows rules (row_of l file b ∷ []))
-bads_push l file rules (a ∷ lanes) b = by_first (bad_in_rows rules (row_of l file a ∷ [])) (filter_map (bad_in_rows rules) (map single (rows_of l file (lanes ++ b ∷ [])))) (filter_map (bad_in_rows rules) (map single (rows_of l file lanes))) (bads_push l file rules lanes b)
+bads_push : (h : ListSeen → Option CutPlace) (lists : List ListSeen) (b : ListSeen) → slice_get (filter_map h (lists ++ b ∷ [])) 0 ≡ option_or (slice_get (filter_map h lists) 0) (h b)
+bads_push h [] b = one_bad (h b)
+bads_push h (a ∷ lists) b = by_first (h a) (filter_map h (lists ++ b ∷ [])) (filter_map h lists) (bads_push h lists b)
   where
-    by_first : (o : Option CutPlace) (more few : List CutPlace) → slice_get more 0 ≡ option_or (slice_get few 0) (bad_in_rows rules (row_of l file b ∷ []))
-        → slice_get (cons_option o more) 0 ≡ option_or (slice_get (cons_option o few) 0) (bad_in_rows rules (row_of l file b ∷ []))
+    by_first : (o : Option CutPlace) (more few : List CutPlace) → slice_get more 0 ≡ option_or (slice_get few 0) (h b)
+        → slice_get (cons_option o more) 0 ≡ option_or (slice_get (cons_option o few) 0) (h b)
     by_first None more few e = e
     by_first (Some bad) more few e = refl
 
@@ -267,111 +239,135 @@ earlier_last : (b s r : Bool) → ((b || s) && r) ≡ false → (b && r) ≡ fal
 earlier_last true s r e = e
 earlier_last false s r e = refl
 
-pub measured_more : (l : Layout) (file : List ℕ) (rules : Rules) (i : ℕ) (first now new : List Lane) (tallies0 tallies fresh : List Tally) (before ends : Ends) → i < length now → i < length tallies
-    → parts_of new ≡ parts_of (mid_of i (i + 1 - i) now) → length fresh ≡ length new → ListMeasured l file rules (record { lanes = mid_of i (i + 1 - i) now; ends = before }) (record { lanes = new; ends = ends }) fresh → MeasuredTo l file rules i first now tallies0 tallies before
-    → MeasuredTo l file rules (i + 1) first (put_mid i (i + 1 - i) now new) tallies0 (put_mid i (i + 1 - i) tallies fresh) ends
-measured_more l file rules i first now new tallies0 tallies fresh before ends lt lt2 parts same m s =
-    let mid = mid_of i (i + 1 - i) now in
-    let long : length new ≡ 1 = same_length new mid parts ∙ one_in_mid i now lt in
-    let long2 : length fresh ≡ 1 = same ∙ long in
-    let a = one_of mid (one_in_mid i now lt) in
-    let b = one_of new long in
-    let t = one_of fresh long2 in
-    let taken : LaneTaken l file rules a.item b.item t.item =
-    subst (λ (xs : List Lane). PieceTaken l file rules xs (b.item ∷ []) (t.item ∷ [])) a.is (subst (λ (xs : List Lane). PieceTaken l file rules mid xs (t.item ∷ [])) b.is (subst (PieceTaken l file rules mid new) t.is m.taken)) in
-    let firsts : take (i + 1) first ≡ take i first ++ a.item ∷ [] = first_more i first ∙ ap (λ (xs : List Lane). take i first ++ xs) (sym (still_mid i first now s.others) ∙ a.is) in
-    let nows : take (i + 1) (put_mid i (i + 1 - i) now new) ≡ take i now ++ b.item ∷ [] = put_more i now new lt long ∙ ap (λ (xs : List Lane). take i now ++ xs) b.is in
-    let counts : take (i + 1) (put_mid i (i + 1 - i) tallies fresh) ≡ take i tallies ++ t.item ∷ [] = put_more i tallies fresh lt2 long2 ∙ ap (λ (xs : List Tally). take i tallies ++ xs) t.is in
-    let trios = trios_push (LaneTaken l file rules) (take i first) (take i now) (take i tallies) a.item b.item t.item s.each taken in
+take_one : (n : ℕ) (first now : List ListSeen) (d : ListSeen) → n < length now → length now ≡ length first → ((j : ℕ) (e : ListSeen) → n ≤ j → get_or now j e ≡ get_or first j e) → take (n + 1) first ≡ take n first ++ get_or now n d ∷ []
+take_one n first now d lt long others =
+    let inside : n < length first = omega (arith, lt, long) in
+    ap (take (n + 1)) (sym (set-get_or first n d)) ∙ take_more_set first n (get_or first n d) inside ∙ ap (λ (x : ListSeen). take n first ++ x ∷ []) (sym (others n d (omega arith)))
+
+pub measured_more : (l : Layout) (file : List ℕ) (rules : Rules) (n : ℕ) (first now : List ListSeen) (d new : ListSeen) (before ends : Ends) → n < length now → length now ≡ length first
+    → ((j : ℕ) (e : ListSeen) → n ≤ j → get_or now j e ≡ get_or first j e)
+    → ListMeasured l file rules (record { lanes = (get_or now n d).all; ends = before }) (record { lanes = new.all; ends = ends }) new.tallies → MeasuredTo l file rules n first now before
+    → MeasuredTo l file rules (n + 1) first (set now n new) ends
+measured_more l file rules n first now d new before ends lt long others m s =
+    let firsts = take_one n first now d lt long others in
+    let nows = take_more_set now n new lt in
+    let h = left_seen l file rules in
     record {
-      each = subst (λ (xs : List Lane). Trios (LaneTaken l file rules) xs (take (i + 1) (put_mid i (i + 1 - i) now new)) (take (i + 1) (put_mid i (i + 1 - i) tallies fresh))) (sym firsts)
-          (subst (λ (xs : List Lane). Trios (LaneTaken l file rules) (take i first ++ a.item ∷ []) xs (take (i + 1) (put_mid i (i + 1 - i) tallies fresh))) (sym nows)
-          (subst (Trios (LaneTaken l file rules) (take i first ++ a.item ∷ []) (take i now ++ b.item ∷ [])) (sym counts) trios));
-      others = put_others i first now new lt long s.others;
-      still = put_others i tallies0 tallies fresh lt2 long2 s.still;
-      more = m.more ∙ ap (λ (k : Bool). k || is_some_left (left_in_rows rules.stop (rows_of l file new))) s.more
-          ∙ ap (λ (xs : List Lane). is_some_left (joined_lists (all_left l file rules (take i now))) || is_some_left (left_in_rows rules.stop (rows_of l file xs))) b.is
-          ∙ sym (some_append (joined_lists (all_left l file rules (take i now))) (left_in_rows rules.stop (row_of l file b.item ∷ [])))
-          ∙ ap is_some_left (sym (joined_push l file rules (take i now) b.item)) ∙ ap (λ (xs : List Lane). is_some_left (joined_lists (all_left l file rules xs))) (sym nows);
+      each = first_more (ListTaken l file rules) n first now d new lt others m.taken s.each;
+      more = m.more ∙ ap (λ (k : Bool). k || is_some_left (h new)) s.more
+          ∙ sym (some_append (joined_lists (map h (take n now))) (h new)) ∙ ap is_some_left (sym (joined_push h (take n now) new)) ∙ ap (λ (xs : List ListSeen). is_some_left (joined_lists (map h xs))) (sym nows);
       bad = λ last.
-          let sooner : (before.more && rules.repeat) ≡ false = earlier_last before.more (is_some_left (left_in_rows rules.stop (rows_of l file new))) rules.repeat (ap (λ (k : Bool). k && rules.repeat) (sym m.more) ∙ last) in
-          m.bad last ∙ ap (λ (o : Option CutPlace). option_or o (bad_in_rows rules (rows_of l file mid))) (s.bad sooner)
-          ∙ ap (λ (xs : List Lane). option_or (all_bad l file rules (take i first)) (bad_in_rows rules (rows_of l file xs))) a.is
-          ∙ sym (bads_push l file rules (take i first) a.item) ∙ ap (all_bad l file rules) (sym firsts);
+          let sooner : (before.more && rules.repeat) ≡ false = earlier_last before.more (is_some_left (h new)) rules.repeat (ap (λ (k : Bool). k && rules.repeat) (sym m.more) ∙ last) in
+          m.bad last ∙ ap (λ (o : Option CutPlace). option_or o (bad_seen l file rules (get_or now n d))) (s.bad sooner)
+          ∙ sym (bads_push (bad_seen l file rules) (take n first) (get_or now n d)) ∙ ap (first_bad_seen l file rules) (sym firsts);
     }
 
-taken_stand : (l : Layout) (file : List ℕ) (rules : Rules) (first now : List Lane) (tallies : List Tally) → Trios (LaneTaken l file rules) first now tallies → All (Stands l file) now
-taken_stand l file rules [] [] [] ps = All-nil (Stands l file)
-taken_stand l file rules [] [] (t ∷ tallies) ps = absurd ps
-taken_stand l file rules [] (b ∷ now) tallies ps = absurd ps
-taken_stand l file rules (a ∷ first) [] tallies ps = absurd ps
-taken_stand l file rules (a ∷ first) (b ∷ now) [] ps = absurd ps
-taken_stand l file rules (a ∷ first) (b ∷ now) (t ∷ tallies) ps = All-cons (Stands l file) b now (All-head (Stands l file) b [] ps.0.passed.stands) (taken_stand l file rules first now tallies ps.1)
+-- the list at hand was measured
+pub measured_there : (l : Layout) (file : List ℕ) (rules : Rules) (n : ℕ) (first now : List ListSeen) (d new : ListSeen) (before ends : Ends) → n < length now → length now ≡ length first
+    → ((j : ℕ) (e : ListSeen) → n ≤ j → get_or now j e ≡ get_or first j e) → (get_or now n d).layout ≡ l → All (Stands l file) (lanes_of first) → All (ListBegun l) first
+    → (All (Stands (get_or now n d).layout file) (get_or now n d).all → Tallied (get_or now n d).layout (get_or now n d).all [] (get_or now n d).tallies
+    → ListMeasured (get_or now n d).layout file rules (record { lanes = (get_or now n d).all; ends = before }) (record { lanes = new.all; ends = ends }) new.tallies)
+    → MeasuredTo l file rules n first now before → MeasuredTo l file rules (n + 1) first (set now n new) ends
+measured_there l file rules n first now d new before ends lt long others is stands begun one s =
+    let inside : n < length first = omega (arith, lt, long) in
+    let x = get_or now n d in
+    let clear : Tallied x.layout x.all [] x.tallies = subst (λ (k : Layout). Tallied k x.all [] x.tallies) (sym is)
+    (subst (λ (y : ListSeen). Tallied l y.all [] y.tallies) (sym (others n d (omega arith))) (none_there l (get_or first n d) (begun n d inside))) in
+    measured_more l file rules n first now d new before ends lt long others
+    (subst (λ (k : Layout). ListMeasured k file rules (record { lanes = x.all; ends = before }) (record { lanes = new.all; ends = ends }) new.tallies) is (one (stands_there l file n first now d lt long others is stands) clear)) s
+  where
+    none_there : (l : Layout) (y : ListSeen) → ListBegun l y → Tallied l y.all [] y.tallies
+    none_there l y b i e t lt = b.begun.none i t (omega (arith, lt, b.tallies_long))
 
-lefts_behind : (l : Layout) (file : List ℕ) (rules : Rules) (first now : List Lane) (tallies : List Tally) → Trios (LaneTaken l file rules) first now tallies → all_left l file rules now ≡ behind_file rules.unit (all_left l file rules first)
-lefts_behind l file rules [] [] [] ps = refl
-lefts_behind l file rules [] [] (t ∷ tallies) ps = absurd ps
-lefts_behind l file rules [] (b ∷ now) tallies ps = absurd ps
-lefts_behind l file rules (a ∷ first) [] tallies ps = absurd ps
-lefts_behind l file rules (a ∷ first) (b ∷ now) [] ps = absurd ps
-lefts_behind l file rules (a ∷ first) (b ∷ now) (t ∷ tallies) ps =
-    ap (λ (xs : List Keyed). xs ∷ all_left l file rules now) ps.0.left
-    ∙ ap (λ (xss : List (List Keyed)). rest rules.unit (left_in_rows rules.stop (row_of l file a ∷ [])) ∷ xss) (lefts_behind l file rules first now tallies ps.1)
+pub list_done : (l : Layout) (x new : ListSeen) → x.layout ≡ l → new.fronts ≡ x.fronts → All (IsReady x.layout) new.all → length new.tallies ≡ length new.all → SkipsOver x.all x.tallies new.tallies → ListDone l x new
+list_done l x new is fronts ready long over = record { fronts = fronts; ready = subst (λ (k : Layout). All (IsReady k) new.all) is ready; long = long; over = over }
 
-bads_same : (l : Layout) (file : List ℕ) (rules : Rules) (first now : List Lane) (tallies : List Tally) → rules.repeat ≡ true → Trios (LaneTaken l file rules) first now tallies
-    → filter_map (bad_in_rows rules) (map single (rows_of l file now)) ≡ filter_map (bad_in_rows rules) (map single (rows_of l file first))
-bads_same l file rules [] [] [] again ps = refl
-bads_same l file rules [] [] (t ∷ tallies) again ps = absurd ps
-bads_same l file rules [] (b ∷ now) tallies again ps = absurd ps
-bads_same l file rules (a ∷ first) [] tallies again ps = absurd ps
-bads_same l file rules (a ∷ first) (b ∷ now) [] again ps = absurd ps
-bads_same l file rules (a ∷ first) (b ∷ now) (t ∷ tallies) again ps =
-    ap (λ (o : Option CutPlace). cons_option o (filter_map (bad_in_rows rules) (map single (rows_of l file now)))) (ps.0.bad again)
-    ∙ ap (cons_option (bad_in_rows rules (row_of l file a ∷ []))) (bads_same l file rules first now tallies again ps.1)
+lefts_behind : (l : Layout) (file : List ℕ) (rules : Rules) (first now : List ListSeen) → length now ≡ length first → EachList (ListTaken l file rules) first now
+    → map (left_seen l file rules) now ≡ behind_file rules.unit (map (left_seen l file rules) first)
+lefts_behind l file rules [] [] long each = refl
+lefts_behind l file rules [] (b ∷ now) long each = absurd (omega (arith, long))
+lefts_behind l file rules (a ∷ first) [] long each = absurd (omega (arith, long))
+lefts_behind l file rules (a ∷ first) (b ∷ now) long each =
+    ap (λ (xs : List Keyed). xs ∷ map (left_seen l file rules) now) (each 0 a (omega arith)).left
+    ∙ ap (λ (xss : List (List Keyed)). rest rules.unit (left_seen l file rules a) ∷ xss) (lefts_behind l file rules first now (omega (arith, long)) (each_tail (ListTaken l file rules) a b first now each))
 
-pub all_measured : (l : Layout) (file : List ℕ) (rules : Rules) (n : ℕ) (first now : List Lane) (tallies0 tallies : List Tally) (ends : Ends) → is_apart rules ≡ true → CpusRise (parts_of first) → length first ≤ n → length now ≤ n → length tallies ≤ n
-    → MeasuredTo l file rules n first now tallies0 tallies ends → FileMeasured l file rules first now tallies ends
-all_measured l file rules n first now tallies0 tallies ends apart rise enough enough2 enough3 s =
-    let P = LaneTaken l file rules in
-    let firsts = take_all n first enough in
-    let nows = take_all n now enough2 in
-    let each : Trios P first now tallies = subst (λ (xs : List Lane). Trios P xs now tallies) firsts (subst (λ (xs : List Lane). Trios P (take n first) xs tallies) nows (subst (Trios P (take n first) (take n now)) (take_all n tallies enough3) s.each)) in
-    let lists = lists_apart l file rules first apart in
-    let own : (i : ℕ) (d : Lane) → i < length first → items_of_cpu (get_or first i d).cpu (taken_of l file rules first) ≡ items_of_cpu (get_or first i d).cpu (piece rules.unit (left_in_rows rules.stop (row_of l file (get_or first i d) ∷ []))) =
-    λ i d lt. ap (λ (xss : List (List Keyed)). items_of_cpu (get_or first i d).cpu (next_file rules.unit xss)) lists ∙ own_apart l file rules.unit rules.stop first i d rise lt in
+bads_same : (l : Layout) (file : List ℕ) (rules : Rules) (first now : List ListSeen) → rules.repeat ≡ true → length now ≡ length first → EachList (ListTaken l file rules) first now
+    → filter_map (bad_seen l file rules) now ≡ filter_map (bad_seen l file rules) first
+bads_same l file rules [] [] again long each = refl
+bads_same l file rules [] (b ∷ now) again long each = absurd (omega (arith, long))
+bads_same l file rules (a ∷ first) [] again long each = absurd (omega (arith, long))
+bads_same l file rules (a ∷ first) (b ∷ now) again long each =
+    ap (λ (o : Option CutPlace). cons_option o (filter_map (bad_seen l file rules) now)) ((each 0 a (omega arith)).bad again)
+    ∙ ap (cons_option (bad_seen l file rules a)) (bads_same l file rules first now again (omega (arith, long)) (each_tail (ListTaken l file rules) a b first now each))
+
+-- WHOSE ITEMS THEY ARE
+
+own_whole : (l : Layout) (file : List ℕ) (rules : Rules) (first : List ListSeen) (k : ℕ) (e : ListSeen) → AreGroups false first → k < length first
+    → next_file rules.unit (left_in_rows rules.stop (rows_of l file (lanes_of first)) ∷ []) ≡ piece rules.unit (left_seen l file rules (get_or first k e))
+own_whole l file rules [] k e g lt = absurd (omega (arith, lt))
+own_whole l file rules (x ∷ y ∷ first) k e g lt = absurd (omega (arith, g))
+own_whole l file rules (x ∷ []) (suc k) e g lt = absurd (omega (arith, lt))
+own_whole l file rules (x ∷ []) zero e g lt =
+    append-nil (piece rules.unit (left_in_rows rules.stop (rows_of l file (x.all ++ []))))
+    ∙ ap (λ (ls : List Lane). piece rules.unit (left_in_rows rules.stop (rows_of l file ls))) (append-nil x.all)
+
+single_length : (first : List ListSeen) → AreGroups true first → length (lanes_of first) ≡ length first
+single_length [] g = refl
+single_length (x ∷ first) g =
+    let one : length x.all ≡ 1 = All-head (λ (y : ListSeen). length y.all ≡ 1) x first g in
+    let more = single_length first (All-tail (λ (y : ListSeen). length y.all ≡ 1) x first g) in
+    omega (arith, length-append x.all (lanes_of first), one, more)
+
+own_single : (l : Layout) (file : List ℕ) (rules : Rules) (first : List ListSeen) (k i : ℕ) (e : ListSeen) (d : Lane) → CpusRise (parts_of (lanes_of first)) → AreGroups true first → k < length first → i < length (get_or first k e).all
+    → items_of_cpu (get_or (get_or first k e).all i d).cpu (next_file rules.unit (map (left_in_rows rules.stop) (map single (rows_of l file (lanes_of first)))))
+    ≡ items_of_cpu (get_or (get_or first k e).all i d).cpu (piece rules.unit (left_seen l file rules (get_or first k e)))
+own_single l file rules first k i e d rise g lt lt2 =
+    let at = single_at first k i e d g lt lt2 in
+    let a = get_or (get_or first k e).all i d in
+    let all = next_file rules.unit (map (left_in_rows rules.stop) (map single (rows_of l file (lanes_of first)))) in
+    ap (λ (b : Lane). items_of_cpu b.cpu all) (sym at.0)
+    ∙ own_apart l file rules.unit rules.stop (lanes_of first) k d rise (omega (arith, lt, single_length first g))
+    ∙ ap (λ (b : Lane). items_of_cpu b.cpu (piece rules.unit (left_in_rows rules.stop (row_of l file b ∷ [])))) at.0
+    ∙ ap (λ (ls : List Lane). items_of_cpu a.cpu (piece rules.unit (left_in_rows rules.stop (rows_of l file ls)))) (sym at.1)
+
+own_in : (l : Layout) (file : List ℕ) (rules : Rules) (first : List ListSeen) (k i : ℕ) (e : ListSeen) (d : Lane) → CpusRise (parts_of (lanes_of first)) → AreGroups (is_apart rules) first → k < length first → i < length (get_or first k e).all
+    → items_of_cpu (get_or (get_or first k e).all i d).cpu (taken_of l file rules (lanes_of first))
+    ≡ items_of_cpu (get_or (get_or first k e).all i d).cpu (piece rules.unit (left_seen l file rules (get_or first k e)))
+own_in l file rules first k i e d rise g lt lt2 = by_group (is_apart rules) g
+  where
+    by_group : (b : Bool) → AreGroups b first
+        → items_of_cpu (get_or (get_or first k e).all i d).cpu (next_file rules.unit (map (left_in_rows rules.stop) (if b then map single (rows_of l file (lanes_of first)) else rows_of l file (lanes_of first) ∷ [])))
+        ≡ items_of_cpu (get_or (get_or first k e).all i d).cpu (piece rules.unit (left_seen l file rules (get_or first k e)))
+    by_group true g = own_single l file rules first k i e d rise g lt lt2
+    by_group false g = ap (items_of_cpu (get_or (get_or first k e).all i d).cpu) (own_whole l file rules first k e g lt)
+
+pub all_measured : (l : Layout) (file : List ℕ) (rules : Rules) (n : ℕ) (first now : List ListSeen) (ends : Ends) → AreGroups (is_apart rules) first → CpusRise (parts_of (lanes_of first)) → length now ≡ length first → EachList ListGoes first now → length first ≤ n
+    → MeasuredTo l file rules n first now ends → FileMeasured l file rules first now ends
+all_measured l file rules n first now ends g rise long goes enough s =
+    let h = left_seen l file rules in
+    let each : EachList (ListTaken l file rules) first now = λ j d lt. s.each j d (omega (arith, lt, enough)) in
+    let now_all : take n now ≡ now = take_all n now (omega (arith, long, enough)) in
+    let first_all : take n first ≡ first = take_all n first enough in
+    let lefts = left_of_lists l file rules first g in
+    let g2 = groups_stay (is_apart rules) first now long goes g in
+    let lefts_now = left_of_lists l file rules now g2 in
     record {
       left = record {
-        stands = taken_stand l file rules first now tallies each;
-        left = lists_apart l file rules now apart ∙ lefts_behind l file rules first now tallies each ∙ ap (behind_file rules.unit) (sym lists);
-        more = s.more ∙ ap (λ (xs : List Lane). is_some_left (joined_lists (all_left l file rules xs))) nows ∙ ap (λ (xss : List (List Keyed)). is_some_left (joined_lists xss)) (sym (lists_apart l file rules now apart));
-        bad_ends = λ last. s.bad last ∙ ap (all_bad l file rules) firsts ∙ sym (bad_apart l file rules first apart);
-        bad = λ again. bad_apart l file rules now apart ∙ ap (λ (bads : List CutPlace). slice_get bads 0) (bads_same l file rules first now tallies again each) ∙ sym (bad_apart l file rules first apart);
+        stands = all_flat (Stands l file) now (λ j d lt. (each j d (omega (arith, lt, long))).passed.stands);
+        left = lefts_now ∙ lefts_behind l file rules first now long each ∙ ap (behind_file rules.unit) (sym lefts);
+        more = s.more ∙ ap (λ (xs : List ListSeen). is_some_left (joined_lists (map h xs))) now_all ∙ ap (λ (xss : List (List Keyed)). is_some_left (joined_lists xss)) (sym lefts_now);
+        bad_ends = λ last. s.bad last ∙ ap (first_bad_seen l file rules) first_all ∙ sym (bad_of_lists l file rules first g);
+        bad = λ again. bad_of_lists l file rules now g2 ∙ ap (λ (bads : List CutPlace). slice_get bads 0) (bads_same l file rules first now again long each) ∙ sym (bad_of_lists l file rules first g);
       };
-      lefts = λ i d lt.
-          let a = get_or first i d in
-          let b = get_or now i d in
-          let p = (trio_some P first now tallies i d d each lt).1 in
-          p.passed.lefts 0 d (omega arith) ∙ ap (λ (ts : List Keyed). items_of_cpu a.cpu ts ++ left_of l file b) p.piece ∙ ap (λ (xs : List ItemData). xs ++ left_of l file b) (sym (own i d lt));
-      tallied = λ i d e lt.
-          let a = get_or first i d in
-          let p = trio_at P first now tallies i d d e each lt in
-          subst (IsTally l (get_or tallies i e)) (ap (items_of_cpu a.cpu) p.piece ∙ sym (own i d lt)) (p.tallied 0 d e (omega arith));
+      lefts = λ k e lt i d lt2.
+          let p = each k e lt in
+          let a = get_or (get_or first k e).all i d in
+          let b = get_or (get_or now k e).all i d in
+          p.passed.lefts i d lt2
+          ∙ ap (λ (ts : List Keyed). items_of_cpu a.cpu ts ++ left_of l file b) p.piece
+          ∙ ap (λ (xs : List ItemData). xs ++ left_of l file b) (sym (own_in l file rules first k i e d rise g lt lt2));
+      tallied = λ k e lt i d t lt2.
+          let p = each k e lt in
+          let a = get_or (get_or first k e).all i d in
+          subst (IsTally l (get_or (get_or now k e).tallies i t)) (ap (items_of_cpu a.cpu) p.piece ∙ sym (own_in l file rules first k i e d rise g lt lt2)) (p.tallied i d t lt2);
     }
-
--- the tallies of the lane at hand count nothing
-pub clear_mid : (l : Layout) (file : List ℕ) (rules : Rules) (i : ℕ) (first now : List Lane) (tallies0 tallies : List Tally) (ends : Ends) → i < length now → length tallies ≡ length now
-    → ((j : ℕ) (t : Tally) → j < length tallies0 → IsTally l (get_or tallies0 j t) []) → MeasuredTo l file rules i first now tallies0 tallies ends
-    → Tallied l (mid_of i (i + 1 - i) now) [] (mid_of i (i + 1 - i) tallies)
-clear_mid l file rules i first now tallies0 tallies ends lt long none s = λ j d e lt2.
-    let Clear : Tally → Type 0 = λ t. IsTally l t [] in
-    let all : All Clear (mid_of i (i + 1 - i) tallies) = subst (λ (ts : List Tally). All Clear (take (i + 1 - i) ts)) (sym s.still) (all_mid Clear i (i + 1 - i) tallies0 none) in
-    all j e (omega (arith, lt2, one_in_mid i now lt, one_in_mid i tallies (omega (arith, lt, long))))
-
-pub still_stand : (l : Layout) (file : List ℕ) (rules : Rules) (i : ℕ) (first now : List Lane) (tallies0 tallies : List Tally) (ends : Ends) → All (Stands l file) first → MeasuredTo l file rules i first now tallies0 tallies ends
-    → All (Stands l file) (mid_of i (i + 1 - i) now)
-still_stand l file rules i first now tallies0 tallies ends stands s = subst (All (Stands l file)) (sym (still_mid i first now s.others)) (all_mid (Stands l file) i (i + 1 - i) first stands)
-
-pub one_rises : (i : ℕ) (now : List Lane) → i < length now → CpusRise (parts_of (mid_of i (i + 1 - i) now))
-one_rises i now lt =
-    let a = one_of (mid_of i (i + 1 - i) now) (one_in_mid i now lt) in
-    subst (λ (xs : List Lane). CpusRise (parts_of xs)) (sym a.is) tt

@@ -4,7 +4,7 @@ use Rattle.std.specs.Option.{IfSome}
 use Rattle.std.specs.Prelude.{IfErr, OnOk}
 use Rattle.std.specs.List.{All, filter_map, slice_get}
 use Rattle.std.proofs.lemmas.List.{length-append, length-map, get_or-map}
-use Rattle.std.proofs.lemmas.List.Elements.{All-get_or}
+use Rattle.std.proofs.lemmas.List.Elements.{All-cons, All-get_or, All-head, All-nil, All-tail}
 use Rattle.trace_base.specs.declared.layout.Layout.{Layout}
 use Rattle.trace_base.specs.declared.part.Part.{Part}
 use Rattle.trace_base.specs.Layout.{IsLayout}
@@ -30,6 +30,7 @@ use Rattle.time_merge.specs.declared.ending.End.TheVariants as code
 use Rattle.split_pieces.specs.declared.rules.Rules.{Rules}
 use Rattle.split_pieces.specs.Cuts.{items_of_cpu}
 use Rattle.split_pieces.specs.Pieces.{is_some_left, joined_lists, next_file, behind_file}
+use Rattle.split_passes.specs.ListSeen.{ListSeen}
 use Rattle.split_passes.specs.declared.tally.Tally.{Tally}
 use Rattle.split_passes.specs.Tallies.{IsTally}
 use Rattle.split_passes.specs.Measures.{Tallied}
@@ -41,7 +42,10 @@ use Rattle.dat_header.specs.Tables.{in_table}
 use Rattle.split_tool.specs.NewFile.{front_len, front_text, table_of}
 use Rattle.split_tool.specs.declared.lists.Ends.{Ends}
 use Rattle.split_tool.specs.Counted.{lists_of, AreCounted}
-use Rattle.split_tool.specs.Lists.{groups, left_in_rows, bad_in_rows, lists_left, bad_left}
+use Rattle.split_tool.specs.Going.{ListBegun, ListDone, ListGoes, StaysToCome}
+use Rattle.split_tool.specs.Lists.{EachList, groups, lanes_of, left_in_rows, bad_in_rows, lists_left, bad_left}
+use Rattle.split_tool.specs.Work.{AreLists}
+use Rattle.split_tool.proofs.Flat.{flat_all, parts_flat}
 use Rattle.split_tool.specs.Measured.{taken_of, FileLeft, FileMeasured}
 use Rattle.split_tool.specs.Made.{Prepared, IsWritten}
 use Rattle.split_tool.specs.Unmaking.{IsMadeBy, ending_of}
@@ -111,18 +115,34 @@ other_lanes c now first e a i d lt is =
     let inside : i < length now = omega (arith, lt, same_length now first e) in
     a i d inside (same_cpu now first i d inside lt e ∙ is)
 
-counted : (l : Layout) (file : List ℕ) (rules : Rules) (first now : List Lane) (tallies : List Tally) → parts_of now ≡ parts_of first → Tallied l first (taken_of l file rules first) tallies → FewEach first (taken_of l file rules first)
-    → AreCounted l now tallies (taken_of l file rules first)
-counted l file rules first now tallies parts tallied few =
-    let taken = taken_of l file rules first in
-    record {
-      tallied = λ i d t lt.
-          let same : length now ≡ length first = same_length now first parts in
-          let lt2 : i < length first = omega (arith, same, lt) in
-          let cpu : (get_or now i d).cpu ≡ (get_or first i d).cpu = same_cpu now first i d lt lt2 parts in
-          subst (λ (c : ℕ). (length (items_of_cpu c taken) < 2 ^ 63) × IsTally l (get_or tallies i t) (items_of_cpu c taken)) (sym cpu) (few i d lt2, tallied i d t lt2);
-      none_else = λ c others. none_else l file rules first c (other_lanes c now first parts others);
-    }
+module _ (l : Layout) (file : List ℕ) (rules : Rules) (first now : List ListSeen) (long : length now ≡ length first) (goes : EachList ListGoes first now) where
+  counted : EachList (λ before after. Tallied l before.all (taken_of l file rules (lanes_of first)) after.tallies) first now → ((k : ℕ) (e : ListSeen) → k < length first → FewEach (get_or first k e).all (taken_of l file rules (lanes_of first)))
+      → AreCounted l now (taken_of l file rules (lanes_of first))
+  counted tallied few =
+      let taken = taken_of l file rules (lanes_of first) in
+      record {
+        tallied = λ k e lt i d t lt2.
+            let inside : k < length first = omega (arith, lt, long) in
+            let a = get_or first k e in
+            let b = get_or now k e in
+            let parts = (goes k e inside).parts in
+            let same : length b.all ≡ length a.all = same_length b.all a.all parts in
+            let lt3 : i < length a.all = omega (arith, same, lt2) in
+            let cpu : (get_or b.all i d).cpu ≡ (get_or a.all i d).cpu = same_cpu b.all a.all i d lt2 lt3 parts in
+            subst (λ (c : ℕ). (length (items_of_cpu c taken) < 2 ^ 63) × IsTally l (get_or b.tallies i t) (items_of_cpu c taken)) (sym cpu) (few k e inside i d lt3, tallied k e inside i d t lt3);
+        none_else = λ c others. none_else l file rules (lanes_of first) c (other_lanes c (lanes_of now) (lanes_of first) (parts_flat first now long goes) others);
+      }
+
+-- lanes of the same processors
+pub same_cpus : (n : ℕ) (first now : List Lane) → parts_of now ≡ parts_of first → All (λ (a : Lane). a.cpu < n) first → All (λ (a : Lane). a.cpu < n) now
+same_cpus n [] [] e a = All-nil (λ (x : Lane). x.cpu < n)
+same_cpus n [] (b ∷ now) e a = absurd cc
+same_cpus n (f ∷ first) [] e a = absurd cc
+same_cpus n (f ∷ first) (b ∷ now) e a =
+    let cpu : b.cpu ≡ f.cpu = ap first_cpu e in
+    let more : parts_of now ≡ parts_of first = ap other_parts e in
+    let lt : f.cpu < n = All-head (λ (x : Lane). x.cpu < n) f first a in
+    All-cons (λ (x : Lane). x.cpu < n) b now (omega (arith, cpu, lt)) (same_cpus n first now more (All-tail (λ (x : Lane). x.cpu < n) f first a))
 
 -- THE WHOLE
 
@@ -155,56 +175,63 @@ data_all : (l : Layout) (file : List ℕ) (rules : Rules) (lanes : List Lane) (c
 unfolding data_of
 data_all l file rules lanes cpus rise below = same_data l (taken_of l file rules lanes) cpus 0 lanes rise (λ i d lt. omega arith) (λ i d lt. omega (arith, below i d lt)) (λ c le others. none_else l file rules lanes c others)
 
-pub prepared : (header : Header) (file : List ℕ) (rules : Rules) (first ready now : List Lane) (fronts : List Place) (tallies : List Tally) (table0 table : List Part) (at : ℕ) (ends : Ends)
-    → IsHeader header → CpusRise (parts_of first) → All (λ (a : Lane). a.cpu < header.cpus) first → rows_of header.layout file ready ≡ rows_of header.layout file first → parts_of ready ≡ parts_of first → parts_of now ≡ parts_of ready
-    → All (IsInOrder header.layout) ready → All (IsReady header.layout) ready → All (Stands header.layout file) ready
-    → ((i : ℕ) (d : Lane) (p : Place) → i < length ready → get_or fronts i p ≡ place_in (get_or ready i d))
+pub prepared : (header : Header) (file : List ℕ) (rules : Rules) (first ready now : List ListSeen) (table0 table : List Part) (at : ℕ) (ends : Ends)
+    → IsHeader header → AreLists rules header now → length ready ≡ length first → length now ≡ length ready → EachList ListGoes first ready → EachList ListGoes ready now
+    → All (ListBegun header.layout) ready → EachList (ListDone header.layout) ready now
+    → StaysToCome header.layout file (lanes_of first) (lanes_of ready)
     → at ≡ front_len header % 2 ^ 64 → length table0 ≡ header.cpus
-    → ((xs : List Keyed) (place : ℕ) → at ≡ place % 2 ^ 64 → AreCounted header.layout now tallies xs → table ≡ map in_table (parts_from header.layout place (lists_of (length table0) xs)))
-    → length file < 2 ^ 64
-    → FileMeasured header.layout file rules ready now tallies ends → Prepared header file rules first now (record { fronts = fronts; tallies = tallies; table = table }) ends
+    → ((xs : List Keyed) (place : ℕ) → at ≡ place % 2 ^ 64 → AreCounted header.layout now xs → table ≡ map in_table (parts_from header.layout place (lists_of (length table0) xs)))
+    → length file < 2 ^ 64 → All (Stands header.layout file) (lanes_of first)
+    → FileMeasured header.layout file rules ready now ends → Prepared header file rules first now table ends
 unfolding table_of
-prepared header file rules first ready now fronts tallies table0 table at ends allowed rise below rows parts later order are_ready stands noted place cpus filled small m =
+prepared header file rules first ready now table0 table at ends allowed lists long1 long2 goes1 goes2 begun done stays place cpus filled small stands0 m =
     let l = header.layout in
-    let taken1 = taken_of l file rules ready in
-    let taken = taken_of l file rules first in
-    let same : taken1 ≡ taken = ap (next_file rules.unit) (same_lists l file rules ready first rows) in
-    let few : FewEach ready taken1 = few_each l file ready now taken1 (carried header.layout) small stands m.lefts in
-    let count : AreCounted l now tallies taken = subst (AreCounted l now tallies) same (counted l file rules ready now tallies later m.tallied few) in
+    let taken1 = taken_of l file rules (lanes_of ready) in
+    let taken = taken_of l file rules (lanes_of first) in
+    let same : taken1 ≡ taken = ap (next_file rules.unit) (same_lists l file rules (lanes_of ready) (lanes_of first) stays.rows) in
+    let stands = flat_all (Stands l file) ready (stays.stands stands0) in
+    let few : (k : ℕ) (e : ListSeen) → k < length ready → FewEach (get_or ready k e).all taken1 =
+    λ k e lt. few_each l file (get_or ready k e).all (get_or now k e).all taken1 (carried header.layout) small (stands k e lt) (m.lefts k e lt) in
+    let count : AreCounted l now taken = subst (AreCounted l now) same (counted l file rules ready now long2 goes2 m.tallied few) in
+    let cpus_first : All (λ (a : Lane). a.cpu < header.cpus) (lanes_of now) = lists.cpus in
     record {
-      left = left_still l file rules first ready now now ends rows refl m.left.stands m.left;
-      fronts_are = subst (AreFronts l file now fronts tallies) (ap (owns ready) same ∙ same_owns ready first taken parts)
-          (fronts_all l file ready now fronts tallies taken1 order are_ready stands later noted m.lefts m.tallied few);
+      left = left_still l file rules (lanes_of first) (lanes_of ready) (lanes_of now) (lanes_of now) ends stays.rows refl m.left.stands m.left;
+      fronts_are = λ k e lt.
+          let inside : k < length ready = omega (arith, lt, long2) in
+          let a = get_or ready k e in
+          let b = get_or now k e in
+          let goes = goes2 k e inside in
+          let ready_here = begun k e inside in
+          subst (AreFronts l file b.all b.fronts b.tallies) (ap (owns a.all) same ∙ same_owns a.all b.all taken (sym goes.parts))
+          (fronts_all l file a.all b.all b.fronts b.tallies taken1 ready_here.in_order ready_here.begun.ready (stands k e inside) goes.parts
+          (λ i d p lt2. ap (λ (ps : List Place). get_or ps i p) (done k e inside).fronts ∙ ready_here.begun.noted i d p lt2)
+          (m.lefts k e inside) (m.tallied k e inside) (few k e inside));
       table_is = filled taken (front_len header) place count ∙ ap (λ (n : ℕ). map in_table (parts_from l (front_len header) (lists_of n taken))) cpus;
-      bytes = data_all l file rules first header.cpus rise below;
+      bytes = ap (data_of l) (same_owns (lanes_of now) (lanes_of first) taken (parts_flat ready now long2 goes2 ∙ parts_flat first ready long1 goes1))
+          ∙ data_all l file rules (lanes_of first) header.cpus
+          (subst CpusRise (parts_flat ready now long2 goes2 ∙ parts_flat first ready long1 goes1) lists.rise)
+          (same_cpus header.cpus (lanes_of now) (lanes_of first) (sym (parts_flat ready now long2 goes2 ∙ parts_flat first ready long1 goes1)) lists.cpus);
     }
 
-pub prepared_told : (header : Header) (rules : Rules) (first ready now : List Lane) (fronts : List Place) (tallies0 tallies : List Tally) (table0 table : List Part) (at : ℕ) (ends : Ends) (told now_told : Option (List ℕ)) → now_told ≡ told
-    → IsHeader header → CpusRise (parts_of first) → All (λ (a : Lane). a.cpu < header.cpus) first → parts_of ready ≡ parts_of first → parts_of now ≡ parts_of ready
-    → All (IsInOrder header.layout) ready → All (IsReady header.layout) ready
-    → ((i : ℕ) (d : Lane) (p : Place) → i < length ready → get_or fronts i p ≡ place_in (get_or ready i d))
+pub prepared_told : (header : Header) (rules : Rules) (first ready now : List ListSeen) (table0 table : List Part) (at : ℕ) (ends : Ends) (told now_told : Option (List ℕ)) → now_told ≡ told
+    → IsHeader header → AreLists rules header now → length ready ≡ length first → length now ≡ length ready → EachList ListGoes first ready → EachList ListGoes ready now
+    → All (ListBegun header.layout) ready → EachList (ListDone header.layout) ready now
     → at ≡ front_len header % 2 ^ 64 → length table0 ≡ header.cpus
-    → ((xs : List Keyed) (place : ℕ) → at ≡ place % 2 ^ 64 → AreCounted header.layout now tallies xs → table ≡ map in_table (parts_from header.layout place (lists_of (length table0) xs)))
-    → ((i : ℕ) (t : Tally) → i < length tallies0 → IsTally header.layout (get_or tallies0 i t) [])
-    → IfSome told (λ file. rows_of header.layout file ready ≡ rows_of header.layout file first)
-    → IfSome told (λ file. All (Stands header.layout file) first → All (Stands header.layout file) ready)
-    → IfSome now_told (λ file. All (Stands header.layout file) ready → ((i : ℕ) (t : Tally) → i < length tallies0 → IsTally header.layout (get_or tallies0 i t) []) → FileMeasured header.layout file rules ready now tallies ends)
-    → IfSome told (λ file. All (Stands header.layout file) first → length file < 2 ^ 64
-    → Prepared header file rules first now (record { fronts = fronts; tallies = tallies; table = table }) ends)
-prepared_told header rules first ready now fronts tallies0 tallies table0 table at ends None now_told e allowed rise below parts later order are_ready noted place cpus filled clear rows stands m = tt
-prepared_told header rules first ready now fronts tallies0 tallies table0 table at ends (Some file) now_told e allowed rise below parts later order are_ready noted place cpus filled clear rows stands m = λ s small.
-    let Measures : List ℕ → Type 0 = λ file. All (Stands header.layout file) ready → ((i : ℕ) (t : Tally) → i < length tallies0 → IsTally header.layout (get_or tallies0 i t) []) → FileMeasured header.layout file rules ready now tallies ends in
-    let measured : Measures file = subst (λ (o : Option (List ℕ)). IfSome o Measures) e m in
-    prepared header file rules first ready now fronts tallies table0 table at ends allowed rise below rows parts later order are_ready (stands s) noted place cpus filled small (measured (stands s) clear)
+    → ((xs : List Keyed) (place : ℕ) → at ≡ place % 2 ^ 64 → AreCounted header.layout now xs → table ≡ map in_table (parts_from header.layout place (lists_of (length table0) xs)))
+    → IfSome told (λ file. StaysToCome header.layout file (lanes_of first) (lanes_of ready))
+    → IfSome now_told (λ file. All (Stands header.layout file) (lanes_of ready) → All (ListBegun header.layout) ready → FileMeasured header.layout file rules ready now ends)
+    → IfSome told (λ file. All (Stands header.layout file) (lanes_of first) → length file < 2 ^ 64 → Prepared header file rules first now table ends)
+prepared_told header rules first ready now table0 table at ends None now_told e allowed lists long1 long2 goes1 goes2 begun done place cpus filled stays m = tt
+prepared_told header rules first ready now table0 table at ends (Some file) now_told e allowed lists long1 long2 goes1 goes2 begun done place cpus filled stays m = λ stands small.
+    let measured = subst (λ (o : Option (List ℕ)). IfSome o (λ file. All (Stands header.layout file) (lanes_of ready) → All (ListBegun header.layout) ready → FileMeasured header.layout file rules ready now ends)) e m in
+    prepared header file rules first ready now table0 table at ends allowed lists long1 long2 goes1 goes2 begun done stays place cpus filled small stands (measured (stays.stands stands) begun)
 
--- the lists as they were written back
-pub prepared_back : (header : Header) (rules : Rules) (first now : List Lane) (fronts fronts1 : List Place) (tallies tallies1 : List Tally) (table table1 : List Part) (ends : Ends) (told : Option (List ℕ)) → fronts1 ≡ fronts → tallies1 ≡ tallies → table1 ≡ table
-    → IfSome told (λ file. All (Stands header.layout file) first → length file < 2 ^ 64 → Prepared header file rules first now (record { fronts = fronts; tallies = tallies; table = table }) ends)
-    → IfSome told (λ file. All (Stands header.layout file) first → length file < 2 ^ 64 → Prepared header file rules first now (record { fronts = fronts1; tallies = tallies1; table = table1 }) ends)
-prepared_back header rules first now fronts fronts1 tallies tallies1 table table1 ends told a b c p =
-    let Goal : List Place → List Tally → List Part → Type 0 = λ fs ts ps. IfSome told (λ file. All (Stands header.layout file) first → length file < 2 ^ 64
-    → Prepared header file rules first now (record { fronts = fs; tallies = ts; table = ps }) ends) in
-    subst (λ (fs : List Place). Goal fs tallies1 table1) (sym a) (subst (λ (ts : List Tally). Goal fronts ts table1) (sym b) (subst (λ (ps : List Part). Goal fronts tallies ps) (sym c) p))
+-- with the table as it stands in the work
+pub prepared_back : (header : Header) (rules : Rules) (first now : List ListSeen) (table table1 : List Part) (ends : Ends) (told : Option (List ℕ)) → table1 ≡ table
+    → IfSome told (λ file. All (Stands header.layout file) (lanes_of first) → length file < 2 ^ 64 → Prepared header file rules first now table ends)
+    → IfSome told (λ file. All (Stands header.layout file) (lanes_of first) → length file < 2 ^ 64 → Prepared header file rules first now table1 ends)
+prepared_back header rules first now table table1 ends told is p =
+    subst (λ (ps : List Part). IfSome told (λ file. All (Stands header.layout file) (lanes_of first) → length file < 2 ^ 64 → Prepared header file rules first now ps ends)) (sym is) p
 
 -- WRITING
 

@@ -1,9 +1,10 @@
 -- The parts of a new file, processor after processor.
-use Rattle.std.proofs.Common.{◌≡◌, ℕ, zero, suc, ◌+◌, ◌-◌, ◌*◌, ◌%◌, ◌^◌, ◌<◌, ◌≤◌, eqb, List, [], ◌∷◌, ◌++◌, length, get_or, set, take, map, refl, sym, ap, subst, ◌∙◌, inl, inr, arith}
+use Rattle.std.proofs.Common.{◌≡◌, ℕ, zero, suc, ◌+◌, ◌-◌, ◌*◌, ◌%◌, ◌^◌, ◌<◌, ◌≤◌, ◌⊎◌, eqb, List, [], ◌∷◌, ◌++◌, length, get_or, set, take, map, refl, sym, ap, subst, ◌∙◌, inl, inr, arith}
 use Rattle.std.specs.List.{All, flat_map, range_with_len}
-use Rattle.std.proofs.lemmas.Bool.{cases_Bool, cases_lt, eqb-true, eqb-false}
-use Rattle.std.proofs.lemmas.List.{take_all}
-use Rattle.std.proofs.lemmas.List.Elements.{All-nil, All-cons, All-head, All-tail, All-weaker}
+use Rattle.std.proofs.lemmas.Bool.{cases_Bool, eqb-true, eqb-false}
+use Rattle.std.proofs.lemmas.Grind.{get_or-set_at}
+use Rattle.std.proofs.lemmas.List.{get_or_default, get_or-set_other, take_all}
+use Rattle.std.proofs.lemmas.List.Elements.{All-append, All-nil, All-cons, All-head, All-tail, All-weaker}
 use Rattle.std.proofs.lemmas.List.FromFn.{map-range_with_len_more}
 use Rattle.trace_base.specs.declared.layout.Layout.{Layout}
 use Rattle.trace_base.specs.declared.part.Part.{Part}
@@ -20,7 +21,10 @@ use Rattle.split_passes.specs.AllAgain.{owns}
 use Rattle.split_passes.specs.Tallies.{IsTally}
 use Rattle.split_passes.specs.declared.tally.Tally.{Tally}
 use Rattle.dat_header.specs.Tables.{in_table}
-use Rattle.split_tool.specs.Counted.{lists_of, AreCounted}
+use Rattle.split_passes.specs.ListSeen.{ListSeen}
+use Rattle.split_tool.specs.Counted.{lists_of, AreCounted, IsSized, LanesCounted}
+use Rattle.split_tool.specs.Lists.{lanes_of}
+use Rattle.split_tool.proofs.Flat.{flat_all}
 use Rattle.split_tool.proofs.Owning.{IsAfter, IsNotLane}
 use Rattle.split_passes.proofs.Running.{rises_tail}
 
@@ -153,69 +157,109 @@ same_data l xs (suc n) k (a ∷ lanes) rise least most none = elim (cases_Bool (
       ∙ ap (λ (bytes : List ℕ). bytes ++ more) (sym here)
 ]
 
--- WHICH LANE IS AT HAND
+-- SIZES OF A TABLE
 
-pub default_free : {X : Type 0} (xs : List X) (i : ℕ) (d e : X) → i < length xs → get_or xs i d ≡ get_or xs i e
-default_free [] i d e lt = absurd (omega (arith, lt))
-default_free (x ∷ xs) zero d e lt = refl
-default_free (x ∷ xs) (suc i) d e lt = default_free xs i d e (omega (arith, lt))
+pub want : Layout → List Keyed → ℕ → ℕ
+want l xs c = (length (packed l (items_of_cpu c xs)) * l.page) % 2 ^ 64
 
-pub rise_at : (lanes : List Lane) (i j : ℕ) (d : Lane) → CpusRise (parts_of lanes) → i < j → j < length lanes → (get_or lanes i d).cpu < (get_or lanes j d).cpu
-rise_at [] i j d rise lt inside = absurd (omega (arith, inside))
-rise_at (a ∷ lanes) i zero d rise lt inside = absurd (omega (arith, lt))
-rise_at (a ∷ lanes) zero (suc j) d rise lt inside = after_above a lanes rise j d (omega (arith, inside))
-rise_at (a ∷ lanes) (suc i) (suc j) d rise lt inside = rise_at lanes i j d (rises_tail a lanes rise) (omega (arith, lt)) (omega (arith, inside))
-
--- no lane is this processor's
-pub behind_more : (lanes : List Lane) (next cpu : ℕ) → CpusRise (parts_of lanes) → (next < length lanes → (d : Lane) → (get_or lanes next d).cpu ≡ cpu → ⊥)
-    → ((j : ℕ) (d : Lane) → next ≤ j → j < length lanes → cpu ≤ (get_or lanes j d).cpu) → (j : ℕ) (d : Lane) → next ≤ j → j < length lanes → cpu + 1 ≤ (get_or lanes j d).cpu
-behind_more lanes next cpu rise never behind j d le lt = elim (cases_Bool (eqb j next)) [
-  | inl b ↦
-      let same : j ≡ next = eqb-true j next b in
-      let other : (get_or lanes j d).cpu ≡ cpu → ⊥ = λ e. never (omega (arith, lt, same)) d (ap (λ (k : ℕ). (get_or lanes k d).cpu) (sym same) ∙ e) in
-      let here = behind j d le lt in
-      omega (arith, other, here)
-  | inr b ↦
-      let further : next < j = (let differs : j ≡ next → ⊥ = eqb-false j next b in omega (arith, differs, le)) in
-      omega (arith, rise_at lanes next j d rise further lt, behind next d (omega arith) (omega (arith, further, lt)))
-]
-
-pub behind_lane : (lanes : List Lane) (next cpu : ℕ) → CpusRise (parts_of lanes) → ((d : Lane) → (get_or lanes next d).cpu ≡ cpu) → (j : ℕ) (d : Lane) → next + 1 ≤ j → j < length lanes → cpu + 1 ≤ (get_or lanes j d).cpu
-behind_lane lanes next cpu rise here j d le lt = omega (arith, rise_at lanes next j d rise (omega (arith, le)) lt, here d)
-
-pub before_lane : (lanes : List Lane) (next cpu : ℕ) → ((d : Lane) → (get_or lanes next d).cpu ≡ cpu) → ((j : ℕ) (d : Lane) → j < next → (get_or lanes j d).cpu < cpu)
-    → (j : ℕ) (d : Lane) → j < next + 1 → (get_or lanes j d).cpu < cpu + 1
-before_lane lanes next cpu here before j d lt = elim (cases_Bool (eqb j next)) [
-  | inl b ↦ let same : (get_or lanes j d).cpu ≡ cpu = ap (λ (k : ℕ). (get_or lanes k d).cpu) (eqb-true j next b) ∙ here d in omega (arith, same)
-  | inr b ↦ let differs : j ≡ next → ⊥ = eqb-false j next b in omega (arith, before j d (omega (arith, differs, lt)))
-]
-
-no_lane : (lanes : List Lane) (next cpu : ℕ) → ((j : ℕ) (d : Lane) → j < next → (get_or lanes j d).cpu < cpu) → ((j : ℕ) (d : Lane) → next ≤ j → j < length lanes → cpu + 1 ≤ (get_or lanes j d).cpu)
-    → All (IsNotLane cpu) lanes
-no_lane lanes next cpu before behind j d lt same = elim (cases_lt j next) [
-  | inl less ↦ omega (arith, before j d less, same)
-  | inr le ↦ omega (arith, behind j d le lt, same)
-]
-
-pub filled_empty : (l : Layout) (at cpu next : ℕ) (lanes : List Lane) (tallies : List Tally) (xs : List Keyed) (place : ℕ) (table : List Part) → cpu < length table → CpusRise (parts_of lanes)
-    → (next < length lanes → (d : Lane) → (get_or lanes next d).cpu ≡ cpu → ⊥) → ((j : ℕ) (d : Lane) → j < next → (get_or lanes j d).cpu < cpu) → ((j : ℕ) (d : Lane) → next ≤ j → j < length lanes → cpu ≤ (get_or lanes j d).cpu)
-    → AreCounted l lanes tallies xs → FilledTo l at cpu xs place table → FilledTo l at (cpu + 1) xs place (set table cpu (record { offset = place; size = 0 }))
-filled_empty l at cpu next lanes tallies xs place table lt rise never before behind counted f =
-    let none : items_of_cpu cpu xs ≡ [] = counted.none_else cpu (no_lane lanes next cpu before (behind_more lanes next cpu rise never behind)) in
-    let empty : length (packed l (items_of_cpu cpu xs)) ≡ 0 = ap (λ (ys : List ItemData). length (packed l ys)) none ∙ ap length (packed_nil l) in
+pub none_sized : (l : Layout) (xs : List Keyed) (table : List Part) (c : ℕ) → items_of_cpu c xs ≡ [] → ((p : Part) → (get_or table c p).size ≡ 0) → IsSized l xs table c
+none_sized l xs table c none zeros p =
+    let empty : length (packed l (items_of_cpu c xs)) ≡ 0 = ap (λ (ys : List ItemData). length (packed l ys)) none ∙ ap length (packed_nil l) in
     let zero_size : 0 ≡ (0 * l.page) % 2 ^ 64 = omega arith in
-    let size : 0 ≡ (length (packed l (items_of_cpu cpu xs)) * l.page) % 2 ^ 64 = zero_size ∙ ap (λ (n : ℕ). (n * l.page) % 2 ^ 64) (sym empty) in
-    filled_more l at cpu xs place place 0 table lt size (omega (arith, f.place_is)) f
+    zeros p ∙ zero_size ∙ ap (λ (n : ℕ). (n * l.page) % 2 ^ 64) (sym empty)
 
-pub filled_lane : (l : Layout) (at cpu next : ℕ) (lanes : List Lane) (tallies : List Tally) (t : Tally) (pages : ℕ) (xs : List Keyed) (place after size : ℕ) (table : List Part) → cpu < length table → next < length lanes
-    → ((d : Lane) → (get_or lanes next d).cpu ≡ cpu) → t ≡ get_or tallies next t → ((ys : List ItemData) → length ys < 2 ^ 63 → IsTally l t ys → pages ≡ length (packed l ys)) → size ≡ (pages * l.page) % 2 ^ 64 → after ≡ (place + size) % 2 ^ 64
-    → AreCounted l lanes tallies xs → FilledTo l at cpu xs place table → FilledTo l at (cpu + 1) xs after (set table cpu (record { offset = place; size = size }))
-filled_lane l at cpu next [] tallies t pages xs place after size table lt inside here is known size_is after_is counted f = absurd (omega (arith, inside))
-filled_lane l at cpu next (a ∷ lanes) tallies t pages xs place after size table lt inside here is known size_is after_is counted f =
-    let told : (length (items_of_cpu cpu xs) < 2 ^ 63) × IsTally l (get_or tallies next t) (items_of_cpu cpu xs) =
-    subst (λ (c : ℕ). (length (items_of_cpu c xs) < 2 ^ 63) × IsTally l (get_or tallies next t) (items_of_cpu c xs)) (here a) (counted.tallied next a t inside) in
-    let count : pages ≡ length (packed l (items_of_cpu cpu xs)) = known (items_of_cpu cpu xs) told.0 (subst (λ (u : Tally). IsTally l u (items_of_cpu cpu xs)) (sym is) told.1) in
-    filled_more l at cpu xs place after size table lt (size_is ∙ ap (λ (n : ℕ). (n * l.page) % 2 ^ 64) count) after_is f
+pub sized_there : (l : Layout) (xs : List Keyed) (table : List Part) (c : ℕ) (part : Part) → c < length table → part.size ≡ (length (packed l (items_of_cpu c xs)) * l.page) % 2 ^ 64 → IsSized l xs (set table c part) c
+sized_there l xs table c part lt is p = ap (λ (q : Part). q.size) (get_or-set_at table c c part p refl lt) ∙ is
+
+pub sized_still : (l : Layout) (xs : List Keyed) (table : List Part) (c e : ℕ) (part : Part) → c < length table → part.size ≡ (length (packed l (items_of_cpu c xs)) * l.page) % 2 ^ 64 → IsSized l xs table e → IsSized l xs (set table c part) e
+sized_still l xs table c e part lt is sized = elim (cases_Bool (eqb e c)) [
+  | inl b ↦ let same : e ≡ c = eqb-true e c b in subst (IsSized l xs (set table c part)) (sym same) (sized_there l xs table c part lt is)
+  | inr b ↦ λ p. ap (λ (q : Part). q.size) (get_or-set_other table c e part p (eqb-false e c b)) ∙ sized p
+]
+
+pub cleared_more : (table : List Part) (i : ℕ) → i < length table → ((j : ℕ) (p : Part) → j < i → (get_or table j p).size ≡ 0)
+    → (j : ℕ) (p : Part) → j < i + 1 → (get_or (set table i (record { offset = 0; size = 0 })) j p).size ≡ 0
+cleared_more table i lt none j p inside = elim (cases_Bool (eqb j i)) [
+  | inl b ↦ ap (λ (q : Part). q.size) (get_or-set_at table i j (record { offset = 0; size = 0 }) p (eqb-true j i b) lt)
+  | inr b ↦
+      let other = eqb-false j i b in
+      ap (λ (q : Part). q.size) (get_or-set_other table i j (record { offset = 0; size = 0 }) p other) ∙ none j p (omega (arith, inside, other))
+]
+
+-- the size of the lane at hand
+pub lane_size : (l : Layout) (lanes : List Lane) (tallies : List Tally) (xs : List Keyed) (i : ℕ) (a : Lane) (t : Tally) (pages : ℕ) → i < length lanes → a ≡ get_or lanes i a → t ≡ get_or tallies i t
+    → ((ys : List ItemData) → length ys < 2 ^ 63 → IsTally l t ys → pages ≡ length (packed l ys)) → LanesCounted l lanes tallies xs
+    → (pages * l.page) % 2 ^ 64 ≡ (length (packed l (items_of_cpu a.cpu xs)) * l.page) % 2 ^ 64
+lane_size l lanes tallies xs i a t pages lt here is known counted =
+    let told : (length (items_of_cpu a.cpu xs) < 2 ^ 63) × IsTally l t (items_of_cpu a.cpu xs) =
+    subst (λ (b : Lane). (length (items_of_cpu b.cpu xs) < 2 ^ 63) × IsTally l t (items_of_cpu b.cpu xs)) (sym here)
+    (subst (λ (u : Tally). (length (items_of_cpu (get_or lanes i a).cpu xs) < 2 ^ 63) × IsTally l u (items_of_cpu (get_or lanes i a).cpu xs)) (sym is) (counted i a t lt)) in
+    ap (λ (n : ℕ). (n * l.page) % 2 ^ 64) (known (items_of_cpu a.cpu xs) told.0 told.1)
+
+-- THE LIST AT HAND
+
+pub lanes_at : (P : Lane → Type 0) (lists : List ListSeen) (i : ℕ) (x : ListSeen) (lanes : List Lane) → All P (lanes_of lists) → i < length lists → x ≡ get_or lists i x → lanes ≡ x.all → All P lanes
+lanes_at P lists i x lanes all lt is same = subst (All P) (sym same) (subst (λ (y : ListSeen). All P y.all) (sym is) (flat_all P lists all i x lt))
+
+pub same_lanes : (lists : List ListSeen) (i k : ℕ) (x e : ListSeen) (lanes : List Lane) → k ≡ i → i < length lists → x ≡ get_or lists i x → lanes ≡ x.all → lanes ≡ (get_or lists k e).all
+same_lanes lists i k x e lanes same lt is lanes_are =
+    lanes_are ∙ ap (λ (y : ListSeen). y.all) (is ∙ get_or_default lists i x e lt ∙ ap (λ (n : ℕ). get_or lists n e) (sym same))
+
+pub counted_at : (l : Layout) (lists : List ListSeen) (xs : List Keyed) (i : ℕ) (x y : ListSeen) (lanes : List Lane) (tallies : List Tally) → AreCounted l lists xs → i < length lists → x ≡ get_or lists i x → y ≡ get_or lists i y
+    → lanes ≡ x.all → tallies ≡ y.tallies → LanesCounted l lanes tallies xs
+counted_at l lists xs i x y lanes tallies counted lt is is2 lanes_are tallies_are =
+    let all : lanes ≡ (get_or lists i x).all = lanes_are ∙ ap (λ (z : ListSeen). z.all) is in
+    let own : tallies ≡ (get_or lists i x).tallies = tallies_are ∙ ap (λ (z : ListSeen). z.tallies) (is2 ∙ get_or_default lists i y x lt) in
+    subst (λ (ls : List Lane). LanesCounted l ls tallies xs) (sym all) (subst (λ (ts : List Tally). LanesCounted l (get_or lists i x).all ts xs) (sym own) (counted.tallied i x lt))
+
+-- WHETHER A PROCESSOR HAS A LANE
+
+pub record InLanes (c : ℕ) (lanes : List Lane) : Type 0 where
+  pub i : ℕ
+  pub inside : i < length lanes
+  pub is : (d : Lane) → (get_or lanes i d).cpu ≡ c
+
+lane_or_none : (c : ℕ) (lanes : List Lane) → InLanes c lanes ⊎ All (IsNotLane c) lanes
+lane_or_none c [] = inr (All-nil (IsNotLane c))
+lane_or_none c (a ∷ lanes) = elim (cases_Bool (eqb a.cpu c)) [
+  | inl b ↦ inl (record { i = 0; inside = omega arith; is = λ d. eqb-true a.cpu c b })
+  | inr b ↦ elim (lane_or_none c lanes) [
+    | inl found ↦ inl (record { i = suc found.i; inside = let lt = found.inside in omega (arith, lt); is = found.is })
+    | inr none ↦ inr (All-cons (IsNotLane c) a lanes (eqb-false a.cpu c b) none)
+  ]
+]
+
+pub record InLists (c : ℕ) (lists : List ListSeen) : Type 0 where
+  pub k : ℕ
+  pub inside : k < length lists
+  pub lane : (e : ListSeen) → InLanes c (get_or lists k e).all
+
+pub list_or_none : (c : ℕ) (lists : List ListSeen) → InLists c lists ⊎ All (IsNotLane c) (lanes_of lists)
+list_or_none c [] = inr (All-nil (IsNotLane c))
+list_or_none c (x ∷ lists) = elim (lane_or_none c x.all) [
+  | inl found ↦ inl (record { k = 0; inside = omega arith; lane = λ e. found })
+  | inr none ↦ elim (list_or_none c lists) [
+    | inl found ↦ inl (record { k = suc found.k; inside = let lt = found.inside in omega (arith, lt); lane = found.lane })
+    | inr others ↦ inr (All-append (IsNotLane c) x.all (lanes_of lists) none others)
+  ]
+]
+
+-- once all lists told their sizes, the table has those of all processors
+pub all_sized : (l : Layout) (lists : List ListSeen) (xs : List Keyed) (table : List Part) (n : ℕ) → length lists ≤ n → AreCounted l lists xs
+    → ((k : ℕ) (e : ListSeen) (i : ℕ) (d : Lane) → k < n → k < length lists → i < length (get_or lists k e).all → IsSized l xs table (get_or (get_or lists k e).all i d).cpu)
+    → ((c : ℕ) → c < length table → items_of_cpu c xs ≡ [] → IsSized l xs table c) → (c : ℕ) → c < length table → IsSized l xs table c
+all_sized l [] xs table n enough counted puts zeros c lt = zeros c lt (counted.none_else c (All-nil (IsNotLane c)))
+all_sized l (x ∷ more) xs table n enough counted puts zeros c lt = elim (list_or_none c (x ∷ more)) [
+  | inl found ↦
+      let lane = found.lane x in
+      let lt2 = found.inside in
+      by_lane (get_or (x ∷ more) found.k x).all lane.i lane.inside lane.is (λ d. puts found.k x lane.i d (omega (arith, lt2, enough)) lt2 lane.inside)
+  | inr none ↦ zeros c lt (counted.none_else c none)
+]
+  where
+    by_lane : (lanes : List Lane) (i : ℕ) → i < length lanes → ((d : Lane) → (get_or lanes i d).cpu ≡ c) → ((d : Lane) → IsSized l xs table (get_or lanes i d).cpu) → IsSized l xs table c
+    by_lane [] i inside is sized = absurd (omega (arith, inside))
+    by_lane (a ∷ lanes) i inside is sized = subst (IsSized l xs table) (is a) (sized a)
 
 pub all_filled : (l : Layout) (at n : ℕ) (xs : List Keyed) (place : ℕ) (table old : List Part) → length table ≡ length old → length old ≤ n → n ≤ length old → FilledTo l at n xs place table → table ≡ map in_table (parts_from l at (lists_of (length old) xs))
 all_filled l at n xs place table old same le ge f =

@@ -2,6 +2,7 @@ pub mod Names
 pub mod NewFile
 pub mod Counted
 pub mod Lists
+pub mod Going
 pub mod Made
 pub mod Measured
 pub mod NewFiles

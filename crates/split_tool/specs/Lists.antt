@@ -1,5 +1,6 @@
 -- The lists that a split cuts, as rows of lanes have them left.
-use Rattle.std.specs.Prelude.{ℕ, Bool, ◌&&◌, ◌||◌, not, if◌then◌else◌, List, [], ◌∷◌, map, filter_map, slice_get, Option, None, option_map}
+use Rattle.std.specs.Prelude.{◌≡◌, ℕ, ◌<◌, Bool, true, false, ◌&&◌, ◌||◌, not, if◌then◌else◌, List, [], ◌∷◌, length, map, filter_map, slice_get, slice_index_or, Option, None, option_map}
+use Rattle.std.specs.List.{All, flat_map}
 use Rattle.trace_base.specs.declared.layout.Layout.{Layout}
 use Rattle.subpage.specs.Arrangement.{Keyed, key_of, cpu_of}
 use Rattle.subpage.specs.CutPlaces.{place_of}
@@ -10,6 +11,7 @@ use Rattle.time_merge.specs.LaneRows.{rows_of}
 use Rattle.word_values.specs.declared.moment.Moment.{Moment}
 use Rattle.split_pieces.specs.declared.rules.Rules.{Rules}
 use Rattle.split_pieces.specs.Cuts.{is_apart}
+use Rattle.split_passes.specs.ListSeen.{ListSeen}
 use Rattle.split_pieces.specs.Pieces.{up_to_end, has_end, unit_closes, next_file, behind_file, files_left}
 
 -- FILES OF LISTS THAT ARE LEFT
@@ -51,3 +53,18 @@ lists_left layout file rules lanes = map (left_in_rows rules.stop) (groups rules
 -- and the first malformed sub-buffer that one of them leads to
 abbrev pub bad_left : Layout → List ℕ → Rules → List Lane → Option CutPlace
 bad_left layout file rules lanes = slice_get (filter_map (bad_in_rows rules) (groups rules (rows_of layout file lanes))) 0
+
+-- LISTS OF LANES
+
+-- the lanes of all lists
+abbrev pub lanes_of : List ListSeen → List Lane
+lanes_of lists = flat_map (λ list. list.all) lists
+
+-- all lanes are one list, or each is one by itself
+abbrev pub AreGroups : Bool → List ListSeen → Type 0
+AreGroups true lists = All (λ list. length list.all ≡ 1) lists
+AreGroups false lists = length lists ≡ 1
+
+-- of each list, before and now
+abbrev pub EachList : (ListSeen → ListSeen → Type 0) → List ListSeen → List ListSeen → Type 0
+EachList P before now = (i : ℕ) (d : ListSeen) → i < length before → P (slice_index_or before i d) (slice_index_or now i d)

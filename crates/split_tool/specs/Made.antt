@@ -1,5 +1,5 @@
 -- One new file on its way.
-use Rattle.std.specs.Prelude.{◌≡◌, ◌≤◌, ◌⊎◌, ℕ, List, [], ◌∷◌, ◌++◌, map, IfErr, IfSome, MatchResult, Option, Result, Some, Ok, Err}
+use Rattle.std.specs.Prelude.{◌≡◌, ◌<◌, ◌≤◌, ◌⊎◌, ℕ, List, [], ◌∷◌, ◌++◌, length, map, slice_index_or, IfErr, IfSome, MatchResult, Option, Result, Some, Ok, Err}
 use Rattle.std.specs.List.{All}
 use Rattle.std.specs.FinMap.{insert}
 use Rattle.trace_base.specs.declared.part.Part.{Part}
@@ -10,16 +10,17 @@ use Rattle.trace_outside.specs.Seen.{FolderSeen}
 use Rattle.trace_outside.specs.Writing.{Gained}
 use Rattle.dat_header.specs.declared.header.Header.{Header}
 use Rattle.subpage.specs.ItemData.{ItemData}
+use Rattle.subpage.specs.Arrangement.{Keyed}
+use Rattle.trace_base.specs.declared.layout.Layout.{Layout}
 use Rattle.page_pool.specs.declared.lane.Lane.{Lane}
 use Rattle.page_write.specs.Placed.{data_of}
 use Rattle.event_cursor.specs.Standing.{Stands}
-use Rattle.event_cursor.specs.declared.places.Place.{Place}
 use Rattle.time_merge.specs.LaneRows.{rows_of}
 use Rattle.time_merge.specs.declared.ending.End.TheVariants as code
 use Rattle.split_pieces.specs.declared.rules.Rules.{Rules}
 use Rattle.split_passes.specs.AllAgain.{AreFronts, TellsHeld, owns}
 use Rattle.split_passes.specs.Outputs.{LanesOutput}
-use Rattle.split_passes.specs.declared.tally.Tally.{Tally}
+use Rattle.split_passes.specs.ListSeen.{ListSeen}
 use Rattle.dat_header.specs.Tables.{in_table}
 use Rattle.new_files.specs.Requested.{AskedAll}
 use Rattle.new_files.specs.Stored.{IsUnmade, KeepsCounts}
@@ -28,6 +29,7 @@ use Rattle.split_tool.specs.declared.lists.Ends.{Ends}
 use Rattle.split_tool.specs.declared.unmade.Unmade.{Unmade}
 use Rattle.split_tool.specs.declared.unmade.Unmade.TheVariants as unmade
 use Rattle.split_tool.specs.Counted.{lists_of}
+use Rattle.split_tool.specs.Lists.{lanes_of}
 use Rattle.split_tool.specs.Measured.{FileLeft, taken_of}
 use Rattle.split_tool.specs.NewFiles.{LeavesUnfinished}
 use Rattle.split_tool.specs.Unmaking.{ending_of}
@@ -36,19 +38,21 @@ use Rattle.split_tool.specs.Unmaking.{ending_of}
 abbrev pub next_text : Header → List ℕ → Rules → List Lane → List ℕ
 next_text header file rules lanes = file_text header (lists_of header.cpus (taken_of header.layout file rules lanes))
 
--- what the second pass goes by: where each lane's items begin, how many they are, and the file's table
-pub record Noted : Type 0 where
-  pub fronts : List Place
-  pub tallies : List Tally
-  pub table : List Part
+abbrev pub OwnFronts : Layout → List ℕ → ListSeen → List Keyed → Type 0
+OwnFronts layout file list taken = AreFronts layout file list.all list.fronts list.tallies (owns list.all taken)
+
+-- these items stand between the places where the piece begins and the lanes, each lane's own
+abbrev pub AreFrontsOf : Layout → List ℕ → List ListSeen → List Keyed → Type 0
+AreFrontsOf layout file lists taken =
+    (k : ℕ) (e : ListSeen) → k < length lists → OwnFronts layout file (slice_index_or lists k e) taken
 
 -- a file was measured, and its table is known, whose numbers are told modulo 2^64
-pub record Prepared (header : Header) (file : List ℕ) (rules : Rules) (first now : List Lane) (noted : Noted) (ends : Ends) : Type 0 where
-  pub left : FileLeft header.layout file rules first now ends
-  pub fronts_are : AreFronts header.layout file now noted.fronts noted.tallies (owns first (taken_of header.layout file rules first))
-  pub table_is : noted.table ≡ map in_table (table_of header (lists_of header.cpus (taken_of header.layout file rules first)))
-  pub bytes : data_of header.layout (owns first (taken_of header.layout file rules first))
-      ≡ data_of header.layout (lists_of header.cpus (taken_of header.layout file rules first))
+pub record Prepared (header : Header) (file : List ℕ) (rules : Rules) (first now : List ListSeen) (table : List Part) (ends : Ends) : Type 0 where
+  pub left : FileLeft header.layout file rules (lanes_of first) (lanes_of now) ends
+  pub fronts_are : AreFrontsOf header.layout file now (taken_of header.layout file rules (lanes_of first))
+  pub table_is : table ≡ map in_table (table_of header (lists_of header.cpus (taken_of header.layout file rules (lanes_of first))))
+  pub bytes : data_of header.layout (owns (lanes_of now) (taken_of header.layout file rules (lanes_of first)))
+      ≡ data_of header.layout (lists_of header.cpus (taken_of header.layout file rules (lanes_of first)))
 
 -- a file was written
 pub record Written (header : Header) (file : List ℕ) (table : List Part) (lists : List (List ItemData)) (before now : LanesOutput) : Type 0 where

@@ -11,12 +11,13 @@ use Rattle.time_merge.specs.LaneRows.{rows_of}
 use Rattle.split_pieces.specs.declared.rules.Rules.{Rules}
 use Rattle.split_pieces.specs.Cuts.{items_of_cpu}
 use Rattle.split_pieces.specs.Pieces.{piece, rest, is_some_left, joined_lists, next_file, behind_file}
+use Rattle.split_passes.specs.ListSeen.{ListSeen}
 use Rattle.split_passes.specs.declared.tally.Tally.{Tally}
 use Rattle.split_passes.specs.declared.measuring.PieceEnd.{PieceEnd}
 use Rattle.split_passes.specs.declared.measuring.PieceEnd.TheVariants as code
 use Rattle.split_passes.specs.Measures.{Passed, Tallied}
 use Rattle.split_tool.specs.declared.lists.Ends.{Ends}
-use Rattle.split_tool.specs.Lists.{left_in_rows, bad_in_rows, lists_left, bad_left}
+use Rattle.split_tool.specs.Lists.{EachList, lanes_of, left_in_rows, bad_in_rows, lists_left, bad_left}
 
 abbrev pub is_full : PieceEnd → Bool
 is_full code.Full = true
@@ -70,10 +71,15 @@ pub record FileLeft (layout : Layout) (file : List ℕ) (rules : Rules) (first n
   pub bad_ends : (ends.more && rules.repeat) ≡ false → ends.bad ≡ bad_left layout file rules first
   pub bad : rules.repeat ≡ true → bad_left layout file rules now ≡ bad_left layout file rules first
 
+-- each lane of a list went on behind its own of these items
+abbrev pub OwnBehind : Layout → List ℕ → List Keyed → List Lane → List Lane → Type 0
+OwnBehind layout file taken first now =
+    (i : ℕ) (d : Lane) → i < length first
+    → left_of layout file (slice_index_or first i d)
+    ≡ items_of_cpu (slice_index_or first i d).cpu taken ++ left_of layout file (slice_index_or now i d)
+
 -- the pieces of all lists were taken: each lane went on behind its own items of them, and they were tallied
-pub record FileMeasured (layout : Layout) (file : List ℕ) (rules : Rules) (first now : List Lane) (tallies : List Tally) (ends : Ends) : Type 0 where
-  pub left : FileLeft layout file rules first now ends
-  pub lefts : (i : ℕ) (d : Lane) → i < length first
-      → left_of layout file (slice_index_or first i d)
-      ≡ items_of_cpu (slice_index_or first i d).cpu (taken_of layout file rules first) ++ left_of layout file (slice_index_or now i d)
-  pub tallied : Tallied layout first (taken_of layout file rules first) tallies
+pub record FileMeasured (layout : Layout) (file : List ℕ) (rules : Rules) (first now : List ListSeen) (ends : Ends) : Type 0 where
+  pub left : FileLeft layout file rules (lanes_of first) (lanes_of now) ends
+  pub lefts : EachList (λ before after. OwnBehind layout file (taken_of layout file rules (lanes_of first)) before.all after.all) first now
+  pub tallied : EachList (λ before after. Tallied layout before.all (taken_of layout file rules (lanes_of first)) after.tallies) first now

@@ -7,6 +7,8 @@ use Rattle.page_pool.specs.declared.cursor.LaneState.{LaneState}
 use Rattle.page_pool.specs.declared.cursor.LaneState.TheVariants.{Fresh, Held, Ended, Malformed}
 use Rattle.event_cursor.specs.Unread.{size_from}
 use Rattle.time_merge.specs.Reads.{all_unread}
+use Rattle.split_passes.specs.ListSeen.{ListSeen}
+use Rattle.split_passes.specs.Reads.{all_packing}
 
 -- the first sub-buffer that a second pass may still go back to
 abbrev pub first_again : LaneState → ℕ → ℕ
@@ -27,6 +29,10 @@ all_again layout len lanes = sum_by (again layout len) lanes
 -- both passes of all further files
 abbrev pub to_read : Layout → ℕ → List Lane → ℕ
 to_read layout len lanes = all_unread layout len lanes + all_again layout len lanes
+
+-- what packing the pieces of lists reads
+abbrev pub lists_packing : Layout → ℕ → List ListSeen → ℕ
+lists_packing layout len lists = sum_by (λ list. all_packing layout len list.all list.fronts list.tallies) lists
 
 -- of what might be read so much is left, and no more than the rest of it was read
 pub record Spent (most left before now : ℕ) : Type 0 where

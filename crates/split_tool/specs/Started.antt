@@ -1,21 +1,15 @@
 -- Lanes after the items before the start.
-use Rattle.std.specs.Prelude.{◌≡◌, ℕ, List, map, Option}
+use Rattle.std.specs.Prelude.{◌≡◌, ℕ, List, map}
 use Rattle.std.specs.List.{All}
 use Rattle.trace_base.specs.declared.layout.Layout.{Layout}
 use Rattle.page_pool.specs.declared.lane.Lane.{Lane}
 use Rattle.event_cursor.specs.Standing.{Stands}
 use Rattle.time_merge.specs.LaneRows.{rows_of}
-use Rattle.word_values.specs.declared.moment.Moment.{Moment}
 use Rattle.split_pieces.specs.declared.rules.Rules.{Rules}
 use Rattle.split_pieces.specs.Pieces.{from_start}
 use Rattle.split_tool.specs.Lists.{groups, come_of}
 
--- the lanes of one list have left what stands not before the start
-pub record ListStarted (layout : Layout) (file : List ℕ) (start : Option Moment) (before now : List Lane) : Type 0 where
-  pub stands : All (Stands layout file) now
-  pub come : come_of (rows_of layout file now) ≡ from_start start (come_of (rows_of layout file before))
-
--- those of every list have
+-- those of every list have left what stands not before the start
 pub record Started (layout : Layout) (file : List ℕ) (rules : Rules) (before now : List Lane) : Type 0 where
   pub stands : All (Stands layout file) now
   pub come : map come_of (groups rules (rows_of layout file now))

@@ -1,25 +1,32 @@
 // The lists that one file takes its pieces of.
 
-ghost use Rattle.std.specs.Prelude.{◌≡◌, ◌-◌, ◌≤◌, ◌&&◌, ◌||◌, false, not, [], All, IfOk, IfSome, None, OnOk, length};
+ghost use Rattle.std.specs.Prelude.{◌≡◌, ◌-◌, ◌≤◌, ◌&&◌, ◌||◌, false, not, List, [], All, IfOk, IfSome, None, OnOk, length};
 ghost use Rattle.std.specs.Option.{option_or};
-ghost use Rattle.trace_outside.specs.Causes.{HasCause, raised};
-ghost use Rattle.subpage.specs.Arrangement.{CpusRise};
-ghost use Rattle.event_cursor.specs.Standing.{IsInOrder, Stands};
-ghost use Rattle.time_merge.specs.LaneRows.{IsReady, parts_of};
+ghost use Rattle.trace_outside.specs.Causes.{HasCause, Rose, raised};
+ghost use Rattle.trace_outside.specs.Keeping.{KeepsFile, KeepsSink};
+ghost use Rattle.subpage.specs.Arrangement.{Keyed};
+ghost use Rattle.event_cursor.specs.Standing.{Stands};
+ghost use Rattle.time_merge.specs.LaneRows.{IsReady};
 ghost use Rattle.time_merge.specs.Reads.{all_unread};
 ghost use Rattle.split_pieces.specs.Gauging.{closes_by};
+ghost use Rattle.split_passes.specs.AllAgain.{IsPackedAll, TellsHeld, owns};
 ghost use Rattle.split_passes.specs.Measures.{SkipsOver, Tallied};
-ghost use Rattle.split_passes.specs.Tallies.{IsTally};
+ghost use Rattle.split_passes.specs.Packs.{GainsSome};
+ghost use Rattle.split_passes.specs.Reads.{numbers_of};
 ghost use Rattle.split_passes.specs.Through.{GoThrough};
+ghost use Rattle.split_tool.specs.Going.{KeepsList, ListBegun, ListDone, ListsGo, StaysToCome};
+ghost use Rattle.split_tool.specs.Lists.{EachList, lanes_of};
+ghost use Rattle.split_tool.specs.Made.{AreFrontsOf};
 ghost use Rattle.split_tool.specs.Measured.{FileMeasured, ListMeasured, bad_of_end, is_full};
+ghost use Rattle.split_tool.specs.Reads.{lists_packing};
+ghost use Rattle.split_tool.specs.Work.{AreLists};
 
-use page_pool::Lane;
-use split_passes::{PieceEnd, Tally, measure};
+use crate::splitting::SplitPlan;
+use split_passes::{LaneList, PieceEnd};
 use split_pieces::{Gauge, Rules};
 use subpage::CutPlace;
-use tournament_tree::TournamentTree;
-use trace_base::Layout;
-use trace_outside::{Failed, File};
+use time_merge::End;
+use trace_outside::{Failed, File, Sink};
 
 /// What is left after a file's pieces.
 #[derive(Clone, Copy, Debug, PartialEq, Eq)]
@@ -91,82 +98,115 @@ fn is_closed(repeat: bool, gauge: &Gauge) -> bool
 
 // Measures the piece of one list.
 fn measure_list<F: File>(
-    layout: &Layout,
-    file: &mut F,
-    lanes: &mut [Lane],
     rules: &Rules,
-    tallies: &mut [Tally],
-    nexts: &mut TournamentTree,
+    file: &mut F,
+    list: &mut LaneList,
     before: Ends,
 ) -> Result<Ends, Failed>
-    requires in_order { All (IsInOrder layout.now) lanes.old }
-    requires rise { CpusRise (parts_of lanes.old) }
-    requires slots { length nexts.old ≡ length lanes.old }
-    requires long { length tallies.old ≡ length lanes.old }
-    ensures through { GoThrough F.File layout.now file.old file.new lanes.old lanes.new }
-    ensures slots { length nexts.new ≡ length nexts.old }
-    ensures long { length tallies.new ≡ length lanes.new }
-    ensures told { IfOk result (λ ends. IfSome (F.bytes file.old) (λ bytes. All (Stands layout.now bytes) lanes.old
-        → Tallied layout.now lanes.old [] tallies.old
-        → ListMeasured layout.now bytes rules.now (record { lanes = lanes.old; ends = before })
-        (record { lanes = lanes.new; ends = ends }) tallies.new)) }
-    ensures ready { OnOk result (All (IsReady layout.now) lanes.new) }
-    ensures over { SkipsOver lanes.old tallies.old tallies.new }
+    ensures layout { list.new.layout ≡ list.old.layout }
+    ensures fronts { list.new.fronts ≡ list.old.fronts }
+    ensures through { GoThrough F.File list.old.layout file.old file.new list.old.all list.new.all }
+    ensures long { length list.new.tallies ≡ length list.new.all }
+    ensures told { IfOk result (λ ends. IfSome (F.bytes file.old) (λ bytes. All (Stands list.old.layout bytes) list.old.all
+        → Tallied list.old.layout list.old.all [] list.old.tallies
+        → ListMeasured list.old.layout bytes rules.now (record { lanes = list.old.all; ends = before })
+        (record { lanes = list.new.all; ends = ends }) list.new.tallies)) }
+    ensures ready { OnOk result (All (IsReady list.old.layout) list.new.all) }
+    ensures over { SkipsOver list.old.all list.old.tallies list.new.tallies }
     ensures reads_done { OnOk result (F.reads file.new ≤ raised (F.reads file.old)
-        (all_unread layout.now (F.size file.old) lanes.old - all_unread layout.now (F.size file.old) lanes.new)) }
+        (all_unread list.old.layout (F.size file.old) list.old.all - all_unread list.old.layout (F.size file.old) list.new.all)) }
     ensures cause { HasCause (F.faults file.old) (F.faults file.new) result }
 {
     let mut gauge = Gauge::new(rules.unit);
-    let end = measure(layout, file, lanes, rules.stop, &mut gauge, tallies, nexts)?;
+    let end = list.measure(file, rules.stop, &mut gauge)?;
     let closed = is_closed(rules.repeat, &gauge);
     Ok(before.and(end, closed))
 }
 
-/// Measures the pieces of a file: of all lanes as one list, or of each by itself.
+/// Measures the pieces of a file, list by list.
 ///
 /// # Errors
 /// `Failed` where a read failed.
 pub(crate) fn measure_lists<F: File>(
-    layout: &Layout,
+    plan: &SplitPlan<'_>,
     file: &mut F,
-    lanes: &mut [Lane],
-    rules: &Rules,
-    tallies: &mut [Tally],
-    nexts: &mut TournamentTree,
-    next: &mut TournamentTree,
+    lists: &mut [LaneList],
 ) -> Result<Ends, Failed>
-    requires in_order { All (IsInOrder layout.now) lanes.old }
-    requires rise { CpusRise (parts_of lanes.old) }
-    requires slots { length nexts.old ≡ length lanes.old }
-    requires slot { length next.old ≡ 1 }
-    requires long { length tallies.old ≡ length lanes.old }
-    ensures through { GoThrough F.File layout.now file.old file.new lanes.old lanes.new }
-    ensures slots { length nexts.new ≡ length nexts.old }
-    ensures slot { length next.new ≡ 1 }
-    ensures long { length tallies.new ≡ length lanes.new }
-    ensures told { IfOk result (λ ends. IfSome (F.bytes file.old) (λ bytes. All (Stands layout.now bytes) lanes.old
-        → All (λ tally. IsTally layout.now tally []) tallies.old
-        → FileMeasured layout.now bytes rules.now lanes.old lanes.new tallies.new ends)) }
-    ensures ready { OnOk result (All (IsReady layout.now) lanes.new) }
-    ensures over { SkipsOver lanes.old tallies.old tallies.new }
+    requires { AreLists plan.now.rules plan.now.header.now lists.old }
+    ensures go { ListsGo F.File plan.now.header.now.layout file.old file.new lists.old lists.new }
+    ensures told { IfOk result (λ ends. IfSome (F.bytes file.old) (λ bytes. All (Stands plan.now.header.now.layout bytes) (lanes_of lists.old)
+        → All (ListBegun plan.now.header.now.layout) lists.old
+        → FileMeasured plan.now.header.now.layout bytes plan.now.rules lists.old lists.new ends)) }
+    ensures done { OnOk result (EachList (ListDone plan.now.header.now.layout) lists.old lists.new) }
     ensures reads_done { OnOk result (F.reads file.new ≤ raised (F.reads file.old)
-        (all_unread layout.now (F.size file.old) lanes.old - all_unread layout.now (F.size file.old) lanes.new)) }
+        (all_unread plan.now.header.now.layout (F.size file.old) (lanes_of lists.old)
+        - all_unread plan.now.header.now.layout (F.size file.old) (lanes_of lists.new))) }
     ensures cause { HasCause (F.faults file.old) (F.faults file.new) result }
 {
-    if !rules.is_apart() {
-        return measure_list(layout, file, lanes, rules, tallies, nexts, Ends::none());
-    }
     let mut ends = Ends::none();
-    for i in 0..lanes.len() {
-        ends = measure_list(
-            layout,
-            file,
-            &mut lanes[i..i + 1],
-            rules,
-            &mut tallies[i..i + 1],
-            next,
-            ends,
-        )?;
+    for i in 0..lists.len() {
+        ends = measure_list(&plan.rules, file, &mut lists[i], ends)?;
     }
     Ok(ends)
+}
+
+/// Makes each list ready for its next piece.
+///
+/// # Errors
+/// `Failed` where a read failed.
+pub(crate) fn begin_lists<F: File>(
+    plan: &SplitPlan<'_>,
+    file: &mut F,
+    lists: &mut [LaneList],
+) -> Result<(), Failed>
+    requires { AreLists plan.now.rules plan.now.header.now lists.old }
+    ensures go { ListsGo F.File plan.now.header.now.layout file.old file.new lists.old lists.new }
+    ensures begun { OnOk result (All (ListBegun plan.now.header.now.layout) lists.new) }
+    ensures told { OnOk result (IfSome (F.bytes file.old) (λ bytes.
+        StaysToCome plan.now.header.now.layout bytes (lanes_of lists.old) (lanes_of lists.new))) }
+    ensures reads_done { OnOk result (F.reads file.new ≤ raised (F.reads file.old)
+        (all_unread plan.now.header.now.layout (F.size file.old) (lanes_of lists.old)
+        - all_unread plan.now.header.now.layout (F.size file.old) (lanes_of lists.new))) }
+    ensures cause { HasCause (F.faults file.old) (F.faults file.new) result }
+{
+    for i in 0..lists.len() {
+        lists[i].begin(file)?;
+    }
+    Ok(())
+}
+
+/// Packs the pieces of all lists, one list after another. `page` is room for one sub-buffer.
+pub(crate) fn pack_lists<F: File, O: Sink>(
+    plan: &SplitPlan<'_>,
+    file: &mut F,
+    lists: &mut [LaneList],
+    page: &mut [u8],
+    out: &mut O,
+) -> End
+    requires lists { AreLists plan.now.rules plan.now.header.now lists.old }
+    requires whole { length page.old ≡ plan.now.header.now.layout.page }
+    ensures kept { EachList KeepsList lists.old lists.new }
+    ensures long { length lists.new ≡ length lists.old }
+    ensures whole { length page.new ≡ plan.now.header.now.layout.page }
+    ensures told { IfSome (F.bytes file.old) (λ bytes. All (Stands plan.now.header.now.layout bytes) (lanes_of lists.old)
+        → (taken : List Keyed) → AreFrontsOf plan.now.header.now.layout bytes lists.old taken
+        → IsPackedAll plan.now.header.now.layout bytes (owns (lanes_of lists.old) taken)
+        (record { lanes = lanes_of lists.old; written = O.written out.old }) (record { lanes = lanes_of lists.new; written = O.written out.new }) result) }
+    ensures malformed { TellsHeld (lanes_of lists.new) result }
+    ensures gains { result ≡ End.Done → GainsSome (O.written out.old) (O.written out.new) }
+    ensures numbers { result ≡ End.Done → numbers_of (lanes_of lists.new) ≡ numbers_of (lanes_of lists.old) }
+    ensures reads { F.reads file.new ≤ raised (F.reads file.old)
+        (lists_packing plan.now.header.now.layout (F.size file.old) lists.old) }
+    ensures read { result ≡ End.Read → Rose (F.faults file.old) (F.faults file.new) }
+    ensures write { result ≡ End.Write → Rose (O.faults out.old) (O.faults out.new) }
+    ensures keeps_out { KeepsSink O.Sink out.old out.new }
+    ensures keeps { KeepsFile F.File file.old file.new }
+{
+    for i in 0..lists.len() {
+        match lists[i].pack(file, page, out) {
+            End::Done => {}
+            end => return end,
+        }
+    }
+    End::Done
 }

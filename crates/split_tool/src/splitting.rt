@@ -4,15 +4,14 @@ ghost use Rattle.trace_outside.specs.Causes.{Rose, raised};
 ghost use Rattle.trace_outside.specs.Keeping.{KeepsFile};
 ghost use Rattle.trace_outside.specs.Seen.{folder_seen};
 ghost use Rattle.dat_header.specs.Allowed.{IsHeader};
-ghost use Rattle.subpage.specs.Arrangement.{CpusRise};
 ghost use Rattle.page_pool.specs.Fresh.{IsFresh};
-ghost use Rattle.event_cursor.specs.Standing.{IsInOrder};
 ghost use Rattle.time_merge.specs.LaneRows.{parts_of};
 ghost use Rattle.split_pieces.specs.Pieces.{IsUnit};
 ghost use Rattle.new_files.specs.Stored.{KeepsCounts};
+ghost use Rattle.split_tool.specs.Lists.{lanes_of};
 ghost use Rattle.split_tool.specs.NewFiles.{AsksFor, Creates, IsSplit, LeavesUnfinished, end_by, end_of, new_files};
 ghost use Rattle.split_tool.specs.Numbered.{LeavesFiles};
-ghost use Rattle.split_tool.specs.Work.{IsWorkFor};
+ghost use Rattle.split_tool.specs.Work.{AreLists, IsWorkFor};
 
 use crate::files::make_file;
 use crate::lists::Ends;
@@ -20,7 +19,7 @@ use crate::names::FileName;
 use crate::start::pass_start;
 use crate::work::SplitWork;
 use dat_header::Header;
-use page_pool::Lane;
+use split_passes::LaneList;
 use split_pieces::Rules;
 use time_merge::End;
 use trace_outside::{File, Folder};
@@ -63,56 +62,47 @@ fn end_by(ends: Ends) -> End
 pub fn split<F: File, D: Folder>(
     plan: &SplitPlan<'_>,
     file: &mut F,
-    lanes: &mut [Lane],
+    lists: &mut [LaneList],
     work: &mut SplitWork,
     folder: &mut D,
 ) -> End
     requires allowed { IsHeader plan.now.header.now }
     requires unit { IsUnit plan.now.rules.unit }
     requires base { length plan.now.base.now ≤ 4096 }
-    requires fresh { All (λ lane. IsFresh lane.cursor) lanes.old }
-    requires in_order { All (IsInOrder plan.now.header.now.layout) lanes.old }
-    requires rise { CpusRise (parts_of lanes.old) }
-    requires cpus { All (λ lane. lane.cpu < plan.now.header.now.cpus) lanes.old }
-    requires work { IsWorkFor plan.now.header.now (length lanes.old) work.old }
+    requires fresh { All (λ lane. IsFresh lane.cursor) (lanes_of lists.old) }
+    requires lists { AreLists plan.now.rules plan.now.header.now lists.old }
+    requires work { IsWorkFor plan.now.header.now work.old }
     ensures told { IfSome (F.bytes file.old) (λ bytes. IsSplit
-        (new_files plan.now.rules plan.now.base.now plan.now.header.now bytes (parts_of lanes.old))
-        (end_of plan.now.rules plan.now.header.now bytes (parts_of lanes.old))
+        (new_files plan.now.rules plan.now.base.now plan.now.header.now bytes (parts_of (lanes_of lists.old)))
+        (end_of plan.now.rules plan.now.header.now bytes (parts_of (lanes_of lists.old)))
         (folder_seen D.Folder folder.old) (folder_seen D.Folder folder.new) result) }
     ensures created { IfSome (F.bytes file.old) (λ bytes. Creates
-        (length (new_files plan.now.rules plan.now.base.now plan.now.header.now bytes (parts_of lanes.old)))
+        (length (new_files plan.now.rules plan.now.base.now plan.now.header.now bytes (parts_of (lanes_of lists.old))))
         (D.counts folder.old).created (D.counts folder.new).created result) }
     ensures requested { IfSome (F.bytes file.old) (λ bytes. AsksFor
-        (new_files plan.now.rules plan.now.base.now plan.now.header.now bytes (parts_of lanes.old))
+        (new_files plan.now.rules plan.now.base.now plan.now.header.now bytes (parts_of (lanes_of lists.old)))
         (D.requested folder.old) (D.requested folder.new) result) }
     // Of any file, also of one whose bytes change between the passes.
-    ensures leaves { LeavesFiles plan.now.base.now lanes.new
+    ensures leaves { LeavesFiles plan.now.base.now (lanes_of lists.new)
         (folder_seen D.Folder folder.old) (folder_seen D.Folder folder.new) result }
     ensures counts { KeepsCounts (D.counts folder.old) (D.counts folder.new) }
     ensures unfinished { LeavesUnfinished (D.counts folder.old).unfinished (D.counts folder.new).unfinished result }
     // Each sub-buffer is read at most three times: to measure the pieces, to pack the one that ends in it, and to pack the
     // next one.
     ensures reads { F.reads file.new
-        ≤ raised (F.reads file.old) (3 * sum_by (λ part. part.1.size) (parts_of lanes.old)) }
+        ≤ raised (F.reads file.old) (3 * sum_by (λ part. part.1.size) (parts_of (lanes_of lists.old))) }
     ensures keeps { KeepsFile F.File file.old file.new }
     ensures read { result ≡ End.Read → Rose (F.faults file.old) (F.faults file.new) }
     ensures write { result ≡ End.Write → Rose (D.counts folder.old).writing (D.counts folder.new).writing }
 {
     // A file's length is a number of 64 bits, so there are fewer items than 128 bits count.
     let _size = file.len();
-    let Ok(()) = pass_start(
-        &plan.header.layout,
-        file,
-        lanes,
-        &plan.rules,
-        &mut work.nexts,
-        &mut work.next,
-    ) else {
+    let Ok(()) = pass_start(plan, file, lists) else {
         return End::Read;
     };
     let mut name = FileName::new();
     for number in 1..u128::MAX {
-        match make_file(plan, number, &mut name, file, lanes, work, folder) {
+        match make_file(plan, number, &mut name, file, lists, work, folder) {
             Ok(ends) => {
                 if !goes_on(&plan.rules, ends) {
                     return end_by(ends);

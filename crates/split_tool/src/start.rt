@@ -1,105 +1,41 @@
 // The items before the start.
 
-ghost use Rattle.std.specs.Prelude.{◌≡◌, ◌-◌, ◌≤◌, All, IfSome, OnOk, Some, length};
+ghost use Rattle.std.specs.Prelude.{◌≡◌, ◌-◌, ◌≤◌, All, IfSome, OnOk};
 ghost use Rattle.trace_outside.specs.Causes.{HasCause, raised};
-ghost use Rattle.subpage.specs.Arrangement.{CpusRise, Keyed};
-ghost use Rattle.page_pool.specs.declared.lane.Lane.{Lane};
-ghost use Rattle.event_cursor.specs.Keys.{first_of};
-ghost use Rattle.event_cursor.specs.Standing.{IsInOrder, Stands, keyed_held};
-ghost use Rattle.time_merge.specs.LaneRows.{parts_of};
+ghost use Rattle.event_cursor.specs.Standing.{Stands};
 ghost use Rattle.time_merge.specs.Reads.{all_unread};
-ghost use Rattle.split_pieces.specs.Moments.{is_before};
-ghost use Rattle.split_passes.specs.Through.{GoThrough};
-ghost use Rattle.split_tool.specs.Started.{ListStarted, Started};
+ghost use Rattle.split_tool.specs.Going.{ListsGo};
+ghost use Rattle.split_tool.specs.Lists.{lanes_of};
+ghost use Rattle.split_tool.specs.Started.{Started};
+ghost use Rattle.split_tool.specs.Work.{AreLists};
 
-use event_cursor::{head_key, step};
-use page_pool::Lane;
-use split_pieces::{Rules, is_before};
-use time_merge::{Next, next_lane_by};
-use tournament_tree::TournamentTree;
-use trace_base::Layout;
+use crate::splitting::SplitPlan;
+use split_passes::LaneList;
 use trace_outside::{Failed, File};
-use word_values::Moment;
 
-// Whether a lane's first item stands before the start.
-fn stands_before(layout: &Layout, lane: &Lane, start: Moment) -> bool
-    requires { IsInOrder layout.now lane.now }
-    ensures { (x : Keyed) → first_of (keyed_held layout.now lane.now) ≡ Some x → result ≡ is_before start x.key }
-{
-    match head_key(lane) {
-        Some(key) => is_before(start, key),
-        None => false,
-    }
-}
-
-// Passes over the items of a list of lanes that stand before the start.
-fn pass_list<F: File>(
-    layout: &Layout,
-    file: &mut F,
-    lanes: &mut [Lane],
-    start: Moment,
-    nexts: &mut TournamentTree,
-) -> Result<(), Failed>
-    requires in_order { All (IsInOrder layout.now) lanes.old }
-    requires rise { CpusRise (parts_of lanes.old) }
-    requires slots { length nexts.old ≡ length lanes.old }
-    ensures through { GoThrough F.File layout.now file.old file.new lanes.old lanes.new }
-    ensures slots { length nexts.new ≡ length nexts.old }
-    ensures told { OnOk result (IfSome (F.bytes file.old) (λ bytes. All (Stands layout.now bytes) lanes.old
-        → ListStarted layout.now bytes (Some start) lanes.old lanes.new)) }
-    ensures reads_done { OnOk result (F.reads file.new ≤ raised (F.reads file.old)
-        (all_unread layout.now (F.size file.old) lanes.old - all_unread layout.now (F.size file.old) lanes.new)) }
-    ensures cause { HasCause (F.faults file.old) (F.faults file.new) result }
-{
-    let mut used = None;
-    loop {
-        match next_lane_by(layout, file, lanes, nexts, used)? {
-            Next::Lane(i) => {
-                if !stands_before(layout, &lanes[i], start) {
-                    return Ok(());
-                }
-                step(layout, &mut lanes[i]);
-                used = Some(i);
-            }
-            Next::Done => return Ok(()),
-            Next::Malformed(_) => return Ok(()),
-        }
-    }
-}
-
-/// Passes over the items before the start, in each lane by itself or in all together.
+/// Passes over the items of each list that stand before the start.
 ///
 /// # Errors
 /// `Failed` where a read failed.
 pub(crate) fn pass_start<F: File>(
-    layout: &Layout,
+    plan: &SplitPlan<'_>,
     file: &mut F,
-    lanes: &mut [Lane],
-    rules: &Rules,
-    nexts: &mut TournamentTree,
-    next: &mut TournamentTree,
+    lists: &mut [LaneList],
 ) -> Result<(), Failed>
-    requires in_order { All (IsInOrder layout.now) lanes.old }
-    requires rise { CpusRise (parts_of lanes.old) }
-    requires slots { length nexts.old ≡ length lanes.old }
-    requires slot { length next.old ≡ 1 }
-    ensures through { GoThrough F.File layout.now file.old file.new lanes.old lanes.new }
-    ensures slots { length nexts.new ≡ length nexts.old }
-    ensures slot { length next.new ≡ 1 }
-    ensures told { OnOk result (IfSome (F.bytes file.old) (λ bytes. All (Stands layout.now bytes) lanes.old
-        → Started layout.now bytes rules.now lanes.old lanes.new)) }
+    requires { AreLists plan.now.rules plan.now.header.now lists.old }
+    ensures go { ListsGo F.File plan.now.header.now.layout file.old file.new lists.old lists.new }
+    ensures told { OnOk result (IfSome (F.bytes file.old) (λ bytes. All (Stands plan.now.header.now.layout bytes) (lanes_of lists.old)
+        → Started plan.now.header.now.layout bytes plan.now.rules (lanes_of lists.old) (lanes_of lists.new))) }
     ensures reads_done { OnOk result (F.reads file.new ≤ raised (F.reads file.old)
-        (all_unread layout.now (F.size file.old) lanes.old - all_unread layout.now (F.size file.old) lanes.new)) }
+        (all_unread plan.now.header.now.layout (F.size file.old) (lanes_of lists.old)
+        - all_unread plan.now.header.now.layout (F.size file.old) (lanes_of lists.new))) }
     ensures cause { HasCause (F.faults file.old) (F.faults file.new) result }
 {
-    let Some(start) = rules.start else {
+    let Some(start) = plan.rules.start else {
         return Ok(());
     };
-    if !rules.is_apart() {
-        return pass_list(layout, file, lanes, start, nexts);
-    }
-    for i in 0..lanes.len() {
-        pass_list(layout, file, &mut lanes[i..i + 1], start, next)?;
+    for i in 0..lists.len() {
+        lists[i].pass_over(file, start)?;
     }
     Ok(())
 }

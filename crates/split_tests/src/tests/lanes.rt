@@ -1,8 +1,8 @@
 // Lanes of processors that are numbered one after another.
 
-ghost use Rattle.std.specs.Prelude.{◌≡◌, ◌+◌, ◌<◌, ◌≤◌, All, length};
+ghost use Rattle.std.specs.Prelude.{◌≡◌, ◌+◌, ◌≤◌, All, length};
 ghost use Rattle.subpage.specs.Arrangement.{CpusRise};
-ghost use Rattle.page_pool.specs.Fresh.{IsFresh, IsNew};
+ghost use Rattle.page_pool.specs.Fresh.{IsNew};
 ghost use Rattle.event_cursor.specs.Standing.{IsInOrder};
 ghost use Rattle.time_merge.specs.LaneRows.{parts_of};
 
@@ -23,11 +23,8 @@ pub(super) fn set_lanes(layout: &Layout, lanes: &mut [Lane], first: u32, parts: 
     requires long { length lanes.old ≡ length parts.now }
     requires few { first + length parts.now ≤ 1024 }
     requires new { All (IsNew layout.now.page 0) lanes.old }
-    ensures fresh { All (λ lane. IsFresh lane.cursor) lanes.new }
     ensures in_order { All (IsInOrder layout.now) lanes.new }
     ensures rise { CpusRise (parts_of lanes.new) }
-    ensures cpus { All (λ lane. lane.cpu < first + length parts.now) lanes.new }
-    ensures long { length lanes.new ≡ length parts.now }
 {
     for i in 0..parts.len() {
         set_lane(&mut lanes[i], first + i as u32, parts[i]);

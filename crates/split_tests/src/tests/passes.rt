@@ -11,15 +11,13 @@ use super::lanes::set_lanes;
 use super::watched::{Then, WatchedFile};
 use PieceEnd::{Done, Full};
 use PieceUnit::{All, Events, Nanos};
-use event_cursor::Place;
-use page_pool::{Lane, Pool};
-use split_passes::{PieceEnd, Tally, clear, measure, note_fronts, pack_all};
+use page_pool::Lane;
+use split_passes::{LaneList, PieceEnd};
 use split_pieces::Gauge;
 use std::alloc::Global;
 use std::test::Fail;
 use subpage::CutPlace;
-use time_merge::{End, make_all_ready};
-use tournament_tree::TournamentTree;
+use time_merge::End;
 use trace_base::{Layout, Part};
 use trace_outside::{Failed, File, MemSink, Sink};
 use trace_samples::Page::{Lossy, Malformed, Of};
@@ -160,12 +158,9 @@ fn stop_of(words: &str) -> Option<Moment> {
     })
 }
 
-// The first processor's sub-buffers are followed by the other's.
-pub(super) fn set_parts(layout: &Layout, lanes: &mut [Lane], counts: [usize; 2])
-    requires two { length lanes.old ≡ 2 }
-    requires new { All (IsNew layout.now.page 0) lanes.old }
-    ensures in_order { All (IsInOrder layout.now) lanes.new }
-    ensures rise { CpusRise (parts_of lanes.new) }
+/// The parts of two processors: the first one's sub-buffers are followed by the other's.
+pub(super) fn parts_in_row(layout: &Layout, counts: [usize; 2]) -> [(u32, Part); 2]
+    ensures { CpusRise result }
 {
     let page = u64::from(layout.page);
     let size = (counts[0] as u64).wrapping_mul(page);
@@ -175,7 +170,18 @@ pub(super) fn set_parts(layout: &Layout, lanes: &mut [Lane], counts: [usize; 2])
         offset: size,
         size: other,
     };
-    set_lanes(layout, lanes, 0, &[first, second]);
+    [(0, first), (1, second)]
+}
+
+/// Gives two lanes the same parts.
+pub(super) fn set_parts(layout: &Layout, lanes: &mut [Lane], counts: [usize; 2])
+    requires two { length lanes.old ≡ 2 }
+    requires new { All (IsNew layout.now.page 0) lanes.old }
+    ensures in_order { All (IsInOrder layout.now) lanes.new }
+    ensures rise { CpusRise (parts_of lanes.new) }
+{
+    let parts = parts_in_row(layout, counts);
+    set_lanes(layout, lanes, 0, &[parts[0].1, parts[1].1]);
 }
 
 fn bytes_of(alloc: Global, cpus: [&[Page<'_>]; 2]) -> Result<Vec<u8>, Fail> {
@@ -196,37 +202,23 @@ pub(super) struct Passed {
 
 // Both passes over the next piece.
 pub(super) fn pass_piece<F: File, O: Sink>(
-    layout: &Layout,
     file: &mut F,
-    lanes: &mut [Lane],
+    list: &mut LaneList,
     unit: PieceUnit,
     stop: Option<Moment>,
-    nexts: &mut TournamentTree,
     page: &mut [u8],
     out: &mut O,
 ) -> Result<Passed, Failed>
-    requires whole { length page.old ≡ layout.now.page }
-    requires two { length lanes.old ≡ 2 }
-    requires slots { length nexts.old ≡ 2 }
-    requires in_order { All (IsInOrder layout.now) lanes.old }
-    requires rise { CpusRise (parts_of lanes.old) }
-    ensures slots { length nexts.new ≡ 2 }
-    ensures in_order { All (IsInOrder layout.now) lanes.new }
-    ensures parts { parts_of lanes.new ≡ parts_of lanes.old }
+    requires whole { length page.old ≡ list.old.layout.page }
+    requires two { length list.old.all ≡ 2 }
+    ensures layout { list.new.layout ≡ list.old.layout }
+    ensures two { length list.new.all ≡ 2 }
 {
-    let place = Place {
-        page: 0,
-        at: 0,
-        high: None,
-    };
-    let mut fronts = [place; 2];
-    let mut tallies = [Tally::new(), Tally::new()];
-    make_all_ready(layout, file, lanes)?;
-    note_fronts(lanes, &mut fronts);
-    clear(&mut tallies);
+    list.begin(file)?;
     let mut gauge = Gauge::new(unit);
-    let end = measure(layout, file, lanes, stop, &mut gauge, &mut tallies, nexts)?;
-    let packed = pack_all(layout, file, lanes, &fronts, &tallies, page, out);
+    let end = list.measure(file, stop, &mut gauge)?;
+    let packed = list.pack(file, page, out);
+    let tallies = list.tallies();
     Ok(Passed {
         end,
         packed,
@@ -257,24 +249,20 @@ fn put_pieces<F: File>(
     alloc: Global,
     layout: &Layout,
     file: &mut F,
-    lanes: &mut [Lane],
+    list: &mut LaneList,
     words: &str,
     text: &mut String,
 ) -> Result<PieceEnd, Fail>
     requires page { layout.now.page ≡ 4096 }
-    requires two { length lanes.old ≡ 2 }
-    requires in_order { All (IsInOrder layout.now) lanes.old }
-    requires rise { CpusRise (parts_of lanes.old) }
+    requires same { list.old.layout ≡ layout.now }
+    requires two { length list.old.all ≡ 2 }
 {
     let unit = unit_of(words);
     let stop = stop_of(words);
     for _ in 0..8 {
-        let mut nexts = TournamentTree::new(alloc, 2)?;
         let mut out = MemSink::new(alloc);
         let mut page = [0; PAGE];
-        let Ok(passed) = pass_piece(
-            layout, file, lanes, unit, stop, &mut nexts, &mut page, &mut out,
-        ) else {
+        let Ok(passed) = pass_piece(file, list, unit, stop, &mut page, &mut out) else {
             text.push_str("unread")?;
             return Ok(Done);
         };
@@ -301,11 +289,10 @@ fn text_of(alloc: Global, name: &str, words: &str) -> Result<String, Fail> {
     let cpus = cpus_of(name);
     let mut file = WatchedFile::good(bytes_of(alloc, cpus)?);
     let layout = layout();
-    let mut pool = Pool::new(alloc, 2, layout.page, 0)?;
-    let lanes = pool.lanes();
-    set_parts(&layout, lanes, [cpus[0].len(), cpus[1].len()]);
+    let parts = parts_in_row(&layout, [cpus[0].len(), cpus[1].len()]);
+    let mut list = LaneList::new(alloc, &layout, &parts)?;
     let mut text = String::new(alloc);
-    let end = put_pieces(alloc, &layout, &mut file, lanes, words, &mut text)?;
+    let end = put_pieces(alloc, &layout, &mut file, &mut list, words, &mut text)?;
     put_end(&mut text, end)?;
     let reads = file.reads / PAGE as u64;
     write!(text, " {reads}")?;
@@ -350,14 +337,10 @@ fn passes(
     out.short(1);
     out.fail_from(room.saturating_add(1));
     let layout = layout();
-    let mut pool = Pool::new(alloc, 2, layout.page, 0)?;
-    let lanes = pool.lanes();
-    set_parts(&layout, lanes, [THREE[0].len(), THREE[1].len()]);
-    let mut nexts = TournamentTree::new(alloc, 2)?;
+    let parts = parts_in_row(&layout, [THREE[0].len(), THREE[1].len()]);
+    let mut list = LaneList::new(alloc, &layout, &parts)?;
     let mut page = [0; PAGE];
-    match pass_piece(
-        &layout, &mut file, lanes, All, None, &mut nexts, &mut page, &mut out,
-    ) {
+    match pass_piece(&mut file, &mut list, All, None, &mut page, &mut out) {
         Ok(passed) => Ok(Ok((passed.end, passed.packed))),
         Err(Failed) => Ok(Err(Failed)),
     }

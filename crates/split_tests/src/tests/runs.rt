@@ -4,18 +4,17 @@ ghost use Rattle.std.specs.Prelude.{◌≡◌, ◌<◌, ◌≤◌, length, IsTru
 ghost use Rattle.page_pool.specs.declared.cursor.LaneState.{LaneState};
 ghost use Rattle.event_cursor.specs.Standing.{IsInOrder, held_left};
 
-use super::passes::{pass_piece, set_parts};
+use super::passes::{parts_in_row, pass_piece, set_parts};
 use super::watched::WatchedFile;
 use Order::{Big, Little};
 use PieceUnit::All;
 use event_cursor::{Loaded, load, step};
 use page_pool::{Lane, LaneState, Pool};
 use page_write::Packer;
-use split_passes::{pack_run, packable_head};
+use split_passes::{LaneList, pack_run, packable_head};
 use std::alloc::{AllocError, Global};
 use std::test::Fail;
 use time_merge::End;
-use tournament_tree::TournamentTree;
 use trace_base::{Layout, Order, put_u32, put_u64};
 use trace_outside::{Failed, File, MemSink};
 use trace_samples::Page::Of;
@@ -49,16 +48,11 @@ fn packs(
     want: &[u8],
 ) -> Result<bool, Fail> {
     let mut file = WatchedFile::good(bytes);
-    let mut pool = Pool::new(alloc, 2, layout.page, 0)?;
-    let lanes = pool.lanes();
-    set_parts(layout, lanes, [count, 0]);
-    let mut nexts = TournamentTree::new(alloc, 2)?;
+    let mut list = LaneList::new(alloc, layout, &parts_in_row(layout, [count, 0]))?;
     let mut page = vec![in alloc; 0xff; layout.page as usize]?;
     let mut out = MemSink::new(alloc);
     let page = page.as_mut_slice();
-    match pass_piece(
-        layout, &mut file, lanes, All, None, &mut nexts, page, &mut out,
-    ) {
+    match pass_piece(&mut file, &mut list, All, None, page, &mut out) {
         Ok(passed) => {
             let counted = passed.pages[0].saturating_mul(u64::from(layout.page));
             Ok(passed.packed == End::Done && out.bytes() == want && counted == want.len() as u64)

@@ -1,15 +1,14 @@
 // Files that are split, and the items of a file.
 
-ghost use Rattle.std.specs.Prelude.{◌≡◌, ◌+◌, ◌≤◌, true, length};
+ghost use Rattle.std.specs.Prelude.{◌≡◌, ◌+◌, ◌≤◌, true, length, IfOk};
+ghost use Rattle.std.specs.List.{enumerate_from};
 ghost use Rattle.dat_header.specs.Allowed.{IsHeader};
 ghost use Rattle.split_pieces.specs.Pieces.{IsUnit};
 
 use super::items::put_sub_buffers;
-use super::lanes::set_lanes;
 use dat_header::{Body, Header, read_header};
-use page_pool::Pool;
 use split_pieces::Rules;
-use split_tool::{End, SplitPlan, SplitWork, split};
+use split_tool::{End, SplitPlan, SplitWork, lists_over, split};
 use std::alloc::{AllocError, Global};
 use std::test::Fail;
 use trace_args::SplitWords;
@@ -72,6 +71,18 @@ fn is_allowed(words: &SplitWords<'_>) -> bool
     unit && words.base.len() <= 4096
 }
 
+// Parts with the numbers of their processors, from a first one on.
+fn numbered(alloc: Global, first: u32, parts: &[Part]) -> Result<Vec<(u32, Part)>, AllocError>
+    requires { first + length parts.now ≤ 1024 }
+    ensures { IfOk result (λ all. all.items ≡ enumerate_from first parts.now) }
+{
+    let mut all = Vec::with_capacity(alloc, parts.len())?;
+    for i in 0..parts.len() {
+        all.push((first + i as u32, parts[i]))?;
+    }
+    Ok(all)
+}
+
 // Splits the parts of processors that are numbered from a first one on.
 fn split_parts<F: File, D: Folder>(
     alloc: Global,
@@ -86,13 +97,10 @@ fn split_parts<F: File, D: Folder>(
     requires base { length plan.now.base.now ≤ 4096 }
     requires inside { first + length parts.now ≤ plan.now.header.now.cpus }
 {
-    let count = parts.len() as u32;
-    let layout = &plan.header.layout;
-    let mut pool = Pool::new(alloc, count, layout.page, 0)?;
-    let mut work = SplitWork::new(alloc, plan.header, count)?;
-    let lanes = pool.lanes();
-    set_lanes(layout, lanes, first, parts);
-    Ok(split(plan, file, lanes, &mut work, folder))
+    let parts = numbered(alloc, first, parts)?;
+    let mut lists = lists_over(alloc, &plan.rules, plan.header, &parts)?;
+    let mut work = SplitWork::new(alloc, plan.header)?;
+    Ok(split(plan, file, lists.as_mut_slice(), &mut work, folder))
 }
 
 // Splits a file with this header into a folder.

@@ -3,11 +3,11 @@ use Rattle.trace_outside.specs.Seen.{folder_seen}
 use Rattle.event_cursor.proofs.Told.{told_all, told_again}
 use Rattle.split_tool.specs.Names.{file_name}
 use Rattle.split_passes.specs.AllAgain.{owns}
-use Rattle.split_passes.proofs.Stopping.{tells_held}
+use Rattle.split_tool.specs.Lists.{lanes_of}
 use Rattle.split_tool.specs.Measured.{taken_of}
 use Rattle.split_tool.specs.Unmaking.{ending_of}
 use Rattle.split_tool.proofs.Budget.{written_stops, written_spent}
-use Rattle.split_tool.proofs.Making.{finished, still_cut}
+use Rattle.split_tool.proofs.Making.{finished}
 use Rattle.split_tool.proofs.Storing.{leaves_same}
 use Rattle.split_tool.proofs.Numbering.{asked_by, asks_for_it, cut_off, finished_is, stopped_by}
 use Rattle.new_files.proofs.Unmade.{unmade_finish}
@@ -19,11 +19,11 @@ returns-in-Ok-finish_file-clause-told g c =
     let work = c.measure_file.new.work in
     told_again _ _ _ (g.F.File.bytes c.args.file.now) (g.F.File.bytes c.measure_file.new.file) c.measure_file.ensures.keeps.bytes (λ file m w s small.
     let p = m s small in
-    finished header file c.args.plan.now.rules (file_name c.args.plan.now.base.now c.args.number) (g.D.Out.Sink.name c.write_file.new.out) c.args.lanes.now c.measure_file.new.lanes c.write_file.new.lanes
-    work.fronts.items work.tallies.items work.table.items (g.D.Folder.files c.args.folder.now) (g.D.Folder.files c.create_file.new.self) (g.D.Folder.files c.finish_file.new.self)
+    finished header file c.args.plan.now.rules (file_name c.args.plan.now.base.now c.args.number) (g.D.Out.Sink.name c.write_file.new.out) c.args.lists.now c.measure_file.new.lists c.write_file.new.lists work.table.items
+    (g.D.Folder.files c.args.folder.now) (g.D.Folder.files c.create_file.new.self) (g.D.Folder.files c.finish_file.new.self)
     (g.D.Out.Sink.written c.in-Ok-create_file.out) (g.D.Out.Sink.written c.write_file.new.out) c.in-Ok.ends
     c.in-Ok-create_file.ensures.files (c.write_file.ensures.keeps_out.name ∙ c.in-Ok-create_file.ensures.named ∙ c.as_str.ensures.value ∙ c.put_name.ensures) c.in-Ok-create_file.ensures.empty c.in-Ok-finish_file.ensures.stored
-    p (w p.left.stands (owns c.args.lanes.now (taken_of header.layout file c.args.plan.now.rules c.args.lanes.now)) p.fronts_are))
+    p (w p.left.stands (taken_of header.layout file c.args.plan.now.rules (lanes_of c.args.lists.now)) p.fronts_are))
     c.in-Ok.ensures.told c.in-Ok-write_file.ensures.told
 
 pub returns-in-Err-finish_file-clause-told : goal.returns-in-Err-finish_file-clause-told
@@ -59,28 +59,17 @@ returns-in_default-create_file-clause-requested g c =
 pub returns-in_default-create_file-clause-leaves : goal.returns-in_default-create_file-clause-leaves
 returns-in_default-create_file-clause-leaves g c = inl c.create_file.ensures.files
 
-pub write_file-requires : goal.write_file-requires
-write_file-requires g c = still_cut c.args.plan.now.header.now c.args.lanes.now c.measure_file.new.lanes c.args.work.now c.measure_file.new.work c.requires.cut c.measure_file.ensures.parts c.measure_file.ensures.in_order c.measure_file.ensures.work
-
 pub returns-in_default-create_file-clause-reads : goal.returns-in_default-create_file-clause-reads
 returns-in_default-create_file-clause-reads g c = omega (arith, c.in-Ok.ensures.reads.less, c.in-Ok.ensures.reads.reads)
 
-pub returns-in-Ok-finish_file-clause-cut : goal.returns-in-Ok-finish_file-clause-cut
-returns-in-Ok-finish_file-clause-cut g c =
-    still_cut c.args.plan.now.header.now c.args.lanes.now c.write_file.new.lanes c.args.work.now c.write_file.new.work c.requires.cut (c.write_file.ensures.parts ∙ c.measure_file.ensures.parts) c.write_file.ensures.in_order c.write_file.ensures.work
-
-pub returns-in-Err-finish_file-clause-cut : goal.returns-in-Err-finish_file-clause-cut
-returns-in-Err-finish_file-clause-cut g c =
-    still_cut c.args.plan.now.header.now c.args.lanes.now c.write_file.new.lanes c.args.work.now c.write_file.new.work c.requires.cut (c.write_file.ensures.parts ∙ c.measure_file.ensures.parts) c.write_file.ensures.in_order c.write_file.ensures.work
-
 pub returns-in-Ok-finish_file-clause-reads : goal.returns-in-Ok-finish_file-clause-reads
 returns-in-Ok-finish_file-clause-reads g c =
-    written_spent c.args.plan.now.header.now.layout (g.F.File.size c.args.file.now) (g.F.File.size c.measure_file.new.file) c.args.lanes.now c.measure_file.new.lanes c.measure_file.new.work.fronts.items c.measure_file.new.work.tallies.items _ _ _
-    c.measure_file.ensures.keeps.size c.in-Ok.ensures.reads c.write_file.ensures.reads c.write_file.new.lanes c.in-Ok-write_file.ensures.left
+    written_spent c.args.plan.now.header.now.layout (g.F.File.size c.args.file.now) (g.F.File.size c.measure_file.new.file) (lanes_of c.args.lists.now) c.measure_file.new.lists _ _ _
+    c.measure_file.ensures.keeps.size c.in-Ok.ensures.reads c.write_file.ensures.reads (lanes_of c.write_file.new.lists) c.in-Ok-write_file.ensures.left
 
 pub returns-in-Err-finish_file-clause-reads : goal.returns-in-Err-finish_file-clause-reads
 returns-in-Err-finish_file-clause-reads g c =
-    written_stops c.args.plan.now.header.now.layout (g.F.File.size c.args.file.now) (g.F.File.size c.measure_file.new.file) c.args.lanes.now c.measure_file.new.lanes c.measure_file.new.work.fronts.items c.measure_file.new.work.tallies.items _ _ _
+    written_stops c.args.plan.now.header.now.layout (g.F.File.size c.args.file.now) (g.F.File.size c.measure_file.new.file) (lanes_of c.args.lists.now) c.measure_file.new.lists _ _ _
     c.measure_file.ensures.keeps.size c.in-Ok.ensures.reads c.write_file.ensures.reads
 
 -- THE FILE IS CUT OFF
@@ -91,16 +80,16 @@ returns-in-Err-clause-told g c =
     let work = c.measure_file.new.work in
     told_again _ _ _ (g.F.File.bytes c.args.file.now) (g.F.File.bytes c.measure_file.new.file) c.measure_file.ensures.keeps.bytes (λ file m w s small.
     let p = m s small in
-    stopped_by (record { header = header; rules = c.args.plan.now.rules; name = file_name c.args.plan.now.base.now c.args.number }) header file work.table.items (owns c.args.lanes.now (taken_of header.layout file c.args.plan.now.rules c.args.lanes.now))
-    (record { lanes = c.measure_file.new.lanes; written = g.D.Out.Sink.written c.in-Ok-create_file.out }) (record { lanes = c.write_file.new.lanes; written = g.D.Out.Sink.written c.write_file.new.out })
-    (record { lanes = c.args.lanes.now; files = g.D.Folder.files c.args.folder.now }) (record { lanes = c.write_file.new.lanes; files = g.D.Folder.files c.drop_file.new.self }) c.write_file.result c.in-Err.unmade c.in-Err.is
-    (w p.left.stands (owns c.args.lanes.now (taken_of header.layout file c.args.plan.now.rules c.args.lanes.now)) p.fronts_are))
+    stopped_by (record { header = header; rules = c.args.plan.now.rules; name = file_name c.args.plan.now.base.now c.args.number }) header file work.table.items (owns (lanes_of c.measure_file.new.lists) (taken_of header.layout file c.args.plan.now.rules (lanes_of c.args.lists.now)))
+    (record { lanes = lanes_of c.measure_file.new.lists; written = g.D.Out.Sink.written c.in-Ok-create_file.out }) (record { lanes = lanes_of c.write_file.new.lists; written = g.D.Out.Sink.written c.write_file.new.out })
+    (record { lanes = lanes_of c.args.lists.now; files = g.D.Folder.files c.args.folder.now }) (record { lanes = lanes_of c.write_file.new.lists; files = g.D.Folder.files c.drop_file.new.self }) c.write_file.result c.in-Err.unmade c.in-Err.is
+    (w p.left.stands (taken_of header.layout file c.args.plan.now.rules (lanes_of c.args.lists.now)) p.fronts_are))
     c.in-Ok.ensures.told c.write_file.ensures.told
 
 pub returns-in-Err-clause-leaves : goal.returns-in-Err-clause-leaves
 returns-in-Err-clause-leaves g c =
-    cut_off (file_name c.args.plan.now.base.now c.args.number) c.write_file.new.lanes (folder_seen g.D.Folder c.args.folder.now) (folder_seen g.D.Folder c.drop_file.new.self) c.in-Err.unmade
-    (tells_held c.measure_file.new.lanes c.write_file.new.lanes (ending_of c.in-Err.unmade) c.in-Err.ensures.malformed) (c.drop_file.ensures.files ∙ c.in-Ok-create_file.ensures.files)
+    cut_off (file_name c.args.plan.now.base.now c.args.number) (lanes_of c.write_file.new.lists) (folder_seen g.D.Folder c.args.folder.now) (folder_seen g.D.Folder c.drop_file.new.self) c.in-Err.unmade
+    c.in-Err.ensures.malformed (c.drop_file.ensures.files ∙ c.in-Ok-create_file.ensures.files)
 
 pub returns-in-Err-clause-requested : goal.returns-in-Err-clause-requested
 returns-in-Err-clause-requested g c =
@@ -131,11 +120,7 @@ returns-in-Err-clause-counts g c =
           omega (arith, created.writing, later);
     }
 
-pub returns-in-Err-clause-cut : goal.returns-in-Err-clause-cut
-returns-in-Err-clause-cut g c =
-    still_cut c.args.plan.now.header.now c.args.lanes.now c.write_file.new.lanes c.args.work.now c.write_file.new.work c.requires.cut (c.write_file.ensures.parts ∙ c.measure_file.ensures.parts) c.write_file.ensures.in_order c.write_file.ensures.work
-
 pub returns-in-Err-clause-reads : goal.returns-in-Err-clause-reads
 returns-in-Err-clause-reads g c =
-    written_stops c.args.plan.now.header.now.layout (g.F.File.size c.args.file.now) (g.F.File.size c.measure_file.new.file) c.args.lanes.now c.measure_file.new.lanes c.measure_file.new.work.fronts.items c.measure_file.new.work.tallies.items _ _ _
+    written_stops c.args.plan.now.header.now.layout (g.F.File.size c.args.file.now) (g.F.File.size c.measure_file.new.file) (lanes_of c.args.lists.now) c.measure_file.new.lists _ _ _
     c.measure_file.ensures.keeps.size c.in-Ok.ensures.reads c.write_file.ensures.reads

@@ -1,77 +1,120 @@
-use Rattle.std.proofs.Common.{List, [], ◌≡◌, ◌<◌, length, arith, get_or, ap, sym, subst, ◌∙◌}
+use Rattle.std.proofs.Common.{List, ◌≡◌, ◌<◌, length, arith, ap, sym, subst, ◌∙◌}
 use Rattle.std.proofs.lemmas.List.{take_at}
 use Rattle.std.proofs.lemmas.Result.{err_from_is_err_and}
 use Rattle.trace_base.proofs.Layouts.{carried}
-use Rattle.time_merge.proofs.Advancing.{same_length}
-use Rattle.split_passes.specs.declared.tally.Tally.{Tally}
-use Rattle.split_passes.specs.Tallies.{IsTally}
-use Rattle.split_tool.specs.Counted.{AreCounted}
-use Rattle.split_tool.proofs.Budget.{loaded_out, loaded_stops, measured_back, measured_spent}
-use Rattle.split_tool.proofs.OneLaneOn.{all_done}
+use Rattle.split_tool.specs.Lists.{lanes_of}
+use Rattle.split_tool.proofs.Budget.{all_done, loaded_out, loaded_stops, measured_spent}
+use Rattle.split_tool.proofs.Flat.{goes_kept, parts_flat}
+use Rattle.split_tool.proofs.Making.{still_cut, still_lists}
 use Rattle.split_tool.proofs.Preparing.{prepared_told, prepared_back}
 use Rattle.split_tool.proofs.files.measure_file.Goals as goal
+
+pub measure_lists-requires : goal.measure_lists-requires
+measure_lists-requires g c =
+    let go = c.begin_lists.ensures.go in
+    still_lists c.args.plan.now.rules c.args.plan.now.header.now c.args.lists.now c.begin_lists.new.lists go.long (goes_kept c.args.lists.now c.begin_lists.new.lists go.each) c.requires.are
+
+pub fill_table-requires : goal.fill_table-requires
+fill_table-requires g c =
+    let go = c.begin_lists.ensures.go in
+    let go2 = c.measure_lists.ensures.go in
+    let ready = c.begin_lists.new.lists in
+    let now = c.measure_lists.new.lists in
+    let rules = c.args.plan.now.rules in
+    let header = c.args.plan.now.header.now in
+    let first = still_lists rules header c.args.lists.now ready go.long (goes_kept c.args.lists.now ready go.each) c.requires.are in
+    let lists = still_lists rules header ready now go2.long (goes_kept ready now go2.each) first in
+    λ i d lt. let below = lists.cpus i d lt in omega (arith, below, ap length c.as_mut_slice.ensures.value, c.requires.lent.table)
+
+pub returns-in_err-begin_lists-clause-cut : goal.returns-in_err-begin_lists-clause-cut
+returns-in_err-begin_lists-clause-cut g c =
+    let go = c.begin_lists.ensures.go in
+    let now = c.begin_lists.new.lists in
+    still_cut c.args.plan.now.rules c.args.plan.now.header.now c.args.lists.now now c.args.work.now _ go.long (goes_kept c.args.lists.now now go.each) c.requires.lent c.requires
+
+pub returns-in_err-begin_lists-clause-parts : goal.returns-in_err-begin_lists-clause-parts
+returns-in_err-begin_lists-clause-parts g c = let go = c.begin_lists.ensures.go in parts_flat c.args.lists.now c.begin_lists.new.lists go.long go.each
+
+pub returns-in_err-ends-clause-cut : goal.returns-in_err-ends-clause-cut
+returns-in_err-ends-clause-cut g c =
+    let go = c.begin_lists.ensures.go in
+    let go2 = c.measure_lists.ensures.go in
+    let ready = c.begin_lists.new.lists in
+    let now = c.measure_lists.new.lists in
+    still_cut c.args.plan.now.rules c.args.plan.now.header.now ready now c.args.work.now _ go2.long (goes_kept ready now go2.each) c.requires.lent
+    (still_cut c.args.plan.now.rules c.args.plan.now.header.now c.args.lists.now ready c.args.work.now c.args.work.now go.long (goes_kept c.args.lists.now ready go.each) c.requires.lent c.requires)
+
+pub returns-in_err-ends-clause-parts : goal.returns-in_err-ends-clause-parts
+returns-in_err-ends-clause-parts g c =
+    let go = c.begin_lists.ensures.go in
+    let go2 = c.measure_lists.ensures.go in
+    parts_flat c.begin_lists.new.lists c.measure_lists.new.lists go2.long go2.each ∙ parts_flat c.args.lists.now c.begin_lists.new.lists go.long go.each
+
+pub returns-clause-parts : goal.returns-clause-parts
+returns-clause-parts g c =
+    let go = c.begin_lists.ensures.go in
+    let go2 = c.measure_lists.ensures.go in
+    parts_flat c.begin_lists.new.lists c.measure_lists.new.lists go2.long go2.each ∙ parts_flat c.args.lists.now c.begin_lists.new.lists go.long go.each
+
+pub returns-clause-cut : goal.returns-clause-cut
+returns-clause-cut g c =
+    let go = c.begin_lists.ensures.go in
+    let go2 = c.measure_lists.ensures.go in
+    let ready = c.begin_lists.new.lists in
+    let now = c.measure_lists.new.lists in
+    let table_long : length c.fill_table.new.table ≡ c.args.work.now.table.len = omega (arith, c.as_mut_slice.ensures.len, c.fill_table.auto.table) in
+    let for = c.requires.lent in
+    still_cut c.args.plan.now.rules c.args.plan.now.header.now ready now c.args.work.now _ go2.long (goes_kept ready now go2.each)
+    (record {
+      table = ap length (take_at c.fill_table.new.table _ c.args.work.now.table.len table_long) ∙ omega (arith, c.fill_table.auto.table, ap length c.as_mut_slice.ensures.value, for.table);
+      page = for.page;
+      before = for.before;
+      at = for.at;
+    })
+    (still_cut c.args.plan.now.rules c.args.plan.now.header.now c.args.lists.now ready c.args.work.now c.args.work.now go.long (goes_kept c.args.lists.now ready go.each) c.requires.lent c.requires)
 
 pub returns-clause-told : goal.returns-clause-told
 returns-clause-told g c =
     let header = c.args.plan.now.header.now in
-    let l = header.layout in
+    let rules = c.args.plan.now.rules in
     let work = c.args.work.now in
-    let lanes : length c.make_all_ready.new.lanes ≡ length c.args.lanes.now = same_length c.make_all_ready.new.lanes c.args.lanes.now c.make_all_ready.ensures.loads.parts in
-    let later : length c.measure_lists.new.lanes ≡ length c.make_all_ready.new.lanes = same_length c.measure_lists.new.lanes c.make_all_ready.new.lanes c.measure_lists.ensures.through.parts in
-    let front_room : length work.fronts.items ≡ work.fronts.len = ap length (sym c.as_mut_slice.ensures.value) ∙ c.as_mut_slice.ensures.len in
-    let tally_room : length work.tallies.items ≡ work.tallies.len = ap length (sym c.as_mut_slice-2.ensures.value) ∙ c.as_mut_slice-2.ensures.len in
-    let fronts_long : length c.note_fronts.new.fronts ≡ work.fronts.len = c.note_fronts.ensures.long ∙ lanes ∙ sym c.requires.lent.fronts ∙ front_room in
-    let cleared_long : length c.clear.new.tallies ≡ work.tallies.len = c.clear.ensures.long ∙ c.as_mut_slice-2.ensures.len in
-    let tallies_long : length c.measure_lists.new.tallies ≡ work.tallies.len = c.measure_lists.ensures.long ∙ later ∙ lanes ∙ sym c.requires.lent.tallies ∙ tally_room in
-    let table_is : c.as_mut_slice-4.result.now ≡ work.table.items = c.as_mut_slice-4.ensures.value in
-    let table_long : length c.fill_table.new.table ≡ work.table.len = omega (arith, c.as_mut_slice-4.ensures.len, c.fill_table.auto.table) in
-    let cleared : c.as_mut_slice-3.result.now ≡ c.clear.new.tallies = c.as_mut_slice-3.ensures.value ∙ take_at c.clear.new.tallies _ work.tallies.len cleared_long in
-    let counted : c.as_slice.result.now ≡ c.measure_lists.new.tallies = c.as_slice.ensures.value ∙ take_at c.measure_lists.new.tallies _ work.tallies.len tallies_long in
-    prepared_back header c.args.plan.now.rules c.args.lanes.now c.measure_lists.new.lanes c.note_fronts.new.fronts _ c.measure_lists.new.tallies _ c.fill_table.new.table _ c.in_ok-ends.ends (g.F.File.bytes c.args.file.now)
-    (take_at c.note_fronts.new.fronts _ work.fronts.len fronts_long) (take_at c.measure_lists.new.tallies _ work.tallies.len tallies_long) (take_at c.fill_table.new.table _ work.table.len table_long)
-    (prepared_told header c.args.plan.now.rules c.args.lanes.now c.make_all_ready.new.lanes c.measure_lists.new.lanes c.note_fronts.new.fronts c.as_mut_slice-3.result.now c.measure_lists.new.tallies c.as_mut_slice-4.result.now c.fill_table.new.table
-    c.args.work.now.at c.in_ok-ends.ends (g.F.File.bytes c.args.file.now) (g.F.File.bytes c.make_all_ready.new.file) c.make_all_ready.ensures.loads.keeps.bytes
-    c.requires.allowed c.requires.rise c.requires.cpus c.make_all_ready.ensures.loads.parts c.measure_lists.ensures.through.parts c.make_all_ready.ensures.loads.in_order c.in_ok-make_all_ready.ensures.ready
-    c.note_fronts.ensures.noted c.requires.lent.at (ap length table_is ∙ c.requires.lent.table)
-    (λ xs place at are. c.fill_table.ensures xs place at (subst (λ (ts : List Tally). AreCounted l c.measure_lists.new.lanes ts xs) (sym counted) are))
-    (λ i t lt. subst (λ (ts : List Tally). IsTally l (get_or ts i t) []) (sym cleared) (c.clear.ensures.none l i t (omega (arith, lt, ap length cleared, c.clear.ensures.long))))
-    c.make_all_ready.ensures.loads.rows c.make_all_ready.ensures.loads.stands c.in_ok-ends.ensures.told)
+    let first = c.args.lists.now in
+    let ready = c.begin_lists.new.lists in
+    let now = c.measure_lists.new.lists in
+    let go = c.begin_lists.ensures.go in
+    let go2 = c.measure_lists.ensures.go in
+    let table_long : length c.fill_table.new.table ≡ work.table.len = omega (arith, c.as_mut_slice.ensures.len, c.fill_table.auto.table) in
+    let lists = still_lists rules header ready now go2.long (goes_kept ready now go2.each) (still_lists rules header first ready go.long (goes_kept first ready go.each) c.requires.are) in
+    prepared_back header rules first now c.fill_table.new.table _ c.in_ok-ends.ends (g.F.File.bytes c.args.file.now) (take_at c.fill_table.new.table _ work.table.len table_long)
+    (prepared_told header rules first ready now c.as_mut_slice.result.now c.fill_table.new.table work.at c.in_ok-ends.ends (g.F.File.bytes c.args.file.now) (g.F.File.bytes c.begin_lists.new.file) go.keeps.bytes
+    c.requires.allowed lists go.long go2.long go.each go2.each c.in_ok-begin_lists.ensures.begun c.in_ok-ends.ensures.done c.requires.lent.at (ap length c.as_mut_slice.ensures.value ∙ c.requires.lent.table)
+    c.fill_table.ensures c.in_ok-begin_lists.ensures.told c.in_ok-ends.ensures.told)
 
 pub returns-clause-reads : goal.returns-clause-reads
 returns-clause-reads g c =
-    let header = c.args.plan.now.header.now in
-    let l = header.layout in
+    let l = c.args.plan.now.header.now.layout in
     let size = g.F.File.size c.args.file.now in
-    let some : 0 < l.page = omega (arith, (carried header.layout).page_least) in
-    let work = c.args.work.now in
-    let lanes : length c.make_all_ready.new.lanes ≡ length c.args.lanes.now = same_length c.make_all_ready.new.lanes c.args.lanes.now c.make_all_ready.ensures.loads.parts in
-    let later : length c.measure_lists.new.lanes ≡ length c.make_all_ready.new.lanes = same_length c.measure_lists.new.lanes c.make_all_ready.new.lanes c.measure_lists.ensures.through.parts in
-    let front_room : length work.fronts.items ≡ work.fronts.len = ap length (sym c.as_mut_slice.ensures.value) ∙ c.as_mut_slice.ensures.len in
-    let tally_room : length work.tallies.items ≡ work.tallies.len = ap length (sym c.as_mut_slice-2.ensures.value) ∙ c.as_mut_slice-2.ensures.len in
-    let fronts_long : length c.note_fronts.new.fronts ≡ work.fronts.len = c.note_fronts.ensures.long ∙ lanes ∙ sym c.requires.lent.fronts ∙ front_room in
-    let cleared_long : length c.clear.new.tallies ≡ work.tallies.len = c.clear.ensures.long ∙ c.as_mut_slice-2.ensures.len in
-    let tallies_long : length c.measure_lists.new.tallies ≡ work.tallies.len = c.measure_lists.ensures.long ∙ later ∙ lanes ∙ sym c.requires.lent.tallies ∙ tally_room in
-    let cleared : c.as_mut_slice-3.result.now ≡ c.clear.new.tallies = c.as_mut_slice-3.ensures.value ∙ take_at c.clear.new.tallies _ work.tallies.len cleared_long in
-    measured_back l size some c.args.lanes.now c.measure_lists.new.lanes c.note_fronts.new.fronts _ c.measure_lists.new.tallies _ _ _
-    (take_at c.note_fronts.new.fronts _ work.fronts.len fronts_long) (take_at c.measure_lists.new.tallies _ work.tallies.len tallies_long)
-    (measured_spent l size some (g.F.File.size c.make_all_ready.new.file) c.args.lanes.now c.make_all_ready.new.lanes c.measure_lists.new.lanes c.note_fronts.new.fronts c.as_mut_slice-3.result.now c.measure_lists.new.tallies _ _ _
-    c.make_all_ready.ensures.loads.keeps.size lanes later c.note_fronts.ensures.long (c.measure_lists.ensures.long ∙ later) c.make_all_ready.ensures.loads.in_order c.in_ok-make_all_ready.ensures.ready c.in_ok-ends.ensures.ready
-    c.make_all_ready.ensures.loads.advance c.measure_lists.ensures.through.advance c.note_fronts.ensures.noted
-    (λ i t lt. subst (λ (ts : List Tally). IsTally l (get_or ts i t) []) (sym cleared) (c.clear.ensures.none l i t (omega (arith, lt, lanes, c.requires.lent.tallies, tally_room, c.as_mut_slice-2.ensures.len))))
-    c.measure_lists.ensures.over c.make_all_ready.ensures.loads.reads c.make_all_ready.ensures.loads.unread c.in_ok-ends.ensures.reads_done c.measure_lists.ensures.through.unread)
+    let some : 0 < l.page = omega (arith, (carried l).page_least) in
+    let go = c.begin_lists.ensures.go in
+    let go2 = c.measure_lists.ensures.go in
+    measured_spent l size some (g.F.File.size c.begin_lists.new.file) c.args.lists.now c.begin_lists.new.lists c.measure_lists.new.lists _ _ _ go.keeps.size go.long go2.long go.each go2.each
+    c.in_ok-begin_lists.ensures.begun c.in_ok-ends.ensures.done c.in_ok-begin_lists.ensures.reads_done go.unread c.in_ok-ends.ensures.reads_done go2.unread
 
 pub returns-in_err-ends-clause-reads : goal.returns-in_err-ends-clause-reads
 returns-in_err-ends-clause-reads g c =
-    let layout = c.args.plan.now.header.now.layout in
-    let some : 0 < layout.page = omega (arith, (carried c.args.plan.now.header.now.layout).page_least) in
+    let l = c.args.plan.now.header.now.layout in
+    let some : 0 < l.page = omega (arith, (carried l).page_least) in
+    let go = c.begin_lists.ensures.go in
+    let go2 = c.measure_lists.ensures.go in
     let p = err_from_is_err_and c.from_residual-in_err-ends.result c.from_residual-in_err-ends.ensures.1 in
-    rw p.1 (loaded_out layout (g.F.File.size c.args.file.now) some (g.F.File.size c.make_all_ready.new.file) c.args.lanes.now c.make_all_ready.new.lanes _ _ _
-    c.make_all_ready.ensures.loads.keeps.size c.in_ok-make_all_ready.ensures.ready c.make_all_ready.ensures.loads.reads c.make_all_ready.ensures.loads.unread
-    (all_done layout (g.F.File.size c.make_all_ready.new.file) c.measure_lists.new.lanes _ _ _ some c.measure_lists.ensures.through.unread c.measure_lists.ensures.through.reads))
+    rw p.1 (loaded_out l (g.F.File.size c.args.file.now) some (g.F.File.size c.begin_lists.new.file) (lanes_of c.args.lists.now) (lanes_of c.begin_lists.new.lists) _ _ _
+    go.keeps.size c.in_ok-begin_lists.ensures.reads_done go.unread
+    (all_done l (g.F.File.size c.begin_lists.new.file) (lanes_of c.measure_lists.new.lists) _ _ _ some go2.unread go2.reads))
 
-pub returns-in_err-make_all_ready-clause-reads : goal.returns-in_err-make_all_ready-clause-reads
-returns-in_err-make_all_ready-clause-reads g c =
-    let layout = c.args.plan.now.header.now.layout in
-    let some : 0 < layout.page = omega (arith, (carried c.args.plan.now.header.now.layout).page_least) in
+pub returns-in_err-begin_lists-clause-reads : goal.returns-in_err-begin_lists-clause-reads
+returns-in_err-begin_lists-clause-reads g c =
+    let l = c.args.plan.now.header.now.layout in
+    let some : 0 < l.page = omega (arith, (carried l).page_least) in
+    let go = c.begin_lists.ensures.go in
     let p = err_from_is_err_and c.from_residual.result c.from_residual.ensures.1 in
-    rw p.1 (loaded_stops layout (g.F.File.size c.args.file.now) some c.args.lanes.now c.make_all_ready.new.lanes _ _ c.make_all_ready.ensures.loads.reads c.make_all_ready.ensures.loads.unread)
+    rw p.1 (loaded_stops l (g.F.File.size c.args.file.now) some (lanes_of c.args.lists.now) (lanes_of c.begin_lists.new.lists) _ _ go.reads go.unread)

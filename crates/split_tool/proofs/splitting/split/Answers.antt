@@ -1,18 +1,18 @@
 use Rattle.std.proofs.Common.{◌≡◌, ◌<◌, ◌+◌, ◌-◌, ◌^◌, inl, length, refl, arith, sym, subst, ◌∙◌}
 use Rattle.trace_outside.specs.Seen.{folder_seen}
 use Rattle.trace_outside.proofs.Keeping.{file_kept}
-use Rattle.subpage.specs.Arrangement.{CpusRise}
 use Rattle.trace_base.proofs.Layouts.{carried}
 use Rattle.event_cursor.proofs.Told.{told_all, told_both, told_map, told_again}
 use Rattle.split_pieces.specs.Cuts.{bad_reached, file_items}
+use Rattle.split_tool.specs.Lists.{lanes_of}
+use Rattle.split_tool.proofs.Flat.{goes_kept, parts_flat}
 use Rattle.split_tool.specs.Names.{file_name}
 use Rattle.new_files.specs.Requested.{names_of}
 use Rattle.split_tool.specs.NewFiles.{LeavesUnfinished, new_files}
-use Rattle.time_merge.proofs.Advancing.{same_length}
 use Rattle.time_merge.specs.LaneRows.{parts_of}
 use Rattle.time_merge.specs.declared.ending.End.{End}
 use Rattle.split_tool.proofs.Budget.{loaded_stops, passed_spent, same_spent, spent_all, spent_more, spent_stops, start_less}
-use Rattle.split_tool.proofs.Making.{created_last, created_stops, last_counted, progress_none, progress_more, progress_last, progress_stops, read_is, same_cpus, some_counted, fresh_stand, write_is}
+use Rattle.split_tool.proofs.Making.{created_last, created_stops, last_counted, progress_none, progress_more, progress_last, progress_stops, read_is, some_counted, still_lists, fresh_stand, write_is}
 use Rattle.split_tool.proofs.Numbering.{asked_all, asked_none, asked_stops, finished_all, names_new, numbered_more, numbered_none, stops_there}
 use Rattle.split_tool.proofs.Storing.{kept_twice, leaves_none, leaves_since, some_stored, stages_none}
 use Rattle.split_tool.proofs.splitting.split.Goals as goal
@@ -21,38 +21,27 @@ pub returns-in_default-clause-told : goal.returns-in_default-clause-told
 returns-in_default-clause-told g c =
     let old = g.D.Folder.files c.args.folder.now in
     told_all _ (g.F.File.bytes c.args.file.now) (λ file.
-    let news = new_files c.args.plan.now.rules c.args.plan.now.base.now c.args.plan.now.header.now file (parts_of c.args.lanes.now) in
+    let news = new_files c.args.plan.now.rules c.args.plan.now.base.now c.args.plan.now.header.now file (parts_of (lanes_of c.args.lists.now)) in
     some_stored news news old old old refl (stages_none news old))
 
 pub loop-number-init : goal.loop-number-init
 loop-number-init g c =
     let size : g.F.File.size c.args.file.now < 2 ^ 64 = omega arith in
-    let long : length c.pass_start.new.lanes ≡ length c.args.lanes.now = same_length c.pass_start.new.lanes c.args.lanes.now c.pass_start.ensures.through.parts in
+    let header = c.args.plan.now.header.now in
+    let rules = c.args.plan.now.rules in
+    let first = c.args.lists.now in
+    let now = c.pass_start.new.lists in
+    let go = c.pass_start.ensures.go in
+    let parts = parts_flat first now go.long go.each in
     record {
-      cut = record {
-        allowed = c.requires.allowed;
-        in_order = c.pass_start.ensures.through.in_order;
-        rise = subst CpusRise (sym c.pass_start.ensures.through.parts) c.requires.rise;
-        cpus = same_cpus c.args.plan.now.header.now.cpus c.args.lanes.now c.pass_start.new.lanes c.pass_start.ensures.through.parts c.requires.cpus;
-        lent = record {
-          fronts = c.requires.work.fronts ∙ sym long;
-          tallies = c.requires.work.tallies ∙ sym long;
-          nexts = c.pass_start.ensures.slots ∙ c.requires.work.nexts ∙ sym long;
-          next = c.pass_start.ensures.slot;
-          table = c.requires.work.table;
-          page = c.requires.work.page;
-          before = c.requires.work.before;
-          at = c.requires.work.at;
-        };
-      };
-      parts = c.pass_start.ensures.through.parts;
+      cut = record { allowed = c.requires.allowed; are = still_lists rules header first now go.long (goes_kept first now go.each) c.requires.lists; lent = c.requires.work };
+      parts = parts;
       progress = told_both _ _ _ (g.F.File.bytes c.args.file.now) (λ file long started.
-          progress_none c.args.plan.now.header.now c.args.plan.now.base.now c.args.plan.now.rules file c.args.lanes.now c.pass_start.new.lanes (g.D.Folder.files c.args.folder.now) c.requires.allowed c.requires.rise c.requires.cpus
-          c.requires.fresh c.pass_start.ensures.through.parts (omega (arith, long, size)) (started (fresh_stand c.args.plan.now.header.now.layout file c.args.lanes.now c.requires.fresh)))
+          progress_none header c.args.plan.now.base.now rules file (lanes_of first) (lanes_of now) (g.D.Folder.files c.args.folder.now) c.requires.allowed c.requires.lists.rise c.requires.lists.cpus
+          c.requires.fresh parts (omega (arith, long, size)) (started (fresh_stand header.layout file (lanes_of first) c.requires.fresh)))
           (g.met.F.File.size_is c.args.file.now) c.in-Ok.ensures.told;
-      spent = passed_spent c.args.plan.now.header.now.layout (g.F.File.size c.args.file.now) (omega (arith, (carried c.args.plan.now.header.now.layout).page_least)) c.args.lanes.now c.pass_start.new.lanes _ _
-          (same_length c.pass_start.new.lanes c.args.lanes.now c.pass_start.ensures.through.parts) c.pass_start.ensures.through.advance c.in-Ok.ensures.reads_done c.pass_start.ensures.through.unread;
-      keeps = c.pass_start.ensures.through.keeps;
+      spent = passed_spent header.layout (g.F.File.size c.args.file.now) (omega (arith, (carried header.layout).page_least)) first now _ _ go.long go.each c.in-Ok.ensures.reads_done go.unread;
+      keeps = go.keeps;
       counts = record { reading = omega arith; writing = omega arith; unfinished = omega arith; misses = refl; opened = refl; closed = refl; bytes = refl };
       unfinished = refl;
       numbered = numbered_none c.args.plan.now.base.now _ (folder_seen g.D.Folder c.args.folder.now) (omega arith);
@@ -69,9 +58,9 @@ returns-then-not-goes_on-clause-told g c =
     let mid = g.D.Folder.files c.loop-number.folder in
     let new = g.D.Folder.files c.make_file.new.folder in
     told_again _ _ _ (g.F.File.bytes c.args.file.now) (g.F.File.bytes c.loop-number.file) c.loop-number.invariant.keeps.bytes (λ file p m.
-    let news = new_files rules base header file (parts_of c.args.lanes.now) in
-    let bad = bad_reached rules header.layout file (parts_of c.args.lanes.now) in
-    progress_last header base file rules news bad c.loop-number.number c.loop-number.lanes c.make_file.new.lanes old mid new c.in-Ok-make_file.ends c.end_by.result (g.D.Folder.counts c.args.folder.now) (g.D.Folder.counts c.make_file.new.folder) (g.D.Folder.requested c.args.folder.now) (g.D.Folder.requested c.make_file.new.folder) (sym c.goes_on.ensures ∙ c.if-not-goes_on.true) c.end_by.ensures
+    let news = new_files rules base header file (parts_of (lanes_of c.args.lists.now)) in
+    let bad = bad_reached rules header.layout file (parts_of (lanes_of c.args.lists.now)) in
+    progress_last header base file rules news bad c.loop-number.number (lanes_of c.loop-number.lists) (lanes_of c.make_file.new.lists) old mid new c.in-Ok-make_file.ends c.end_by.result (g.D.Folder.counts c.args.folder.now) (g.D.Folder.counts c.make_file.new.folder) (g.D.Folder.requested c.args.folder.now) (g.D.Folder.requested c.make_file.new.folder) (sym c.goes_on.ensures ∙ c.if-not-goes_on.true) c.end_by.ensures
     (m p.stands p.small) p)
     c.loop-number.invariant.progress c.in-Ok-make_file.ensures.told
 
@@ -87,13 +76,13 @@ loop-number-preserved g c =
       cut = c.make_file.ensures.cut;
       parts = c.make_file.ensures.parts ∙ c.loop-number.invariant.parts;
       progress = told_again _ _ _ (g.F.File.bytes c.args.file.now) (g.F.File.bytes c.loop-number.file) c.loop-number.invariant.keeps.bytes (λ file p m.
-          let news = new_files rules base header file (parts_of c.args.lanes.now) in
-          let bad = bad_reached rules header.layout file (parts_of c.args.lanes.now) in
-          progress_more header base file rules news bad c.loop-number.number c.loop-number.lanes c.make_file.new.lanes old mid new c.in-Ok-make_file.ends c.requires.unit (sym c.goes_on.ensures ∙ c.if-not-goes_on.false)
+          let news = new_files rules base header file (parts_of (lanes_of c.args.lists.now)) in
+          let bad = bad_reached rules header.layout file (parts_of (lanes_of c.args.lists.now)) in
+          progress_more header base file rules news bad c.loop-number.number (lanes_of c.loop-number.lists) (lanes_of c.make_file.new.lists) old mid new c.in-Ok-make_file.ends c.requires.unit (sym c.goes_on.ensures ∙ c.if-not-goes_on.false)
           (m p.stands p.small) p)
           c.loop-number.invariant.progress c.in-Ok-make_file.ensures.told;
       spent = spent_more _ _ _ _ _ _ c.loop-number.invariant.spent
-          (same_spent header.layout (g.F.File.size c.args.file.now) (g.F.File.size c.loop-number.file) c.loop-number.lanes c.make_file.new.lanes _ _ c.loop-number.invariant.keeps.size c.in-Ok-make_file.ensures.reads);
+          (same_spent header.layout (g.F.File.size c.args.file.now) (g.F.File.size c.loop-number.file) (lanes_of c.loop-number.lists) (lanes_of c.make_file.new.lists) _ _ c.loop-number.invariant.keeps.size c.in-Ok-make_file.ensures.reads);
       keeps = file_kept c.loop-number.invariant.keeps c.make_file.ensures.keeps;
       counts = kept_twice _ _ _ c.loop-number.invariant.counts c.make_file.ensures.counts.keeps;
       unfinished = c.in-Ok-make_file.ensures.counts.unfinished ∙ c.loop-number.invariant.unfinished;
@@ -112,9 +101,9 @@ returns-in-Err-clause-told g c =
     let mid = g.D.Folder.files c.loop-number.folder in
     let new = g.D.Folder.files c.make_file.new.folder in
     told_again _ _ _ (g.F.File.bytes c.args.file.now) (g.F.File.bytes c.loop-number.file) c.loop-number.invariant.keeps.bytes (λ file p m.
-    let news = new_files rules base header file (parts_of c.args.lanes.now) in
-    let bad = bad_reached rules header.layout file (parts_of c.args.lanes.now) in
-    progress_stops header base file rules news bad c.loop-number.number c.loop-number.lanes c.make_file.new.lanes old mid new c.in-Err.unmade c.ending.result (g.D.Folder.counts c.args.folder.now) (g.D.Folder.counts c.loop-number.folder) (g.D.Folder.counts c.make_file.new.folder)
+    let news = new_files rules base header file (parts_of (lanes_of c.args.lists.now)) in
+    let bad = bad_reached rules header.layout file (parts_of (lanes_of c.args.lists.now)) in
+    progress_stops header base file rules news bad c.loop-number.number (lanes_of c.loop-number.lists) (lanes_of c.make_file.new.lists) old mid new c.in-Err.unmade c.ending.result (g.D.Folder.counts c.args.folder.now) (g.D.Folder.counts c.loop-number.folder) (g.D.Folder.counts c.make_file.new.folder)
     (g.D.Folder.requested c.args.folder.now) (g.D.Folder.requested c.loop-number.folder) (g.D.Folder.requested c.make_file.new.folder) c.ending.ensures c.loop-number.invariant.counts.unfinished (m p.stands p.small) c.in-Err.ensures.leaves p)
     c.loop-number.invariant.progress c.in-Err.ensures.told
 
@@ -141,9 +130,9 @@ returns-then-not-goes_on-clause-created g c =
     let mid = g.D.Folder.files c.loop-number.folder in
     let new = g.D.Folder.files c.make_file.new.folder in
     told_again _ _ _ (g.F.File.bytes c.args.file.now) (g.F.File.bytes c.loop-number.file) c.loop-number.invariant.keeps.bytes (λ file p m.
-    let news = new_files rules base header file (parts_of c.args.lanes.now) in
-    let bad = bad_reached rules header.layout file (parts_of c.args.lanes.now) in
-    created_last header base file rules news bad c.loop-number.number c.loop-number.lanes c.make_file.new.lanes old mid new c.in-Ok-make_file.ends c.end_by.result
+    let news = new_files rules base header file (parts_of (lanes_of c.args.lists.now)) in
+    let bad = bad_reached rules header.layout file (parts_of (lanes_of c.args.lists.now)) in
+    created_last header base file rules news bad c.loop-number.number (lanes_of c.loop-number.lists) (lanes_of c.make_file.new.lists) old mid new c.in-Ok-make_file.ends c.end_by.result
     (g.D.Folder.counts c.args.folder.now).created (g.D.Folder.counts c.loop-number.folder).created (g.D.Folder.counts c.make_file.new.folder).created
     (sym c.goes_on.ensures ∙ c.if-not-goes_on.true) c.end_by.ensures
     (m p.stands p.small)
@@ -159,9 +148,9 @@ returns-in-Err-clause-created g c =
     let mid = g.D.Folder.files c.loop-number.folder in
     let new = g.D.Folder.files c.make_file.new.folder in
     told_again _ _ _ (g.F.File.bytes c.args.file.now) (g.F.File.bytes c.loop-number.file) c.loop-number.invariant.keeps.bytes (λ file p m.
-    let news = new_files rules base header file (parts_of c.args.lanes.now) in
-    let bad = bad_reached rules header.layout file (parts_of c.args.lanes.now) in
-    created_stops header base file rules news bad c.loop-number.number c.loop-number.lanes c.make_file.new.lanes old mid new c.in-Err.unmade c.ending.result
+    let news = new_files rules base header file (parts_of (lanes_of c.args.lists.now)) in
+    let bad = bad_reached rules header.layout file (parts_of (lanes_of c.args.lists.now)) in
+    created_stops header base file rules news bad c.loop-number.number (lanes_of c.loop-number.lists) (lanes_of c.make_file.new.lists) old mid new c.in-Err.unmade c.ending.result
     (g.D.Folder.counts c.args.folder.now).created (g.D.Folder.counts c.loop-number.folder).created (g.D.Folder.counts c.make_file.new.folder).created c.ending.ensures
     (m p.stands p.small)
     c.loop-number.invariant.least c.loop-number.invariant.created c.in-Err.ensures.counts.created p)
@@ -188,32 +177,32 @@ returns-then-not-goes_on-clause-counts g c = kept_twice _ _ _ c.loop-number.inva
 pub returns-in_default-clause-reads : goal.returns-in_default-clause-reads
 returns-in_default-clause-reads g c =
     let header = c.args.plan.now.header.now in
-    start_less header.layout (g.F.File.size c.args.file.now) (omega (arith, (carried header.layout).page_least)) c.args.lanes.now _ _ c.requires.fresh
-    (loaded_stops header.layout (g.F.File.size c.args.file.now) (omega (arith, (carried header.layout).page_least)) c.args.lanes.now c.pass_start.new.lanes _ _ c.pass_start.ensures.through.reads c.pass_start.ensures.through.unread)
+    start_less header.layout (g.F.File.size c.args.file.now) (omega (arith, (carried header.layout).page_least)) (lanes_of c.args.lists.now) _ _ c.requires.fresh
+    (loaded_stops header.layout (g.F.File.size c.args.file.now) (omega (arith, (carried header.layout).page_least)) (lanes_of c.args.lists.now) (lanes_of c.pass_start.new.lists) _ _ c.pass_start.ensures.go.reads c.pass_start.ensures.go.unread)
 
 pub returns-then-not-goes_on-clause-reads : goal.returns-then-not-goes_on-clause-reads
 returns-then-not-goes_on-clause-reads g c =
     let header = c.args.plan.now.header.now in
-    start_less header.layout (g.F.File.size c.args.file.now) (omega (arith, (carried header.layout).page_least)) c.args.lanes.now _ _ c.requires.fresh
+    start_less header.layout (g.F.File.size c.args.file.now) (omega (arith, (carried header.layout).page_least)) (lanes_of c.args.lists.now) _ _ c.requires.fresh
     (spent_all _ _ _ _ (spent_more _ _ _ _ _ _ c.loop-number.invariant.spent
-    (same_spent header.layout (g.F.File.size c.args.file.now) (g.F.File.size c.loop-number.file) c.loop-number.lanes c.make_file.new.lanes _ _ c.loop-number.invariant.keeps.size c.in-Ok-make_file.ensures.reads)))
+    (same_spent header.layout (g.F.File.size c.args.file.now) (g.F.File.size c.loop-number.file) (lanes_of c.loop-number.lists) (lanes_of c.make_file.new.lists) _ _ c.loop-number.invariant.keeps.size c.in-Ok-make_file.ensures.reads)))
 
 pub returns-in-Err-clause-reads : goal.returns-in-Err-clause-reads
 returns-in-Err-clause-reads g c =
     let header = c.args.plan.now.header.now in
-    start_less header.layout (g.F.File.size c.args.file.now) (omega (arith, (carried header.layout).page_least)) c.args.lanes.now _ _ c.requires.fresh
-    (spent_stops header.layout (g.F.File.size c.args.file.now) (g.F.File.size c.loop-number.file) c.args.lanes.now c.loop-number.lanes _ _ _ c.loop-number.invariant.keeps.size c.loop-number.invariant.spent c.in-Err.ensures.reads)
+    start_less header.layout (g.F.File.size c.args.file.now) (omega (arith, (carried header.layout).page_least)) (lanes_of c.args.lists.now) _ _ c.requires.fresh
+    (spent_stops header.layout (g.F.File.size c.args.file.now) (g.F.File.size c.loop-number.file) (lanes_of c.args.lists.now) (lanes_of c.loop-number.lists) _ _ _ c.loop-number.invariant.keeps.size c.loop-number.invariant.spent c.in-Err.ensures.reads)
 
 pub returns-clause-reads : goal.returns-clause-reads
 returns-clause-reads g c =
     let header = c.args.plan.now.header.now in
-    start_less header.layout (g.F.File.size c.args.file.now) (omega (arith, (carried header.layout).page_least)) c.args.lanes.now _ _ c.requires.fresh (spent_all _ _ _ _ c.loop-number.invariant.spent)
+    start_less header.layout (g.F.File.size c.args.file.now) (omega (arith, (carried header.layout).page_least)) (lanes_of c.args.lists.now) _ _ c.requires.fresh (spent_all _ _ _ _ c.loop-number.invariant.spent)
 
 -- WHAT WAS ASKED FOR, AND WHAT IS LEFT OF ANY FILE
 
 pub returns-in_default-clause-requested : goal.returns-in_default-clause-requested
 returns-in_default-clause-requested g c =
-    told_all _ (g.F.File.bytes c.args.file.now) (λ file. asked_none (names_of (new_files c.args.plan.now.rules c.args.plan.now.base.now c.args.plan.now.header.now file (parts_of c.args.lanes.now))) (g.D.Folder.requested c.args.folder.now))
+    told_all _ (g.F.File.bytes c.args.file.now) (λ file. asked_none (names_of (new_files c.args.plan.now.rules c.args.plan.now.base.now c.args.plan.now.header.now file (parts_of (lanes_of c.args.lists.now)))) (g.D.Folder.requested c.args.folder.now))
 
 pub returns-then-not-goes_on-clause-requested : goal.returns-then-not-goes_on-clause-requested
 returns-then-not-goes_on-clause-requested g c =
@@ -226,11 +215,11 @@ returns-then-not-goes_on-clause-requested g c =
     let more = numbered_more base (c.loop-number.number - 1) c.loop-number.number c.loop-number.number (folder_seen g.D.Folder c.args.folder.now) (folder_seen g.D.Folder c.loop-number.folder) (folder_seen g.D.Folder c.make_file.new.folder)
     (omega (arith, c.loop-number.invariant.least)) refl c.in-Ok-make_file.ensures.leaves c.in-Ok-make_file.ensures.requested c.loop-number.invariant.numbered in
     told_again _ _ _ (g.F.File.bytes c.args.file.now) (g.F.File.bytes c.loop-number.file) c.loop-number.invariant.keeps.bytes (λ file p m.
-    let news = new_files rules base header file (parts_of c.args.lanes.now) in
-    let bad = bad_reached rules header.layout file (parts_of c.args.lanes.now) in
-    let long = last_counted header base file rules news bad c.loop-number.number c.loop-number.lanes c.make_file.new.lanes old mid new c.in-Ok-make_file.ends (sym c.goes_on.ensures ∙ c.if-not-goes_on.true) (m p.stands p.small) p in
+    let news = new_files rules base header file (parts_of (lanes_of c.args.lists.now)) in
+    let bad = bad_reached rules header.layout file (parts_of (lanes_of c.args.lists.now)) in
+    let long = last_counted header base file rules news bad c.loop-number.number (lanes_of c.loop-number.lists) (lanes_of c.make_file.new.lists) old mid new c.in-Ok-make_file.ends (sym c.goes_on.ensures ∙ c.if-not-goes_on.true) (m p.stands p.small) p in
     asked_all base news (c.loop-number.number + 0) (g.D.Folder.requested c.args.folder.now) (g.D.Folder.requested c.make_file.new.folder) c.in-Ok-make_file.ends.bad c.end_by.result c.end_by.ensures
-    (names_new header base (file_items rules header.layout file (parts_of c.args.lanes.now))) (omega (arith, long)) more.requested)
+    (names_new header base (file_items rules header.layout file (parts_of (lanes_of c.args.lists.now)))) (omega (arith, long)) more.requested)
     c.loop-number.invariant.progress c.in-Ok-make_file.ensures.told
 
 pub returns-in-Err-clause-requested : goal.returns-in-Err-clause-requested
@@ -242,12 +231,12 @@ returns-in-Err-clause-requested g c =
     let mid = g.D.Folder.files c.loop-number.folder in
     let new = g.D.Folder.files c.make_file.new.folder in
     told_again _ _ _ (g.F.File.bytes c.args.file.now) (g.F.File.bytes c.loop-number.file) c.loop-number.invariant.keeps.bytes (λ file p m.
-    let news = new_files rules base header file (parts_of c.args.lanes.now) in
-    let bad = bad_reached rules header.layout file (parts_of c.args.lanes.now) in
-    asked_stops (record { header = header; rules = rules; name = file_name base c.loop-number.number }) file (record { lanes = c.loop-number.lanes; files = mid }) (record { lanes = c.make_file.new.lanes; files = new }) base news (c.loop-number.number - 1) c.loop-number.number
+    let news = new_files rules base header file (parts_of (lanes_of c.args.lists.now)) in
+    let bad = bad_reached rules header.layout file (parts_of (lanes_of c.args.lists.now)) in
+    asked_stops (record { header = header; rules = rules; name = file_name base c.loop-number.number }) file (record { lanes = (lanes_of c.loop-number.lists); files = mid }) (record { lanes = (lanes_of c.make_file.new.lists); files = new }) base news (c.loop-number.number - 1) c.loop-number.number
     (g.D.Folder.requested c.args.folder.now) (g.D.Folder.requested c.loop-number.folder) (g.D.Folder.requested c.make_file.new.folder) c.in-Err.unmade c.ending.result c.ending.ensures (m p.stands p.small)
-    (names_new header base (file_items rules header.layout file (parts_of c.args.lanes.now))) (omega (arith, c.loop-number.invariant.least))
-    (some_counted header base file rules news bad c.loop-number.number c.loop-number.lanes c.make_file.new.lanes old mid new p)
+    (names_new header base (file_items rules header.layout file (parts_of (lanes_of c.args.lists.now)))) (omega (arith, c.loop-number.invariant.least))
+    (some_counted header base file rules news bad c.loop-number.number (lanes_of c.loop-number.lists) (lanes_of c.make_file.new.lists) old mid new p)
     c.loop-number.invariant.numbered.requested c.in-Err.ensures.requested)
     c.loop-number.invariant.progress c.in-Err.ensures.told
 
@@ -264,13 +253,13 @@ returns-then-not-goes_on-clause-leaves g c =
     let base = c.args.plan.now.base.now in
     let old = folder_seen g.D.Folder c.args.folder.now in
     let new = folder_seen g.D.Folder c.make_file.new.folder in
-    finished_all base c.make_file.new.lanes c.loop-number.number old new c.in-Ok-make_file.ends.bad c.end_by.result c.end_by.ensures
+    finished_all base (lanes_of c.make_file.new.lists) c.loop-number.number old new c.in-Ok-make_file.ends.bad c.end_by.result c.end_by.ensures
     (numbered_more base (c.loop-number.number - 1) c.loop-number.number c.loop-number.number old (folder_seen g.D.Folder c.loop-number.folder) new
     (omega (arith, c.loop-number.invariant.least)) refl c.in-Ok-make_file.ensures.leaves c.in-Ok-make_file.ensures.requested c.loop-number.invariant.numbered)
 
 pub returns-in-Err-clause-leaves : goal.returns-in-Err-clause-leaves
 returns-in-Err-clause-leaves g c =
-    stops_there c.args.plan.now.base.now c.make_file.new.lanes (c.loop-number.number - 1) c.loop-number.number (folder_seen g.D.Folder c.args.folder.now) (folder_seen g.D.Folder c.loop-number.folder) (folder_seen g.D.Folder c.make_file.new.folder)
+    stops_there c.args.plan.now.base.now (lanes_of c.make_file.new.lists) (c.loop-number.number - 1) c.loop-number.number (folder_seen g.D.Folder c.args.folder.now) (folder_seen g.D.Folder c.loop-number.folder) (folder_seen g.D.Folder c.make_file.new.folder)
     c.in-Err.unmade c.ending.result c.ending.ensures (omega (arith, c.loop-number.invariant.least)) c.loop-number.invariant.counts.unfinished c.loop-number.invariant.numbered c.in-Err.ensures.leaves c.in-Err.ensures.requested
 
 pub returns-clause-leaves : goal.returns-clause-leaves

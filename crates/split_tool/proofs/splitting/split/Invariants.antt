@@ -5,6 +5,7 @@ use Rattle.trace_outside.specs.Keeping.{KeepsFile}
 use Rattle.trace_outside.specs.Seen.{folder_seen}
 use Rattle.time_merge.specs.LaneRows.{parts_of}
 use Rattle.split_pieces.specs.Cuts.{bad_reached}
+use Rattle.split_tool.specs.Lists.{lanes_of}
 use Rattle.split_tool.specs.NewFiles.{new_files}
 use Rattle.split_tool.specs.Numbered.{Numbered}
 use Rattle.split_tool.specs.Reads.{Spent, to_read}
@@ -15,11 +16,11 @@ use Rattle.split_tool.proofs.splitting.split.Given as goal
 
 abbrev pub invariant-loop-number : goal.invariant-loop-number
 invariant-loop-number g l = record {
-  cut : CanCut l.plan.header.now l.lanes l.work;
-  parts : parts_of l.lanes ≡ parts_of l.fn.lanes;
-  progress : IfSome (g.F.File.bytes l.fn.file) (λ file. Progress l.plan.header.now l.plan.base.now file l.plan.rules (new_files l.plan.rules l.plan.base.now l.plan.header.now file (parts_of l.fn.lanes))
-      (bad_reached l.plan.rules l.plan.header.now.layout file (parts_of l.fn.lanes)) l.number l.lanes (g.D.Folder.files l.fn.folder) (g.D.Folder.files l.folder));
-  spent : Spent (to_read l.plan.header.now.layout (g.F.File.size l.fn.file) l.fn.lanes) (to_read l.plan.header.now.layout (g.F.File.size l.fn.file) l.lanes) (g.F.File.reads l.fn.file) (g.F.File.reads l.file);
+  cut : CanCut l.plan.rules l.plan.header.now l.lists l.work;
+  parts : parts_of (lanes_of l.lists) ≡ parts_of (lanes_of l.fn.lists);
+  progress : IfSome (g.F.File.bytes l.fn.file) (λ file. Progress l.plan.header.now l.plan.base.now file l.plan.rules (new_files l.plan.rules l.plan.base.now l.plan.header.now file (parts_of (lanes_of l.fn.lists)))
+      (bad_reached l.plan.rules l.plan.header.now.layout file (parts_of (lanes_of l.fn.lists))) l.number (lanes_of l.lists) (g.D.Folder.files l.fn.folder) (g.D.Folder.files l.folder));
+  spent : Spent (to_read l.plan.header.now.layout (g.F.File.size l.fn.file) (lanes_of l.fn.lists)) (to_read l.plan.header.now.layout (g.F.File.size l.fn.file) (lanes_of l.lists)) (g.F.File.reads l.fn.file) (g.F.File.reads l.file);
   keeps : KeepsFile g.F.File l.fn.file l.file;
   counts : KeepsCounts (g.D.Folder.counts l.fn.folder) (g.D.Folder.counts l.folder);
   unfinished : (g.D.Folder.counts l.folder).unfinished ≡ (g.D.Folder.counts l.fn.folder).unfinished;

@@ -1,27 +1,17 @@
-use Rattle.std.proofs.Common.{◌≡◌, ℕ, ◌-◌, ◌<◌, ◌≤◌, Some, length, get_or}
+use Rattle.std.proofs.Common.{◌≡◌, ℕ, ◌<◌, Some, get_or}
 use Rattle.std.specs.Option.{IfSome}
 use Rattle.std.specs.List.{All}
-use Rattle.trace_outside.specs.Causes.{raised}
-use Rattle.trace_outside.specs.Keeping.{KeepsFile}
-use Rattle.page_pool.specs.declared.lane.Lane.{Lane}
-use Rattle.event_cursor.specs.Standing.{IsInOrder, Stands}
-use Rattle.time_merge.specs.Advancing.{Advances}
-use Rattle.time_merge.specs.LaneRows.{parts_of}
-use Rattle.time_merge.specs.Reads.{all_unread}
-use Rattle.split_tool.proofs.Passing.{StartedTo}
+use Rattle.event_cursor.specs.Standing.{Stands}
+use Rattle.split_passes.specs.ListSeen.{ListSeen}
+use Rattle.split_tool.specs.Lists.{lanes_of}
+use Rattle.split_tool.proofs.Gone.{GoneTo}
+use Rattle.split_tool.proofs.Passing.{StartsOn}
 use Rattle.split_tool.proofs.start.pass_start.Given as goal
 
 abbrev pub invariant-loop-i : goal.invariant-loop-i
 invariant-loop-i g l = record {
-  in_order : All (IsInOrder l.layout) l.lanes;
-  parts : parts_of l.lanes ≡ parts_of l.fn.lanes;
-  slot : length l.next ≡ 1;
-  started : IfSome (g.F.File.bytes l.fn.file) (λ file. All (Stands l.layout file) l.fn.lanes → StartedTo l.layout file (Some l.start) l.i l.fn.lanes l.lanes);
-  advance : (j : ℕ) (d : Lane) → j < length l.fn.lanes → Advances (get_or l.fn.lanes j d) (get_or l.lanes j d);
-  reads : g.F.File.reads l.file
-      ≤ raised (g.F.File.reads l.fn.file)
-      (all_unread l.layout (g.F.File.size l.fn.file) l.fn.lanes - all_unread l.layout (g.F.File.size l.fn.file) l.lanes);
-  unread : all_unread l.layout (g.F.File.size l.fn.file) l.lanes ≤ all_unread l.layout (g.F.File.size l.fn.file) l.fn.lanes;
-  keeps : KeepsFile g.F.File l.fn.file l.file;
+  gone : GoneTo g.F.File l.plan.header.now.layout l.i l.fn.file l.file l.fn.lists l.lists;
+  started : IfSome (g.F.File.bytes l.fn.file) (λ file. All (Stands l.plan.header.now.layout file) (lanes_of l.fn.lists)
+      → (j : ℕ) (d : ListSeen) → j < l.i → StartsOn l.plan.header.now.layout file (Some l.start) (get_or l.fn.lists j d) (get_or l.lists j d));
   faults : g.F.File.faults l.file ≡ g.F.File.faults l.fn.file;
 }

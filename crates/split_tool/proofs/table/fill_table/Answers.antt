@@ -1,47 +1,55 @@
-use Rattle.std.proofs.Common.{rules, refl, arith, ◌≡◌, ◌*◌, ◌%◌, ◌^◌, ◌<◌, ◌≤◌, ℕ, length, ap}
-use Rattle.split_tool.proofs.Tables.{filled_none, filled_empty, filled_lane, all_filled, behind_more, before_lane, behind_lane}
+use Rattle.std.proofs.Common.{rules, arith, ◌≡◌, ◌<◌, ◌≤◌, ℕ, List, length, get_or, map, inl, inr, ap, sym, subst, ◌∙◌}
+use Rattle.std.proofs.lemmas.Bool.{cases_eq}
+use Rattle.trace_base.specs.declared.part.Part.{Part}
+use Rattle.page_pool.specs.declared.lane.Lane.{Lane}
+use Rattle.page_write.specs.Placed.{parts_from}
+use Rattle.dat_header.specs.Tables.{in_table}
+use Rattle.split_tool.specs.Counted.{IsSized, lists_of}
+use Rattle.split_tool.proofs.Tables.{all_sized, counted_at, lanes_at, none_sized, same_lanes}
 use Rattle.split_tool.proofs.table.fill_table.Goals as goal
 
-pub loop-cpu-init : goal.loop-cpu-init
-loop-cpu-init c = record {
-  within = omega arith;
-  before = λ j d lt. absurd (omega (arith, lt));
-  behind = λ j d le lt. omega arith;
-  filled = λ xs whole at counted. filled_none c.args.layout.now whole c.args.at xs c.args.table.now at;
+pub loop-i-init : goal.loop-i-init
+loop-i-init c = record {
+  long = c.clear_sizes.ensures.long;
+  zeros = λ xs cpu counted lt none. none_sized c.args.layout.now xs c.clear_sizes.new.table cpu none (λ p. c.clear_sizes.ensures.none cpu p lt);
+  puts = λ xs k e j d counted lt. absurd (omega (arith, lt));
 }
 
-pub loop-cpu-preserved-then-not-is_at : goal.loop-cpu-preserved-then-not-is_at
-loop-cpu-preserved-then-not-is_at c =
-    let i = c.loop-cpu.invariant in
-    let never = c.if-not-is_at.ensures.never refl in
-    let lt : c.loop-cpu.cpu < length c.loop-cpu.table = search rules in
-    record {
-      within = i.within;
-      before = λ j d less. let h = i.before j d less in omega (arith, h);
-      behind = behind_more c.args.lanes.now c.loop-cpu.next c.loop-cpu.cpu c.requires.rise never i.behind;
-      filled = λ xs whole at counted.
-          filled_empty c.args.layout.now whole c.loop-cpu.cpu c.loop-cpu.next c.args.lanes.now c.args.tallies.now xs c.loop-cpu.place c.loop-cpu.table lt c.requires.rise never i.before i.behind counted (i.filled xs whole at counted);
-    }
+pub put_sizes-requires-clause-inside : goal.put_sizes-requires-clause-inside
+put_sizes-requires-clause-inside c =
+    let lt : c.loop-i.i < length c.args.lists.now = search rules in
+    let here = lanes_at (λ (lane : Lane). lane.cpu < length c.args.table.now) c.args.lists.now c.loop-i.i c.index-lists-i.result c.lanes.result.now c.requires lt c.index-lists-i.is c.lanes.ensures in
+    λ k d inside. let below = here k d inside in omega (arith, below, c.loop-i.invariant.long)
 
-pub loop-cpu-preserved : goal.loop-cpu-preserved
-loop-cpu-preserved c =
-    let i = c.loop-cpu.invariant in
-    let inside = c.if-not-is_at.ensures.inside refl in
-    let here = c.if-not-is_at.ensures.yes refl in
-    let lt : c.loop-cpu.cpu < length c.loop-cpu.table = search rules in
-    let size : (c.pages.result * c.from.result) % 2 ^ 64 ≡ (c.pages.result * c.args.layout.now.page) % 2 ^ 64 = ap (λ (n : ℕ). (c.pages.result * n) % 2 ^ 64) c.from.ensures in
+pub loop-i-preserved : goal.loop-i-preserved
+loop-i-preserved c =
+    let v = c.loop-i.invariant in
+    let i = c.loop-i.i in
+    let l = c.args.layout.now in
+    let lists = c.args.lists.now in
+    let x = c.index-lists-i.result in
+    let y = c.index-lists-i-in-loop-i.result in
+    let lt : i < length lists = search rules in
     record {
-      within = omega (arith, inside);
-      before = before_lane c.args.lanes.now c.loop-cpu.next c.loop-cpu.cpu here i.before;
-      behind = behind_lane c.args.lanes.now c.loop-cpu.next c.loop-cpu.cpu c.requires.rise here;
-      filled = λ xs whole at counted.
-          filled_lane c.args.layout.now whole c.loop-cpu.cpu c.loop-cpu.next c.args.lanes.now c.args.tallies.now c.index-tallies-next.result c.pages.result xs c.loop-cpu.place _ _ c.loop-cpu.table
-          lt inside here c.index-tallies-next.is (c.pages.ensures c.args.layout.now) size refl counted (i.filled xs whole at counted);
+      long = c.put_sizes.ensures.long ∙ v.long;
+      zeros = λ xs cpu counted inside none.
+          c.put_sizes.ensures.keeps xs cpu (counted_at l lists xs i x y c.lanes.result.now c.tallies.result.now counted lt c.index-lists-i.is c.index-lists-i-in-loop-i.is c.lanes.ensures c.tallies.ensures.value) (v.zeros xs cpu counted inside none);
+      puts = λ xs k e j d counted inside lt2.
+          let here = counted_at l lists xs i x y c.lanes.result.now c.tallies.result.now counted lt c.index-lists-i.is c.index-lists-i-in-loop-i.is c.lanes.ensures c.tallies.ensures.value in
+          elim (cases_eq k i) [
+            | inl same ↦
+                let all : c.lanes.result.now ≡ (get_or lists k e).all = same_lanes lists i k x e c.lanes.result.now same lt c.index-lists-i.is c.lanes.ensures in
+                let long = ap length all in
+                subst (λ (lanes : List Lane). IsSized l xs c.put_sizes.new.table (get_or lanes j d).cpu) all (c.put_sizes.ensures.puts xs j d here (omega (arith, lt2, long)))
+            | inr other ↦ c.put_sizes.ensures.keeps xs (get_or (get_or lists k e).all j d).cpu here (v.puts xs k e j d counted (omega (arith, inside, other)) lt2)
+          ];
     }
 
 pub returns : goal.returns
-returns c = λ xs whole at counted.
-    let same : length c.loop-cpu.table ≡ length c.args.table.now = search rules in
-    let over : length c.args.table.now ≤ c.loop-cpu.cpu = search rules in
-    let within : c.loop-cpu.cpu ≤ length c.args.table.now = search rules in
-    all_filled c.args.layout.now whole c.loop-cpu.cpu xs c.loop-cpu.place c.loop-cpu.table c.args.table.now same over within (c.loop-cpu.invariant.filled xs whole at counted)
+returns c = λ xs place at counted.
+    let v = c.loop-i.invariant in
+    let l = c.args.layout.now in
+    let over : length c.args.lists.now ≤ c.loop-i.i = search rules in
+    c.place_parts.ensures l xs place at
+    (all_sized l c.args.lists.now xs c.loop-i.table c.loop-i.i over counted (λ k e j d lt lt2 lt3. v.puts xs k e j d counted lt lt3) (λ cpu lt none. v.zeros xs cpu counted (omega (arith, lt, v.long)) none))
+    ∙ ap (λ (n : ℕ). map in_table (parts_from l place (lists_of n xs))) v.long

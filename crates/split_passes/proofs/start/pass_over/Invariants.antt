@@ -9,8 +9,8 @@ use Rattle.time_merge.specs.Advancing.{Advances}
 use Rattle.time_merge.specs.LaneRows.{parts_of}
 use Rattle.time_merge.specs.Nexts.{IsInStep}
 use Rattle.time_merge.specs.Reads.{all_unread}
-use Rattle.split_tool.proofs.Passing.{Passing}
-use Rattle.split_tool.proofs.start.pass_list.Given as goal
+use Rattle.split_passes.proofs.Passing.{Passing}
+use Rattle.split_passes.proofs.start.pass_over.Given as goal
 
 abbrev pub invariant-loop-i : goal.invariant-loop-i
 invariant-loop-i g l = record {

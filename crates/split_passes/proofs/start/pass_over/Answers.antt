@@ -10,9 +10,9 @@ use Rattle.time_merge.proofs.Going.{holds_is, next_is, still_parts}
 use Rattle.time_merge.proofs.PartReads.{going_reads, loading_reads, stepping_unread}
 use Rattle.split_passes.proofs.Going.{advances_on, advances_stepped}
 use Rattle.split_passes.proofs.Through.{through_loaded}
-use Rattle.split_tool.proofs.OneLaneOn.{ready_done}
-use Rattle.split_tool.proofs.Passing.{passing_none, passing_loaded, passing_on, passed_all, passed_out}
-use Rattle.split_tool.proofs.start.pass_list.Goals as goal
+use Rattle.split_passes.proofs.Passing.{ready_done}
+use Rattle.split_passes.proofs.Passing.{passing_none, passing_loaded, passing_on, passed_all, passed_out}
+use Rattle.split_passes.proofs.start.pass_over.Goals as goal
 
 pub loop-i-init : goal.loop-i-init
 loop-i-init g c = record {
