@@ -1,5 +1,5 @@
 -- The digits of pids.
-use Rattle.std.proofs.Common.{◌≡◌, ℕ, ◌+◌, ◌-◌, ◌/◌, ◌%◌, ◌<◌, ◌≤◌, List, [], ◌∷◌, ◌++◌, length, drop, replicate, refl, sym, ap, ◌∙◌, append_assoc, append-nil, length-append, arith}
+use Rattle.std.proofs.Common.{◌≡◌, ℕ, ◌+◌, ◌-◌, ◌/◌, ◌%◌, ◌<◌, ◌≤◌, List, [], ◌∷◌, ◌++◌, length, take, drop, replicate, refl, sym, ap, ◌∙◌, append_assoc, append-nil, length-append, arith}
 use Rattle.std.specs.Prelude.{codes}
 use Rattle.std.specs.Fmt.{decimal}
 use Rattle.std.proofs.lemmas.Fmt.{decimal_digit}
@@ -77,23 +77,26 @@ six_digits n le small =
     ∙ ap (λ (l : List ℕ). l ++ last) (sym (is_four (n / 100) (omega (arith, le)) (omega (arith, small))))
     ∙ sym (usual.by_hundreds n (omega (arith, le)) (omega (arith, small)))
 
-seven_digits : (n : ℕ) → 1000000 ≤ n → n < 10000000 → (48 + n / 1000000) ∷ zeros 6 (decimal (n % 1000000)) ≡ decimal n
-seven_digits n le small =
-    let low : ℕ = n % 1000000 in
-    let last : List ℕ = pair (n % 100) in
-    let first : n / 1000000 ≡ n / 100 / 100 / 100 = omega arith in
-    let one : low / 10000 ≡ n / 100 / 100 % 100 = omega arith in
-    let two : low / 100 % 100 ≡ n / 100 % 100 = omega arith in
-    let three : low % 100 ≡ n % 100 = omega arith in
-    ap (λ (l : List ℕ). (48 + n / 1000000) ∷ l) (sym (append-nil (zeros 6 (decimal low))) ∙ sym (fills.six_front low [] (omega arith)))
-    ∙ ap (λ (d : ℕ). (48 + d) ∷ (pair (low / 10000) ++ (pair (low / 100 % 100) ++ (pair (low % 100) ++ [])))) first
-    ∙ ap (λ (k : ℕ). (48 + n / 100 / 100 / 100) ∷ (pair k ++ (pair (low / 100 % 100) ++ (pair (low % 100) ++ [])))) one
-    ∙ ap (λ (k : ℕ). (48 + n / 100 / 100 / 100) ∷ (pair (n / 100 / 100 % 100) ++ (pair k ++ (pair (low % 100) ++ [])))) two
-    ∙ ap (λ (k : ℕ). (48 + n / 100 / 100 / 100) ∷ (pair (n / 100 / 100 % 100) ++ (pair (n / 100 % 100) ++ (pair k ++ [])))) three
-    ∙ ap (λ (l : List ℕ). (48 + n / 100 / 100 / 100) ∷ (pair (n / 100 / 100 % 100) ++ (pair (n / 100 % 100) ++ l))) (append-nil last)
-    ∙ ap (λ (l : List ℕ). (48 + n / 100 / 100 / 100) ∷ l) (sym (append_assoc (pair (n / 100 / 100 % 100)) (pair (n / 100 % 100)) last))
-    ∙ ap (λ (l : List ℕ). l ++ last) (sym (is_five (n / 100) (omega (arith, le)) (omega (arith, small))))
-    ∙ sym (usual.by_hundreds n (omega (arith, le)) (omega (arith, small)))
+pub seven_front : (n : ℕ) (more : List ℕ) → 1000000 ≤ n → n < 10000000
+    → decimal (n / 10000) ++ (pair (n % 10000 / 100) ++ (pair (n % 10000 % 100) ++ more)) ≡ decimal n ++ more
+seven_front n more le small =
+    let high : n / 10000 ≡ n / 100 / 100 = omega arith in
+    let middle : n % 10000 / 100 ≡ n / 100 % 100 = omega arith in
+    let last : n % 10000 % 100 ≡ n % 100 = omega arith in
+    ap (λ (k : ℕ). decimal k ++ (pair (n % 10000 / 100) ++ (pair (n % 10000 % 100) ++ more))) high
+    ∙ ap (λ (k : ℕ). decimal (n / 100 / 100) ++ (pair k ++ (pair (n % 10000 % 100) ++ more))) middle
+    ∙ ap (λ (k : ℕ). decimal (n / 100 / 100) ++ (pair (n / 100 % 100) ++ (pair k ++ more))) last
+    ∙ sym (append_assoc (decimal (n / 100 / 100)) (pair (n / 100 % 100)) (pair (n % 100) ++ more))
+    ∙ ap (λ (l : List ℕ). l ++ (pair (n % 100) ++ more)) (sym (usual.by_hundreds (n / 100) (omega (arith, le)) (omega (arith, small))))
+    ∙ sym (append_assoc (decimal (n / 100)) (pair (n % 100)) more)
+    ∙ ap (λ (l : List ℕ). l ++ more) (sym (usual.by_hundreds n (omega (arith, le)) (omega (arith, small))))
+
+-- three digits in their column
+pub in_column : (n : ℕ) (column : List ℕ) → 100 ≤ n → n < 1000 → column ≡ zeros 3 (decimal n) ++ codes "]" → take 3 column ≡ decimal n
+in_column n column le small is =
+    let digits : decimal n ≡ (48 + n / 100) ∷ (48 + n % 100 / 10) ∷ (48 + n % 100 % 10) ∷ [] =
+    is_three n le small ∙ ap (λ (l : List ℕ). (48 + n / 100) ∷ l) (usual.filled (n % 100) (omega arith)) in
+    ap (take 3) is ∙ ap (λ (l : List ℕ). take 3 (zeros 3 l ++ codes "]")) digits ∙ sym digits
 
 -- all of a task without a name
 pub narrow : (n : ℕ) (text with_pid old : List ℕ) → text ≡ codes "           <...>-" ++ drop 17 with_pid → drop 17 with_pid ≡ left 5 (decimal n) ++ drop 22 old
@@ -106,9 +109,9 @@ wide n text with_pid old le small name pid =
     ap (λ (l : List ℕ). 32 ∷ l) (name ∙ ap (λ (l : List ℕ). codes "          <...>-" ++ l) pid)
     ∙ ap (λ (l : List ℕ). codes "           <...>-" ++ (l ++ drop 22 old)) (six_digits n le small ∙ no_spaces n le (omega (arith, small)))
 
-pub wider : (n : ℕ) (text with_first with_six old : List ℕ) → 1000000 ≤ n → n < 10000000 → text ≡ codes "         <...>-" ++ drop 15 with_first
-    → drop 15 with_first ≡ (48 + n / 1000000) ∷ drop 16 with_six → drop 16 with_six ≡ zeros 6 (decimal (n % 1000000)) ++ drop 22 old
+pub wider : (n : ℕ) (text with_pid old : List ℕ) → 1000000 ≤ n → n < 10000000 → text ≡ codes "         <...>-" ++ drop 15 with_pid
+    → drop 15 with_pid ≡ decimal n ++ drop 22 old
     → 32 ∷ 32 ∷ text ≡ (right 16 unnamed ++ codes "-") ++ (left 5 (decimal n) ++ drop 22 old)
-wider n text with_first with_six old le small name first six =
-    ap (λ (l : List ℕ). 32 ∷ 32 ∷ l) (name ∙ ap (λ (l : List ℕ). codes "         <...>-" ++ l) (first ∙ ap (λ (l : List ℕ). (48 + n / 1000000) ∷ l) six))
-    ∙ ap (λ (l : List ℕ). codes "           <...>-" ++ (l ++ drop 22 old)) (seven_digits n le small ∙ no_spaces n (omega (arith, le)) (omega (arith, small)))
+wider n text with_pid old le small name pid =
+    ap (λ (l : List ℕ). 32 ∷ 32 ∷ l) (name ∙ ap (λ (l : List ℕ). codes "         <...>-" ++ l) pid)
+    ∙ ap (λ (l : List ℕ). codes "           <...>-" ++ (l ++ drop 22 old)) (no_spaces n (omega (arith, le)) (omega (arith, small)))

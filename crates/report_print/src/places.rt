@@ -1,6 +1,6 @@
 // The numbers of processors as lines show them: those below 1,000 are looked up.
 
-ghost use Rattle.std.specs.Prelude.{◌≡◌, ◌<◌, ◌++◌, codes, length};
+ghost use Rattle.std.specs.Prelude.{◌≡◌, ◌<◌, ◌≤◌, ◌++◌, codes, length};
 ghost use Rattle.std.specs.Fmt.{decimal};
 ghost use Rattle.line_columns.specs.Columns.{zeros};
 ghost use Rattle.report_print.specs.declared.places.TheConstants.{PLACES};
@@ -75,4 +75,15 @@ pub(crate) fn place(cpu: u32) -> &'static [u8]
 {
     let from = cpu as usize * 4;
     &table()[from..from + 4]
+}
+
+/// The digits of a number of three.
+#[inline(always)]
+pub(crate) fn three_digits(n: u32) -> &'static [u8]
+    requires least { 100 ≤ n }
+    requires most { n < 1000 }
+    ensures value { result.now ≡ decimal n }
+    ensures len { length result.now ≡ 3 }
+{
+    &place(n)[..3]
 }

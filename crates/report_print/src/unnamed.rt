@@ -9,6 +9,7 @@ ghost use Rattle.line_columns.specs.Columns.{left, right};
 ghost use Rattle.report_print.specs.Prefix.{usual_when};
 
 use crate::fronts::put_usual_when;
+use crate::places::three_digits;
 use crate::tasks::USUAL_TASK;
 use crate::usual::{USUAL_CPUS, USUAL_FRONT, put_at, put_six, two_digits, write_when};
 use line_columns::{BEFORE_PID, Front, USUAL_LABEL, USUAL_TIMES};
@@ -30,10 +31,10 @@ pub(crate) fn put_unnamed(pid: i32, cpu: u32, time: u64, label: &[u8], into: &mu
     ensures value { held into.new ≡ put_held (held into.old) ((right 16 unnamed ++ codes "-") ++ (left 5 (signed_decimal pid) ++ (usual_when cpu time ++ label.now))) }
     ensures len { result ≡ length ((right 16 unnamed ++ codes "-") ++ (left 5 (signed_decimal pid) ++ (usual_when cpu time ++ label.now))) }
 {
-    match u32::try_from(pid) {
-        Ok(pid) if pid < SHORT_PIDS => put_short(pid, cpu, time, label, into),
-        _ => put_any_unnamed(pid, cpu, time, label, into),
+    if pid < 0 || SHORT_PIDS as i32 <= pid {
+        return put_any_unnamed(pid, cpu, time, label, into);
     }
+    put_short(pid as u32, cpu, time, label, into)
 }
 
 /// The same where the pid has at most seven digits. The task of a pid that is wider than its column begins with spaces: the
@@ -63,8 +64,10 @@ fn put_spaces(count: usize, into: &mut Tail<'_>)
     ensures same_slice { lent into.new ≡ lent into.old }
     ensures value { held into.new ≡ put_held (held into.old) (replicate count 32) }
 {
-    if count > 0 {
-        into.put_front(b"                ", count);
+    match count {
+        0 => {}
+        1 => into.put(b" "),
+        _ => into.put(b"  "),
     }
 }
 
@@ -84,11 +87,26 @@ fn write_unnamed(pid: u32, text: &mut [u8; USUAL_FRONT]) -> usize
         put_at(0, PID - 1, b"          <...>-", text);
         1
     } else {
-        put_six(PID - 1, pid % 1_000_000, text);
-        put_at(PID - 2, PID - 1, &[b'0' + (pid / 1_000_000) as u8], text);
+        put_seven(PID - 2, pid, text);
         put_at(0, PID - 2, b"         <...>-", text);
         2
     }
+}
+
+/// Puts a number of seven digits.
+#[inline(always)]
+#[tactic(auto, using(crate::proofs::Pids::seven_front))]
+fn put_seven(from: usize, n: u32, text: &mut [u8; USUAL_FRONT])
+    requires least { 1000000 ≤ n }
+    requires most { n < 10000000 }
+    requires inside { from + 7 ≤ USUAL_FRONT }
+    ensures { drop from text.new ≡ decimal n ++ drop (from + 7) text.old }
+{
+    let high = n / 10_000;
+    let low = n % 10_000;
+    put_at(from + 5, from + 7, &two_digits(low % 100), text);
+    put_at(from + 3, from + 5, &two_digits(low / 100), text);
+    put_at(from, from + 3, three_digits(high), text);
 }
 
 /// Puts a pid at the left of its column.

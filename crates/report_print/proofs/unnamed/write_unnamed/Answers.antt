@@ -8,5 +8,5 @@ returns-then-pid-lt1000000-clause-value c =
 
 pub returns-else-pid-lt1000000-clause-value : goal.returns-else-pid-lt1000000-clause-value
 returns-else-pid-lt1000000-clause-value c =
-    wider c.args.pid c.put_at-else-pid-lt1000000-2.new.text c.put_at-else-pid-lt1000000.new.text c.put_six-else-pid-lt1000000.new.text c.args.text.now c.if-pid-lt1000000.false c.requires
-    c.put_at-else-pid-lt1000000-2.ensures c.put_at-else-pid-lt1000000.ensures c.put_six-else-pid-lt1000000.ensures
+    wider c.args.pid c.put_at-else-pid-lt1000000.new.text c.put_seven.new.text c.args.text.now c.if-pid-lt1000000.false c.requires
+    c.put_at-else-pid-lt1000000.ensures c.put_seven.ensures
