@@ -12,7 +12,10 @@ given here. `apt-get install qemu-system-x86 busybox-static cpio trace-cmd` brin
     echo 'trace-cmd record --file-version 6 -e sched -o sched.dat sleep 1' > sched.sh
     scripts/record_in_qemu.py boot/vmlinuz-6.1.0-56-amd64 sched.sh recordings -smp 8 -accel tcg,thread=single
 
-The machine is emulated without help of the processor: on a busy host it takes some 15 seconds up to SCRIPT, and files come back at 200 KB a second.
+The machine is emulated without help of the processor: on a busy host it takes some 15 seconds up to SCRIPT, and files come back, packed, at
+200 KB a second. More than half of the way to SCRIPT the kernel unpacks itself: an unpacked one (`vmlinux`) is taken too. On a host that leaves the
+machine next to no time its kernel may not find its timer. There `-smp 1 -accel tcg,thread=single -icount shift=3,sleep=off` lets the time go by
+the instructions that are done.
 """
 
 from __future__ import annotations
@@ -36,7 +39,7 @@ mkdir /work
 cd /work
 sh /script
 stty -F /dev/ttyS1 raw
-tar -cf - . > /dev/ttyS1
+tar -czf - . > /dev/ttyS1
 poweroff -f
 """
 
