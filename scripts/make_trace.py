@@ -2,6 +2,7 @@
 """Makes the traces that comparisons and measurements need, of a recording's header and events.
 
     scripts/make_trace.py events IN.dat OUT.dat switch|function|graph N    one processor with N events of one kind
+    scripts/make_trace.py task IN.dat OUT.dat PID [--name NAME]            IN.dat with all its events of one task
     scripts/make_trace.py processors IN.dat OUT.dat PROCESSORS BYTES       IN.dat's sub-buffers dealt out to processors
     scripts/make_trace.py files IN.dat OUT FILES PROCESSORS                IN.dat's events dealt out to several files
     scripts/make_trace.py calls IN.dat OUT.dat N [--seed SEED]             N entries and exits of functions, with losses
@@ -80,6 +81,16 @@ def one_kind(source: Path, target: Path, kind: str, count: int) -> None:
     turns = range(count // len(events) + 1)
     repeated = [Event(event.time + turn * span, event.payload) for turn in turns for event in events][:count]
     write_trace(target, trace.head, [packed(repeated)], trace.tail)
+
+
+def of_task(source: Path, target: Path, pid: int, name: str = "") -> None:
+    """A recording with all its events of one task, whose name is saved if it has one."""
+    trace = read_plain_trace(source)
+    lanes = [
+        [Event(event.time, event.payload[:4] + struct.pack("<i", pid) + event.payload[8:]) for event in lane] for lane in trace.events()
+    ]
+    names = trace.file[trace.nameless + 8 : trace.named] + (f"{pid} {name}\n".encode() if name else b"")
+    write_trace(target, trace.file[: trace.nameless] + text(8, names), [packed(lane) for lane in lanes], trace.tail)
 
 
 # Dealing out
@@ -327,6 +338,7 @@ def commands() -> argparse.ArgumentParser:
     kinds = command("events", one_kind, "target")
     kinds.add_argument("kind", choices=KINDS)
     kinds.add_argument("count", type=int, metavar="N")
+    command("task", of_task, "target", "pid").add_argument("--name", default="")
     lanes = command("processors", deal_to_processors, "target", "processors", "size")
     lanes.add_argument("--busy", type=int, help="how many processors have nearly all sub-buffers")
     files = command("files", deal_to_files)

@@ -23,7 +23,7 @@ from typing import Callable, Iterator, NamedTuple, Sequence
 
 sys.path.insert(0, str(Path(__file__).resolve().parent.parent))
 
-from make_trace import add_formats, add_idle, deal_to_processors, one_kind  # noqa: E402
+from make_trace import add_formats, add_idle, deal_to_processors, of_task, one_kind  # noqa: E402
 from tracefile import read_plain_trace  # noqa: E402
 
 SAMPLE = Path(__file__).resolve().parent.parent.parent / "samples/sched.dat"
@@ -31,6 +31,10 @@ FEW, MORE = 1000, 3000
 # As many formats as kernels have, without modules and with them.
 FORMATS = (1491, 4707)
 ONE_KIND: list[tuple[str, list[str]]] = [("switch", []), ("function", []), ("graph", ["--calls"])]
+
+
+# Tasks whose pid is wider than most, or whose name was not saved: Linux has no pid of more than seven digits.
+TASKS = ((77_777, ""), (777_777, ""), (7_777_777, ""), (7_777_777, "task"))
 
 
 class Tool(NamedTuple):
@@ -71,6 +75,16 @@ def rows_of_events(tool: Tool, folder: Path) -> Iterator[tuple[str, float]]:
         yield f"a {kind} event, report {' '.join(options)}".rstrip(), beyond(tool, make, [*tool.report, *options], folder)
         if not options:
             yield f"a {kind} event, split into one file", beyond(tool, make, ["split", "-o", "new", "-i"], folder)
+
+
+def rows_of_tasks(tool: Tool, folder: Path) -> Iterator[tuple[str, float]]:
+    for pid, name in TASKS:
+
+        def make(trace: Path, count: int) -> None:
+            one_kind(SAMPLE, trace, "function", count)
+            of_task(trace, trace, pid, name)
+
+        yield f"a function event of pid {pid}, {'with' if name else 'without'} a name, report", beyond(tool, make, tool.report, folder)
 
 
 def rows_of_recording(tool: Tool, recording: Path, folder: Path) -> Iterator[tuple[str, float]]:
@@ -119,7 +133,7 @@ def main() -> None:
             for recording in given.recordings or [SAMPLE]:
                 for row, count in rows_of_recording(tool, recording.resolve(), folder):
                     print(f"{tool.name}: {row}: {count:,.0f}", flush=True)
-            for rows in (rows_of_events, rows_of_processors):
+            for rows in (rows_of_events, rows_of_tasks, rows_of_processors):
                 for row, count in rows(tool, folder):
                     print(f"{tool.name}: {row}: {count:,.0f}", flush=True)
 
