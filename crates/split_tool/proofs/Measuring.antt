@@ -1,5 +1,5 @@
 -- The pieces of a file, list by list.
-use Rattle.std.proofs.Common.{◌≡◌, ◌≢◌, ℕ, zero, suc, ◌+◌, ◌-◌, ◌<◌, ◌≤◌, Bool, true, false, ◌&&◌, ◌||◌, not, if◌then◌else◌, List, [], ◌∷◌, ◌++◌, length, get_or, set, take, drop, map, Option, Some, None, refl, sym, ap, subst, ◌∙◌, append-nil, append_assoc, arith}
+use Rattle.std.proofs.Common.{◌≡◌, ◌≢◌, ℕ, zero, suc, ◌+◌, ◌<◌, ◌≤◌, Bool, true, false, ◌&&◌, ◌||◌, not, if◌then◌else◌, List, [], ◌∷◌, ◌++◌, length, get_or, set, take, drop, map, Option, Some, None, refl, sym, ap, subst, ◌∙◌, append-nil, append_assoc, arith}
 use Rattle.std.specs.Option.{option_map, option_or}
 use Rattle.std.specs.List.{All, filter_map, slice_get, cons_option}
 use Rattle.std.proofs.lemmas.List.{drop_at, length-append, set-get_or, take_all, take_more_set}
@@ -27,14 +27,13 @@ use Rattle.split_passes.specs.declared.measuring.PieceEnd.{PieceEnd}
 use Rattle.split_passes.specs.declared.measuring.PieceEnd.TheVariants as code
 use Rattle.split_passes.specs.Tallies.{IsTally}
 use Rattle.split_passes.specs.Measures.{Tallied, Measured, IsMeasured, SkipsOver, list_left}
-use Rattle.time_merge.proofs.Advancing.{same_length}
 use Rattle.split_tool.specs.declared.lists.Ends.{Ends}
 use Rattle.split_tool.specs.Going.{ListBegun, ListDone, ListGoes}
-use Rattle.split_tool.specs.Lists.{AreGroups, EachList, come_of, groups, lanes_of, left_in_rows, bad_in_rows, lists_left, bad_left}
+use Rattle.split_tool.specs.Lists.{AreGroups, EachList, come_of, lanes_of, left_in_rows, bad_in_rows, lists_left, bad_left}
 use Rattle.split_tool.specs.Measured.{is_full, bad_of_end, PieceTaken, ListMeasured, taken_of, FileMeasured}
 use Rattle.split_tool.proofs.Beginning.{single, one_bad}
 use Rattle.split_tool.proofs.Owning.{own_apart}
-use Rattle.split_tool.proofs.Flat.{AllIn, all_flat, each_tail, groups_are, groups_stay, rows_in, single_at}
+use Rattle.split_tool.proofs.Flat.{all_flat, each_tail, groups_are, groups_stay, rows_in, single_at}
 use Rattle.split_tool.proofs.Gone.{first_more, stands_there}
 
 -- ONE LIST

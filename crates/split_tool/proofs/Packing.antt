@@ -1,12 +1,12 @@
 -- Lists that are packed, one after another.
-use Rattle.std.proofs.Common.{◌≡◌, ℕ, zero, suc, ◌+◌, ◌<◌, ◌≤◌, List, [], ◌∷◌, ◌++◌, length, get_or, set, take, map, sum_by, inl, inr, Option, refl, sym, ap, subst, ◌∙◌, append-nil, arith}
+use Rattle.std.proofs.Common.{◌≡◌, ℕ, zero, suc, ◌+◌, ◌<◌, ◌≤◌, List, [], ◌∷◌, ◌++◌, length, get_or, set, take, inl, inr, Option, refl, sym, ap, subst, ◌∙◌, append-nil, arith}
 use Rattle.std.specs.List.{All, Contains, flat_map}
 use Rattle.std.specs.Io.KnownBytes.{append_known}
 use Rattle.std.proofs.lemmas.Grind.{flat_map-append}
 use Rattle.std.proofs.lemmas.Grind.{get_or-set_at}
 use Rattle.std.proofs.lemmas.Bool.{cases_eq}
 use Rattle.std.proofs.lemmas.List.Elements.{Contains-append_left, Contains-append_right}
-use Rattle.std.proofs.lemmas.List.{get_or_default, get_or-set_same, get_or-set_other, length-set, length-append, length-map, map-append, set-get_or, take_all, take_more_set}
+use Rattle.std.proofs.lemmas.List.{get_or_default, get_or-set_same, get_or-set_other, length-set, map-append, set-get_or, take_all, take_more_set}
 use Rattle.std.proofs.lemmas.List.Sums.{sum_by-append, sum_by-cons, sum_by-take-le}
 use Rattle.trace_base.specs.declared.layout.Layout.{Layout}
 use Rattle.trace_base.specs.declared.part.Part.{Part}
@@ -23,8 +23,6 @@ use Rattle.page_write.specs.Placed.{data_of}
 use Rattle.event_cursor.specs.Standing.{Stands}
 use Rattle.time_merge.specs.declared.ending.End.{End}
 use Rattle.time_merge.specs.declared.ending.End.TheVariants as code
-use Rattle.time_merge.specs.Rows.{Row}
-use Rattle.time_merge.specs.LaneRows.{row_of, rows_of}
 use Rattle.split_pieces.specs.Cuts.{items_of_cpu}
 use Rattle.split_passes.specs.AllAgain.{IsPackedAll, PackedAll, TellsHeld, TellsStop, held_of, owns}
 use Rattle.split_passes.proofs.Stopping.{tells_held}

@@ -1,11 +1,9 @@
 -- Lists on their way to the start.
-use Rattle.std.proofs.Common.{◌≡◌, ℕ, ◌+◌, ◌<◌, ◌≤◌, List, [], ◌∷◌, length, get_or, set, map, Option, refl, sym, ap, subst, ◌∙◌, arith, suc}
+use Rattle.std.proofs.Common.{◌≡◌, ℕ, ◌+◌, ◌<◌, ◌≤◌, List, [], ◌∷◌, length, get_or, set, map, Option, refl, sym, ap, subst, ◌∙◌, arith}
 use Rattle.std.specs.List.{All}
 use Rattle.trace_base.specs.declared.layout.Layout.{Layout}
 use Rattle.subpage.specs.Arrangement.{Keyed}
-use Rattle.page_pool.specs.declared.lane.Lane.{Lane}
 use Rattle.event_cursor.specs.Standing.{Stands}
-use Rattle.time_merge.specs.Rows.{Row}
 use Rattle.word_values.specs.declared.moment.Moment.{Moment}
 use Rattle.split_passes.specs.ListSeen.{ListSeen}
 use Rattle.split_passes.specs.Starting.{ListStarted}
@@ -16,7 +14,7 @@ use Rattle.split_tool.specs.Going.{ListGoes}
 use Rattle.split_tool.specs.Lists.{AreGroups, EachList, come_of, lanes_of}
 use Rattle.split_tool.specs.Started.{Started}
 use Rattle.split_tool.proofs.Gone.{first_more, stands_there}
-use Rattle.split_tool.proofs.Flat.{AllIn, all_flat, each_tail, groups_are, groups_stay, rows_in}
+use Rattle.split_tool.proofs.Flat.{all_flat, each_tail, groups_are, groups_stay, rows_in}
 
 abbrev pub StartsOn : Layout → List ℕ → Option Moment → ListSeen → ListSeen → Type 0
 StartsOn l file start x y = ListStarted l file start x.all y.all

@@ -7,7 +7,6 @@ use Rattle.dat_header.specs.Allowed.{IsHeader}
 use Rattle.dat_header.specs.Written.{text_before_table}
 use Rattle.subpage.specs.Arrangement.{CpusRise}
 use Rattle.page_pool.specs.Fresh.{IsFresh}
-use Rattle.page_pool.specs.declared.lane.Lane.{Lane}
 use Rattle.time_merge.specs.LaneRows.{parts_of}
 use Rattle.split_passes.specs.ListSeen.{ListSeen}
 use Rattle.split_pieces.specs.declared.rules.Rules.{Rules}

@@ -1,12 +1,10 @@
-use Rattle.std.proofs.Common.{◌≡◌, ◌<◌, [], arith, List, length, get_or, ap, subst, sym, ◌∙◌}
+use Rattle.std.proofs.Common.{◌≡◌, [], arith, List, length, ap, subst, sym, ◌∙◌}
 use Rattle.std.specs.List.{All}
 use Rattle.std.proofs.lemmas.List.{take_at}
 use Rattle.page_pool.specs.declared.lane.Lane.{Lane}
-use Rattle.event_cursor.specs.declared.places.Place.{Place}
 use Rattle.time_merge.specs.LaneRows.{IsReady}
 use Rattle.time_merge.specs.Loading.{LoadsLanes}
 use Rattle.time_merge.proofs.Advancing.{same_length}
-use Rattle.split_passes.specs.Begun.{AreNoted}
 use Rattle.split_passes.specs.Tallies.{IsTally}
 use Rattle.split_passes.specs.declared.tally.Tally.{Tally}
 use Rattle.split_passes.proofs.Lent.{lent, lent_is, noted_there}

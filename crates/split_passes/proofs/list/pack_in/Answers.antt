@@ -1,4 +1,4 @@
-use Rattle.std.proofs.Common.{◌≡◌, ◌≤◌, List, length, ap, subst, sym, ◌∙◌}
+use Rattle.std.proofs.Common.{◌≡◌, ◌≤◌, List, length, ap, sym, ◌∙◌}
 use Rattle.std.specs.Option.{IfSome}
 use Rattle.std.specs.List.{All}
 use Rattle.trace_outside.specs.Causes.{raised}

@@ -1,4 +1,4 @@
-use Rattle.std.proofs.Common.{◌≤◌, List, ap, sym, subst, ◌∙◌, length}
+use Rattle.std.proofs.Common.{List, ap, sym, subst, ◌∙◌, length}
 use Rattle.std.proofs.lemmas.List.{take_at}
 use Rattle.trace_base.specs.declared.part.Part.{Part}
 use Rattle.trace_outside.specs.Writing.{Gained}

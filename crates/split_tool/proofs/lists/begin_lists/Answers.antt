@@ -1,5 +1,5 @@
-use Rattle.std.proofs.Common.{rules, refl, arith, ◌≡◌, ◌<◌, ◌≤◌, length, get_or, sym, ◌∙◌}
-use Rattle.event_cursor.proofs.Told.{told_all, told_again, told_both, told_map}
+use Rattle.std.proofs.Common.{rules, refl, arith, ◌<◌, ◌≤◌, length, get_or, ◌∙◌}
+use Rattle.event_cursor.proofs.Told.{told_all, told_both, told_map}
 use Rattle.split_passes.proofs.Passing.{ready_done}
 use Rattle.split_tool.specs.Going.{ListBegun}
 use Rattle.split_tool.proofs.Begun.{StaysOn, all_stay, list_begun, loaded_through, stays_here}

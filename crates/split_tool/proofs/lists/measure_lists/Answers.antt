@@ -1,4 +1,4 @@
-use Rattle.std.proofs.Common.{rules, refl, arith, ◌≡◌, ◌<◌, ◌≤◌, length, get_or, sym, ◌∙◌}
+use Rattle.std.proofs.Common.{rules, refl, arith, ◌<◌, ◌≤◌, length, get_or, ◌∙◌}
 use Rattle.event_cursor.proofs.Told.{told_all, told_again, told_map}
 use Rattle.split_tool.specs.Going.{ListDone}
 use Rattle.split_tool.proofs.Gone.{first_more, gone_all, gone_more, gone_none, gone_stops, layout_there}

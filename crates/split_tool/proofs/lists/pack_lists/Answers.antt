@@ -1,10 +1,9 @@
-use Rattle.std.proofs.Common.{rules, refl, arith, [], ◌≡◌, ◌+◌, ◌<◌, ◌≤◌, List, length, get_or, ap, sym, subst, ◌∙◌}
+use Rattle.std.proofs.Common.{rules, refl, arith, [], ◌+◌, ◌<◌, ◌≤◌, length, get_or, ap, ◌∙◌}
 use Rattle.std.proofs.lemmas.List.{get_or-set_other, length-set}
 use Rattle.trace_outside.proofs.Gains.{gained_nothing}
 use Rattle.trace_outside.proofs.Keeping.{file_kept, file_still, sink_kept, sink_still}
 use Rattle.trace_base.specs.declared.layout.Layout.{Layout}
 use Rattle.event_cursor.proofs.Told.{told_all, told_again, told_map}
-use Rattle.split_passes.specs.ListSeen.{ListSeen}
 use Rattle.split_passes.proofs.AllPacked.{gains_more}
 use Rattle.split_tool.proofs.Gone.{first_more, stands_there}
 use Rattle.split_tool.proofs.Packing.{SameNumbers, all_numbers, fronts_there, held_there, kept_more, layout_at, lists_packed, packed_more, packed_none, packing_all, packing_more, stopped_told}

@@ -1,4 +1,4 @@
-use Rattle.std.proofs.Common.{◌≡◌, ◌<◌, ◌+◌, ◌-◌, ◌^◌, inl, length, refl, arith, sym, subst, ◌∙◌}
+use Rattle.std.proofs.Common.{◌<◌, ◌+◌, ◌-◌, ◌^◌, inl, refl, arith, sym, subst, ◌∙◌}
 use Rattle.trace_outside.specs.Seen.{folder_seen}
 use Rattle.trace_outside.proofs.Keeping.{file_kept}
 use Rattle.trace_base.proofs.Layouts.{carried}

@@ -1,6 +1,6 @@
-use Rattle.std.proofs.Common.{rules, refl, arith, ◌≡◌, ◌<◌, ◌≤◌, Some, length, get_or, sym, ◌∙◌}
+use Rattle.std.proofs.Common.{rules, refl, arith, ◌<◌, ◌≤◌, Some, length, ◌∙◌}
 use Rattle.event_cursor.proofs.Told.{told_all, told_again, told_map}
-use Rattle.split_tool.proofs.Gone.{go_not, gone_all, gone_more, gone_none, gone_stops, layout_there}
+use Rattle.split_tool.proofs.Gone.{gone_all, gone_more, gone_none, gone_stops, layout_there}
 use Rattle.split_tool.proofs.Passing.{all_started, started_more}
 use Rattle.split_tool.proofs.start.pass_start.Goals as goal
 

@@ -1,4 +1,4 @@
-use Rattle.std.proofs.Common.{rules, refl, arith, ◌≡◌, ◌*◌, ◌%◌, ◌^◌, ◌<◌, ◌≤◌, ℕ, length, get_or, ap, sym, ◌∙◌}
+use Rattle.std.proofs.Common.{rules, refl, arith, ◌≡◌, ◌<◌, ◌≤◌, length, ap, ◌∙◌}
 use Rattle.std.proofs.lemmas.List.{get_or-set_other, length-set}
 use Rattle.trace_base.specs.declared.part.Part.{Part}
 use Rattle.split_tool.proofs.Tables.{all_filled, filled_more, filled_none}
