@@ -113,3 +113,12 @@ length_hex n small =
     let six = λ (k : ℕ) (l : k < 281474976710656). length_more 1099511627776 10 five k (omega (arith, l)) (omega (arith, l)) in
     let seven = λ (k : ℕ) (l : k < 72057594037927936). length_more 281474976710656 12 six k (omega (arith, l)) (omega (arith, l)) in
     length_more 72057594037927936 14 seven n small (omega (arith, small))
+
+pub some_digit : (n : ℕ) → n < 2 ^ 64 → 1 ≤ length (hex n)
+some_digit n small = elim (cases_lt n 16) as (λ _. 1 ≤ length (hex n)) [
+  | inl l ↦ omega (arith, length_one n l)
+  | inr l ↦ elim (cases_lt n 256) as (λ _. 1 ≤ length (hex n)) [
+    | inl m ↦ omega (arith, length_two n l m)
+    | inr m ↦ omega (arith, length_pair n m small)
+  ]
+]

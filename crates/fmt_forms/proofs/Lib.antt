@@ -8,3 +8,4 @@ pub mod FewDigits
 pub mod CutLemmas
 pub mod ShownLemmas
 pub mod HexLemmas
+pub mod ZeroedLemmas

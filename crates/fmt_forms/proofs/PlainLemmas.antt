@@ -13,7 +13,7 @@ use Rattle.fmt_forms.specs.Plain.{is_plain, minus}
 use Rattle.fmt_forms.specs.Texts.{padded}
 use Rattle.fmt_forms.proofs.LaidLemmas.{laid_bare}
 
-and_false : (b : Bool) → (b && false) ≡ false
+pub and_false : (b : Bool) → (b && false) ≡ false
 and_false true = refl
 and_false false = refl
 
@@ -56,11 +56,11 @@ plain_by Hex form negative n small is width none plus space = absurd cc
 plain_by UpperHex form negative n small is width none plus space = absurd cc
 plain_by Octal form negative n small is width none plus space = absurd cc
 
-both : (x y : Bool) → (x && y) ≡ true → (x ≡ true) × (y ≡ true)
+pub both : (x y : Bool) → (x && y) ≡ true → (x ≡ true) × (y ≡ true)
 both true y is = (refl, is)
 both false y is = absurd cc
 
-none_of : (p : Option ℕ) → is_none p ≡ true → p ≡ None
+pub none_of : (p : Option ℕ) → is_none p ≡ true → p ≡ None
 none_of None is = refl
 none_of (Some n) is = absurd cc
 

@@ -8,6 +8,7 @@ ghost use Rattle.fmt_forms.specs.Shows.{Shows};
 
 use crate::few_digits::few_digits;
 use crate::form::Form;
+use crate::hexadecimal::{is_zeroed, show_zeroed};
 use crate::integer::put_integer;
 use fmt_directives::Base;
 use itoa::write_digits;
@@ -84,6 +85,18 @@ fn show_decimal(negative: bool, magnitude: u64, into: &mut Tail<'_>)
     show_digits(magnitude, into);
 }
 
+/// Shows an integer that is not plain. Most are hexadecimal numbers with no more than zeros before their digits.
+#[inline(never)]
+#[tactic(auto, using(crate::proofs::Gathering::kept_shown))]
+fn show_formed(base: Base, form: &Form, negative: bool, magnitude: u64, into: &mut Tail<'_>)
+    ensures { Shows into.old into.new (integer_text base form.now negative magnitude) }
+{
+    match base {
+        Base::Hex if is_zeroed(form) => show_zeroed(form, magnitude, into),
+        _ => put_integer(base, form, negative, magnitude, into),
+    }
+}
+
 /// Shows an integer of this sign and magnitude in its form.
 #[inline(always)]
 pub fn show_integer(base: Base, form: &Form, negative: bool, magnitude: u64, into: &mut Tail<'_>)
@@ -92,6 +105,6 @@ pub fn show_integer(base: Base, form: &Form, negative: bool, magnitude: u64, int
     if is_plain(base, form) {
         show_decimal(has_minus(base, negative), magnitude, into);
     } else {
-        put_integer(base, form, negative, magnitude, into);
+        show_formed(base, form, negative, magnitude, into);
     }
 }

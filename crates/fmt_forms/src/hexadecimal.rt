@@ -1,9 +1,14 @@
-//! Numbers in lower hexadecimal digits, as most addresses are shown.
+//! Numbers in lower hexadecimal digits, as most addresses are shown, and numbers with zeros before them.
 
-ghost use Rattle.std.specs.Prelude.{◌≡◌, ◌+◌, ◌/◌, ◌%◌, ◌<◌, ◌≤◌, ◌∷◌, ◌++◌, drop, false, length};
+ghost use Rattle.std.specs.Prelude.{◌≡◌, ◌+◌, ◌-◌, ◌/◌, ◌%◌, ◌<◌, ◌≤◌, ◌∷◌, ◌++◌, drop, false, true, length, replicate};
 ghost use Rattle.std.specs.Fmt.{digits, digit_glyph};
+ghost use Rattle.fmt_directives.specs.declared.directive.Base.TheVariants.{Hex};
+ghost use Rattle.fmt_forms.specs.Integers.{integer_text};
+ghost use Rattle.fmt_forms.specs.Plain.{is_zeroed};
 ghost use Rattle.fmt_forms.specs.Shows.{Shows};
 
+use crate::form::Form;
+use crate::repeat::Fill;
 use trace_base::Tail;
 
 /// Both digits of each byte.
@@ -75,4 +80,48 @@ pub(crate) fn show_hexadecimal(before: &[u8], n: u64, into: &mut Tail<'_>)
 {
     into.put(before);
     show_digits(n, into);
+}
+
+/// Whether a number is shown as its digits, with at most zeros before them up to 16 digits.
+#[inline(always)]
+pub(crate) fn is_zeroed(form: &Form) -> bool
+    ensures { result ≡ is_zeroed form.now }
+{
+    form.precision.is_none()
+        && !form.alternate
+        && (form.width == 0 || (form.zero && !form.left && form.width <= 16))
+}
+
+#[inline(always)]
+#[tactic(auto, using(crate::proofs::Gathering::put_shown, crate::proofs::Gathering::nothing_joined))]
+fn show_zeros(count: usize, into: &mut Tail<'_>)
+    requires { count ≤ 16 }
+    ensures { Shows into.old into.new (replicate count 48) }
+{
+    if count > 0 {
+        into.put_front(Fill::Zero.block(), count);
+    }
+}
+
+/// Shows the digits of a number, with zeros before them in a width.
+#[inline(always)]
+fn show_in_width(width: usize, n: u64, into: &mut Tail<'_>)
+    requires { width ≤ 16 }
+    ensures { Shows into.old into.new (replicate (width - length (digits 16 false n)) 48 ++ digits 16 false n) }
+{
+    let mut room = [0; 32];
+    let start = write_hexadecimal(n, &mut room, 16);
+    let len = 16 - start;
+    let lacking = width.saturating_sub(len);
+    show_zeros(lacking, into);
+    into.put_front(&room[start..], len);
+}
+
+/// Shows a number in a form that asks for no more than zeros before its digits.
+#[inline(always)]
+pub(crate) fn show_zeroed(form: &Form, n: u64, into: &mut Tail<'_>)
+    requires { is_zeroed form.now ≡ true }
+    ensures { Shows into.old into.new (integer_text Hex form.now false n) }
+{
+    show_in_width(form.width as usize, n, into);
 }

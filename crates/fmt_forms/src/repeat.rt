@@ -16,7 +16,7 @@ pub enum Fill {
 
 impl Fill {
     /// So many of them, as far as there are 64.
-    fn block(self) -> &'static [u8]
+    pub(crate) fn block(self) -> &'static [u8]
         ensures { result.now ≡ replicate 64 (fill_byte self) }
     {
         match self {

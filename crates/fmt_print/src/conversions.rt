@@ -145,6 +145,23 @@ impl<'a> Printer<'a> {
         self.long_number(Base::Unsigned, length, form, argument, into);
     }
 
+    #[inline(never)]
+    fn long_other(
+        &self,
+        base: Base,
+        length: Length,
+        form: &Form,
+        argument: &Argument,
+        into: &mut Tail<'_>,
+    )
+        ensures { Shows into.old into.new (number_text (given self.now.rec.now) (source self.now).long length base form.now (argument_tree argument.now)) }
+    {
+        match base {
+            Base::Hex => self.long_number(Base::Hex, length, form, argument, into),
+            _ => self.any_number(base, length, form, argument, into),
+        }
+    }
+
     /// Shows a number. Most are ints that are read from four bytes, whose kind is known when this is compiled.
     #[inline(always)]
     fn number(
@@ -165,7 +182,7 @@ impl<'a> Printer<'a> {
             _ => match base {
                 Base::Signed => self.long_signed(length, form, argument, into),
                 Base::Unsigned => self.long_unsigned(length, form, argument, into),
-                _ => self.any_number(base, length, form, argument, into),
+                _ => self.long_other(base, length, form, argument, into),
             },
         }
     }

@@ -65,6 +65,30 @@ const LENGTHS: &str = "%hhd\t-16\t-1\t-56\t64
 %d\t-1698898192\t-1\t200\t40000
 ";
 
+/// A format, and the texts of 0, 9, 15, 16, 255, 256, 2^32 - 1, 2^32, 2^63 and 2^64 - 1.
+const HEXADECIMAL: &str =
+    "%lx\t0\t9\tf\t10\tff\t100\tffffffff\t100000000\t8000000000000000\tffffffffffffffff
+%1lx\t0\t9\tf\t10\tff\t100\tffffffff\t100000000\t8000000000000000\tffffffffffffffff
+%01lx\t0\t9\tf\t10\tff\t100\tffffffff\t100000000\t8000000000000000\tffffffffffffffff
+%08lx\t00000000\t00000009\t0000000f\t00000010\t000000ff\t00000100\tffffffff\t100000000\t8000000000000000\tffffffffffffffff
+%016lx\t0000000000000000\t0000000000000009\t000000000000000f\t0000000000000010\t00000000000000ff\t0000000000000100\t00000000ffffffff\t0000000100000000\t8000000000000000\tffffffffffffffff
+%017lx\t00000000000000000\t00000000000000009\t0000000000000000f\t00000000000000010\t000000000000000ff\t00000000000000100\t000000000ffffffff\t00000000100000000\t08000000000000000\t0ffffffffffffffff
+%8lx\t       0\t       9\t       f\t      10\t      ff\t     100\tffffffff\t100000000\t8000000000000000\tffffffffffffffff
+%-08lx|\t0       |\t9       |\tf       |\t10      |\tff      |\t100     |\tffffffff|\t100000000|\t8000000000000000|\tffffffffffffffff|
+%#lx\t0\t0x9\t0xf\t0x10\t0xff\t0x100\t0xffffffff\t0x100000000\t0x8000000000000000\t0xffffffffffffffff
+%#08lx\t00000000\t0x000009\t0x00000f\t0x000010\t0x0000ff\t0x000100\t0xffffffff\t0x100000000\t0x8000000000000000\t0xffffffffffffffff
+%.3lx\t000\t009\t00f\t010\t0ff\t100\tffffffff\t100000000\t8000000000000000\tffffffffffffffff
+%08.3lx\t     000\t     009\t     00f\t     010\t     0ff\t     100\tffffffff\t100000000\t8000000000000000\tffffffffffffffff
+%.0lx\t\t9\tf\t10\tff\t100\tffffffff\t100000000\t8000000000000000\tffffffffffffffff
+%+ 08lx\t00000000\t00000009\t0000000f\t00000010\t000000ff\t00000100\tffffffff\t100000000\t8000000000000000\tffffffffffffffff
+%08x\t00000000\t00000009\t0000000f\t00000010\t000000ff\t00000100\tffffffff\t00000000\t00000000\tffffffff
+%02x\t00\t09\t0f\t10\tff\t100\tffffffff\t00\t00\tffffffff
+%016x\t0000000000000000\t0000000000000009\t000000000000000f\t0000000000000010\t00000000000000ff\t0000000000000100\t00000000ffffffff\t0000000000000000\t0000000000000000\t00000000ffffffff
+%08lX\t00000000\t00000009\t0000000F\t00000010\t000000FF\t00000100\tFFFFFFFF\t100000000\t8000000000000000\tFFFFFFFFFFFFFFFF
+%06hhx\t000000\t000009\t00000f\t000010\t0000ff\t000000\t0000ff\t000000\t000000\t0000ff
+%05hx\t00000\t00009\t0000f\t00010\t000ff\t00100\t0ffff\t00000\t00000\t0ffff
+";
+
 /// A format, and the texts of an empty text and of `abc`, from snprintf in the same way.
 const TEXTS: &str = "%s\t\tabc
 %5s\t     \t  abc
@@ -188,6 +212,11 @@ none\tREC->a, REC->a, REC->a\tnone
 [%5s|%-5s|%.1s]\tREC->a ? \"yes\" : \"\", REC->a ? \"yes\" : \"\", REC->a ? \"yes\" : \"\"\t[  yes|yes  |y]
 %ld|%lu|%d|%hd|%lx\tREC->w, REC->w, REC->w, REC->w, REC->w\t-30064771030|18446744043644780586|42|42|fffffff90000002a
 %ld|%lu|%d|%hd|%lx\tREC->W, REC->W, REC->W, REC->W, REC->W\t-30064771030|18446744043644780586|42|42|fffffff90000002a
+%lx|%8lx|%08lx|%016lx\tREC->W, REC->W, REC->W, REC->W\tfffffff90000002a|fffffff90000002a|fffffff90000002a|fffffff90000002a
+%017lx|%#lx|%.17lx\tREC->W, REC->W, REC->W\t0fffffff90000002a|0xfffffff90000002a|0fffffff90000002a
+%lx|%4lx|%08lx|%016lx|%017lx|%#lx\tREC->s, REC->s, REC->s, REC->s, REC->s, REC->s\tc8|  c8|000000c8|00000000000000c8|000000000000000c8|0xc8
+0x%08lx|%lX|%lo|%08x\tREC->w, REC->w, REC->w, REC->w\t0xfffffff90000002a|FFFFFFF90000002A|1777777777440000000052|0000002a
+0x%08lx|%lx|%016lx\t(unsigned long)(REC->W), (unsigned long)(REC->n), (unsigned long)(REC->w)\t0xfffffff90000002a|100007f|fffffff90000002a
 %14ld|%+ld|%lld|%zu\tREC->w, REC->s, REC->s, REC->s\t  -30064771030|+200|200|200
 %p|%ps|%pS|%6p|%ps|%pS\tREC->s, REC->s, REC->s, REC->s, REC->w, REC->W\t0xc8|zero|zero+0xc8|  0xc8|do_idle|do_idle+0xfffffff8ffffe02a
 ";
@@ -344,6 +373,13 @@ fn numbers_and_texts_are_shown_as_by_c(rt: HostRuntime) -> Result<(), Fail> {
     let alloc = rt.alloc();
     show(&rt, alloc, "", "42;-42;0", NUMBERS)?;
     show(&rt, alloc, "", "0x123456789abcdef0;-1l;200;40000", LENGTHS)?;
+    show(
+        &rt,
+        alloc,
+        "",
+        "0;9;15;16;255;256;0xffffffff;0x100000000;0x8000000000000000;-1l",
+        HEXADECIMAL,
+    )?;
     show(&rt, alloc, "", "\"\";\"abc\"", TEXTS)
 }
 

@@ -2,7 +2,6 @@ use Rattle.std.proofs.Common.{Bool, ◌++◌, sym, ap, ◌∙◌}
 use Rattle.std.specs.Fmt.{decimal}
 use Rattle.fmt_forms.specs.Gathered.{gathered, joined}
 use Rattle.fmt_forms.specs.Plain.{minus}
-use Rattle.fmt_forms.proofs.Gathering.{kept_shown}
 use Rattle.fmt_forms.proofs.PlainLemmas.{plain}
 use Rattle.fmt_forms.proofs.decimal.show_integer.Goals as goal
 
@@ -11,6 +10,3 @@ returns-then-is_plain c =
     c.show_decimal.ensures
     ∙ ap (λ (negative : Bool). joined (gathered c.args.into.now) (minus negative ++ decimal c.args.magnitude)) c.has_minus.ensures
     ∙ ap (joined (gathered c.args.into.now)) (plain c.args.base c.args.form.now c.args.negative c.args.magnitude c.ranges.magnitude.fits (sym c.is_plain.ensures ∙ c.if-is_plain.true))
-
-pub returns-else-is_plain : goal.returns-else-is_plain
-returns-else-is_plain c = kept_shown c.args.into.now c.put_integer.new.into _ c.put_integer.ensures.same_slice c.put_integer.ensures.value
