@@ -5,9 +5,10 @@
 //! beside them. A field's declaration is a line of `FIELDS` in `formats`, and a whole format one of `TEXTS`; `lists` has a list
 //! of each kind.
 //!
-//! A conversion of a number is a line of `NUMBERS` in `print_fmts`, one of a text a line of `TEXTS`, what symbols and printk
-//! formats give one of `OTHERS`, and arguments of every kind, written as C, are lines of `ARGUMENTS`. An event and its line are
-//! a line of `LINES` in `lines`; which of its `EVENTS` a filter shows is a line of `CHOICES`.
+//! A conversion of a number is a line of `NUMBERS` in `print_fmts`, one of a number in hexadecimal a line of `HEXADECIMAL`, one
+//! of a text a line of `TEXTS`, what symbols and printk formats give one of `OTHERS`, and arguments of every kind, written as C,
+//! are lines of `ARGUMENTS`. An event and its line are a line of `LINES` in `lines`; which of its `EVENTS` a filter shows is a
+//! line of `CHOICES`.
 #![tactic(auto)]
 
 #[cfg(test)]
