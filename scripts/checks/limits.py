@@ -1,13 +1,13 @@
 """Runs PROGRAM under limits of its address space, which no test inside a process can set.
 
 A trace of 1,024 processors, with sub-buffers of 4 KiB and an event on each, is made in a temporary folder. A report of it holds a
-sub-buffer and a region of lines a processor, some 152 MB:
+sub-buffer and a region of lines a processor, some 185 MB:
 
 - under 200,000 KiB, and 9,000 more a thread, it is whole, and the same on 1, 3 and 64 threads;
 - under 60,000 KiB there is no memory for it: status 6, its one message, and nothing on the output. A report reserves all memory before
-  its first line, though it touches it only as lines come.
+  its first line, though it touches a region only once a line comes.
 
-A long trace of one processor, 40 MB, is reported whole under 20,000 KiB: what a report holds does not hang on its length.
+A long trace of one processor, 40 MB, is reported whole under 20,000 KiB: what a report holds does not depend on its length.
 
 A short trace of 256 processors, of which one has all events, is reported whole under 16,000 KiB: processors without data cost nothing.
 """
