@@ -10,7 +10,7 @@ static PAIRS: [u8; 200] =
 
 /// Both digits of a number below 100.
 #[inline(always)]
-pub(crate) fn two_digits(n: u32) -> [u8; 2]
+pub fn two_digits(n: u32) -> [u8; 2]
     requires { n < 100 }
     ensures { result ≡ zeros 2 (decimal n) }
 {

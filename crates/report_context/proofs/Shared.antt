@@ -24,11 +24,11 @@ use Rattle.symbols.proofs.maps.Symbols.TheSendSync as symbols
 use Rattle.report_print.below.noted_places.proofs.places.Places.TheSendSync as places
 use Rattle.report_print.below.format_index.specs.contracts.places.FormatIndex.{the_row as format_index_row}
 use Rattle.trace_base.proofs.byte_text.ByteText.TheSendSync as text
+use Rattle.line_fronts.proofs.show.Show.TheSendSync as show
+use Rattle.line_fronts.specs.contracts.tasks.TaskFront.{the_row as front_row}
 use Rattle.report_print.proofs.common.CommonFields.TheSendSync as common
-use Rattle.report_print.proofs.show.Show.TheSendSync as show
 use Rattle.report_print.specs.contracts.context.Context.{the_row as context_row}
 use Rattle.report_print.specs.contracts.head.Head.{the_row as head_row}
-use Rattle.report_print.specs.contracts.tasks.TaskFront.{the_row as front_row}
 use Rattle.report_context.specs.contracts.lines.ItemLines.{the_row}
 
 expr_sync : IsSync expr_row

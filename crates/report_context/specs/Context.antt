@@ -8,7 +8,7 @@ use Rattle.trace_args.specs.Command.{ReportData}
 use Rattle.format_parse.specs.declared.format.EventFormat.{EventFormat}
 use Rattle.format_parse.specs.Table.{formats_in, with_formats}
 use Rattle.symbols.specs.Maps.{Maps, maps_of}
-use Rattle.report_print.specs.declared.show.Show.{Show}
+use Rattle.line_fronts.specs.declared.show.Show.{Show}
 use Rattle.report_print.specs.ContextData.{ContextData}
 use Rattle.run_words.specs.Usage.{uses_in}
 

@@ -1,31 +1,20 @@
 // The front of a line: the columns before what is said.
 
-ghost use Rattle.std.specs.Prelude.{◌≡◌, ◌<◌, ◌≤◌, ◌+◌, ◌++◌, [], ℕ, codes, length, true};
-ghost use Rattle.std.specs.Fmt.{decimal};
+ghost use Rattle.std.specs.Prelude.{◌≡◌, ◌<◌, ◌≤◌, ◌+◌, ◌++◌, ℕ, length, true};
 ghost use Rattle.trace_base.specs.Kept.{put_held};
 ghost use Rattle.trace_base.specs.TailView.{held, lent};
-ghost use Rattle.line_columns.specs.Columns.{zeros};
+ghost use Rattle.line_fronts.specs.Tasks.{task_front};
+ghost use Rattle.line_fronts.specs.When.{IsUsual, usual_when};
 ghost use Rattle.report_print.specs.Line as line;
-ghost use Rattle.report_print.specs.Prefix as spec;
-ghost use Rattle.report_print.specs.Prefix.{columns, IsUsual};
-ghost use Rattle.report_print.specs.Tasks.{task_front};
+ghost use Rattle.report_print.specs.Prefix.{columns};
 
 use crate::context::Context;
-use crate::fields::put_pair;
-use crate::show::Show;
-use crate::tasks::{TaskStart, USUAL_TASK, WIDE_TASK};
-use crate::unnamed::put_unnamed;
-use crate::usual::{USUAL_CPUS, USUAL_FRONT, write_front, write_when};
-use line_columns::{
-    BEFORE_PID, BEFORE_PLACE, Front, LONGEST_BEHIND, LONGEST_PROCESSOR, LONGEST_TASK, USUAL_LABEL,
-    USUAL_TIMES,
+use line_columns::{BEFORE_PID, Front, LONGEST_BEHIND, USUAL_LABEL, USUAL_TIMES};
+use line_fronts::{
+    TaskStart, USUAL_CPUS, are_usual, put_made, put_unnamed, put_usual_when, put_when,
+    put_with_made_task, put_with_named_task,
 };
 use trace_base::{Common, Order, Tail};
-
-/// How long a task's text is where its pid has six digits, and where it has seven.
-const SIX_DIGITS: usize = USUAL_TASK + 1;
-
-const SEVEN_DIGITS: usize = USUAL_TASK + 2;
 
 impl Context {
     /// The order of the numbers in the file's events.
@@ -124,14 +113,6 @@ pub(crate) fn put_front(
     put_unusual(context, cpu, time, pid, payload, behind, into)
 }
 
-/// Whether the columns of the time and the processor have their usual widths.
-#[inline(always)]
-fn are_usual(show: &Show, cpu: u32, time: u64) -> bool
-    ensures { result ≡ true → IsUsual show.now cpu time }
-{
-    !show.latency && !show.full && cpu < USUAL_CPUS && time < USUAL_TIMES
-}
-
 /// Puts the columns where those of the time and the processor have their usual widths.
 #[inline(always)]
 fn put_usual(
@@ -145,52 +126,14 @@ fn put_usual(
     requires usual { IsUsual context.now.show cpu time }
     requires label { length label.now ≡ USUAL_LABEL }
     ensures same_slice { lent into.new ≡ lent into.old }
-    ensures value { held into.new ≡ put_held (held into.old) (task_front context.now.show context.now.symbols.tasks pid ++ (spec.usual_when cpu time ++ label.now)) }
-    ensures len { result ≡ length (task_front context.now.show context.now.symbols.tasks pid ++ (spec.usual_when cpu time ++ label.now)) }
+    ensures value { held into.new ≡ put_held (held into.old) (task_front context.now.show context.now.symbols.tasks pid ++ (usual_when cpu time ++ label.now)) }
+    ensures len { result ≡ length (task_front context.now.show context.now.symbols.tasks pid ++ (usual_when cpu time ++ label.now)) }
 {
     match context.task_start(pid) {
-        TaskStart::Made(task) if task.len() == USUAL_TASK => {
-            put_straight(task, cpu, time, label, into)
-        }
         TaskStart::Made(task) => put_made(task, cpu, time, label, into),
         TaskStart::Unnamed => put_unnamed(pid, cpu, time, label, into),
         TaskStart::Unknown => put_unmade(context, cpu, time, pid, label, into),
     }
-}
-
-/// Puts the columns of most lines: all have their usual widths, and stand at places that are known beforehand.
-#[inline(always)]
-fn put_straight(task: &[u8], cpu: u32, time: u64, label: &[u8], into: &mut Tail<'_>) -> usize
-    requires task { length task.now ≡ USUAL_TASK }
-    requires label { length label.now ≡ USUAL_LABEL }
-    requires cpu { cpu < USUAL_CPUS }
-    requires time { time < USUAL_TIMES }
-    ensures same_slice { lent into.new ≡ lent into.old }
-    ensures value { held into.new ≡ put_held (held into.old) (task.now ++ (spec.usual_when cpu time ++ label.now)) }
-    ensures len { result ≡ length (task.now ++ (spec.usual_when cpu time ++ label.now)) }
-{
-    let mut text = [0; USUAL_FRONT];
-    write_front(task, cpu, time, label, &mut text);
-    into.put(&text);
-    USUAL_FRONT
-}
-
-/// The same where the task's text has another length.
-#[inline(never)]
-fn put_made(task: &[u8], cpu: u32, time: u64, label: &[u8], into: &mut Tail<'_>) -> usize
-    requires cpu { cpu < USUAL_CPUS }
-    requires time { time < USUAL_TIMES }
-    requires label { length label.now ≡ USUAL_LABEL }
-    ensures same_slice { lent into.new ≡ lent into.old }
-    ensures value { held into.new ≡ put_held (held into.old) (task.now ++ (spec.usual_when cpu time ++ label.now)) }
-    ensures len { result ≡ length (task.now ++ (spec.usual_when cpu time ++ label.now)) }
-{
-    let mut text = [0; USUAL_FRONT];
-    write_when(cpu, time, &label[..USUAL_LABEL], &mut text);
-    put_known_length(task, into);
-    let when = &text[USUAL_TASK..];
-    into.put(when);
-    task.len() + when.len()
 }
 
 /// The same where the task's text was not made beforehand.
@@ -207,74 +150,12 @@ fn put_unmade(
     requires time { time < USUAL_TIMES }
     requires label { length label.now ≡ USUAL_LABEL }
     ensures same_slice { lent into.new ≡ lent into.old }
-    ensures value { held into.new ≡ put_held (held into.old) (task_front context.now.show context.now.symbols.tasks pid ++ (spec.usual_when cpu time ++ label.now)) }
-    ensures len { result ≡ length (task_front context.now.show context.now.symbols.tasks pid ++ (spec.usual_when cpu time ++ label.now)) }
+    ensures value { held into.new ≡ put_held (held into.old) (task_front context.now.show context.now.symbols.tasks pid ++ (usual_when cpu time ++ label.now)) }
+    ensures len { result ≡ length (task_front context.now.show context.now.symbols.tasks pid ++ (usual_when cpu time ++ label.now)) }
 {
     let mut front = Front::new();
     put_usual_when(cpu, time, label, &mut front);
     put_with_any_task(context, pid, &mut front, into)
-}
-
-/// Puts where and when it was, in columns of their usual widths, in front of a text.
-#[inline(always)]
-pub(crate) fn put_usual_when(cpu: u32, time: u64, label: &[u8], front: &mut Front)
-    requires empty { front.old ≡ [] }
-    requires cpu { cpu < USUAL_CPUS }
-    requires time { time < USUAL_TIMES }
-    requires label { length label.now ≡ USUAL_LABEL }
-    ensures value { front.new ≡ spec.usual_when cpu time ++ label.now }
-    ensures short { length front.new ≤ BEFORE_PID }
-{
-    front.start(label);
-    front.prepend_text(b": ");
-    front.prepend_usual_time(time);
-    put_usual_place(cpu, front);
-}
-
-/// Puts the processor in front. Most machines have fewer than a hundred.
-#[inline(always)]
-fn put_usual_place(cpu: u32, front: &mut Front)
-    requires { length front.old ≤ BEFORE_PLACE }
-    ensures longer { length front.new ≤ length front.old + LONGEST_PROCESSOR }
-    ensures value { front.new ≡ (codes " [" ++ (zeros 3 (decimal cpu) ++ codes "] ")) ++ front.old }
-{
-    if cpu < 100 {
-        front.prepend_usual_processor(cpu);
-    } else {
-        front.prepend_processor(cpu);
-    }
-}
-
-/// Puts a text with that of a task in front of it, and gives the length of both.
-#[inline(always)]
-fn put_with_made_task(task: &[u8], front: &mut Front, into: &mut Tail<'_>) -> usize
-    requires { length front.old ≤ BEFORE_PID }
-    ensures same_slice { lent into.new ≡ lent into.old }
-    ensures value { held into.new ≡ put_held (held into.old) (task.now ++ front.old) }
-    ensures len { result ≡ length (task.now ++ front.old) }
-{
-    if task.len() <= WIDE_TASK {
-        put_task(task, front);
-        into.put(front.as_bytes());
-        front.len()
-    } else {
-        put_pair(task, front.as_bytes(), into);
-        task.len() + front.len()
-    }
-}
-
-/// Puts the text of a task in front. Most have the same length.
-#[inline(always)]
-fn put_task(task: &[u8], front: &mut Front)
-    requires short { length task.now ≤ WIDE_TASK }
-    requires room { length front.old ≤ BEFORE_PID }
-    ensures { front.new ≡ task.now ++ front.old }
-{
-    if task.len() == USUAL_TASK {
-        front.prepend_text(&task[..USUAL_TASK]);
-    } else {
-        front.prepend_text(task);
-    }
 }
 
 /// The same where the columns have any widths. What the latency columns show is read here, since most lines have none.
@@ -359,7 +240,6 @@ fn put_with_task(context: &Context, pid: i32, front: &mut Front, into: &mut Tail
 
 /// The same where the task's text was not made beforehand.
 #[inline(never)]
-#[tactic(auto, using(crate::proofs::FrontLemmas::wide_task, crate::proofs::FrontLemmas::behind_task))]
 fn put_with_any_task(context: &Context, pid: i32, front: &mut Front, into: &mut Tail<'_>) -> usize
     requires { length front.old ≤ BEFORE_PID }
     ensures same_slice { lent into.new ≡ lent into.old }
@@ -367,68 +247,5 @@ fn put_with_any_task(context: &Context, pid: i32, front: &mut Front, into: &mut 
     ensures len { result ≡ length (task_front context.now.show context.now.symbols.tasks pid ++ front.old) }
 {
     let name = context.symbols().comm_of(pid);
-    front.prepend_pid(pid);
-    front.prepend_byte(b'-');
-    if name.len() <= LONGEST_TASK {
-        front.prepend_task(task_width(context.show()), name);
-        into.put(front.as_bytes());
-        front.len()
-    } else {
-        put_pair(name, front.as_bytes(), into);
-        name.len() + front.len()
-    }
-}
-
-/// Puts the text of a task. Most that have not the usual length have one of two others, since most pids have no more than seven
-/// digits: a text of a length that is known beforehand needs no call.
-#[inline(always)]
-fn put_known_length(task: &[u8], into: &mut Tail<'_>)
-    ensures same_slice { lent into.new ≡ lent into.old }
-    ensures value { held into.new ≡ put_held (held into.old) task.now }
-{
-    match task.len() {
-        SIX_DIGITS => into.put(&task[..SIX_DIGITS]),
-        SEVEN_DIGITS => into.put(&task[..SEVEN_DIGITS]),
-        _ => put_piece(task, into),
-    }
-}
-
-#[inline(never)]
-fn put_piece(piece: &[u8], into: &mut Tail<'_>)
-    ensures same_slice { lent into.new ≡ lent into.old }
-    ensures value { held into.new ≡ put_held (held into.old) piece.now }
-{
-    into.put(piece);
-}
-
-pub(crate) fn task_width(show: &Show) -> usize
-    ensures value { result ≡ line.task_width show.now }
-    ensures narrow { result ≤ 16 }
-{
-    if show.latency { 8 } else { 16 }
-}
-
-// Puts the columns after the task in front.
-fn put_when(show: &Show, cpu: u32, time: u64, common: &Common, front: &mut Front)
-    requires room { length front.old ≤ LONGEST_BEHIND }
-    ensures value { front.new ≡ spec.when_of show.now cpu time common.now ++ front.old }
-    ensures longer { length front.new ≤ BEFORE_PID }
-{
-    front.prepend_text(b": ");
-    front.prepend_time(show.full, time);
-    put_place(show, cpu, common.flags, common.preempt, front);
-}
-
-// Puts the processor in front, and with the latency columns what an event says of its context.
-#[tactic(auto, unfolding(crate::specs::Line::place_text))]
-fn put_place(show: &Show, cpu: u32, flags: u32, preempt: u32, front: &mut Front)
-    requires { length front.old ≤ BEFORE_PLACE }
-    ensures longer { length front.new ≤ length front.old + LONGEST_PROCESSOR }
-    ensures value { front.new ≡ line.place_text show.now cpu flags preempt ++ front.old }
-{
-    if show.latency {
-        front.prepend_latency(cpu, flags, preempt);
-    } else {
-        front.prepend_processor(cpu);
-    }
+    put_with_named_task(context.show(), name, pid, front, into)
 }

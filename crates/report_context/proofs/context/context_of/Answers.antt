@@ -1,6 +1,6 @@
 use Rattle.std.proofs.Common.{◌≡◌, ◌⊎◌, sym, subst}
 use Rattle.trace_base.proofs.Layouts.{commit_is_long}
-use Rattle.report_print.specs.declared.show.Show.{Show}
+use Rattle.line_fronts.specs.declared.show.Show.{Show}
 use Rattle.report_context.proofs.context.context_of.Goals as goal
 
 pub build-requires : goal.build-requires

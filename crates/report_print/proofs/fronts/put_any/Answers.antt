@@ -3,9 +3,9 @@ use Rattle.std.specs.Int.{w32}
 use Rattle.std.proofs.lemmas.Int.{to_z-of_z}
 use Rattle.trace_base.specs.Kept.{put_held}
 use Rattle.trace_base.specs.TailView.{held}
-use Rattle.report_print.specs.declared.show.Show.{Show}
-use Rattle.report_print.specs.Prefix.{when_of}
-use Rattle.report_print.specs.Tasks.{task_front}
+use Rattle.line_fronts.specs.declared.show.Show.{Show}
+use Rattle.line_fronts.specs.Tasks.{task_front}
+use Rattle.line_fronts.specs.When.{when_of}
 use Rattle.report_print.proofs.fronts.put_any.Goals as goal
 
 pub returns-clause-value : goal.returns-clause-value

@@ -2,8 +2,8 @@ use Rattle.std.proofs.Common.{◌∙◌, subst}
 use Rattle.std.specs.Int.{w32}
 use Rattle.std.proofs.lemmas.Int.{to_z-of_z}
 use Rattle.trace_base.specs.TailView.{held}
-use Rattle.report_print.specs.declared.show.Show.{Show}
-use Rattle.report_print.specs.Prefix.{IsUsual}
+use Rattle.line_fronts.specs.declared.show.Show.{Show}
+use Rattle.line_fronts.specs.When.{IsUsual}
 use Rattle.report_print.proofs.FrontLemmas.{usual_put, usual_room, usual_end}
 use Rattle.report_print.proofs.fronts.put_front.Goals as goal
 

@@ -3,9 +3,9 @@ use Rattle.std.specs.Int.{w32}
 use Rattle.std.proofs.lemmas.Int.{to_z-of_z}
 use Rattle.trace_base.specs.Kept.{put_held}
 use Rattle.trace_base.specs.TailView.{held}
-use Rattle.report_print.specs.Prefix.{usual_when}
-use Rattle.report_print.specs.Tasks.{task_front}
-use Rattle.report_print.proofs.TaskTexts.{unnamed_front}
+use Rattle.line_fronts.specs.Tasks.{task_front}
+use Rattle.line_fronts.specs.When.{usual_when}
+use Rattle.line_fronts.proofs.TaskTexts.{unnamed_front}
 use Rattle.report_print.proofs.fronts.put_usual.Goals as goal
 
 pub returns-in-Made-clause-value : goal.returns-in-Made-clause-value
@@ -13,27 +13,11 @@ returns-in-Made-clause-value c =
     let given = c.args.context.now in
     let behind : List ℕ = usual_when c.args.cpu c.args.time ++ c.args.label.now in
     let task = c.in-Made.ensures ∙ ap (task_front given.show given.symbols.tasks) (to_z-of_z w32 c.args.pid c.ranges.pid) in
-    c.put_straight.ensures.value
+    c.put_made.ensures.value
     ∙ ap (λ (l : List ℕ). put_held (held c.args.into.now) (l ++ behind)) task
 
 pub returns-in-Made-clause-len : goal.returns-in-Made-clause-len
 returns-in-Made-clause-len c =
-    let given = c.args.context.now in
-    let behind : List ℕ = usual_when c.args.cpu c.args.time ++ c.args.label.now in
-    let task = c.in-Made.ensures ∙ ap (task_front given.show given.symbols.tasks) (to_z-of_z w32 c.args.pid c.ranges.pid) in
-    c.put_straight.ensures.len
-    ∙ ap (λ (l : List ℕ). length (l ++ behind)) task
-
-pub returns-in-Made-2-clause-value : goal.returns-in-Made-2-clause-value
-returns-in-Made-2-clause-value c =
-    let given = c.args.context.now in
-    let behind : List ℕ = usual_when c.args.cpu c.args.time ++ c.args.label.now in
-    let task = c.in-Made.ensures ∙ ap (task_front given.show given.symbols.tasks) (to_z-of_z w32 c.args.pid c.ranges.pid) in
-    c.put_made.ensures.value
-    ∙ ap (λ (l : List ℕ). put_held (held c.args.into.now) (l ++ behind)) task
-
-pub returns-in-Made-2-clause-len : goal.returns-in-Made-2-clause-len
-returns-in-Made-2-clause-len c =
     let given = c.args.context.now in
     let behind : List ℕ = usual_when c.args.cpu c.args.time ++ c.args.label.now in
     let task = c.in-Made.ensures ∙ ap (task_front given.show given.symbols.tasks) (to_z-of_z w32 c.args.pid c.ranges.pid) in

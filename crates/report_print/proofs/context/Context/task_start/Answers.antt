@@ -2,7 +2,7 @@ use Rattle.std.proofs.Common.{ℤ, subst}
 use Rattle.std.specs.Int.{w32}
 use Rattle.std.proofs.lemmas.Int.{to_z-of_z}
 use Rattle.report_print.specs.ContextData.{ContextData}
-use Rattle.report_print.specs.Tasks.{IsStart}
+use Rattle.line_fronts.specs.Tasks.{IsStart}
 use Rattle.report_print.proofs.context.Context.task_start.Goals as goal
 
 pub returns : goal.returns

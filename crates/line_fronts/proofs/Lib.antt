@@ -1,0 +1,4 @@
+pub mod Pids
+pub mod PlaceDigits
+pub mod TaskTexts
+pub mod UsualFronts

@@ -1,6 +1,0 @@
-use Rattle.std.proofs.Common.{◌+◌, ◌-◌, ◌*◌, arith}
-use Rattle.report_print.proofs.PlaceDigits.{table_digits}
-use Rattle.report_print.proofs.places.place.Goals as goal
-
-pub returns-clause-value : goal.returns-clause-value
-returns-clause-value c = table_digits c.table.result.now c.args.cpu (c.args.cpu * 4 + 4 - c.args.cpu * 4) c.table.ensures c.requires (omega arith)

@@ -1,5 +1,0 @@
-use Rattle.report_print.specs.Tasks.{AreFronts}
-use Rattle.report_print.proofs.tasks.saved_fronts.Given as goal
-
-abbrev pub invariant-loop-place : goal.invariant-loop-place
-invariant-loop-place l = AreFronts l.show l.symbols.tasks l.fronts.items

@@ -1,5 +1,0 @@
-use Rattle.std.proofs.Common.{ℕ, List, ◌++◌, ◌∙◌, ap}
-use Rattle.report_print.proofs.usual.write_front.Goals as goal
-
-pub returns : goal.returns
-returns c = c.put_copy.ensures ∙ ap (λ (l : List ℕ). c.args.task.now ++ l) c.write_when.ensures
