@@ -1,9 +1,11 @@
 -- Several files in a slice, one after another.
-use Rattle.std.proofs.Common.{◌≡◌, ◌≢◌, ℕ, ◌+◌, ◌<◌, ◌≤◌, List, [], ◌∷◌, length, get_or, set, map, Option, None, refl, sym, ap, subst, ◌∙◌, arith, inl, inr, get_or-set_same, get_or-set_other}
+use Rattle.std.proofs.Common.{◌≡◌, ◌≢◌, ℕ, ◌+◌, ◌<◌, ◌≤◌, List, [], ◌∷◌, length, get_or, set, map, refl, sym, ap, subst, ◌∙◌, arith, inl, inr, get_or-set_same, get_or-set_other}
 use Rattle.std.specs.List.{All}
 use Rattle.std.proofs.lemmas.Bool.{cases_eq, cases_lt}
 use Rattle.std.proofs.lemmas.List.{ext_get_or, get_or-map, length-map, map-set}
 use Rattle.std.proofs.lemmas.List.Elements.{All-from_get_or, All-get_or}
+use Rattle.tournament_tree.specs.declared.slot_key.SlotKey.{SlotKey}
+use Rattle.tournament_tree.specs.declared.slot_key.SlotKey.TheVariants.{Empty}
 use Rattle.trace_outside.specs.Causes.{Rose}
 use Rattle.multi_report.specs.Sources.{SourceView, IsKnown, IsPrepared, IsReadied, Keeps, next_key}
 use Rattle.multi_report.specs.Turns.{AreReadied}
@@ -19,12 +21,12 @@ pub as_long : {S : Type 0} (f : S → SourceView) (xs ys : List S) → length xs
 as_long f xs ys e = length-map xs f ∙ e ∙ sym (length-map ys f)
 
 -- a file that is ready, with the key of what comes next of it
-pub record IsBegun (first now : SourceView) (key : Option (Option ℕ)) : Type 0 where
+pub record IsBegun (first now : SourceView) (key : SlotKey) : Type 0 where
   pub readied : IsReadied first now
   pub key_is : IsKnown now → key ≡ next_key now
 
-abbrev pub AreBegun : List SourceView → List SourceView → List (Option (Option ℕ)) → ℕ → Type 0
-AreBegun first now keys j = (i : ℕ) (d : SourceView) → i < j → IsBegun (get_or first i d) (get_or now i d) (get_or keys i None)
+abbrev pub AreBegun : List SourceView → List SourceView → List SlotKey → ℕ → Type 0
+AreBegun first now keys j = (i : ℕ) (d : SourceView) → i < j → IsBegun (get_or first i d) (get_or now i d) (get_or keys i Empty)
 
 less_by : (i j : ℕ) → i < j + 1 → (i ≡ j → ⊥) → i < j
 less_by i j le differ = elim (cases_lt i j) [ inl lt ↦ lt | inr ge ↦ absurd (differ (omega (arith, le, ge))) ]
@@ -59,19 +61,19 @@ module _ {S : Type 0} (f : S → SourceView) (first xs : List S) (j : ℕ) (d ne
   pub still_set : AreStill (map f first) (map f xs) j → AreStill (map f first) (map f (set xs j new)) (j + 1)
   still_set still i e le = other i e (λ same. omega (arith, same, le)) ∙ still i e (omega (arith, le))
 
-  pub begun_set : (keys : List (Option (Option ℕ))) (key : Option (Option ℕ)) → j < length keys → AreStill (map f first) (map f xs) j
+  pub begun_set : (keys : List SlotKey) (key : SlotKey) → j < length keys → AreStill (map f first) (map f xs) j
       → IsReadied (f (get_or xs j d)) (f new) → (IsKnown (f new) → key ≡ next_key (f new))
       → AreBegun (map f first) (map f xs) keys j → AreBegun (map f first) (map f (set xs j new)) (set keys j key) (j + 1)
-  begun_set keys key room still readied key_is begun i e le = elim (cases_eq i j) as (λ _. IsBegun (get_or (map f first) i e) (get_or (map f (set xs j new)) i e) (get_or (set keys j key) i None)) [
+  begun_set keys key room still readied key_is begun i e le = elim (cases_eq i j) as (λ _. IsBegun (get_or (map f first) i e) (get_or (map f (set xs j new)) i e) (get_or (set keys j key) i Empty)) [
     | inl same ↦
         let one : IsBegun (get_or (map f first) j e) (f new) key = record { readied = subst (λ (s : SourceView). IsReadied s (f new)) (was e still) readied; key_is = key_is } in
-        let at : IsBegun (get_or (map f first) j e) (get_or (map f (set xs j new)) j e) (get_or (set keys j key) j None) =
-        subst (λ (s : SourceView). IsBegun (get_or (map f first) j e) s (get_or (set keys j key) j None)) (sym (here e))
-        (subst (λ (k : Option (Option ℕ)). IsBegun (get_or (map f first) j e) (f new) k) (sym (get_or-set_same keys j key None room)) one) in
-        subst (λ (k : ℕ). IsBegun (get_or (map f first) k e) (get_or (map f (set xs j new)) k e) (get_or (set keys j key) k None)) (sym same) at
+        let at : IsBegun (get_or (map f first) j e) (get_or (map f (set xs j new)) j e) (get_or (set keys j key) j Empty) =
+        subst (λ (s : SourceView). IsBegun (get_or (map f first) j e) s (get_or (set keys j key) j Empty)) (sym (here e))
+        (subst (λ (k : SlotKey). IsBegun (get_or (map f first) j e) (f new) k) (sym (get_or-set_same keys j key Empty room)) one) in
+        subst (λ (k : ℕ). IsBegun (get_or (map f first) k e) (get_or (map f (set xs j new)) k e) (get_or (set keys j key) k Empty)) (sym same) at
     | inr differ ↦
-        subst (λ (s : SourceView). IsBegun (get_or (map f first) i e) s (get_or (set keys j key) i None)) (sym (other i e differ))
-        (subst (λ (k : Option (Option ℕ)). IsBegun (get_or (map f first) i e) (get_or (map f xs) i e) k) (sym (get_or-set_other keys j i key None differ)) (begun i e (less_by i j le differ)))
+        subst (λ (s : SourceView). IsBegun (get_or (map f first) i e) s (get_or (set keys j key) i Empty)) (sym (other i e differ))
+        (subst (λ (k : SlotKey). IsBegun (get_or (map f first) i e) (get_or (map f xs) i e) k) (sym (get_or-set_other keys j i key Empty differ)) (begun i e (less_by i j le differ)))
   ]
 
   pub rose_set : AreStill (map f first) (map f xs) j → Rose (f (get_or xs j d)).faults (f new).faults
@@ -84,7 +86,7 @@ module _ {S : Type 0} (f : S → SourceView) (first xs : List S) (j : ℕ) (d ne
   )
 
 -- all were made ready
-module _ (first now : List SourceView) (keys : List (Option (Option ℕ))) (j : ℕ) (long : length now ≡ length first) (end : length first ≤ j) (begun : AreBegun first now keys j) where
+module _ (first now : List SourceView) (keys : List SlotKey) (j : ℕ) (long : length now ≡ length first) (end : length first ≤ j) (begun : AreBegun first now keys j) where
   pub all_readied : AreReadied first now
   all_readied = record {
     prepared = prepared now (λ i d lt. (begun i d (omega (arith, lt, long, end))).readied.prepared);
@@ -97,10 +99,10 @@ module _ (first now : List SourceView) (keys : List (Option (Option ℕ))) (j : 
 
   pub all_keys : length keys ≡ length first → All IsKnown now → keys ≡ map next_key now
   all_keys slots known =
-      ext_get_or None keys (map next_key now) (slots ∙ sym long ∙ sym (length-map now next_key)) (λ i lt.
+      ext_get_or Empty keys (map next_key now) (slots ∙ sym long ∙ sym (length-map now next_key)) (λ i lt.
       let within : i < length now = omega (arith, lt, slots, long) in
       let d = some now i within in
-      (begun i d (omega (arith, within, long, end))).key_is (All-get_or IsKnown now i d within known) ∙ sym (get_or-map next_key now i d None within))
+      (begun i d (omega (arith, within, long, end))).key_is (All-get_or IsKnown now i d within known) ∙ sym (get_or-map next_key now i d Empty within))
     where
       some : (xs : List SourceView) (i : ℕ) → i < length xs → SourceView
       some [] i lt = absurd (omega (arith, lt))

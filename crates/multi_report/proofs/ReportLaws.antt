@@ -9,6 +9,7 @@ use Rattle.trace_outside.proofs.PendingLemmas.{holds_nothing}
 use Rattle.multi_report.specs.declared.report.FilesEnd.{FilesEnd}
 use Rattle.multi_report.specs.declared.report.FilesEnd.TheVariants as code
 use Rattle.multi_report.specs.Order.{ShownFile, cut_of_files, reached}
+use Rattle.tournament_tree.specs.declared.slot_key.SlotKey.{SlotKey}
 use Rattle.multi_report.specs.Sources.{SourceView, IsFreshSource, IsKnown, Keeps, shown_of, next_key, to_come_of}
 use Rattle.multi_report.specs.Pieces.{text_of}
 use Rattle.multi_report.specs.Reports.{AreSame, IsEnded, IsFilesReport, ReadRose, head_line, lines, pieces}
@@ -46,7 +47,7 @@ heads_stopped first before written waiting empty puts =
     prefix_of_whole before written (whole_of first) (heads_of first) (lines (map shown_of first) (reached (map shown_of first))) refl
     (puts before [] (subst (λ (w : List ℕ). Holds before before w []) (sym empty) (holds_nothing before)))
 
-pub underway_first : (first now : List SourceView) (keys : List (Option (Option ℕ))) (before written : Option (List ℕ)) (waiting waiting_now : List ℕ) → All IsFreshSource first → All (λ source. IsSome source.told) first → waiting ≡ []
+pub underway_first : (first now : List SourceView) (keys : List SlotKey) (before written : Option (List ℕ)) (waiting waiting_now : List ℕ) → All IsFreshSource first → All (λ source. IsSome source.told) first → waiting ≡ []
     → length now ≡ length first → Tied Keeps first now → (All IsKnown now → keys ≡ map next_key now)
     → ((b : Option (List ℕ)) (text : List ℕ) → Holds b before waiting text → Holds b written waiting_now (text ++ text_of (heads_of first)))
     → IsUnderway before (whole_of first) (state_of now keys written waiting_now)
@@ -83,5 +84,5 @@ pub report_is : (first now : List SourceView) (before new : Option (List ℕ)) (
 report_is first now before new end same ended = subst (λ (gs : List ShownFile). IsEnded (whole_of first) (cut_of_files gs) before new end) (same_shown first now same) ended
 
 -- a tree has a slot for each file still
-pub slots_on : {S : Type 0} (f : S → SourceView) (xs ys : List S) (keys now : List (Option (Option ℕ))) → AreSame (map f xs) (map f ys) → length keys ≡ length xs → length now ≡ length keys → length now ≡ length ys
+pub slots_on : {S : Type 0} (f : S → SourceView) (xs ys : List S) (keys now : List SlotKey) → AreSame (map f xs) (map f ys) → length keys ≡ length xs → length now ≡ length keys → length now ≡ length ys
 slots_on f xs ys keys now same slots still = omega (arith, same.count, slots, still, length-map xs f, length-map ys f)

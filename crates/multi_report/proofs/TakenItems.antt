@@ -21,7 +21,6 @@ use Rattle.time_merge.specs.Nexts.{IsNextLane}
 use Rattle.time_merge.proofs.Going.{still_parts}
 use Rattle.time_merge.proofs.Starting.{cut_of_rows as one_cut}
 use Rattle.tournament_tree.specs.declared.slot_key.SlotKey.{SlotKey}
-use Rattle.tournament_tree.specs.Slots.{next_by}
 use Rattle.multi_report.specs.declared.taking.Taken.{Taken}
 use Rattle.multi_report.specs.declared.taking.Taken.TheVariants as took
 use Rattle.multi_report.specs.Order.{ShownFile, own_cut}
@@ -140,7 +139,7 @@ cut_told a way i lanes d e same lt h = (
 
 -- how a file is left by what was taken of it
 module _ {T E : Type 0} (a b c : SourceView) (i : ℕ) (way way_now : OnWay) (lt : i < length a.lanes) (next : IsKnown a → IsNextLane a.layout (bytes_of a) a.lanes i) where
-  pub taken_item : (v : T) (key : SlotKey) → IsLaneStepped a i b → Keeps b c → IsReadied b c → (IsKnown c → next_by key ≡ next_key c)
+  pub taken_item : (v : T) (key : SlotKey) → IsLaneStepped a i b → Keeps b c → IsReadied b c → (IsKnown c → key ≡ next_key c)
       → ((d : Lane) → PutsText {T = T} {E = E} (put_of a i d) way way_now (Ok v)) → TakenOf a way (took.Item key) c way_now
   taken_item v key s keeps readied key_is puts = record {
     same = same_used a b c i lt s keeps;

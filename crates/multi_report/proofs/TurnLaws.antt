@@ -16,7 +16,9 @@ use Rattle.subpage.specs.Cut.{Cut}
 use Rattle.time_merge.specs.Rows.{bound_of}
 use Rattle.time_merge.specs.Nexts.{IsLeastOf, IsLeastAt}
 use Rattle.tournament_tree.specs.declared.slot_key.SlotKey.{SlotKey}
-use Rattle.tournament_tree.specs.Slots.{next_by}
+use Rattle.tournament_tree.specs.declared.slot_key.SlotKey.TheVariants.{Empty}
+use Rattle.tournament_tree.specs.Least.{from_time}
+use Rattle.tournament_tree.proofs.Ranks.{never_empty}
 use Rattle.multi_report.specs.declared.report.FilesEnd.{FilesEnd}
 use Rattle.multi_report.specs.declared.report.FilesEnd.TheVariants as code
 use Rattle.multi_report.specs.declared.taking.Taken.{Taken}
@@ -36,7 +38,7 @@ some_seen [] j lt = absurd (omega (arith, lt))
 some_seen (x ∷ xs) j lt = x
 
 -- a slot of the tree is a file
-pub slot_of : {S : Type 0} (f : S → SourceView) (xs : List S) (keys : List (Option (Option ℕ))) (j : ℕ) → j < length keys → length keys ≡ length xs → j < length (map f xs)
+pub slot_of : {S : Type 0} (f : S → SourceView) (xs : List S) (keys : List SlotKey) (j : ℕ) → j < length keys → length keys ≡ length xs → j < length (map f xs)
 slot_of f xs keys j lt slots = omega (arith, lt, slots, length-map xs f)
 
 -- what is told at an end
@@ -63,12 +65,12 @@ unfolding lines
 none_left sources e = ap (map (line_in (map shown_of sources))) e
 
 -- nothing comes of any file
-pub turn_done : (before : Option (List ℕ)) (whole : List (List ℕ)) (sources : List SourceView) (keys : List (Option (Option ℕ))) (old new : Option (List ℕ)) (waiting : List ℕ) (result : FilesEnd)
+pub turn_done : (before : Option (List ℕ)) (whole : List (List ℕ)) (sources : List SourceView) (keys : List SlotKey) (old new : Option (List ℕ)) (waiting : List ℕ) (result : FilesEnd)
     → IsLeastAt keys None
     → ((b : Option (List ℕ)) (text : List ℕ) → Holds b old waiting text → EndsWith b new text code.Done result)
     → IsUnderway before whole (state_of sources keys old waiting) → IsEnded whole (cut_of_files (map shown_of sources)) before new result
 turn_done before whole sources keys old new waiting result none ends under =
-    let law = file_none sources (subst (λ (ks : List (Option (Option ℕ))). IsLeastAt ks None) under.keys_are none) in
+    let law = file_none sources (subst (λ (ks : List SlotKey). IsLeastAt ks None) under.keys_are none) in
     end_whole before whole (cut_of_files (map shown_of sources)) old new waiting (lines_left sources) code.Done result ends under.going (none_left sources law.0) (λ gained. (gained, no_cut sources law.1))
 
 -- One of several files changed, and the others are as they were.
@@ -109,7 +111,7 @@ module _ (sources : List SourceView) (j : ℕ) (lt : j < length sources) (way wa
         (subst (λ (s : SourceView). Rose (get_or sources j e).faults s.faults) (sym (get_or-set_same sources j from.one e lt)) (from.is e).read),
   )
 
-module _ (before : Option (List ℕ)) (whole : List (List ℕ)) (sources : List SourceView) (keys : List (Option (Option ℕ))) (j : ℕ) (lt : j < length sources) (way way_now : OnWay) where
+module _ (before : Option (List ℕ)) (whole : List (List ℕ)) (sources : List SourceView) (keys : List SlotKey) (j : ℕ) (lt : j < length sources) (way way_now : OnWay) where
   abbrev d : SourceView
   d = some_seen sources j lt
 
@@ -118,7 +120,7 @@ module _ (before : Option (List ℕ)) (whole : List (List ℕ)) (sources : List 
 
   -- the keys are those of what comes next of each file
   least_here : (here : Option ℕ) → IsLeastOf keys j here → IsUnderway before whole (state_of sources keys way.written way.waiting) → IsLeastOf (map next_key sources) j here
-  least_here here least under = subst (λ (ks : List (Option (Option ℕ))). IsLeastOf ks j here) under.keys_are least
+  least_here here least under = subst (λ (ks : List SlotKey). IsLeastOf ks j here) under.keys_are least
 
   one_known : IsUnderway before whole (state_of sources keys way.written way.waiting) → IsKnown (get_or sources j d)
   one_known under = All-get_or IsKnown sources j d lt under.known
@@ -141,13 +143,13 @@ module _ (before : Option (List ℕ)) (whole : List (List ℕ)) (sources : List 
 
   -- an item was taken
   pub turn_item : (now : List SourceView) (here : Option ℕ) (key : SlotKey) → IsLeastOf keys j here → TakenFrom sources j way (took.Item key) now way_now
-      → IsUnderway before whole (state_of sources keys way.written way.waiting) → IsUnderway before whole (state_of now (set keys j (next_by key)) way_now.written way_now.waiting)
+      → IsUnderway before whole (state_of sources keys way.written way.waiting) → IsUnderway before whole (state_of now (set keys j key) way_now.written way_now.waiting)
   turn_item now here key least from under =
       let is = from.is d in
       let t = is.taken (one_known under) in
-      let same_keys : set keys j (next_by key) ≡ map next_key (set sources j from.one) =
-      ap (λ (ks : List (Option (Option ℕ))). set ks j (next_by key)) under.keys_are ∙ ap (set (map next_key sources) j) t.1 ∙ sym (map-set next_key sources j from.one) in
-      subst (λ (ss : List SourceView). IsUnderway before whole (state_of ss (set keys j (next_by key)) way_now.written way_now.waiting)) (sym from.set) (record {
+      let same_keys : set keys j key ≡ map next_key (set sources j from.one) =
+      ap (λ (ks : List SlotKey). set ks j key) under.keys_are ∙ ap (set (map next_key sources) j) t.1 ∙ sym (map-set next_key sources j from.one) in
+      subst (λ (ss : List SourceView). IsUnderway before whole (state_of ss (set keys j key) way_now.written way_now.waiting)) (sym from.set) (record {
         known = All-set IsKnown sources j from.one t.0.known under.known;
         keys_are = same_keys;
         going = going_one from.one here least under is.same.shown t.0;
@@ -197,7 +199,6 @@ module _ (before : Option (List ℕ)) (whole : List (List ℕ)) (sources : List 
   turn_nothing now here least from under =
       let s = get_or sources j d in
       let t = (from.is d).taken (one_known under) in
-      let some : next_key s ≡ Some here = file_some sources j here d lt (least_here here least under) in
-      let none : next_key s ≡ None = ap (λ (xs : List Keyed). bound_of key_of cpu_of xs (cut_left s)) t.0.none ∙ ap (bound_of key_of cpu_of []) t.1 in
-      let never : None ≡ Some here = sym none ∙ some in
-      absurd cc
+      let some : next_key s ≡ from_time here = file_some sources j here d lt (least_here here least under) in
+      let none : next_key s ≡ Empty = ap (λ (xs : List Keyed). bound_of key_of cpu_of xs (cut_left s)) t.0.none ∙ ap (bound_of key_of cpu_of []) t.1 in
+      never_empty here (sym some ∙ none)

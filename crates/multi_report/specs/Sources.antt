@@ -1,6 +1,7 @@
 -- Several files that are gone through at once, each with its lanes.
 use Rattle.std.specs.Prelude.{◌≡◌, ◌<◌, ◌≤◌, ℕ, List, [], length, map, slice_index_or, Option, IsSome, unwrap_or, sum_by}
 use Rattle.std.specs.List.{All}
+use Rattle.tournament_tree.specs.declared.slot_key.SlotKey.{SlotKey}
 use Rattle.trace_base.specs.declared.layout.Layout.{Layout}
 use Rattle.trace_outside.specs.Causes.{raised}
 use Rattle.trace_outside.specs.declared.outside.File as file
@@ -108,7 +109,7 @@ abbrev pub left_row : ℕ × SourceView → Row FileItem
 left_row source = row_with source.0 (left_in source.1) (cut_left source.1)
 
 -- what comes next of a file: its first item's key, or that of its cut
-abbrev pub next_key : SourceView → Option (Option ℕ)
+abbrev pub next_key : SourceView → SlotKey
 next_key source = bound_of key_of cpu_of (left_in source) (cut_left source)
 
 -- what all files have left, in its order

@@ -5,7 +5,6 @@ use Rattle.trace_outside.specs.Pending.{Holds, OnWay}
 use Rattle.trace_outside.specs.Writing.{GainedPrefix}
 use Rattle.subpage.specs.Arrangement.{Keyed}
 use Rattle.subpage.specs.CutPlaces.{cut_at}
-use Rattle.tournament_tree.specs.Slots.{next_by}
 use Rattle.multi_report.specs.declared.taking.Taken.{Taken}
 use Rattle.multi_report.specs.declared.taking.Taken.TheVariants as code
 use Rattle.multi_report.specs.Sources.{SourceView, IsKnown, IsReadied, IsSame, shown_of, left_in, cut_left, next_key, work}
@@ -43,7 +42,7 @@ pub record IsStill (before : SourceView) (way way_now : OnWay) : Type 0 where
   pub none : left_in before ≡ []
 
 abbrev pub IsTaken : SourceView → OnWay → Taken → SourceView → OnWay → Type 0
-IsTaken before way (code.Item key) now way_now = ItemTaken before now way way_now × (next_by key ≡ next_key now)
+IsTaken before way (code.Item key) now way_now = ItemTaken before now way way_now × (key ≡ next_key now)
 IsTaken before way (code.Cut cut) now way_now =
     IsStill before way way_now × ((key : Option ℕ) × (cut_left before ≡ Some (cut_at key cut)))
 IsTaken before way code.Done now way_now = IsStill before way way_now × (cut_left before ≡ None)

@@ -1,6 +1,7 @@
 -- A report of files on its way, turn after turn.
 use Rattle.std.specs.Prelude.{◌≡◌, ◌<◌, ◌≤◌, ◌⊎◌, ◌++◌, ℕ, List, length, map, slice_index_or, Option, Some, None}
 use Rattle.std.specs.List.{All}
+use Rattle.tournament_tree.specs.declared.slot_key.SlotKey.{SlotKey}
 use Rattle.trace_outside.specs.Causes.{Rose}
 use Rattle.trace_outside.specs.Pending.{Holds}
 use Rattle.trace_outside.specs.Writing.{Gained, GainedPrefix}
@@ -24,11 +25,11 @@ pub record Going (before : Option (List ℕ)) (whole : List (List ℕ)) (written
 -- a report at one moment: its files, the tree's keys of what comes next of each, what the output has, and what waits for it
 pub record ReportState : Type 0 where
   pub sources : List SourceView
-  pub keys : List (Option (Option ℕ))
+  pub keys : List SlotKey
   pub written : Option (List ℕ)
   pub waiting : List ℕ
 
-abbrev pub state_of : List SourceView → List (Option (Option ℕ)) → Option (List ℕ) → List ℕ → ReportState
+abbrev pub state_of : List SourceView → List SlotKey → Option (List ℕ) → List ℕ → ReportState
 state_of sources keys written waiting = record { sources = sources; keys = keys; written = written; waiting = waiting }
 
 -- A report that is to write these pieces behind what the output had goes on: all files are known, the keys are theirs, and what

@@ -15,6 +15,8 @@ use Rattle.page_pool.specs.declared.lane.Lane.{Lane}
 use Rattle.page_pool.specs.declared.cursor.LaneState.{LaneState}
 use Rattle.page_pool.specs.declared.cursor.LaneState.TheVariants.{Fresh, Held, Ended, Malformed}
 use Rattle.event_cursor.specs.Standing.{Stands}
+use Rattle.tournament_tree.specs.Least.{from_time}
+use Rattle.tournament_tree.proofs.Ranks.{from_rank, never_empty, rank_from, same_time}
 use Rattle.time_merge.specs.declared.horizons.Horizon.{Horizon}
 use Rattle.time_merge.specs.declared.horizons.Horizon.TheVariants as code
 use Rattle.time_merge.specs.Rows.{Row, IsRow, NotBefore, rank, bound, bound_of, up_to_key, Rise, cpus, coming, least_cut}
@@ -64,15 +66,15 @@ low (Some h) key le = omega arith
 module _ (l : Layout) (file : List ℕ) where
   -- nothing of a lane comes before its greatest time so far
   row_not_before : (n : ℕ) (a : Lane) (s : LaneState) → a.cursor.state ≡ s → Stands l file a → NotBefore n (high_in s a.cursor.high) → From key_of cpu_of n (row_of l file a)
-  row_not_before n a Fresh e s nb = from_high l file a n s nb
-  row_not_before n a Held e s nb = from_high l file a n s nb
+  row_not_before n a Fresh e s nb = from_high l file a n s (rank_from n a.cursor.high nb)
+  row_not_before n a Held e s nb = from_high l file a n s (rank_from n a.cursor.high nb)
   row_not_before n a Ended e s nb =
       let none : ((row_of l file a).items ≡ []) × ((row_of l file a).cut ≡ None) = ended_row l file a s e in
       record {
         items = subst (All (λ x. n ≤ key_of x + 1)) (sym none.0) (All-nil (λ x. n ≤ key_of x + 1));
         cut = subst (λ (o : Option Cut). IfSome o (λ c. n ≤ rank c.key)) (sym none.1) tt;
       }
-  row_not_before n a Malformed e s nb = from_high l file a n s nb
+  row_not_before n a Malformed e s nb = from_high l file a n s (rank_from n a.cursor.high nb)
 
 -- lines that go on
 rising_append : (m : ℕ) (xs ys : List CpuLine) → IsRising key_in xs → IsRising key_in ys → All (λ x. key_in x ≤ m) xs → All (λ y. m ≤ key_in y) ys → IsRising key_in (xs ++ ys)
@@ -123,7 +125,7 @@ bound_from : (n cpu : ℕ) (lines : List Line) (more : List CpuLine) (cut : Opti
 bound_from n cpu (line ∷ lines) more cut first from up = first
 bound_from n cpu [] (x ∷ more) cut first from up = All-head (λ y. n ≤ key_in y + 1) x more from
 bound_from n cpu [] [] None first from up = tt
-bound_from n cpu [] [] (Some cut) first from up = up
+bound_from n cpu [] [] (Some cut) first from up = from_rank n cut.key up
 
 -- What a horizon says of lines that are not due: those of earlier processors stand after its key, no other stands before
 -- it, and its own lane keeps none.
@@ -152,14 +154,14 @@ at_key k c = record {
     all_due [] e = refl
     all_due (line ∷ lines) e = rw (due_here k c line.key (All-head (λ x. x.key ≤ k) line lines e)) (all_due lines (All-tail (λ x. x.key ≤ k) line lines e))
 
-high_is : (a : Lane) (s : LaneState) (high : Option ℕ) → high_in s a.cursor.high ≡ Some high → a.cursor.high ≡ high
-high_is a Fresh high e = cc
-high_is a Held high e = cc
-high_is a Ended high e = absurd cc
-high_is a Malformed high e = cc
+high_is : (a : Lane) (s : LaneState) (high : Option ℕ) → high_in s a.cursor.high ≡ from_time high → a.cursor.high ≡ high
+high_is a Fresh high e = same_time a.cursor.high high e
+high_is a Held high e = same_time a.cursor.high high e
+high_is a Ended high e = absurd (never_empty high (sym e))
+high_is a Malformed high e = same_time a.cursor.high high e
 
 -- the lane of the horizon keeps no line after it
-pub none_later : (h : Horizon) (high : Option ℕ) (cpu : ℕ) (lane : Lane) → IsHorizonAt h high cpu → IsSorted lane → lane.cpu ≡ cpu → high_of lane ≡ Some high → later_of h lane ≡ []
+pub none_later : (h : Horizon) (high : Option ℕ) (cpu : ℕ) (lane : Lane) → IsHorizonAt h high cpu → IsSorted lane → lane.cpu ≡ cpu → high_of lane ≡ from_time high → later_of h lane ≡ []
 none_later h high cpu lane at s own here = at.none lane s own (high_is lane lane.cursor.state high here)
 
 abbrev cut_made : Option ℕ → ℕ → ℕ → Cut

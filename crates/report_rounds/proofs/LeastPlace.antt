@@ -7,6 +7,10 @@ use Rattle.std.proofs.lemmas.List.{get_or_append_left, get_or-append-add, length
 use Rattle.std.proofs.Math.Seq.{get_or-append_seam}
 use Rattle.subpage.specs.CutPlaces.{place_at}
 use Rattle.page_pool.specs.declared.lane.Lane.{Lane}
+use Rattle.tournament_tree.specs.declared.slot_key.SlotKey.{SlotKey}
+use Rattle.tournament_tree.specs.declared.slot_key.SlotKey.TheVariants.{Empty}
+use Rattle.tournament_tree.specs.Least.{from_time}
+use Rattle.tournament_tree.proofs.Ranks.{never_empty, rank_from}
 use Rattle.time_merge.specs.declared.ending.End.{End}
 use Rattle.time_merge.specs.declared.ending.End.TheVariants as code
 use Rattle.time_merge.specs.declared.horizons.Horizon.{Horizon}
@@ -19,45 +23,45 @@ use Rattle.report_rounds.specs.declared.ends.Outcome.{Outcome}
 use Rattle.report_rounds.specs.declared.ends.Outcome.TheVariants as round
 use Rattle.report_rounds.proofs.Pairs.{some_lane}
 
-module _ (keys : List (Option (Option ℕ))) (i : ℕ) (high : Option ℕ) (least : IsLeastOf keys i high) where
-  abbrev parted : List (Option (Option ℕ))
-  parted = least.before ++ Some high ∷ least.after
+module _ (keys : List SlotKey) (i : ℕ) (high : Option ℕ) (least : IsLeastOf keys i high) where
+  abbrev parted : List SlotKey
+  parted = least.before ++ from_time high ∷ least.after
 
   long : length keys ≡ i + 1 + length least.after
-  long = omega (arith, ap length least.split, length-append least.before (Some high ∷ least.after), least.place)
+  long = omega (arith, ap length least.split, length-append least.before (from_time high ∷ least.after), least.place)
 
-  at : (k : ℕ) → get_or keys k None ≡ get_or parted k None
-  at k = ap (λ (xs : List (Option (Option ℕ))). get_or xs k None) least.split
+  at : (k : ℕ) → get_or keys k Empty ≡ get_or parted k Empty
+  at k = ap (λ (xs : List SlotKey). get_or xs k Empty) least.split
 
   inside : i < length keys
   inside = omega (arith, long)
 
-  here : get_or keys i None ≡ Some high
-  here = at i ∙ ap (λ (k : ℕ). get_or parted k None) (sym least.place) ∙ get_or-append_seam least.before (Some high) least.after None
+  here : get_or keys i Empty ≡ from_time high
+  here = at i ∙ ap (λ (k : ℕ). get_or parted k Empty) (sym least.place) ∙ get_or-append_seam least.before (from_time high) least.after Empty
 
-  sooner : (j : ℕ) → j < i → NotBefore (rank high + 1) (get_or keys j None)
+  sooner : (j : ℕ) → j < i → NotBefore (rank high + 1) (get_or keys j Empty)
   sooner j lt =
       let before : j < length least.before = omega (arith, lt, least.place) in
-      subst (NotBefore (rank high + 1)) (sym (at j ∙ get_or_append_left least.before (Some high ∷ least.after) None j before))
-      (least.sooner j None before)
+      subst (NotBefore (rank high + 1)) (sym (at j ∙ get_or_append_left least.before (from_time high ∷ least.after) Empty j before))
+      (least.sooner j Empty before)
 
-  later : (j : ℕ) → i < j → j < length keys → NotBefore (rank high) (get_or keys j None)
+  later : (j : ℕ) → i < j → j < length keys → NotBefore (rank high) (get_or keys j Empty)
   later j lt within =
       let k : ℕ = j - (i + 1) in
       let place : j ≡ length least.before + suc k = omega (arith, lt, least.place) in
       let behind : k < length least.after = omega (arith, lt, within, long) in
-      let is : get_or keys j None ≡ get_or least.after k None =
-      at j ∙ ap (λ (n : ℕ). get_or parted n None) place ∙ get_or-append-add least.before (Some high ∷ least.after) (suc k) None in
-      subst (NotBefore (rank high)) (sym is) (least.later k None behind)
+      let is : get_or keys j Empty ≡ get_or least.after k Empty =
+      at j ∙ ap (λ (n : ℕ). get_or parted n Empty) place ∙ get_or-append-add least.before (from_time high ∷ least.after) (suc k) Empty in
+      subst (NotBefore (rank high)) (sym is) (least.later k Empty behind)
 
 -- the least key of two is at one place
-not_two : (keys : List (Option (Option ℕ))) (i j : ℕ) (a b : Option ℕ) → IsLeastOf keys i a → IsLeastOf keys j b → i < j → ⊥
+not_two : (keys : List SlotKey) (i j : ℕ) (a b : Option ℕ) → IsLeastOf keys i a → IsLeastOf keys j b → i < j → ⊥
 not_two keys i j a b first second lt =
-    let second_sooner : rank b + 1 ≤ rank a = subst (NotBefore (rank b + 1)) (here keys i a first) (sooner keys j b second i lt) in
-    let first_later : rank a ≤ rank b = subst (NotBefore (rank a)) (here keys j b second) (later keys i a first j lt (inside keys j b second)) in
+    let second_sooner : rank b + 1 ≤ rank a = rank_from (rank b + 1) a (subst (NotBefore (rank b + 1)) (here keys i a first) (sooner keys j b second i lt)) in
+    let first_later : rank a ≤ rank b = rank_from (rank a) b (subst (NotBefore (rank a)) (here keys j b second) (later keys i a first j lt (inside keys j b second))) in
     omega (arith, second_sooner, first_later)
 
-same_place : (keys : List (Option (Option ℕ))) (i j : ℕ) (a b : Option ℕ) → IsLeastOf keys i a → IsLeastOf keys j b → i ≡ j
+same_place : (keys : List SlotKey) (i j : ℕ) (a b : Option ℕ) → IsLeastOf keys i a → IsLeastOf keys j b → i ≡ j
 same_place keys i j a b first second = elim (cases_order i j) [
   | inl same ↦ same
   | inr o ↦ elim o [
@@ -66,8 +70,8 @@ same_place keys i j a b first second = elim (cases_order i j) [
   ]
 ]
 
-none_least : (keys : List (Option (Option ℕ))) (i : ℕ) (high : Option ℕ) → All (λ key. key ≡ None) keys → IsLeastOf keys i high → ⊥
-none_least keys i high none least = cc (none i None (inside keys i high least), here keys i high least)
+none_least : (keys : List SlotKey) (i : ℕ) (high : Option ℕ) → All (λ key. key ≡ Empty) keys → IsLeastOf keys i high → ⊥
+none_least keys i high none least = never_empty high (sym (here keys i high least) ∙ none i Empty (inside keys i high least))
 
 -- no round ends so but where a read or a write fails
 abbrev pub IsSound : Outcome → Type 0

@@ -1,8 +1,10 @@
 -- Clean lanes, while those that moved are loaded, formatted, looked at and printed.
-use Rattle.std.proofs.Common.{◌≡◌, ℕ, ◌+◌, ◌<◌, ◌≤◌, Bool, true, false, List, length, get_or, set, map, replicate, Option, None, sym, ap, subst, ◌∙◌, arith, inl, inr, get_or-set_same, get_or-set_other}
+use Rattle.std.proofs.Common.{◌≡◌, ℕ, ◌+◌, ◌<◌, ◌≤◌, Bool, true, false, List, length, get_or, set, map, replicate, sym, ap, subst, ◌∙◌, arith, inl, inr, get_or-set_same, get_or-set_other}
 use Rattle.std.proofs.lemmas.Bool.{cases_eq}
 use Rattle.std.proofs.lemmas.List.{ext_get_or, get_or-map, get_or-replicate, get_or_default, length-map}
 use Rattle.std.specs.List.{All}
+use Rattle.tournament_tree.specs.declared.slot_key.SlotKey.{SlotKey}
+use Rattle.tournament_tree.specs.declared.slot_key.SlotKey.TheVariants.{Empty}
 use Rattle.trace_base.specs.declared.layout.Layout.{Layout}
 use Rattle.subpage.specs.ItemData.{ItemData}
 use Rattle.line_holes.specs.Holes.{LineText}
@@ -37,14 +39,14 @@ module _ (moved : List Bool) (before now : List Lane) (long : length now ≡ len
       let inside : i < length before = omega (arith, lt, long) in
       subst P (sym (keeps i d inside unmarked)) (all i d inside unmarked)
 
-  pub told_on : (f : Lane → Option (Option ℕ)) (slots : List (Option (Option ℕ))) → SlotsTell f moved slots before → SlotsTell f moved slots now
+  pub told_on : (f : Lane → SlotKey) (slots : List SlotKey) → SlotsTell f moved slots before → SlotsTell f moved slots now
   told_on f slots tell i d lt unmarked =
       let inside : i < length before = omega (arith, lt, long) in
       tell i d inside unmarked ∙ ap f (sym (keeps i d inside unmarked))
 
 -- a tree that has all lanes as they are tells of the clean ones
-pub told_all : (f : Lane → Option (Option ℕ)) (moved : List Bool) (slots : List (Option (Option ℕ))) (lanes : List Lane) → slots ≡ map f lanes → SlotsTell f moved slots lanes
-told_all f moved slots lanes is i d lt unmarked = ap (λ (keys : List (Option (Option ℕ))). get_or keys i None) is ∙ get_or-map f lanes i d None lt
+pub told_all : (f : Lane → SlotKey) (moved : List Bool) (slots : List SlotKey) (lanes : List Lane) → slots ≡ map f lanes → SlotsTell f moved slots lanes
+told_all f moved slots lanes is i d lt unmarked = ap (λ (keys : List SlotKey). get_or keys i Empty) is ∙ get_or-map f lanes i d Empty lt
 
 -- a round was printed: the lanes that are clean after it were clean before, and are as they were
 module _ (text : ℕ → ItemData → LineText) (l : Layout) (marks moved : List Bool) (formed now : List Lane) (long : length now ≡ length formed) (keeps : KeepsUnmoved moved formed now) (still : KeepsMarks marks moved) where
@@ -64,20 +66,20 @@ module _ (text : ℕ → ItemData → LineText) (l : Layout) (marks moved : List
       kept i d lt unmarked = keeps i d lt (unmarked_in i unmarked)
 
 -- The slots of the first few lanes, and of the clean ones, tell what the lanes do.
-abbrev pub TellsSoFar : (Lane → Option (Option ℕ)) → List Bool → List (Option (Option ℕ)) → List Lane → ℕ → Type 0
+abbrev pub TellsSoFar : (Lane → SlotKey) → List Bool → List SlotKey → List Lane → ℕ → Type 0
 TellsSoFar f moved slots lanes count =
-    (i : ℕ) → (d : Lane) → i < length lanes → (count ≤ i → get_or moved i true ≡ false) → get_or slots i None ≡ f (get_or lanes i d)
+    (i : ℕ) → (d : Lane) → i < length lanes → (count ≤ i → get_or moved i true ≡ false) → get_or slots i Empty ≡ f (get_or lanes i d)
 
-module _ (f : Lane → Option (Option ℕ)) (moved : List Bool) (slots : List (Option (Option ℕ))) (lanes : List Lane) where
+module _ (f : Lane → SlotKey) (moved : List Bool) (slots : List SlotKey) (lanes : List Lane) where
   pub tells_first : SlotsTell f moved slots lanes → TellsSoFar f moved slots lanes 0
   tells_first tell i d lt unmarked = tell i d lt (unmarked (omega arith))
 
   pub tells_last : length slots ≡ length lanes → TellsSoFar f moved slots lanes (length lanes) → slots ≡ map f lanes
   tells_last long tell =
-      ext_get_or None slots (map f lanes) (long ∙ sym (length-map lanes f)) (λ i lt.
+      ext_get_or Empty slots (map f lanes) (long ∙ sym (length-map lanes f)) (λ i lt.
       let inside : i < length lanes = omega (arith, lt, long) in
       let d : Lane = some_lane lanes i inside in
-      tell i d inside (λ le. absurd (omega (arith, le, inside))) ∙ sym (get_or-map f lanes i d None inside))
+      tell i d inside (λ le. absurd (omega (arith, le, inside))) ∙ sym (get_or-map f lanes i d Empty inside))
 
   module _ (count : ℕ) (tell : TellsSoFar f moved slots lanes count) where
     -- a clean lane is passed over
@@ -88,19 +90,19 @@ module _ (f : Lane → Option (Option ℕ)) (moved : List Bool) (slots : List (O
     ])
 
     -- a lane is looked at
-    pub tells_more : (e : Lane) (mark : Bool) (key : Option (Option ℕ)) (now : List (Option (Option ℕ))) → count < length slots → key ≡ f (get_or lanes count e) → now ≡ set slots count key
+    pub tells_more : (e : Lane) (mark : Bool) (key : SlotKey) (now : List SlotKey) → count < length slots → key ≡ f (get_or lanes count e) → now ≡ set slots count key
         → TellsSoFar f (set moved count mark) now lanes (count + 1)
-    tells_more e mark key now inside own is i d lt unmarked = elim (cases_eq i count) as (λ _. get_or now i None ≡ f (get_or lanes i d)) [
+    tells_more e mark key now inside own is i d lt unmarked = elim (cases_eq i count) as (λ _. get_or now i Empty ≡ f (get_or lanes i d)) [
       | inl same ↦
-          at ∙ ap (λ (k : ℕ). get_or (set slots count key) k None) same ∙ get_or-set_same slots count key None inside ∙ own
+          at ∙ ap (λ (k : ℕ). get_or (set slots count key) k Empty) same ∙ get_or-set_same slots count key Empty inside ∙ own
           ∙ ap f (get_or_default lanes count e d (subst (λ (k : ℕ). k < length lanes) same lt)) ∙ ap (λ (k : ℕ). f (get_or lanes k d)) (sym same)
       | inr other ↦
-          at ∙ get_or-set_other slots count i key None other
+          at ∙ get_or-set_other slots count i key Empty other
           ∙ tell i d lt (λ le. sym (get_or-set_other moved count i mark true other) ∙ (let behind : count + 1 ≤ i = grind (arith, le, other) in unmarked behind))
     ]
       where
-        at : get_or now i None ≡ get_or (set slots count key) i None
-        at = ap (λ (keys : List (Option (Option ℕ))). get_or keys i None) is
+        at : get_or now i Empty ≡ get_or (set slots count key) i Empty
+        at = ap (λ (keys : List SlotKey). get_or keys i Empty) is
 
   -- clean lanes are passed over
   pub tells_along : (from to : ℕ) → from ≤ to → NoneMarked moved from to → TellsSoFar f moved slots lanes from → TellsSoFar f moved slots lanes to

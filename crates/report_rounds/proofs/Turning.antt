@@ -22,6 +22,8 @@ use Rattle.page_pool.specs.Keeping.{KeepsLane, loading}
 use Rattle.event_cursor.specs.Loading.{KeepsLeft}
 use Rattle.event_cursor.specs.Standing.{IsInOrder, Stands, held_left}
 use Rattle.event_cursor.specs.Loading.{IsReadied}
+use Rattle.tournament_tree.specs.Least.{from_time}
+use Rattle.tournament_tree.proofs.Ranks.{never_empty}
 use Rattle.time_merge.specs.declared.ending.End.{End}
 use Rattle.time_merge.specs.declared.ending.End.TheVariants as ending
 use Rattle.time_merge.specs.declared.horizons.Horizon.{Horizon}
@@ -113,7 +115,7 @@ module _ (text : ℕ → ItemData → LineText) (l : Layout) (told : Option (Lis
 
       some_held : (d : Lane) (s : LaneState) → (get_or loaded least.i d).cursor.state ≡ s → 0 < length (held_left l (get_or loaded least.i d))
       some_held d s e = of_state s (subst (λ (t : LaneState). IsReadyIn t (held_left l a)) e (f.ready least.i d inside))
-          (subst (λ (t : LaneState). high_in t b.cursor.high ≡ Some high) (format.keeps.state ∙ e) there.here)
+          (subst (λ (t : LaneState). high_in t b.cursor.high ≡ from_time high) (format.keeps.state ∙ e) there.here)
           (λ bad. sound d (ap (λ (c : Cursor). c.state) print_i.keeps.lane.cursor ∙ format.keeps.state ∙ e ∙ bad))
         where
           a : Lane
@@ -131,10 +133,10 @@ module _ (text : ℕ → ItemData → LineText) (l : Layout) (told : Option (Lis
           there : IsAround formed high cpu least.i (take least.i formed) b (drop (least.i + 1) formed)
           there = around_least formed d high cpu least rise
 
-          of_state : (s : LaneState) → IsReadyIn s (held_left l a) → high_in s b.cursor.high ≡ Some high → (s ≡ Malformed → ⊥) → 0 < length (held_left l a)
+          of_state : (s : LaneState) → IsReadyIn s (held_left l a) → high_in s b.cursor.high ≡ from_time high → (s ≡ Malformed → ⊥) → 0 < length (held_left l a)
           of_state Fresh ready here sound = absurd ready
           of_state Held ready here sound = ready
-          of_state Ended ready here sound = absurd cc
+          of_state Ended ready here sound = absurd (never_empty high (sym here))
           of_state Malformed ready here sound = absurd (sound refl)
 
       one_less : (d : Lane) → work_of l (get_or now least.i d) < work_of l (get_or loaded least.i d)

@@ -1,16 +1,17 @@
 -- A lane that changes: its slot in the tree and its dirty bit follow.
-use Rattle.std.proofs.Common.{◌≡◌, ◌≢◌, ◌<◌, ◌≤◌, ◌⊎◌, inl, inr, ℕ, zero, suc, Bool, true, false, List, [], ◌∷◌, get_or, set, map, length, Option, refl, sym, ap, ◌∙◌, arith, get_or-set_same}
+use Rattle.std.proofs.Common.{◌≡◌, ◌≢◌, ◌<◌, ◌≤◌, ◌⊎◌, inl, inr, ℕ, zero, suc, Bool, true, false, List, [], ◌∷◌, get_or, set, map, length, refl, sym, ap, ◌∙◌, arith, get_or-set_same}
 use Rattle.std.proofs.lemmas.Bool.{cases_eq}
 use Rattle.std.proofs.lemmas.List.{get_or_default, get_or-set_other, length-drop, map-set}
+use Rattle.tournament_tree.specs.declared.slot_key.SlotKey.{SlotKey}
 use Rattle.page_pool.specs.Moved.{KeepsUnmoved}
 use Rattle.page_pool.specs.declared.lane.Lane.{Lane}
 use Rattle.round_print.specs.Prints.{head_kept}
 use Rattle.round_print.specs.Rounds.{IsFrontDropped, KeepsMarks, MarksPrinted}
 
-pub heads_on : (heads now_heads : List (Option (Option ℕ))) (lanes : List Lane) (i : ℕ) (now : Lane) (key : Option (Option ℕ)) → now_heads ≡ set heads i key → key ≡ head_kept now
+pub heads_on : (heads now_heads : List SlotKey) (lanes : List Lane) (i : ℕ) (now : Lane) (key : SlotKey) → now_heads ≡ set heads i key → key ≡ head_kept now
     → heads ≡ map head_kept lanes → now_heads ≡ map head_kept (set lanes i now)
 heads_on heads now_heads lanes i now key is_set is_key step =
-    is_set ∙ ap (set heads i) is_key ∙ ap (λ (keys : List (Option (Option ℕ))). set keys i (head_kept now)) step ∙ sym (map-set head_kept lanes i now)
+    is_set ∙ ap (set heads i) is_key ∙ ap (λ (keys : List SlotKey). set keys i (head_kept now)) step ∙ sym (map-set head_kept lanes i now)
 
 marked_at : (moved : List Bool) (i : ℕ) → get_or (set moved i true) i true ≡ true
 marked_at [] zero = refl

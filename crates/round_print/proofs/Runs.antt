@@ -5,6 +5,7 @@ use Rattle.std.specs.List.{All, prefix_len}
 use Rattle.std.proofs.lemmas.Bool.{leb-true}
 use Rattle.std.proofs.lemmas.List.{get_or-take, length-take}
 use Rattle.std.proofs.lemmas.List.Sums.{prefix_len-le-length, prefix_len_passes}
+use Rattle.tournament_tree.specs.declared.slot_key.SlotKey.{SlotKey}
 use Rattle.line_holes.specs.declared.hole.Hole.{Hole}
 use Rattle.page_pool.specs.Lines.{Line, is_plain_up_to}
 use Rattle.page_pool.specs.declared.lane.Lane.{Lane}
@@ -12,7 +13,7 @@ use Rattle.time_merge.specs.declared.horizons.Horizon.{Horizon}
 use Rattle.round_print.specs.Prints.{ArePlain}
 use Rattle.round_print.specs.Rounds.{IsNextAt, IsRun}
 
-pub one_run : (h : Horizon) (heads : List (Option (Option ℕ))) (i : ℕ) (lane : Lane) (n : ℕ) → n ≡ 1 → 0 < length lane.region.kept → IsRun h heads i lane n
+pub one_run : (h : Horizon) (heads : List SlotKey) (i : ℕ) (lane : Lane) (n : ℕ) → n ≡ 1 → 0 < length lane.region.kept → IsRun h heads i lane n
 one_run h heads i lane n one some = record {
   some = omega (arith, one);
   kept = omega (arith, one, some);
@@ -41,7 +42,7 @@ module _ (P : Line → Type 0) (most n : ℕ) (lines : List Line) (is : n ≡ ma
       let passes : is_plain_up_to most (get_or lines k d) ≡ true = prefix_len_passes (is_plain_up_to most) lines k d (omega (arith, is, more, lt_n)) in
       subst P (sym (get_or-take n lines k d lt_n)) (each (get_or lines k d) (plain_line most (get_or lines k d) passes))
 
-pub plain_run : (h : Horizon) (heads : List (Option (Option ℕ))) (i : ℕ) (lane : Lane) (most n : ℕ) → 0 < length lane.region.kept → ((key : ℕ) → key ≤ most → IsNextAt h heads i lane.cpu key)
+pub plain_run : (h : Horizon) (heads : List SlotKey) (i : ℕ) (lane : Lane) (most n : ℕ) → 0 < length lane.region.kept → ((key : ℕ) → key ≤ most → IsNextAt h heads i lane.cpu key)
     → n ≡ max (prefix_len (is_plain_up_to most) lane.region.kept) 1 → IsRun h heads i lane n
 plain_run h heads i lane most n some next is =
     let lines : List Line = lane.region.kept in
@@ -55,7 +56,7 @@ pub plain_front : (lines : List Line) (most n : ℕ) → n ≡ max (prefix_len (
 plain_front lines most n is more = all_front (λ line. line.text.hole ≡ None) most n lines is more (λ line plain. plain.hole)
 
 -- lines with keys up to one up to which they come next
-pub early_run : (h : Horizon) (heads : List (Option (Option ℕ))) (i : ℕ) (lane : Lane) (most count n : ℕ) → 0 < length lane.region.kept → ((key : ℕ) → key ≤ most → IsNextAt h heads i lane.cpu key)
+pub early_run : (h : Horizon) (heads : List SlotKey) (i : ℕ) (lane : Lane) (most count n : ℕ) → 0 < length lane.region.kept → ((key : ℕ) → key ≤ most → IsNextAt h heads i lane.cpu key)
     → count ≤ length lane.region.kept → ((k : ℕ) (d : Line) → k < count → (get_or lane.region.kept k d).key ≤ most) → n ≡ max count 1 → IsRun h heads i lane n
 early_run h heads i lane most count n some next few early is =
     let lines : List Line = lane.region.kept in

@@ -1,6 +1,8 @@
 -- The lines that a round prints: of each lane those that it keeps up to the horizon, all of them in one order.
-use Rattle.std.specs.Prelude.{◌≡◌, ◌≤◌, ℕ, if◌then◌else◌, List, [], ◌∷◌, length, map, take, drop, Option, Some, None}
+use Rattle.std.specs.Prelude.{◌≡◌, ◌≤◌, ℕ, if◌then◌else◌, List, [], ◌∷◌, length, map, take, drop, Option, None}
 use Rattle.std.specs.List.{All, flat_map}
+use Rattle.tournament_tree.specs.declared.slot_key.SlotKey.{SlotKey}
+use Rattle.tournament_tree.specs.declared.slot_key.SlotKey.TheVariants.{Empty, At}
 use Rattle.subpage.specs.Arrangement.{IsRising, by_key}
 use Rattle.line_holes.specs.Holes.{LineText, line_text, hole_time, filled_bytes, along, last_time}
 use Rattle.page_pool.specs.Lines.{Line, Lines, most_lines}
@@ -69,19 +71,19 @@ abbrev pub last_of : Option ℕ → List CpuLine → Option ℕ
 last_of last lines = last_time line_time last lines
 
 -- the key of the first line, if there is one
-abbrev pub first_key : List CpuLine → Option (Option ℕ)
-first_key [] = None
-first_key (line ∷ lines) = Some (Some line.key)
+abbrev pub first_key : List CpuLine → SlotKey
+first_key [] = Empty
+first_key (line ∷ lines) = At line.key
 
-abbrev pub head_due : Horizon → Lane → Option (Option ℕ)
+abbrev pub head_due : Horizon → Lane → SlotKey
 head_due h lane = first_key (due_of h lane)
 
 -- the key of the first line that a lane keeps, if it keeps one
-abbrev pub first_of : List Line → Option (Option ℕ)
-first_of [] = None
-first_of (line ∷ lines) = Some (Some line.key)
+abbrev pub first_of : List Line → SlotKey
+first_of [] = Empty
+first_of (line ∷ lines) = At line.key
 
-abbrev pub head_kept : Lane → Option (Option ℕ)
+abbrev pub head_kept : Lane → SlotKey
 head_kept lane = first_of lane.region.kept
 
 abbrev pub line_key : Line → ℕ

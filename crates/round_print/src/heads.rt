@@ -1,4 +1,4 @@
-ghost use Rattle.std.specs.Prelude.{◌≡◌, ◌<◌, ◌≤◌, ℕ, length, map, option_map, slice_index_or, take, true, None, Some, IfSome};
+ghost use Rattle.std.specs.Prelude.{◌≡◌, ◌<◌, ◌≤◌, ℕ, length, map, option_map, slice_index_or, take, true, None, unwrap_or, IfSome};
 ghost use Rattle.time_merge.specs.Nexts.{IsLeastAt};
 ghost use Rattle.subpage.specs.Arrangement.{CpusRise};
 ghost use Rattle.time_merge.specs.Horizons.{is_due};
@@ -6,7 +6,6 @@ ghost use Rattle.time_merge.specs.LaneRows.{parts_of};
 ghost use Rattle.page_pool.specs.Lines.{Line};
 ghost use Rattle.round_print.specs.Prints.{ArePlain, IsDropped, head_due, head_kept};
 ghost use Rattle.round_print.specs.Rounds.{IsNextAt, IsRun};
-ghost use Rattle.tournament_tree.specs.Slots.{next_by};
 
 use page_pool::{Lane, Region};
 use time_merge::Horizon;
@@ -25,7 +24,7 @@ fn is_due(horizon: &Horizon, key: u64, cpu: u32) -> bool
 
 /// The key of a lane's first line, where that line is due.
 fn head_due(horizon: &Horizon, lane: &Lane) -> Option<u64>
-    ensures { option_map Some result ≡ head_due horizon.now lane.now }
+    ensures { unwrap_or (option_map SlotKey.At result) SlotKey.Empty ≡ head_due horizon.now lane.now }
 {
     if lane.region.lines() == 0 {
         return None;
@@ -40,7 +39,7 @@ fn head_due(horizon: &Horizon, lane: &Lane) -> Option<u64>
 
 /// The key of the first line that a lane keeps, if it keeps one: what stands in the lane's slot of a tree of first lines.
 pub fn head_kept(lane: &Lane) -> SlotKey
-    ensures { next_by result ≡ head_kept lane.now }
+    ensures { result ≡ head_kept lane.now }
 {
     if lane.region.lines() == 0 {
         return SlotKey::Empty;

@@ -17,6 +17,9 @@ use Rattle.page_pool.specs.declared.cursor.Ahead.{Ahead}
 use Rattle.page_pool.specs.declared.cursor.LaneState.{LaneState}
 use Rattle.page_pool.specs.declared.cursor.LaneState.TheVariants.{Fresh, Held, Ended, Malformed}
 use Rattle.event_cursor.specs.Standing.{HasAhead, held_left, if_held, keyed_held}
+use Rattle.tournament_tree.specs.declared.slot_key.SlotKey.TheVariants.{At}
+use Rattle.tournament_tree.specs.Least.{from_time}
+use Rattle.tournament_tree.proofs.Ranks.{from_lower}
 use Rattle.time_merge.specs.LaneRows.{next_of, next_in}
 use Rattle.time_merge.specs.Rows.{NotBefore}
 use Rattle.split_passes.specs.declared.horizon.LaneHorizon.{LaneHorizon}
@@ -161,13 +164,9 @@ reaches_ended l until most a is = subst (λ (s : LaneState). ReachesPastIn s l u
 
 pub reaches_cut : (l : Layout) (until most high : ℕ) (a : Lane) → a.cursor.state ≡ Malformed → a.cursor.high ≡ Some high → until < high → ReachesPast l until most a
 reaches_cut l until most high a is key late =
-    let next : next_of l a ≡ Some (Some high) = ap (λ (s : LaneState). next_in s a.cursor.high (keyed_held l a)) is ∙ ap (λ (o : Option ℕ). Some o) key in
-    let after : NotBefore (until + 2) (Some (Some high)) = omega (arith, late) in
+    let next : next_of l a ≡ At high = ap (λ (s : LaneState). next_in s a.cursor.high (keyed_held l a)) is ∙ ap from_time key in
+    let after : NotBefore (until + 2) (At high) = omega (arith, late) in
     subst (λ (s : LaneState). ReachesPastIn s l until most a) (sym is) (subst (NotBefore (until + 2)) (sym next) after)
-
-sooner_next : (until n : ℕ) (o : Option (Option ℕ)) → n ≤ until → NotBefore (until + 2) o → NotBefore (n + 2) o
-sooner_next until n None le h = tt
-sooner_next until n (Some key) le h = omega (arith, le, h)
 
 -- what is known up to a key is known up to an earlier one
 pub reaches_sooner : (l : Layout) (until most n : ℕ) (a : Lane) → n ≤ until → ReachesPast l until most a → ReachesPast l n most a
@@ -185,7 +184,7 @@ reaches_sooner l until most n a le h = by_state a.cursor.state h
       later = omega (arith, le, h.later);
     }
     by_state Ended h = tt
-    by_state Malformed h = sooner_next until n (next_of l a) le h
+    by_state Malformed h = from_lower (n + 2) (until + 2) (next_of l a) (omega (arith, le)) h
 
 -- one lane more
 pub reaches_more : (l : Layout) (most until now i : ℕ) (lanes : List Lane) → now ≤ until → ((j : ℕ) (d : Lane) → j < i → ReachesPast l until most (get_or lanes j d)) → ((d : Lane) → ReachesPast l now most (get_or lanes i d))

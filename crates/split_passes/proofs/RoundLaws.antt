@@ -18,6 +18,7 @@ use Rattle.page_pool.specs.declared.lane.Lane.{Lane}
 use Rattle.event_cursor.specs.Keys.{keyed_behind}
 use Rattle.event_cursor.specs.Standing.{Stands, left_of}
 use Rattle.event_cursor.proofs.Standing.{left_over, stands_over}
+use Rattle.tournament_tree.proofs.Ranks.{rank_from}
 use Rattle.time_merge.specs.LaneRows.{parts_of, row_of, rows_of, to_come, next_of}
 use Rattle.time_merge.specs.Rounds.{Waiting, row_in, rows_in, due, not_due, behind, IsWaiting}
 use Rattle.time_merge.specs.Rows.{Row, Rise, rank, IsRow, bound, bound_of, coming, cpus, NotBefore, up_to}
@@ -52,7 +53,7 @@ from_next n row is h = let both = of row.items row.cut is.rising is.cut_last h i
     of : (xs : List Keyed) (cut : Option Cut) → IsRising key_of xs → IfSome cut (λ cut. All (λ x. x.key < rank cut.key) xs) → NotBefore n (bound_of key_of cpu_of xs cut)
         → All (HasKeyFrom key_of cpu_of n) xs × IfSome cut (λ c. n ≤ rank c.key)
     of [] None r l h = (All-nil (HasKeyFrom key_of cpu_of n), tt)
-    of [] (Some cut) r l h = (All-nil (HasKeyFrom key_of cpu_of n), h)
+    of [] (Some cut) r l h = (All-nil (HasKeyFrom key_of cpu_of n), rank_from n cut.key h)
     of (x ∷ xs) None r l h = (rising_from n x xs h r, tt)
     of (x ∷ xs) (Some cut) r l h = (rising_from n x xs h r, omega (arith, h, All-head (λ y. y.key < rank cut.key) x xs l))
 

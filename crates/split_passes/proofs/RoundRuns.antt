@@ -13,6 +13,7 @@ use Rattle.page_pool.specs.declared.cursor.LaneState.TheVariants.{Held}
 use Rattle.page_pool.specs.Keeping.{KeepsLane, stepping}
 use Rattle.event_cursor.specs.Standing.{Stands, left_of, held_left, most_left}
 use Rattle.time_merge.specs.Advancing.{Advances, IsOver}
+use Rattle.tournament_tree.specs.declared.slot_key.SlotKey.{SlotKey}
 use Rattle.time_merge.specs.LaneRows.{parts_of, to_come}
 use Rattle.time_merge.specs.Nexts.{IsInStep, IsInStepBut}
 use Rattle.time_merge.specs.Reads.{all_unread}
@@ -96,7 +97,7 @@ more_runs l file stop start first i d e before now (Some k) rise parts long lt t
 -- HOW FAR THE LANES GO
 
 -- The lanes go on in their sub-buffers, and the tallies of those that are over stay.
-pub record MoreKept (l : Layout) (nexts : List (Option (Option ℕ))) (before now : Counts) (used : Option ℕ) : Type 0 where
+pub record MoreKept (l : Layout) (nexts : List SlotKey) (before now : Counts) (used : Option ℕ) : Type 0 where
   pub parts : parts_of now.lanes ≡ parts_of before.lanes
   pub long : length now.tallies ≡ length before.tallies
   pub in_step : IsInStep l now.lanes nexts used
@@ -105,7 +106,7 @@ pub record MoreKept (l : Layout) (nexts : List (Option (Option ℕ))) (before no
   pub unread : (len : ℕ) → all_unread l len now.lanes ≡ all_unread l len before.lanes
   pub most : sum_by (most_left l) now.lanes ≤ sum_by (most_left l) before.lanes
 
-turn_kept : (l : Layout) (stop : Option Moment) (nexts : List (Option (Option ℕ))) (i : ℕ) (d : Lane) (e : Tally) (before now : Counts) (k : ℕ) → IsInStepBut l before.lanes nexts i
+turn_kept : (l : Layout) (stop : Option Moment) (nexts : List SlotKey) (i : ℕ) (d : Lane) (e : Tally) (before now : Counts) (k : ℕ) → IsInStepBut l before.lanes nexts i
     → (get_or before.lanes i d).cursor.state ≡ Held → IsMoreTaken l stop before now i (Some k) → MoreKept l nexts before now (Some k)
 turn_kept l stop nexts i d e before now k but held t =
     let lanes = before.lanes in
@@ -171,7 +172,7 @@ used_advances l xs a b (inr u) = kept_advances a b (some_held l a (omega (arith,
 not_over : (a : Lane) → IsOver a.cursor.state → a.cursor.state ≡ Held → ⊥
 not_over a over held = let never : IsOver Held = subst IsOver held over in absurd never
 
-round_kept : (l : Layout) (stop : Option Moment) (nexts : List (Option (Option ℕ))) (e : Tally) (before now : Counts) → RoundTaken l stop before now → MoreKept l nexts before now None
+round_kept : (l : Layout) (stop : Option Moment) (nexts : List SlotKey) (e : Tally) (before now : Counts) → RoundTaken l stop before now → MoreKept l nexts before now None
 round_kept l stop nexts e before now t =
     let all = together_on l before.lanes now.lanes t.lanes_long
     (λ i d lt. used_goes l (get_or t.lists i []) (get_or before.lanes i d) (get_or now.lanes i d) (t.each i d e lt).few.used) in
@@ -187,7 +188,7 @@ round_kept l stop nexts e before now t =
       most = all.most;
     }
 
-pub more_kept : (l : Layout) (stop : Option Moment) (nexts : List (Option (Option ℕ))) (i : ℕ) (d : Lane) (e : Tally) (before now : Counts) (used : Option ℕ) → IsInStepBut l before.lanes nexts i
+pub more_kept : (l : Layout) (stop : Option Moment) (nexts : List SlotKey) (i : ℕ) (d : Lane) (e : Tally) (before now : Counts) (used : Option ℕ) → IsInStepBut l before.lanes nexts i
     → (get_or before.lanes i d).cursor.state ≡ Held → IsMoreTaken l stop before now i used → MoreKept l nexts before now used
 more_kept l stop nexts i d e before now None but held t = round_kept l stop nexts e before now t
 more_kept l stop nexts i d e before now (Some k) but held t = turn_kept l stop nexts i d e before now k but held t

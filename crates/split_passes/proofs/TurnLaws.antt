@@ -23,6 +23,7 @@ use Rattle.page_write.specs.Passes.{IsPageCount}
 use Rattle.event_cursor.specs.Stepping.{IsSteppedOver}
 use Rattle.event_cursor.specs.Standing.{Stands, TellsAhead, most_left}
 use Rattle.time_merge.specs.Advancing.{Advances, IsOver}
+use Rattle.tournament_tree.specs.declared.slot_key.SlotKey.{SlotKey}
 use Rattle.time_merge.specs.LaneRows.{parts_of, IsReady, next_of}
 use Rattle.time_merge.specs.Nexts.{IsInStepBut}
 use Rattle.time_merge.specs.Turns.{HasTurn}
@@ -160,7 +161,7 @@ runs_turn l file stop start gauge gauge1 first lanes lanes1 tallies i d e after 
           (some.come file r.passed.stands) some.run.inside some.run.takes some.run.tallied r
     ])
 
-pub in_step_again : (l : Layout) (lanes : List Lane) (keys : List (Option (Option ℕ))) (i : ℕ) (now : Lane) → IsInStepBut l lanes keys i → IsInStepBut l (set lanes i now) keys i
+pub in_step_again : (l : Layout) (lanes : List Lane) (keys : List SlotKey) (i : ℕ) (now : Lane) → IsInStepBut l lanes keys i → IsInStepBut l (set lanes i now) keys i
 in_step_again l lanes keys i now but = record {
   inside = omega (arith, but.inside, length-set lanes i now);
   ready = λ j d lt other. subst (λ (a : Lane). IsReady l a) (sym (get_or-set_other lanes i j now d other)) (but.ready j d (omega (arith, lt, length-set lanes i now)) other);

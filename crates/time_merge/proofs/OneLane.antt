@@ -1,10 +1,12 @@
 -- One lane that is made ready, while the others stay as they are.
-use Rattle.std.proofs.Common.{◌≡◌, ◌≢◌, ℕ, ◌<◌, List, length, get_or, set, map, Option, None, sym, ap, subst, ◌∙◌, arith, inl, inr}
+use Rattle.std.proofs.Common.{◌≡◌, ◌≢◌, ℕ, ◌<◌, List, length, get_or, set, map, sym, ap, subst, ◌∙◌, arith, inl, inr}
 use Rattle.std.proofs.lemmas.Bool.{cases_eq}
 use Rattle.std.proofs.lemmas.List.{ext_get_or, get_or-map, get_or-set_same, get_or-set_other, length-map, length-set}
 use Rattle.trace_base.specs.declared.layout.Layout.{Layout}
 use Rattle.page_pool.specs.declared.lane.Lane.{Lane}
 use Rattle.std.specs.List.{All}
+use Rattle.tournament_tree.specs.declared.slot_key.SlotKey.{SlotKey}
+use Rattle.tournament_tree.specs.declared.slot_key.SlotKey.TheVariants.{Empty}
 use Rattle.time_merge.specs.LaneRows.{IsReady, next_of}
 use Rattle.time_merge.specs.Nexts.{IsInStepBut}
 
@@ -17,30 +19,30 @@ ready_set R lanes i now inside ready others j d lt = elim (cases_eq j i) as (λ 
 ]
 
 -- keys that are in step with lanes but for one, whose key is set
-pub in_step_one : (f : Lane → Option (Option ℕ)) (lanes now : List Lane) (keys : List (Option (Option ℕ))) (i : ℕ) (d : Lane) (key : Option (Option ℕ))
+pub in_step_one : (f : Lane → SlotKey) (lanes now : List Lane) (keys : List SlotKey) (i : ℕ) (d : Lane) (key : SlotKey)
     → length keys ≡ length lanes → length now ≡ length lanes → i < length lanes
     → ((j : ℕ) (e : Lane) → j ≢ i → get_or now j e ≡ get_or lanes j e)
-    → ((j : ℕ) (e : Lane) → j < length lanes → j ≢ i → get_or keys j None ≡ f (get_or lanes j e))
+    → ((j : ℕ) (e : Lane) → j < length lanes → j ≢ i → get_or keys j Empty ≡ f (get_or lanes j e))
     → key ≡ f (get_or now i d) → set keys i key ≡ map f now
 in_step_one f lanes now keys i d key long_keys long inside others in_step here =
     let size : length (set keys i key) ≡ length (map f now) = length-set keys i key ∙ long_keys ∙ sym long ∙ sym (length-map now f) in
-    ext_get_or None (set keys i key) (map f now) size (λ j lt.
+    ext_get_or Empty (set keys i key) (map f now) size (λ j lt.
     let within : j < length lanes = omega (arith, lt, length-set keys i key, long_keys) in
-    let mapped : get_or (map f now) j None ≡ f (get_or now j d) = get_or-map f now j d None (omega (arith, within, long)) in
-    elim (cases_eq j i) as (λ _. get_or (set keys i key) j None ≡ get_or (map f now) j None) [
+    let mapped : get_or (map f now) j Empty ≡ f (get_or now j d) = get_or-map f now j d Empty (omega (arith, within, long)) in
+    elim (cases_eq j i) as (λ _. get_or (set keys i key) j Empty ≡ get_or (map f now) j Empty) [
       | inl same ↦
-          ap (λ (k : ℕ). get_or (set keys i key) k None) same ∙ get_or-set_same keys i key None (omega (arith, inside, long_keys)) ∙ here
+          ap (λ (k : ℕ). get_or (set keys i key) k Empty) same ∙ get_or-set_same keys i key Empty (omega (arith, inside, long_keys)) ∙ here
           ∙ ap (λ (k : ℕ). f (get_or now k d)) (sym same) ∙ sym mapped
-      | inr other ↦ get_or-set_other keys i j key None other ∙ in_step j d within other ∙ ap f (sym (others j d other)) ∙ sym mapped
+      | inr other ↦ get_or-set_other keys i j key Empty other ∙ in_step j d within other ∙ ap f (sym (others j d other)) ∙ sym mapped
     ])
 
 -- once an item of one lane was used, the others are ready and in step
-pub in_step_but : (l : Layout) (lanes : List Lane) (keys : List (Option (Option ℕ))) (i : ℕ) (now : Lane) → i < length lanes
+pub in_step_but : (l : Layout) (lanes : List Lane) (keys : List SlotKey) (i : ℕ) (now : Lane) → i < length lanes
     → All (IsReady l) lanes → keys ≡ map (next_of l) lanes → IsInStepBut l (set lanes i now) keys i
 in_step_but l lanes keys i now inside ready in_step = record {
   inside = omega (arith, inside, length-set lanes i now);
   ready = λ j d lt ne. subst (IsReady l) (sym (get_or-set_other lanes i j now d ne)) (ready j d (omega (arith, lt, length-set lanes i now)));
   keys_are = λ j d lt ne.
-      ap (λ (ks : List (Option (Option ℕ))). get_or ks j None) in_step ∙ get_or-map (next_of l) lanes j d None (omega (arith, lt, length-set lanes i now))
+      ap (λ (ks : List SlotKey). get_or ks j Empty) in_step ∙ get_or-map (next_of l) lanes j d Empty (omega (arith, lt, length-set lanes i now))
       ∙ ap (next_of l) (sym (get_or-set_other lanes i j now d ne));
 }

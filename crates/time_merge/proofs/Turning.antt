@@ -13,6 +13,10 @@ use Rattle.event_cursor.specs.Keys.{keyed_behind}
 use Rattle.event_cursor.specs.Stepping.{IsSteppedOver}
 use Rattle.event_cursor.specs.Standing.{left_of, Stands}
 use Rattle.event_cursor.proofs.Standing.{left_over}
+use Rattle.tournament_tree.specs.declared.slot_key.SlotKey.{SlotKey}
+use Rattle.tournament_tree.specs.declared.slot_key.SlotKey.TheVariants.{Empty, At}
+use Rattle.tournament_tree.specs.Least.{from_time}
+use Rattle.tournament_tree.proofs.Ranks.{same_time}
 use Rattle.time_merge.specs.Rows.{Row, rank, IsRow, bound, cpus, Rise, NotBefore, coming}
 use Rattle.time_merge.specs.LaneRows.{parts_of, row_of, rows_of}
 use Rattle.time_merge.specs.Nexts.{IsInStepBut, IsLeastAt}
@@ -91,44 +95,44 @@ same_cut : (l : Layout) (file : List ℕ) (xs : List ItemData) (a b : Lane) → 
 same_cut l file xs a b s = cc (s.page.cpu, s.page.part)
 
 -- with keys up to this one a slot is the least
-abbrev pub IsLeastUpTo : List (Option (Option ℕ)) → ℕ → ℕ → Type 0
-IsLeastUpTo keys i until = (k : ℕ) → k ≤ until → IsLeastAt (set keys i (Some (Some k))) (Some i)
+abbrev pub IsLeastUpTo : List SlotKey → ℕ → ℕ → Type 0
+IsLeastUpTo keys i until = (k : ℕ) → k ≤ until → IsLeastAt (set keys i (At k)) (Some i)
 
-heads_same : (x y : Option (Option ℕ)) (xs ys : List (Option (Option ℕ))) → x ∷ xs ≡ y ∷ ys → (x ≡ y) × (xs ≡ ys)
+heads_same : (x y : SlotKey) (xs ys : List SlotKey) → x ∷ xs ≡ y ∷ ys → (x ≡ y) × (xs ≡ ys)
 heads_same x y xs ys e = (cc, cc)
 
-module _ (l : Layout) (file : List ℕ) (lanes : List Lane) (keys : List (Option (Option ℕ))) (i until : ℕ) (stands : All (Stands l file) lanes) (long : length keys ≡ length lanes)
+module _ (l : Layout) (file : List ℕ) (lanes : List Lane) (keys : List SlotKey) (i until : ℕ) (stands : All (Stands l file) lanes) (long : length keys ≡ length lanes)
     (but : IsInStepBut l lanes keys i) (least : IsLeastUpTo keys i until) where
-  bound_at : (j : ℕ) (d : Lane) → j < length lanes → j ≢ i → bound key_of cpu_of (row_of l file (get_or lanes j d)) ≡ get_or keys j None
+  bound_at : (j : ℕ) (d : Lane) → j < length lanes → j ≢ i → bound key_of cpu_of (row_of l file (get_or lanes j d)) ≡ get_or keys j Empty
   bound_at j d lt other = bound_is l file (get_or lanes j d) (All-get_or (Stands l file) lanes j d lt stands) (but.ready j d lt other) ∙ sym (but.keys_are j d lt other)
 
   pub others_after : OthersAfter key_of cpu_of until (rows_of l file (take i lanes)) (rows_of l file (drop (i + 1) lanes))
   others_after k le =
-      let now : List (Option (Option ℕ)) = set keys i (Some (Some k)) in
+      let now : List SlotKey = set keys i (At k) in
       let inside : i < length keys = omega (arith, but.inside, long) in
       let found = least k le in
       let at = found.1 in
-      let front : at.before ≡ take i now = sym (take_at at.before (Some found.0 ∷ at.after) i at.place) ∙ ap (take i) (sym at.split) in
-      let rest : Some found.0 ∷ at.after ≡ drop i now = sym (drop_at at.before (Some found.0 ∷ at.after) i at.place) ∙ ap (drop i) (sym at.split) in
-      let parts = heads_same (Some found.0) (get_or now i None) at.after (drop (i + 1) now) (rest ∙ drop_more now i None (omega (arith, inside, length-set keys i (Some (Some k))))) in
-      let own : Some found.0 ≡ Some (Some k) = parts.0 ∙ get_or-set_same keys i (Some (Some k)) None inside in
-      let here : found.0 ≡ Some k = cc in
+      let front : at.before ≡ take i now = sym (take_at at.before (from_time found.0 ∷ at.after) i at.place) ∙ ap (take i) (sym at.split) in
+      let rest : from_time found.0 ∷ at.after ≡ drop i now = sym (drop_at at.before (from_time found.0 ∷ at.after) i at.place) ∙ ap (drop i) (sym at.split) in
+      let parts = heads_same (from_time found.0) (get_or now i Empty) at.after (drop (i + 1) now) (rest ∙ drop_more now i Empty (omega (arith, inside, length-set keys i (At k)))) in
+      let own : from_time found.0 ≡ At k = parts.0 ∙ get_or-set_same keys i (At k) Empty inside in
+      let here : found.0 ≡ Some k = same_time found.0 (Some k) own in
       let rank_is : rank found.0 ≡ k + 1 = ap rank here in (
         All-map (λ r. NotBefore (k + 2) (bound key_of cpu_of r)) (row_of l file) (take i lanes) (λ j d lt.
             let below : j < i = omega (arith, lt, length-take-le i lanes (omega (arith, but.inside))) in
-            let key : get_or at.before j None ≡ get_or keys j None = ap (λ (ks : List (Option (Option ℕ))). get_or ks j None) front ∙ get_or-take i now j None below ∙ get_or-set_other keys i j (Some (Some k)) None (λ e. omega (arith, e, below)) in
-            let is : bound key_of cpu_of (row_of l file (get_or (take i lanes) j d)) ≡ get_or at.before j None =
+            let key : get_or at.before j Empty ≡ get_or keys j Empty = ap (λ (ks : List SlotKey). get_or ks j Empty) front ∙ get_or-take i now j Empty below ∙ get_or-set_other keys i j (At k) Empty (λ e. omega (arith, e, below)) in
+            let is : bound key_of cpu_of (row_of l file (get_or (take i lanes) j d)) ≡ get_or at.before j Empty =
             ap (λ (a : Lane). bound key_of cpu_of (row_of l file a)) (get_or-take i lanes j d below) ∙ bound_at j d (omega (arith, below, but.inside)) (λ e. omega (arith, e, below)) ∙ sym key in
-            let sooner : NotBefore (k + 2) (get_or at.before j None) = subst (λ (n : ℕ). NotBefore n (get_or at.before j None)) (let e : rank found.0 + 1 ≡ k + 2 = omega (arith, rank_is) in e) (at.sooner j None (omega (arith, below, at.place))) in
+            let sooner : NotBefore (k + 2) (get_or at.before j Empty) = subst (λ (n : ℕ). NotBefore n (get_or at.before j Empty)) (let e : rank found.0 + 1 ≡ k + 2 = omega (arith, rank_is) in e) (at.sooner j Empty (omega (arith, below, at.place))) in
             subst (NotBefore (k + 2)) (sym is) sooner),
         All-map (λ r. NotBefore (k + 1) (bound key_of cpu_of r)) (row_of l file) (drop (i + 1) lanes) (λ j d lt.
             let place : ℕ = (i + 1) + j in
             let far : place < length lanes = omega (arith, lt, length-drop (i + 1) lanes) in
-            let key : get_or at.after j None ≡ get_or keys place None = ap (λ (ks : List (Option (Option ℕ))). get_or ks j None) parts.1 ∙ get_or-drop (i + 1) now j None ∙ get_or-set_other keys i place (Some (Some k)) None (λ e. omega (arith, e)) in
-            let is : bound key_of cpu_of (row_of l file (get_or (drop (i + 1) lanes) j d)) ≡ get_or at.after j None =
+            let key : get_or at.after j Empty ≡ get_or keys place Empty = ap (λ (ks : List SlotKey). get_or ks j Empty) parts.1 ∙ get_or-drop (i + 1) now j Empty ∙ get_or-set_other keys i place (At k) Empty (λ e. omega (arith, e)) in
+            let is : bound key_of cpu_of (row_of l file (get_or (drop (i + 1) lanes) j d)) ≡ get_or at.after j Empty =
             ap (λ (a : Lane). bound key_of cpu_of (row_of l file a)) (get_or-drop (i + 1) lanes j d) ∙ bound_at place d far (λ e. omega (arith, e)) ∙ sym key in
-            let size : length at.after ≡ length keys - (i + 1) = ap length parts.1 ∙ length-drop (i + 1) now ∙ ap (λ (n : ℕ). n - (i + 1)) (length-set keys i (Some (Some k))) in
-            let later : NotBefore (k + 1) (get_or at.after j None) = subst (λ (n : ℕ). NotBefore n (get_or at.after j None)) rank_is (at.later j None (omega (arith, far, size, long))) in
+            let size : length at.after ≡ length keys - (i + 1) = ap length parts.1 ∙ length-drop (i + 1) now ∙ ap (λ (n : ℕ). n - (i + 1)) (length-set keys i (At k)) in
+            let later : NotBefore (k + 1) (get_or at.after j Empty) = subst (λ (n : ℕ). NotBefore n (get_or at.after j Empty)) rank_is (at.later j Empty (omega (arith, far, size, long))) in
             subst (NotBefore (k + 1)) (sym is) later),
       )
 

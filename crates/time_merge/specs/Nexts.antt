@@ -1,6 +1,8 @@
 -- Which lane is next.
 use Rattle.std.specs.Prelude.{◌≡◌, ◌≢◌, ℕ, ◌<◌, All, List, [], ◌∷◌, length, slice_set, slice_index_or, Option, Some, None}
 pub use Rattle.tournament_tree.specs.Least.{IsLeastOf, IsLeastAt}
+use Rattle.tournament_tree.specs.declared.slot_key.SlotKey.{SlotKey}
+use Rattle.tournament_tree.specs.declared.slot_key.SlotKey.TheVariants.{Empty}
 use Rattle.trace_base.specs.declared.layout.Layout.{Layout}
 use Rattle.subpage.specs.Arrangement.{Keyed}
 use Rattle.subpage.specs.CutPlaces.{cut_at}
@@ -14,8 +16,8 @@ use Rattle.time_merge.specs.declared.next_lanes.Next.TheVariants as code
 use Rattle.time_merge.specs.Rows.{least_cut}
 use Rattle.time_merge.specs.LaneRows.{IsReady, next_of, rows_of, to_come}
 
-abbrev pub IsBest : List (Option (Option ℕ)) → Option (ℕ × Option ℕ) → Type 0
-IsBest nexts None = All (λ next. next ≡ None) nexts
+abbrev pub IsBest : List SlotKey → Option (ℕ × Option ℕ) → Type 0
+IsBest nexts None = All (λ next. next ≡ Empty) nexts
 IsBest nexts (Some best) = IsLeastOf nexts best.0 best.1
 
 -- Lane i holds the next of the reached items that are left: it is the lane's first, and once it is used the others are left.
@@ -39,13 +41,13 @@ HoldsNext layout lanes code.Done = Unit {0}
 HoldsNext layout lanes (code.Malformed cut) = Unit {0}
 
 -- All lanes are ready and keys tell what comes next of them, but for one lane, of which an item was used.
-pub record IsInStepBut (layout : Layout) (lanes : List Lane) (keys : List (Option (Option ℕ))) (i : ℕ) : Type 0 where
+pub record IsInStepBut (layout : Layout) (lanes : List Lane) (keys : List SlotKey) (i : ℕ) : Type 0 where
   pub inside : i < length lanes
   pub ready : (j : ℕ) (d : Lane) → j < length lanes → j ≢ i → IsReady layout (slice_index_or lanes j d)
   pub keys_are : (j : ℕ) (d : Lane) → j < length lanes → j ≢ i
-      → slice_index_or keys j None ≡ next_of layout (slice_index_or lanes j d)
+      → slice_index_or keys j Empty ≡ next_of layout (slice_index_or lanes j d)
 
 -- before the first item nothing is known of the keys
-abbrev pub IsInStep : Layout → List Lane → List (Option (Option ℕ)) → Option ℕ → Type 0
+abbrev pub IsInStep : Layout → List Lane → List SlotKey → Option ℕ → Type 0
 IsInStep layout lanes keys None = Unit {0}
 IsInStep layout lanes keys (Some i) = IsInStepBut layout lanes keys i

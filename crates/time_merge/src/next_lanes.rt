@@ -8,7 +8,6 @@ ghost use Rattle.time_merge.specs.LaneRows.{IsReady, next_of, parts_of};
 ghost use Rattle.time_merge.specs.Loading.{LoadsLanes};
 ghost use Rattle.time_merge.specs.Nexts.{HoldsNext, IsBest, IsLeastAt, IsNext};
 ghost use Rattle.time_merge.specs.Reads.{HasStopped};
-ghost use Rattle.tournament_tree.specs.Slots.{next_by};
 
 use crate::best::better;
 use crate::ready::make_all_ready;
@@ -33,7 +32,7 @@ pub enum Next {
 /// What comes next of a ready lane: the key of its head, or that of the last item before its malformed sub-buffer.
 pub(crate) fn next_of(layout: &Layout, lane: &Lane) -> SlotKey
     requires { IsInOrder layout.now lane.now }
-    ensures { next_by result ≡ next_of layout.now lane.now }
+    ensures { result ≡ next_of layout.now lane.now }
 {
     match lane.cursor.state {
         LaneState::Held => match head_key(lane) {

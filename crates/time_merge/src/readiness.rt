@@ -1,4 +1,5 @@
-ghost use Rattle.std.specs.Prelude.{ℕ, List, Option};
+ghost use Rattle.std.specs.Prelude.{List};
+ghost use Rattle.tournament_tree.specs.declared.slot_key.SlotKey.{SlotKey};
 ghost use Rattle.trace_base.specs.declared.layout.Layout.{Layout};
 ghost use Rattle.page_pool.specs.declared.lane.Lane.{Lane};
 ghost use Rattle.time_merge.specs.Nexts.{IsInStep};
@@ -18,7 +19,7 @@ pub enum Readiness {
 impl Readiness {
     /// The lane of which an item was used up, where the others are ready.
     pub(crate) fn used(self) -> Option<usize>
-        ensures { (layout : Layout) (lanes : List Lane) (keys : List (Option (Option ℕ))) → AreKnown layout lanes keys self
+        ensures { (layout : Layout) (lanes : List Lane) (keys : List SlotKey) → AreKnown layout lanes keys self
             → IsInStep layout lanes keys result }
     {
         match self {

@@ -3,6 +3,8 @@ use Rattle.std.proofs.Common.{◌≡◌, ◌≢◌, ℕ, zero, suc, ◌+◌, ◌
 use Rattle.std.specs.Prelude.{IfSome}
 use Rattle.std.proofs.lemmas.List.{get_or-set_same, get_or-set_other, length-set}
 use Rattle.std.proofs.lemmas.Bool.{cases_eq}
+use Rattle.tournament_tree.specs.declared.slot_key.SlotKey.{SlotKey}
+use Rattle.tournament_tree.specs.declared.slot_key.SlotKey.TheVariants.{Empty, At}
 use Rattle.tournament_tree.specs.Least.{IsLeastAt}
 use Rattle.tournament_tree.specs.Nodes.{HasLeaves, IsSettled, above, mark_of, most, node}
 use Rattle.tournament_tree.proofs.Root.{least_of}
@@ -85,22 +87,22 @@ all_below slots nodes place at least one below q from lt other some =
     below up.0 q (up.1 ∙ sym one) from lt other
 
 -- a slot whose leaf is less than those of all others has the least key
-pub least_with : (keys : List (Option (Option ℕ))) (nodes : List ℕ) (slot mark key : ℕ) → slot < length keys → length keys ≤ most → HasLeaves nodes keys
-    → ((q : ℕ) → length keys ≤ q → q < 2 * length keys → q ≢ length keys + slot → mark ≤ node nodes q) → mark_of slot (Some (Some key)) < mark
-    → IsLeastAt (set keys slot (Some (Some key))) (Some slot)
+pub least_with : (keys : List SlotKey) (nodes : List ℕ) (slot mark key : ℕ) → slot < length keys → length keys ≤ most → HasLeaves nodes keys
+    → ((q : ℕ) → length keys ≤ q → q < 2 * length keys → q ≢ length keys + slot → mark ≤ node nodes q) → mark_of slot (At key) < mark
+    → IsLeastAt (set keys slot (At key)) (Some slot)
 least_with keys nodes slot mark key inside few leaves least before =
-    let now : List (Option (Option ℕ)) = set keys slot (Some (Some key)) in
-    let long : length now ≡ length keys = length-set keys slot (Some (Some key)) in
-    let own : get_or now slot None ≡ Some (Some key) = get_or-set_same keys slot (Some (Some key)) None inside in (
+    let now : List SlotKey = set keys slot (At key) in
+    let long : length now ≡ length keys = length-set keys slot (At key) in
+    let own : get_or now slot Empty ≡ At key = get_or-set_same keys slot (At key) Empty inside in (
       Some key,
       least_of now slot (Some key) (omega (arith, inside, long)) (omega (arith, few, long)) own (λ j lt.
-          elim (cases_eq j slot) as (λ _. mark_of slot (Some (Some key)) ≤ mark_of j (get_or now j None)) [
-            | inl same ↦ subst (λ (k : ℕ). mark_of slot (Some (Some key)) ≤ mark_of k (get_or now k None)) (sym same)
-                (subst (λ (k : Option (Option ℕ)). mark_of slot (Some (Some key)) ≤ mark_of slot k) (sym own) (omega arith))
+          elim (cases_eq j slot) as (λ _. mark_of slot (At key) ≤ mark_of j (get_or now j Empty)) [
+            | inl same ↦ subst (λ (k : ℕ). mark_of slot (At key) ≤ mark_of k (get_or now k Empty)) (sym same)
+                (subst (λ (k : SlotKey). mark_of slot (At key) ≤ mark_of slot k) (sym own) (omega arith))
             | inr other ↦
                 let below : j < length keys = omega (arith, lt, long) in
                 let there : mark ≤ node nodes (length keys + j) = least (length keys + j) (omega arith) (omega (arith, below)) (λ e. other (omega (arith, e))) in
-                let is : node nodes (length keys + j) ≡ mark_of j (get_or now j None) = leaves j below ∙ ap (mark_of j) (sym (get_or-set_other keys slot j (Some (Some key)) None other)) in
+                let is : node nodes (length keys + j) ≡ mark_of j (get_or now j Empty) = leaves j below ∙ ap (mark_of j) (sym (get_or-set_other keys slot j (At key) Empty other)) in
                 omega (arith, there, is, before)
           ]),
     )

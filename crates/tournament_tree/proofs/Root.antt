@@ -1,10 +1,12 @@
 -- The first node is the least of all leaves.
 use Rattle.std.proofs.Common.{◌≡◌, ◌≢◌, ℕ, zero, suc, ◌+◌, ◌-◌, ◌*◌, ◌/◌, ◌%◌, ◌<◌, ◌≤◌, ◌⊎◌, min, List, ◌∷◌, ◌++◌, length, get_or, take, drop, Option, Some, None, refl, sym, ap, subst, ◌∙◌, arith, length-drop, inl, inr}
-use Rattle.std.specs.Prelude.{All, IfSome}
+use Rattle.std.specs.Prelude.{All}
 use Rattle.std.proofs.lemmas.List.{get_or-take, get_or-drop, length-take-le, drop_more, take-append-drop}
 use Rattle.std.proofs.lemmas.List.Elements.{All-from_get_or}
-use Rattle.tournament_tree.specs.Least.{IsLeastOf, NotBefore, rank}
-use Rattle.tournament_tree.specs.Nodes.{HasLeaves, IsSettled, mark_of, most, node, nothing}
+use Rattle.tournament_tree.specs.declared.slot_key.SlotKey.{SlotKey}
+use Rattle.tournament_tree.specs.declared.slot_key.SlotKey.TheVariants.{Empty, Start, At}
+use Rattle.tournament_tree.specs.Least.{IsLeastOf, NotBefore, from_time, rank}
+use Rattle.tournament_tree.specs.Nodes.{HasLeaves, IsSettled, IsSmall, mark_of, most, node, nothing}
 
 module _ (slots : ℕ) (nodes : List ℕ) (settled : (q : ℕ) → 1 ≤ q → q < slots → IsSettled nodes q) where
   up_root : (fuel q : ℕ) → q ≤ fuel → 1 ≤ q → q < 2 * slots → node nodes 1 ≤ node nodes q
@@ -49,59 +51,67 @@ module _ (slots : ℕ) (nodes : List ℕ) (settled : (q : ℕ) → 1 ≤ q → q
       back : slots ≤ q → q ≡ slots + (q - slots)
       back le = omega (arith, le)
 
-key_none : (m i : ℕ) (key : Option (Option ℕ)) → m ≤ mark_of i key → m ≡ nothing * most → i < most → IfSome key (λ next. rank next < nothing) → key ≡ None
-key_none m i None up here lt small = refl
-key_none m i (Some next) up here lt small = absurd (omega (arith, up, here, lt, small))
+key_none : (m i : ℕ) (key : SlotKey) → m ≤ mark_of i key → m ≡ nothing * most → i < most → IsSmall key → key ≡ Empty
+key_none m i Empty up here lt small = refl
+key_none m i Start up here lt small = absurd (omega (arith, up, here, lt))
+key_none m i (At time) up here lt small = absurd (omega (arith, up, here, lt, small))
 
-key_sooner : (r s j : ℕ) (key : Option (Option ℕ)) → r * most + s ≤ mark_of j key → j < s → NotBefore (r + 1) key
-key_sooner r s j None up lt = tt
-key_sooner r s j (Some next) up lt = omega (arith, up, lt)
+key_sooner : (r s j : ℕ) (key : SlotKey) → r * most + s ≤ mark_of j key → j < s → NotBefore (r + 1) key
+key_sooner r s j Empty up lt = tt
+key_sooner r s j Start up lt = omega (arith, up, lt)
+key_sooner r s j (At time) up lt = omega (arith, up, lt)
 
-key_later : (r s j : ℕ) (key : Option (Option ℕ)) → r * most + s ≤ mark_of j key → j < most → NotBefore r key
-key_later r s j None up lt = tt
-key_later r s j (Some next) up lt = omega (arith, up, lt)
+key_later : (r s j : ℕ) (key : SlotKey) → r * most + s ≤ mark_of j key → j < most → NotBefore r key
+key_later r s j Empty up lt = tt
+key_later r s j Start up lt = omega (arith, up, lt)
+key_later r s j (At time) up lt = omega (arith, up, lt)
 
-has_key : (m i : ℕ) (key : Option (Option ℕ)) → m ≡ mark_of i key → m ≢ nothing * most → (here : Option ℕ) × (key ≡ Some here)
-has_key m i None same ne = absurd (ne same)
-has_key m i (Some here) same ne = (here, refl)
+has_key : (m i : ℕ) (key : SlotKey) → m ≡ mark_of i key → m ≢ nothing * most → (here : Option ℕ) × (key ≡ from_time here)
+has_key m i Empty same ne = absurd (ne same)
+has_key m i Start same ne = (None, refl)
+has_key m i (At time) same ne = (Some time, refl)
+
+mark_from : (i : ℕ) (time : Option ℕ) → mark_of i (from_time time) ≡ rank time * most + i
+mark_from i None = refl
+mark_from i (Some time) = refl
 
 -- a slot than whose leaf no other is less
-pub least_of : (keys : List (Option (Option ℕ))) (i : ℕ) (here : Option ℕ) → i < length keys → length keys ≤ most → get_or keys i None ≡ Some here
-    → ((j : ℕ) → j < length keys → rank here * most + i ≤ mark_of j (get_or keys j None)) → IsLeastOf keys i here
+pub least_of : (keys : List SlotKey) (i : ℕ) (here : Option ℕ) → i < length keys → length keys ≤ most → get_or keys i Empty ≡ from_time here
+    → ((j : ℕ) → j < length keys → rank here * most + i ≤ mark_of j (get_or keys j Empty)) → IsLeastOf keys i here
 least_of keys i here lt few is up =
     let length_front : length (take i keys) ≡ i = length-take-le i keys (omega (arith, lt)) in
     record {
       before = take i keys;
       after = drop (i + 1) keys;
-      split = sym (take-append-drop i keys) ∙ ap (λ (ys : List (Option (Option ℕ))). take i keys ++ ys) (drop_more keys i None lt) ∙ ap (λ (k : Option (Option ℕ)). take i keys ++ k ∷ drop (i + 1) keys) is;
+      split = sym (take-append-drop i keys) ∙ ap (λ (ys : List SlotKey). take i keys ++ ys) (drop_more keys i Empty lt) ∙ ap (λ (k : SlotKey). take i keys ++ k ∷ drop (i + 1) keys) is;
       place = length_front;
-      sooner = All-from_get_or (NotBefore (rank here + 1)) (take i keys) None (λ j ltj.
+      sooner = All-from_get_or (NotBefore (rank here + 1)) (take i keys) Empty (λ j ltj.
           let inside : j < i = omega (arith, ltj, length_front) in
-          subst (NotBefore (rank here + 1)) (sym (get_or-take i keys j None inside)) (key_sooner (rank here) i j (get_or keys j None) (up j (omega (arith, inside, lt))) inside));
-      later = All-from_get_or (NotBefore (rank here)) (drop (i + 1) keys) None (λ j ltj.
+          subst (NotBefore (rank here + 1)) (sym (get_or-take i keys j Empty inside)) (key_sooner (rank here) i j (get_or keys j Empty) (up j (omega (arith, inside, lt))) inside));
+      later = All-from_get_or (NotBefore (rank here)) (drop (i + 1) keys) Empty (λ j ltj.
           let long : length (drop (i + 1) keys) ≡ length keys - (i + 1) = length-drop (i + 1) keys in
-          subst (NotBefore (rank here)) (sym (get_or-drop (i + 1) keys j None)) (key_later (rank here) i ((i + 1) + j) (get_or keys ((i + 1) + j) None) (up ((i + 1) + j) (omega (arith, ltj, long))) (omega (arith, ltj, long, few))));
+          subst (NotBefore (rank here)) (sym (get_or-drop (i + 1) keys j Empty)) (key_later (rank here) i ((i + 1) + j) (get_or keys ((i + 1) + j) Empty) (up ((i + 1) + j) (omega (arith, ltj, long))) (omega (arith, ltj, long, few))));
     }
 
-module _ (keys : List (Option (Option ℕ))) (nodes : List ℕ) (some : 0 < length keys) (few : length keys ≤ most)
-    (small : (i : ℕ) → i < length keys → IfSome (get_or keys i None) (λ next. rank next < nothing)) (leaves : HasLeaves nodes keys)
+module _ (keys : List SlotKey) (nodes : List ℕ) (some : 0 < length keys) (few : length keys ≤ most)
+    (small : (i : ℕ) → i < length keys → IsSmall (get_or keys i Empty)) (leaves : HasLeaves nodes keys)
     (settled : (q : ℕ) → 1 ≤ q → q < length keys → IsSettled nodes q) where
-  up_leaf : (i : ℕ) → i < length keys → node nodes 1 ≤ mark_of i (get_or keys i None)
+  up_leaf : (i : ℕ) → i < length keys → node nodes 1 ≤ mark_of i (get_or keys i Empty)
   up_leaf i lt = subst (λ (m : ℕ). node nodes 1 ≤ m) (leaves i lt) (up_root (length keys) nodes settled (length keys + i) (length keys + i) (omega arith) (omega (arith, some)) (omega (arith, lt)))
 
-  pub no_least : node nodes 1 ≡ nothing * most → All (λ next. next ≡ None) keys
-  no_least e = All-from_get_or (λ next. next ≡ None) keys None (λ i lt. key_none (node nodes 1) i (get_or keys i None) (up_leaf i lt) e (omega (arith, lt, few)) (small i lt))
+  pub no_least : node nodes 1 ≡ nothing * most → All (λ next. next ≡ Empty) keys
+  no_least e = All-from_get_or (λ next. next ≡ Empty) keys Empty (λ i lt. key_none (node nodes 1) i (get_or keys i Empty) (up_leaf i lt) e (omega (arith, lt, few)) (small i lt))
 
   pub least_at : node nodes 1 ≢ nothing * most → (node nodes 1 % most < length keys) × ((here : Option ℕ) × IsLeastOf keys (node nodes 1 % most) here)
   least_at ne =
       let leaf = is_leaf (length keys) nodes settled (2 * length keys) 1 (omega arith) (omega arith) (omega (arith, some)) in
       let i : ℕ = leaf.0 in
       let lt : i < length keys = leaf.1.0 in
-      let is : node nodes 1 ≡ mark_of i (get_or keys i None) = leaf.1.1 ∙ leaves i lt in
-      let key = has_key (node nodes 1) i (get_or keys i None) is ne in
+      let is : node nodes 1 ≡ mark_of i (get_or keys i Empty) = leaf.1.1 ∙ leaves i lt in
+      let key = has_key (node nodes 1) i (get_or keys i Empty) is ne in
       let here : Option ℕ = key.0 in
-      let whole : node nodes 1 ≡ rank here * most + i = is ∙ ap (mark_of i) key.1 in
+      let whole : node nodes 1 ≡ rank here * most + i = is ∙ ap (mark_of i) key.1 ∙ mark_from i here in
       let slot : i ≡ node nodes 1 % most = omega (arith, whole, lt, few) in
-      let up : (j : ℕ) → j < length keys → rank here * most + i ≤ mark_of j (get_or keys j None) = λ j ltj. subst (λ (m : ℕ). m ≤ mark_of j (get_or keys j None)) whole (up_leaf j ltj) in
+      let up : (j : ℕ) → j < length keys → rank here * most + i ≤ mark_of j (get_or keys j Empty) = λ j ltj. subst (λ (m : ℕ). m ≤ mark_of j (get_or keys j Empty)) whole (up_leaf j ltj) in
       let P : ℕ → Type 0 = λ s. (s < length keys) × ((h : Option ℕ) × IsLeastOf keys s h) in
       subst P slot (lt, (here, least_of keys i here lt few key.1 up))

@@ -1,23 +1,20 @@
 -- A slot's key that is replaced, with its leaf.
-use Rattle.std.proofs.Common.{◌≡◌, ℕ, ◌+◌, ◌*◌, ◌<◌, ◌≤◌, List, [], ◌∷◌, ◌++◌, length, get_or, set, take, Option, None, inl, inr, refl, sym, ap, subst, ◌∙◌, arith}
-use Rattle.std.specs.Prelude.{IfSome}
+use Rattle.std.proofs.Common.{◌≡◌, ℕ, ◌+◌, ◌*◌, ◌<◌, ◌≤◌, List, [], ◌∷◌, ◌++◌, length, get_or, set, take, inl, inr, refl, sym, ap, subst, ◌∙◌, arith}
 use Rattle.std.proofs.lemmas.List.{get_or-set_same, get_or-set_other, length-set}
 use Rattle.std.proofs.lemmas.Bool.{cases_eq}
-use Rattle.tournament_tree.specs.Least.{rank}
-use Rattle.tournament_tree.specs.Nodes.{HasLeaves, mark_of, node, nothing}
+use Rattle.tournament_tree.specs.declared.slot_key.SlotKey.{SlotKey}
+use Rattle.tournament_tree.specs.declared.slot_key.SlotKey.TheVariants.{Empty}
+use Rattle.tournament_tree.specs.Nodes.{HasLeaves, IsSmall, mark_of, node}
 
-module _ (keys : List (Option (Option ℕ))) (slot : ℕ) (key : Option (Option ℕ)) (inside : slot < length keys) where
+module _ (keys : List SlotKey) (slot : ℕ) (key : SlotKey) (inside : slot < length keys) where
   pub long : length (set keys slot key) ≡ length keys
   long = length-set keys slot key
 
-  pub small_set : IfSome key (λ next. rank next < nothing)
-      → ((i : ℕ) → i < length keys → IfSome (get_or keys i None) (λ next. rank next < nothing))
-      → (i : ℕ) → i < length (set keys slot key) → IfSome (get_or (set keys slot key) i None) (λ next. rank next < nothing)
+  pub small_set : IsSmall key → ((i : ℕ) → i < length keys → IsSmall (get_or keys i Empty)) → (i : ℕ) → i < length (set keys slot key) → IsSmall (get_or (set keys slot key) i Empty)
   small_set new old i lt =
-      let P : Option (Option ℕ) → Type 0 = λ k. IfSome k (λ next. rank next < nothing) in
-      elim (cases_eq i slot) as (λ _. P (get_or (set keys slot key) i None)) [
-        | inl same ↦ subst P (sym (ap (λ (n : ℕ). get_or (set keys slot key) n None) same ∙ get_or-set_same keys slot key None inside)) new
-        | inr other ↦ subst P (sym (get_or-set_other keys slot i key None other)) (old i (omega (arith, lt, long)))
+      elim (cases_eq i slot) as (λ _. IsSmall (get_or (set keys slot key) i Empty)) [
+        | inl same ↦ subst IsSmall (sym (ap (λ (n : ℕ). get_or (set keys slot key) n Empty) same ∙ get_or-set_same keys slot key Empty inside)) new
+        | inr other ↦ subst IsSmall (sym (get_or-set_other keys slot i key Empty other)) (old i (omega (arith, lt, long)))
       ]
 
   pub leaves_set : (nodes new : List ℕ) → length nodes ≡ 2 * length keys → HasLeaves nodes keys
@@ -28,13 +25,13 @@ module _ (keys : List (Option (Option ℕ))) (slot : ℕ) (key : Option (Option 
       let e : ℕ = mark_of slot key in
       let below : i < n = omega (arith, lt, long) in
       let now : node new (length (set keys slot key) + i) ≡ node (set nodes (n + slot) e) (n + i) = ap (λ (m : ℕ). node new (m + i)) long ∙ kept (n + i) (omega arith) in
-      now ∙ elim (cases_eq i slot) as (λ _. node (set nodes (n + slot) e) (n + i) ≡ mark_of i (get_or (set keys slot key) i None)) [
+      now ∙ elim (cases_eq i slot) as (λ _. node (set nodes (n + slot) e) (n + i) ≡ mark_of i (get_or (set keys slot key) i Empty)) [
         | inl same ↦
             ap (λ (m : ℕ). node (set nodes (n + slot) e) (n + m)) same ∙ get_or-set_same nodes (n + slot) e 0 (omega (arith, inside, size))
-            ∙ ap (mark_of slot) (sym (get_or-set_same keys slot key None inside)) ∙ ap (λ (m : ℕ). mark_of m (get_or (set keys slot key) m None)) (sym same)
+            ∙ ap (mark_of slot) (sym (get_or-set_same keys slot key Empty inside)) ∙ ap (λ (m : ℕ). mark_of m (get_or (set keys slot key) m Empty)) (sym same)
         | inr other ↦
             get_or-set_other nodes (n + slot) (n + i) e 0 (λ same. other (omega (arith, same))) ∙ leaves i below
-            ∙ ap (mark_of i) (sym (get_or-set_other keys slot i key None other))
+            ∙ ap (mark_of i) (sym (get_or-set_other keys slot i key Empty other))
       ]
 
 -- elements that take the place of as many others

@@ -1,8 +1,9 @@
 -- A tournament tree over slots: each slot has a leaf, and each node above is the lesser of the two below it.
-use Rattle.std.specs.Prelude.{◌≡◌, ◌≢◌, ℕ, zero, suc, ◌+◌, ◌*◌, ◌/◌, ◌<◌, ◌≤◌, min, IfSome, List, length, map, slice_index_or, Option, Some, None}
+use Rattle.std.specs.Prelude.{◌≡◌, ◌≢◌, ℕ, zero, suc, ◌+◌, ◌*◌, ◌/◌, ◌<◌, ◌≤◌, min, List, length, slice_index_or, Some, None}
+use Rattle.tournament_tree.specs.declared.slot_key.SlotKey.{SlotKey}
+use Rattle.tournament_tree.specs.declared.slot_key.SlotKey.TheVariants.{Empty, Start, At}
 use Rattle.tournament_tree.specs.declared.trees.TournamentTree.TheInside.{Inside}
 use Rattle.tournament_tree.specs.Least.{rank}
-use Rattle.tournament_tree.specs.Slots.{next_by}
 
 -- a number that all slots stand below
 abbrev pub most : ℕ
@@ -13,9 +14,16 @@ abbrev pub nothing : ℕ
 nothing = 18446744073709551617
 
 -- The leaf of a slot, by which slots are compared: lesser ranks come first, and slots of one rank in their order.
-abbrev pub mark_of : ℕ → Option (Option ℕ) → ℕ
-mark_of slot None = nothing * most
-mark_of slot (Some next) = rank next * most + slot
+abbrev pub mark_of : ℕ → SlotKey → ℕ
+mark_of slot Empty = nothing * most
+mark_of slot Start = rank None * most + slot
+mark_of slot (At time) = rank (Some time) * most + slot
+
+-- whatever comes ranks below an empty slot
+abbrev pub IsSmall : SlotKey → Type 0
+IsSmall Empty = Unit {0}
+IsSmall Start = rank None < nothing
+IsSmall (At time) = rank (Some time) < nothing
 
 abbrev pub node : List ℕ → ℕ → ℕ
 node nodes p = slice_index_or nodes p 0
@@ -33,17 +41,17 @@ abbrev pub AllBut : ℕ → List ℕ → ℕ → Type 0
 AllBut slots nodes p = (q : ℕ) → 1 ≤ q → q < slots → ((steps : ℕ) → q ≢ above steps p) → IsSettled nodes q
 
 -- the leaves are those of the slots
-abbrev pub HasLeaves : List ℕ → List (Option (Option ℕ)) → Type 0
-HasLeaves nodes keys = (i : ℕ) → i < length keys → node nodes (length keys + i) ≡ mark_of i (slice_index_or keys i None)
+abbrev pub HasLeaves : List ℕ → List SlotKey → Type 0
+HasLeaves nodes keys = (i : ℕ) → i < length keys → node nodes (length keys + i) ≡ mark_of i (slice_index_or keys i Empty)
 
 -- what comes next in each slot
-abbrev pub nexts_in : Inside → List (Option (Option ℕ))
-nexts_in tree = map next_by tree.keys.items
+abbrev pub nexts_in : Inside → List SlotKey
+nexts_in tree = tree.keys.items
 
-pub record IsTreeOver (nexts : List (Option (Option ℕ))) (nodes : List ℕ) : Type 0 where
+pub record IsTreeOver (nexts : List SlotKey) (nodes : List ℕ) : Type 0 where
   pub few : length nexts ≤ most
   pub size : length nodes ≡ 2 * length nexts
-  pub small : (i : ℕ) → i < length nexts → IfSome (slice_index_or nexts i None) (λ next. rank next < nothing)
+  pub small : (i : ℕ) → i < length nexts → IsSmall (slice_index_or nexts i Empty)
   pub leaves : HasLeaves nodes nexts
   pub settled : (q : ℕ) → 1 ≤ q → q < length nexts → IsSettled nodes q
 

@@ -1,5 +1,5 @@
-ghost use Rattle.std.specs.Prelude.{◌≡◌, Some};
-ghost use Rattle.tournament_tree.specs.Slots.{next_by};
+ghost use Rattle.std.specs.Prelude.{◌≡◌};
+ghost use Rattle.tournament_tree.specs.Least.{from_time};
 
 /// What a slot has: the time of what comes next there, if anything comes.
 #[derive(Clone, Copy, Debug, PartialEq, Eq)]
@@ -16,7 +16,7 @@ impl SlotKey {
     /// The key of what comes at a time, or before all times where it has none.
     #[inline]
     pub fn from_time(time: Option<u64>) -> SlotKey
-        ensures { next_by result ≡ Some time }
+        ensures { result ≡ from_time time }
     {
         match time {
             None => SlotKey::Start,

@@ -1,7 +1,6 @@
-ghost use Rattle.std.specs.Prelude.{◌≡◌, ◌≢◌, ℕ, ◌+◌, ◌*◌, ◌/◌, ◌<◌, ◌≤◌, length, take, replicate, slice_set, Option, Some, None, IfOk, IfSome, if◌then◌else◌};
-ghost use Rattle.tournament_tree.specs.Least.{rank, IsLeastAt};
-ghost use Rattle.tournament_tree.specs.Nodes.{AllBut, HasLeaves, IsSettled, mark_of, most, node, nothing};
-ghost use Rattle.tournament_tree.specs.Slots.{next_by};
+ghost use Rattle.std.specs.Prelude.{◌≡◌, ◌≢◌, ℕ, ◌+◌, ◌*◌, ◌/◌, ◌<◌, ◌≤◌, length, take, replicate, slice_set, Some, IfOk, IfSome, if◌then◌else◌};
+ghost use Rattle.tournament_tree.specs.Least.{IsLeastAt};
+ghost use Rattle.tournament_tree.specs.Nodes.{AllBut, HasLeaves, IsSettled, IsSmall, mark_of, most, node, nothing};
 
 use crate::slot_key::SlotKey;
 use std::alloc::{AllocError, Global};
@@ -14,7 +13,7 @@ const MOST: u128 = 4_294_967_296;
 const NOTHING: u128 = 18_446_744_073_709_551_617 * 4_294_967_296;
 
 /// A tournament tree over slots with keys, which tells which of them has the least. A contract sees it as
-/// the list of what comes next in each slot.
+/// the list of its keys.
 #[derive(Drop)]
 pub struct TournamentTree {
     keys: Vec<SlotKey>,
@@ -24,10 +23,11 @@ pub struct TournamentTree {
 }
 
 impl Model for TournamentTree {
-    ghost use Rattle.std.specs.Prelude.{ℕ, List, Option};
+    ghost use Rattle.std.specs.Prelude.{List};
+    ghost use Rattle.tournament_tree.specs.declared.slot_key.SlotKey.{SlotKey};
     ghost use Rattle.tournament_tree.specs.Nodes.{IsTree, nexts_in};
 
-    ghost Value = { List (Option (Option ℕ)) };
+    ghost Value = { List SlotKey };
 
     ghost view = { nexts_in };
 
@@ -37,8 +37,8 @@ impl Model for TournamentTree {
 /// The leaf of a slot, by which slots are compared: lesser keys come first, and slots of one key in their order.
 fn mark_of(slot: usize, key: SlotKey) -> u128
     requires { slot < most }
-    ensures value { result ≡ mark_of slot (next_by key) }
-    ensures small { IfSome (next_by key) (λ next. rank next < nothing) }
+    ensures value { result ≡ mark_of slot key }
+    ensures small { IsSmall key }
 {
     match key {
         SlotKey::Empty => NOTHING,
@@ -87,7 +87,7 @@ fn least_but(nodes: &[u128], slots: usize, place: usize) -> u128
 fn key_before(slot: usize, mark: u128) -> Option<u64>
     requires slot { slot < most }
     requires mark { mark ≤ nothing * most }
-    ensures { IfSome result (λ key. mark_of slot (Some (Some key)) < mark) }
+    ensures { IfSome result (λ key. mark_of slot (SlotKey.At key) < mark) }
 {
     let first = MOST + slot as u128;
     if mark <= first {
@@ -99,7 +99,7 @@ fn key_before(slot: usize, mark: u128) -> Option<u64>
 impl TournamentTree {
     /// So many empty slots.
     pub fn new(alloc: Global, slots: u32) -> Result<TournamentTree, AllocError>
-        ensures { IfOk result (λ tree. tree ≡ replicate slots None) }
+        ensures { IfOk result (λ tree. tree ≡ replicate slots SlotKey.Empty) }
     {
         let keys = vec![in alloc; SlotKey::Empty; slots as usize]?;
         let nodes = vec![in alloc; NOTHING; 2 * slots as usize]?;
@@ -109,7 +109,7 @@ impl TournamentTree {
     /// Gives a slot another key, or empties it. Where that changes nothing it takes no steps.
     pub fn set(&mut self, slot: usize, key: SlotKey)
         requires { slot < length self.old }
-        ensures { self.new ≡ slice_set self.old slot (next_by key) }
+        ensures { self.new ≡ slice_set self.old slot key }
     {
         if self.keys[slot] == key {
             return;
@@ -140,7 +140,7 @@ impl TournamentTree {
     /// key up to it the slot has. `None`: with no key.
     pub fn up_to(&self, slot: usize) -> Option<u64>
         requires { slot < length self.now }
-        ensures { IfSome result (λ most. (key : ℕ) → key ≤ most → IsLeastAt (slice_set self.now slot (Some (Some key))) (Some slot)) }
+        ensures { IfSome result (λ most. (key : ℕ) → key ≤ most → IsLeastAt (slice_set self.now slot (SlotKey.At key)) (Some slot)) }
     {
         let slots = self.keys.len();
         key_before(slot, least_but(self.nodes.as_slice(), slots, slots + slot))

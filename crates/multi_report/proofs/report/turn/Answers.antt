@@ -1,9 +1,9 @@
-use Rattle.std.proofs.Common.{ℕ, List, Option, ◌∙◌, ap, length, map, subst, sym}
+use Rattle.std.proofs.Common.{List, ◌∙◌, ap, length, map, subst, sym}
 use Rattle.std.proofs.lemmas.List.{length-set}
+use Rattle.tournament_tree.specs.declared.slot_key.SlotKey.{SlotKey}
 use Rattle.multi_report.specs.Sources.{seen}
 use Rattle.multi_report.specs.Turns.{IsUnderway, state_of}
 use Rattle.multi_report.proofs.Files.{same_self}
-use Rattle.tournament_tree.specs.Slots.{next_by}
 use Rattle.multi_report.proofs.TurnLaws.{less_taken, readied_taken, rose_from, rose_taken, same_taken, slot_of, told_read, told_write, turn_cut, turn_done, turn_item, turn_nothing, turn_read, turn_stopped}
 use Rattle.multi_report.proofs.report.turn.Goals as goal
 
@@ -51,7 +51,7 @@ returns-in-Write-clause-same g c =
     same_taken (map f c.args.sources.now) c.in-Some.j lt _ _ _ _ c.in-Write.ensures.taken
 
 pub returns-in-Item-clause-slots : goal.returns-in-Item-clause-slots
-returns-in-Item-clause-slots g c = ap length c.set.ensures ∙ length-set c.args.nexts.now c.in-Some.j (next_by c.in-Item.key)
+returns-in-Item-clause-slots g c = ap length c.set.ensures ∙ length-set c.args.nexts.now c.in-Some.j c.in-Item.key
 
 pub returns-in-Item-clause-readied : goal.returns-in-Item-clause-readied
 returns-in-Item-clause-readied g c =
@@ -69,7 +69,7 @@ pub returns-in-Item-clause-turned : goal.returns-in-Item-clause-turned
 returns-in-Item-clause-turned g c = λ before whole under.
     let f = seen g.F.File g.L.LineFormat.text in
     let lt = slot_of f c.args.sources.now c.args.nexts.now c.in-Some.j c.in-Some.ensures.inside c.requires.slots in
-    subst (λ (keys : List (Option (Option ℕ))). IsUnderway before whole (state_of (map f c.take_from.new.sources) keys (g.O.Sink.written c.take_from.new.out) c.take_from.new.pending)) (sym c.set.ensures)
+    subst (λ (keys : List SlotKey). IsUnderway before whole (state_of (map f c.take_from.new.sources) keys (g.O.Sink.written c.take_from.new.out) c.take_from.new.pending)) (sym c.set.ensures)
     (turn_item before whole (map f c.args.sources.now) c.args.nexts.now c.in-Some.j lt _ _ _ c.in-Some.ensures.least.0 _ c.in-Some.ensures.least.1 c.in-Item.ensures.taken under)
 
 pub returns-in-Cut-clause-turned : goal.returns-in-Cut-clause-turned

@@ -1,7 +1,7 @@
-use Rattle.std.proofs.Common.{rules, refl, arith, ◌≡◌, ◌<◌, ◌+◌, ℕ, List, Option, length, map, set, ap, sym, subst, ◌∙◌}
+use Rattle.std.proofs.Common.{rules, refl, arith, ◌≡◌, ◌<◌, ◌+◌, List, length, map, set, ap, sym, subst, ◌∙◌}
 use Rattle.std.proofs.lemmas.List.{length-map, length-set}
+use Rattle.tournament_tree.specs.declared.slot_key.SlotKey.{SlotKey}
 use Rattle.multi_report.specs.Sources.{seen}
-use Rattle.tournament_tree.specs.Slots.{next_by}
 use Rattle.multi_report.proofs.Loops.{AreBegun, all_keys, all_readied, begun_set, rose_set, still_set, tied_self, tied_set}
 use Rattle.multi_report.proofs.sources.make_sources_ready.Goals as goal
 
@@ -24,9 +24,9 @@ loop-j-preserved g c =
     record {
       tied = tied_set f c.args.sources.now c.loop-j.sources c.loop-j.j c.index-sources-j.result new long lt more.still c.make_source_ready.ensures.keeps more.tied;
       still = still_set f c.args.sources.now c.loop-j.sources c.loop-j.j c.index-sources-j.result new long lt more.still;
-      begun = subst (λ (ks : List (Option (Option ℕ))). AreBegun (map f c.args.sources.now) (map f (set c.loop-j.sources c.loop-j.j new)) ks (c.loop-j.j + 1)) (sym c.set.ensures)
-          (begun_set f c.args.sources.now c.loop-j.sources c.loop-j.j c.index-sources-j.result new long lt c.loop-j.nexts (next_by c.in-Ok.key) room more.still c.in-Ok.ensures.readied c.in-Ok.ensures.key more.begun);
-      slots = ap length c.set.ensures ∙ length-set c.loop-j.nexts c.loop-j.j (next_by c.in-Ok.key) ∙ more.slots;
+      begun = subst (λ (ks : List SlotKey). AreBegun (map f c.args.sources.now) (map f (set c.loop-j.sources c.loop-j.j new)) ks (c.loop-j.j + 1)) (sym c.set.ensures)
+          (begun_set f c.args.sources.now c.loop-j.sources c.loop-j.j c.index-sources-j.result new long lt c.loop-j.nexts c.in-Ok.key room more.still c.in-Ok.ensures.readied c.in-Ok.ensures.key more.begun);
+      slots = ap length c.set.ensures ∙ length-set c.loop-j.nexts c.loop-j.j c.in-Ok.key ∙ more.slots;
     }
 
 pub returns-in-Err-clause-keeps : goal.returns-in-Err-clause-keeps

@@ -5,7 +5,6 @@ use Rattle.page_pool.specs.Moved.{IsFirstMark, NoneMarked}
 use Rattle.time_merge.specs.Horizons.{high_of}
 use Rattle.time_merge.specs.LaneRows.{IsReady}
 use Rattle.round_print.specs.Prints.{head_kept}
-use Rattle.tournament_tree.specs.Slots.{next_by}
 use Rattle.report_rounds.proofs.Settling.{TellsSoFar, ready_more, tells_along, tells_last, tells_more, unmarked_along, unmarked_more}
 use Rattle.report_rounds.proofs.settle.settle.Goals as goal
 
@@ -25,17 +24,17 @@ loop-i-preserved c =
     record {
       within = omega (arith, first.inside, length-set work.moved.items i mark);
       slots = record {
-        heads = ap length c.set.ensures ∙ length-set work.heads i (next_by c.head_kept.result) ∙ so_far.slots.heads;
-        highs = ap length c.set-in-Some.ensures ∙ length-set work.highs i (next_by c.high_of.result) ∙ so_far.slots.highs;
+        heads = ap length c.set.ensures ∙ length-set work.heads i c.head_kept.result ∙ so_far.slots.heads;
+        highs = ap length c.set-in-Some.ensures ∙ length-set work.highs i c.high_of.result ∙ so_far.slots.highs;
         marks = length-set work.moved.items i mark ∙ so_far.slots.marks;
       };
       ready = ready_more (IsReady c.args.layout.now) work.moved.items lanes i lane mark first.inside (λ none. subst (IsReady c.args.layout.now) c.index-lanes-i.is (c.wants_load.ensures.ready none)) so_far.ready;
       unmarked = unmarked_more (IsReady c.args.layout.now) work.moved.items lanes i lane mark first.inside (λ ready. unmarked (subst (IsReady c.args.layout.now) (sym c.index-lanes-i.is) ready))
           (unmarked_along (IsReady c.args.layout.now) work.moved.items lanes c.loop-i.from i first.behind first.none so_far.unmarked);
       heads = tells_more head_kept work.moved.items work.heads lanes i (tells_along head_kept work.moved.items work.heads lanes c.loop-i.from i first.behind first.none so_far.heads)
-          lane mark (next_by c.head_kept.result) c.set.new.self (omega (arith, first.inside, so_far.slots.heads, so_far.slots.marks)) (c.head_kept.ensures ∙ ap head_kept c.index-lanes-i.is) c.set.ensures;
+          lane mark c.head_kept.result c.set.new.self (omega (arith, first.inside, so_far.slots.heads, so_far.slots.marks)) (c.head_kept.ensures ∙ ap head_kept c.index-lanes-i.is) c.set.ensures;
       highs = tells_more high_of work.moved.items work.highs lanes i (tells_along high_of work.moved.items work.highs lanes c.loop-i.from i first.behind first.none so_far.highs)
-          lane mark (next_by c.high_of.result) c.set-in-Some.new.self (omega (arith, first.inside, so_far.slots.highs, so_far.slots.marks)) (c.high_of.ensures ∙ ap high_of c.index-lanes-i.is) c.set-in-Some.ensures;
+          lane mark c.high_of.result c.set-in-Some.new.self (omega (arith, first.inside, so_far.slots.highs, so_far.slots.marks)) (c.high_of.ensures ∙ ap high_of c.index-lanes-i.is) c.set-in-Some.ensures;
       pending = so_far.pending;
     }
 

@@ -1,7 +1,8 @@
-use Rattle.std.proofs.Common.{◌≡◌, ◌-◌, ◌<◌, ◌≤◌, ℕ, Bool, List, Option, length, ap, subst, sym, ◌∙◌}
+use Rattle.std.proofs.Common.{◌≡◌, ◌-◌, ◌<◌, ◌≤◌, ℕ, Bool, List, length, ap, subst, sym, ◌∙◌}
 use Rattle.std.specs.Option.{IfSome}
 use Rattle.std.proofs.lemmas.List.{length-map, with_items_is}
 use Rattle.trace_outside.specs.Causes.{raised}
+use Rattle.tournament_tree.specs.declared.slot_key.SlotKey.{SlotKey}
 use Rattle.time_merge.specs.Horizons.{high_of}
 use Rattle.time_merge.specs.Nexts.{IsLeastAt}
 use Rattle.time_merge.specs.Reads.{all_unread}
@@ -66,7 +67,7 @@ returns-in-Ok-print_round-clause-goes_on g c = λ goes.
       format = c.format_lanes.ensures.each;
     } in
     let follow = follows c.format_lanes.new.lanes c.print_round.new.lanes c.horizon-known.result c.horizon-known.ensures c.least-least.result
-    (subst (λ (keys : List (Option (Option ℕ))). IsLeastAt keys c.least-least.result) c.settle.ensures.highs c.least-least.ensures.least) c.outcome_at.result c.outcome_at.ensures in
+    (subst (λ (keys : List SlotKey). IsLeastAt keys c.least-least.result) c.settle.ensures.highs c.least-least.ensures.least) c.outcome_at.result c.outcome_at.ensures in
     let all : ℕ = all_unread c.args.layout.now (g.F.File.size c.args.file.now) c.args.lanes.now in
     let still = unread_turned c.args.layout.now (g.F.File.size c.args.file.now) (g.L.LineFormat.text c.args.form.now) c.horizon-known.result c.make_moved_ready.new.lanes c.format_lanes.new.lanes c.print_round.new.lanes
     c.format_lanes.ensures.count c.print_round.auto.lanes c.format_lanes.ensures.each c.in-Ok-print_round.ensures.round.printed.lanes in
@@ -88,7 +89,7 @@ returns-in-Ok-print_round-clause-turned g c =
       format = c.format_lanes.ensures.each;
     } in
     let follow = follows c.format_lanes.new.lanes c.print_round.new.lanes c.horizon-known.result c.horizon-known.ensures c.least-least.result
-    (subst (λ (keys : List (Option (Option ℕ))). IsLeastAt keys c.least-least.result) c.settle.ensures.highs c.least-least.ensures.least) c.outcome_at.result c.outcome_at.ensures in
+    (subst (λ (keys : List SlotKey). IsLeastAt keys c.least-least.result) c.settle.ensures.highs c.least-least.ensures.least) c.outcome_at.result c.outcome_at.ensures in
     turned_told (g.L.LineFormat.text c.args.form.now) c.args.layout.now (g.F.File.bytes c.args.file.now) c.args.lanes.now c.make_moved_ready.new.lanes c.format_lanes.new.lanes f c.horizon-known.result c.print_round.new.lanes c.print_round.auto.lanes c.in-Ok-print_round.ensures.round.printed.lanes c.outcome_at.result c.horizon-known.ensures follow c.requires.between.rise c.requires.between.each c.args.last.now c.print_round.new.last _ _ c.in-Ok-print_round.ensures.written c.in-Ok-print_round.ensures.round.printed.last
 
 pub returns-in-Ok-print_round-clause-read : goal.returns-in-Ok-print_round-clause-read

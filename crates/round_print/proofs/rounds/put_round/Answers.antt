@@ -11,7 +11,6 @@ use Rattle.time_merge.specs.declared.horizons.Horizon.{Horizon}
 use Rattle.time_merge.proofs.Readying.{set_parts}
 use Rattle.round_print.specs.Prints.{CpuLine, filled, filled_text, front_of, head_kept, last_of, printed, text_of}
 use Rattle.round_print.specs.Rounds.{IsFrontDropped, IsRun}
-use Rattle.tournament_tree.specs.Slots.{next_by}
 use Rattle.round_print.proofs.Printing.{print_none}
 use Rattle.round_print.proofs.PrintSteps.{IsStep, some_kept, printing_on, printed_all, run_at, step_at, text_on, last_on, starts_with, cut_text, without}
 use Rattle.round_print.proofs.MovedLanes.{heads_on, unmoved_on, marked_on, anew_on, no_more_on, some_fewer}
@@ -74,7 +73,7 @@ loop-i-preserved g c =
     step_at h lanes c.loop-i.heads i n c.index-lanes-i.result c.index-lanes-i-in-Some.result lt c.loop-i.invariant.heads c.run_of-count.ensures.run now c.in-Some.ensures.least c.loop-i.invariant.rising dropped.lane.cpu dropped.region.kept in
     let done : List ℕ = c.loop-i.invariant.text.0 in
     let front : List ℕ = filled_text c.loop-i.last (front_of n lane) in
-    let key : next_by c.head_kept.result ≡ head_kept now = c.head_kept.ensures ∙ ap head_kept (get_or-set_same lanes i now c.index-lanes-i-in-Some-2.result lt) in
+    let key : c.head_kept.result ≡ head_kept now = c.head_kept.ensures ∙ ap head_kept (get_or-set_same lanes i now c.index-lanes-i-in-Some-2.result lt) in
     let shorter : length now.region.kept < length lane.region.kept = some_fewer n lane now dropped run.some run.kept in
     record {
       text = (
@@ -91,8 +90,8 @@ loop-i-preserved g c =
       faults = c.in_ok-print_front.ensures.cause.kept ∙ c.loop-i.invariant.faults;
       parts = set_parts lanes i c.index-lanes-i-in-Some.result now lt c.in_ok-print_front.ensures.cpu c.in_ok-print_front.ensures.part ∙ c.loop-i.invariant.parts;
       rising = record { cpus = step.rise; keys = step.rises };
-      heads = heads_on c.loop-i.heads c.set.new.self lanes i now (next_by c.head_kept.result) c.set.ensures key c.loop-i.invariant.heads;
-      slots = ap length c.set.ensures ∙ length-set c.loop-i.heads i (next_by c.head_kept.result) ∙ c.loop-i.invariant.slots;
+      heads = heads_on c.loop-i.heads c.set.new.self lanes i now c.head_kept.result c.set.ensures key c.loop-i.invariant.heads;
+      slots = ap length c.set.ensures ∙ length-set c.loop-i.heads i c.head_kept.result ∙ c.loop-i.invariant.slots;
       unmoved = unmoved_on c.loop-i.moved first lanes i now c.loop-i.invariant.unmoved;
       marked = marked_on c.args.moved.now c.loop-i.moved i c.loop-i.invariant.marked;
       anew = anew_on c.args.moved.now c.loop-i.moved first lanes i c.index-lanes-i-in-Some.result now lt shorter c.loop-i.invariant.fewer c.loop-i.invariant.anew;

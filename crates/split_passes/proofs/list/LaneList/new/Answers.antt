@@ -1,5 +1,6 @@
-use Rattle.std.proofs.Common.{ℕ, List, Option, None, length, ap, subst, sym, arith}
+use Rattle.std.proofs.Common.{ℕ, List, length, ap, subst, sym, arith}
 use Rattle.std.proofs.lemmas.List.{length-map, length-replicate}
+use Rattle.tournament_tree.specs.declared.slot_key.SlotKey.TheVariants.{Empty}
 use Rattle.trace_base.specs.declared.part.Part.{Part}
 use Rattle.subpage.specs.Arrangement.{CpusRise}
 use Rattle.page_pool.specs.declared.lane.Lane.{Lane}
@@ -14,7 +15,7 @@ invariant_of-result c =
     record {
       in_order = unused_in_order c.args.layout.now 0 pool c.in_ok-pool.ensures.unused;
       rise = subst (λ (ps : List (ℕ × Part)). CpusRise ps) (sym c.in_ok-pool.ensures.parts) c.requires.rise;
-      slots = omega (arith, ap length c.in_ok-nexts.ensures, length-replicate {A = Option (Option ℕ)} (length c.args.parts.now) None, all, each);
+      slots = omega (arith, ap length c.in_ok-nexts.ensures, length-replicate (length c.args.parts.now) Empty, all, each);
       fronts_long = omega (arith, c.in_ok-fronts.ensures, all, each);
       tallies_long = omega (arith, c.in_ok-tallies.ensures, all, each);
     }

@@ -1,8 +1,9 @@
-use Rattle.std.proofs.Common.{ℕ, List, Option, None, length, ap, subst, sym, arith}
+use Rattle.std.proofs.Common.{ℕ, List, length, ap, subst, sym, arith}
 use Rattle.std.proofs.lemmas.List.{length-map, length-replicate}
 use Rattle.trace_base.specs.declared.part.Part.{Part}
 use Rattle.subpage.specs.Arrangement.{CpusRise}
 use Rattle.page_pool.specs.declared.lane.Lane.{Lane}
+use Rattle.tournament_tree.specs.declared.slot_key.SlotKey.TheVariants.{Empty}
 use Rattle.time_merge.proofs.UnusedLanes.{unused_in_order}
 use Rattle.time_merge.proofs.lanes.Lanes.new.Goals as goal
 
@@ -15,7 +16,7 @@ invariant_of-result c =
       slots = omega (
         arith,
         ap length c.in_ok-nexts.ensures,
-        length-replicate {A = Option (Option ℕ)} (length c.args.parts.now) None,
+        length-replicate (length c.args.parts.now) Empty,
         ap length c.in_ok-pool.ensures.parts,
         length-map {B = ℕ × Part} pool (λ (a : Lane). (a.cpu, a.part)),
       );
