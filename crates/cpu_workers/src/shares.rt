@@ -6,7 +6,7 @@ use event_cursor::head_key;
 use page_pool::{Lane, next_dirty};
 use trace_base::Layout;
 
-/// A lane's sub-buffer counts so many bytes at most: with events of 32 bytes they are the 1,024 lines that a region takes.
+/// A lane's sub-buffer counts so many bytes at most: of a longer one a region takes no more lines at once.
 const MOST_COUNTED: u32 = 32 * 1024;
 
 /// Whether a lane may form a line: it holds an item, and its region takes lines.

@@ -13,7 +13,7 @@ use trace_base::Tail;
 use trace_outside::{Failed, Pending, Sink};
 
 /// How many bytes of lines a processor keeps. The longest line has 65,537 with its newline.
-pub const LINES_ROOM: u32 = 131_072;
+pub const LINES_ROOM: u32 = 73_728;
 
 /// Room for the longest line.
 pub fn line_buffer(alloc: Global) -> Result<Vec<u8>, AllocError>

@@ -3,6 +3,7 @@ ghost use Rattle.time_merge.specs.Nexts.{IsLeastAt};
 ghost use Rattle.subpage.specs.Arrangement.{CpusRise};
 ghost use Rattle.time_merge.specs.Horizons.{is_due};
 ghost use Rattle.time_merge.specs.LaneRows.{parts_of};
+ghost use Rattle.page_pool.specs.Keeping.{KeepsLane, printing};
 ghost use Rattle.page_pool.specs.Lines.{Line};
 ghost use Rattle.round_print.specs.Prints.{ArePlain, IsDropped, head_due, head_kept};
 ghost use Rattle.round_print.specs.Rounds.{IsNextAt, IsRun};
@@ -23,6 +24,7 @@ fn is_due(horizon: &Horizon, key: u64, cpu: u32) -> bool
 }
 
 /// The key of a lane's first line, where that line is due.
+#[inline(always)]
 fn head_due(horizon: &Horizon, lane: &Lane) -> Option<u64>
     ensures { unwrap_or (option_map SlotKey.At result) SlotKey.Empty ≡ head_due horizon.now lane.now }
 {
@@ -137,13 +139,15 @@ pub(crate) fn run_of(
     lane.region.plain_front(most).max(1)
 }
 
-/// Keeps a region's first lines no longer. Where few lines are left their room is made free again.
-pub(crate) fn drop_front(region: &mut Region, count: u32)
-    requires { (0 < count) × (count ≤ length region.old.kept) }
-    ensures { IsDropped count region.old region.new }
+/// Keeps a lane's first lines no longer. Once none of those that are left is due, and where they are few, their room is made
+/// free again.
+pub(crate) fn drop_front(horizon: &Horizon, lane: &mut Lane, count: u32)
+    requires { (0 < count) × (count ≤ length lane.old.region.kept) }
+    ensures region { IsDropped count lane.old.region lane.new.region }
+    ensures lane { KeepsLane printing lane.old lane.new }
 {
-    region.drop_front(count);
-    if region.is_sparse() {
-        region.close_up();
+    lane.region.drop_front(count);
+    if head_due(horizon, lane).is_none() && lane.region.is_sparse() {
+        lane.region.close_up();
     }
 }

@@ -14,6 +14,7 @@ use trace_outside::{Failed, Pending, Sink};
 /// Puts a lane's first lines, filled from the last time, and keeps them no longer. Before the first time none of several has a
 /// hole.
 fn print_front<O: Sink>(
+    horizon: &Horizon,
     lane: &mut Lane,
     count: u32,
     last: &mut Option<u64>,
@@ -32,7 +33,7 @@ fn print_front<O: Sink>(
     ensures part { lane.new.part ≡ lane.old.part }
 {
     put_front(lane, count, last, pending, out)?;
-    drop_front(&mut lane.region, count);
+    drop_front(horizon, lane, count);
     Ok(())
 }
 
@@ -63,7 +64,7 @@ fn put_round<O: Sink>(
     let mut alone = None;
     while let Some(i) = least_due(horizon, lanes, heads) {
         let count = run_of(horizon, &lanes[i], heads, i, alone, *last);
-        print_front(&mut lanes[i], count, last, pending, out)?;
+        print_front(horizon, &mut lanes[i], count, last, pending, out)?;
         heads.set(i, head_kept(&lanes[i]));
         moved[i] = true;
         alone = (count == 1).then_some(i);

@@ -537,15 +537,17 @@ fn lines_are_whole_before_a_failed_read_and_a_prefix_before_a_failed_write(
 }
 
 // The bytes that can be written, the sub-buffers that are read, and those that are due. All 21 of the second processor are due.
-// The fifth of the first one has 1,224 lines before it: it is due from the 200th on, after the second one's 18 lines of two
+// The second of the first one has 306 lines before it: it is due from the 160th on, after the second one's 18 lines of two
 // bytes.
 const DUE: &[(u64, u64, u64, End)] = &[
-    (0, 2, 4 + 21, Write),
-    (1, 2, 4 + 21, Write),
-    (2, 4, 4 + 21, Write),
-    (36, 25, 4 + 21, Write),
-    (435, 25, 4 + 21, Write),
-    (436, 25, 5 + 21, Write),
+    (0, 2, 1 + 21, Write),
+    (1, 2, 1 + 21, Write),
+    (2, 3, 1 + 21, Write),
+    (36, 22, 1 + 21, Write),
+    (355, 22, 1 + 21, Write),
+    (356, 22, 2 + 21, Write),
+    (647, 22, 2 + 21, Write),
+    (648, 23, 2 + 21, Write),
     (5437, 30, 9 + 21, Write),
     (5438, 30, 9 + 21, Done),
 ];
