@@ -1,9 +1,9 @@
 """Runs PROGRAM under limits of its address space, which no test inside a process can set.
 
 A trace of 1,024 processors, with sub-buffers of 4 KiB and an event on each, is made in a temporary folder. A report of it holds a
-sub-buffer and a region of lines a processor, some 185 MB:
+sub-buffer and a region of lines a processor, some 90 MB:
 
-- under 200,000 KiB, and 9,000 more a thread, it is whole, and the same on 1, 3 and 64 threads;
+- under 110,000 KiB, and 9,000 more a thread, it is whole, and the same on 1, 3 and 64 threads;
 - under 60,000 KiB there is no memory for it: status 6, its one message, and nothing on the output. A report reserves all memory before
   its first line, though it touches a region only once a line comes.
 
@@ -71,7 +71,7 @@ def faults(program: str, room: Path) -> Iterator[str]:
     wide, long, idle = room / "wide.dat", room / "long.dat", room / "idle.dat"
     report = wide_trace(wide)
     for workers in (1, 3, 64):
-        found = run(program, ["report", "-t", "--workers", str(workers), wide], 200_000 + 9_000 * workers)
+        found = run(program, ["report", "-t", "--workers", str(workers), wide], 110_000 + 9_000 * workers)
         if found != (0, report, b""):
             yield f"{WIDE} processors on {workers} threads: status {found.status}, {len(found.out)} bytes, {found.err!r}"
     found = run(program, ["report", "-t", wide], 60_000)
