@@ -1,4 +1,1 @@
-pub mod FreshLanes
-pub mod FilledLanes
 pub mod GoneThrough
-pub mod RisingParts

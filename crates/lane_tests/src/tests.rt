@@ -4,8 +4,4 @@ mod merging;
 mod packing;
 mod passes;
 mod pools;
-mod reports;
-mod rounds;
 mod sub_pages;
-mod times;
-mod workers;

@@ -5,7 +5,6 @@ ghost use Rattle.subpage.specs.Arrangement.{Keyed, cpu_of, arranged};
 ghost use Rattle.subpage.specs.Cut.{Cut, is_up_to};
 ghost use Rattle.subpage.specs.ItemData.{ItemData, LossAt, item_time};
 
-use super::times::time_of;
 use Order::{Big, Little};
 use std::alloc::{AllocError, Global};
 use std::test::Fail;
@@ -47,6 +46,12 @@ fn write(alloc: Global, layout: &Layout, page: &SubPage) -> Result<Vec<u8>, Allo
     let len = page.bytes.len().min(4000);
     data[..len].copy_from_slice(&page.bytes[..len]);
     Ok(out)
+}
+
+fn time_of(item: &Item<'_>) -> u64 {
+    match item {
+        Item::Event { time, .. } | Item::Loss { time, .. } => *time,
+    }
 }
 
 /// The page's items are these, from each place on.

@@ -5,7 +5,7 @@ use Rattle.subpage.specs.ItemView.{item_view}
 use Rattle.trace_base.specs.Kept.{held_of, of_text}
 use Rattle.trace_base.specs.TailView.{held}
 use Rattle.cpu_workers.proofs.LineKept.{put_first}
-use Rattle.lane_tests.proofs.tests.reports.marks.MarksLineFormat.line.Goals as goal
+use Rattle.round_tests.proofs.tests.reports.marks.MarksLineFormat.line.Goals as goal
 
 abbrev shown : ℕ → ℕ
 shown time = if time % 10 == 7 then 0 else 2

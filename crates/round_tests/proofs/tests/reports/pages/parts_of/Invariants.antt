@@ -1,7 +1,7 @@
 use Rattle.std.proofs.Common.{◌≡◌, ◌+◌, ◌≤◌, ◌++◌, ◌∷◌, ℕ, [], length}
 use Rattle.trace_base.specs.declared.part.Part.{Part}
 use Rattle.subpage.specs.Arrangement.{CpusRise}
-use Rattle.lane_tests.proofs.tests.reports.pages.parts_of.Given as goal
+use Rattle.round_tests.proofs.tests.reports.pages.parts_of.Given as goal
 
 abbrev pub invariant-loop-i : goal.invariant-loop-i
 invariant-loop-i l = record {

@@ -1,6 +1,6 @@
 use Rattle.std.proofs.Common.{arith}
-use Rattle.lane_tests.proofs.FilledLanes.{two_rise, two_all}
-use Rattle.lane_tests.proofs.tests.rounds.fill.Goals as goal
+use Rattle.round_tests.proofs.FilledLanes.{two_rise, two_all}
+use Rattle.round_tests.proofs.tests.rounds.fill.Goals as goal
 
 pub returns : goal.returns
 returns c = record {

@@ -2,7 +2,7 @@ use Rattle.std.proofs.Common.{◌%◌, ◌==◌, ◌∙◌, ap, ℕ, List, [], �
 use Rattle.trace_base.specs.Kept.{held_of, of_text}
 use Rattle.trace_base.specs.TailView.{held}
 use Rattle.cpu_workers.proofs.LineKept.{put_first}
-use Rattle.lane_tests.proofs.tests.workers.LettersLineFormat.line.Goals as goal
+use Rattle.round_tests.proofs.tests.workers.LettersLineFormat.line.Goals as goal
 
 abbrev letters : ℕ → List ℕ
 letters time = if time % 3 == 0 then [] else if time % 3 == 1 then 97 ∷ [] else 98 ∷ 99 ∷ []

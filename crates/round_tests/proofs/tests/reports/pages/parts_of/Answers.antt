@@ -2,8 +2,8 @@ use Rattle.std.proofs.Common.{◌+◌, ◌++◌, ◌∷◌, ℕ, List, [], lengt
 use Rattle.std.proofs.lemmas.List.{length-append}
 use Rattle.trace_base.specs.declared.part.Part.{Part}
 use Rattle.subpage.specs.Arrangement.{CpusRise}
-use Rattle.lane_tests.proofs.RisingParts.{rise_before, rise_more}
-use Rattle.lane_tests.proofs.tests.reports.pages.parts_of.Goals as goal
+use Rattle.round_tests.proofs.RisingParts.{rise_before, rise_more}
+use Rattle.round_tests.proofs.tests.reports.pages.parts_of.Goals as goal
 
 pub loop-i-init : goal.loop-i-init
 loop-i-init c = record {

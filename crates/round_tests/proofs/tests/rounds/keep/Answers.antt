@@ -1,5 +1,5 @@
-use Rattle.lane_tests.proofs.FilledLanes.{kept_rises}
-use Rattle.lane_tests.proofs.tests.rounds.keep.Goals as goal
+use Rattle.round_tests.proofs.FilledLanes.{kept_rises}
+use Rattle.round_tests.proofs.tests.rounds.keep.Goals as goal
 
 pub returns-clause-rises : goal.returns-clause-rises
 returns-clause-rises c =

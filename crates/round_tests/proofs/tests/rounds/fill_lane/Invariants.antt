@@ -1,6 +1,6 @@
 use Rattle.std.proofs.Common.{◌≡◌}
 use Rattle.round_print.specs.Prints.{KeysRise, KeysUpTo}
-use Rattle.lane_tests.proofs.tests.rounds.fill_lane.Given as goal
+use Rattle.round_tests.proofs.tests.rounds.fill_lane.Given as goal
 
 abbrev pub invariant-loop-line : goal.invariant-loop-line
 invariant-loop-line l = record {

@@ -1,7 +1,7 @@
 use Rattle.std.proofs.lemmas.List.Elements.{All-set}
 use Rattle.event_cursor.specs.Standing.{IsInOrder}
-use Rattle.lane_tests.proofs.FreshLanes.{all_in_order}
-use Rattle.lane_tests.proofs.tests.workers.open_lanes.Goals as goal
+use Rattle.round_tests.proofs.FreshLanes.{all_in_order}
+use Rattle.round_tests.proofs.tests.workers.open_lanes.Goals as goal
 
 pub loop-i-init : goal.loop-i-init
 loop-i-init c = record { in_order = all_in_order c.args.layout.now 4096 c.args.room c.args.lanes.now c.requires.page c.requires.new }

@@ -1,0 +1,3 @@
+pub mod FreshLanes
+pub mod FilledLanes
+pub mod RisingParts

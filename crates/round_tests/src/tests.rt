@@ -1,0 +1,4 @@
+mod reports;
+mod rounds;
+mod times;
+mod workers;
