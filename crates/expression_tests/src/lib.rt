@@ -1,6 +1,6 @@
-//! Tests of expressions: how a print fmt is read, its tokens, the meaning of each by itself, its trees and the directives of its
-//! text (`fmt_lexer`, `fmt_literal`, `fmt_expr` and `fmt_directives`); the values of trees, and trees with their constant parts
-//! computed (`fmt_eval`, `fmt_fold`); what texts are filters, and at which events filters hold (`filter_lang`, `filter_truth`).
+//! Tests of the expressions in print fmts: how a print fmt is read, its tokens, the meaning of each by itself, its trees and the
+//! directives of its text (`fmt_lexer`, `fmt_literal`, `fmt_expr` and `fmt_directives`); the values of trees, and trees with their
+//! constant parts computed (`fmt_eval`, `fmt_fold`). Those in filters are tested in `filter_tests`.
 //!
 //! All that is read of a print fmt goes through the one driver in `rows`: a row is a line of `ROWS` in `tokens`, `literals`,
 //! `trees` or `directives`, and its first word says what is made of its text. A new kind of row is an arm of that module's
@@ -9,15 +9,10 @@
 //! An operator or cast of C is a line of `OPERANDS_AND_VALUES` in `values::operators`, and the number of a field a row of
 //! `FIELDS` in `values::fields`. The texts of flags, symbols and bytes are those of small lists in `values::texts`, and what is
 //! computed before is in `values::folds`; `values::samples` has what these trees are made of.
-//!
-//! A text that is a filter is a row of `TREES` in `filters`, and one that is none a row of `REFUSALS`, with its place. A
-//! condition goes to `TRUE` or to `FALSE` in `truth`, names of events to `NAMES`, and several filters at once to `SELECTIONS`.
 #![tactic(auto)]
 
 #[cfg(test)]
 mod directives;
-#[cfg(test)]
-mod filters;
 #[cfg(test)]
 mod literals;
 #[cfg(test)]
@@ -28,7 +23,5 @@ mod rows;
 mod tokens;
 #[cfg(test)]
 mod trees;
-#[cfg(test)]
-mod truth;
 #[cfg(test)]
 mod values;
