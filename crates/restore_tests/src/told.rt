@@ -10,7 +10,7 @@ use trace_outside::{MemFault, MemFile, MemFolder};
 use trace_samples::{ONE_EVENT, TraceFile};
 
 /// More bytes than any call has.
-pub(super) const ALL: u32 = u32::MAX;
+pub(crate) const ALL: u32 = u32::MAX;
 
 /// The header_page text of sub-buffers of 8,192 bytes.
 const LARGE: &[u8] = b"\tfield: u64 timestamp;\toffset:0;\tsize:8;\tsigned:0;\n\
@@ -19,7 +19,7 @@ const LARGE: &[u8] = b"\tfield: u64 timestamp;\toffset:0;\tsize:8;\tsigned:0;\n\
 
 /// A partial file.
 #[derive(Clone, Copy)]
-pub(super) enum Partial {
+pub(crate) enum Partial {
     Missing,
     /// The first so many bytes of the header.
     Cut(usize),
@@ -35,7 +35,7 @@ pub(super) enum Partial {
 
 /// A data file.
 #[derive(Clone, Copy)]
-pub(super) enum Data {
+pub(crate) enum Data {
     Missing,
     /// So many zero bytes.
     Zeros(usize),
@@ -46,12 +46,12 @@ pub(super) enum Data {
 }
 
 #[derive(Clone, Copy)]
-pub(super) struct Row {
-    pub(super) partial: Partial,
-    pub(super) files: &'static [(&'static str, Data)],
-    pub(super) output: &'static str,
+pub(crate) struct Row {
+    pub(crate) partial: Partial,
+    pub(crate) files: &'static [(&'static str, Data)],
+    pub(crate) output: &'static str,
     /// The answer, and after it the new file: its length and its parts.
-    pub(super) told: &'static str,
+    pub(crate) told: &'static str,
 }
 
 // The first so many bytes of a header with this header_page text and without formats and names.
@@ -274,7 +274,7 @@ fn put_told(
 }
 
 /// What comes of a row, and after it whether files are open still.
-pub(super) fn text_of(
+pub(crate) fn text_of(
     alloc: Global,
     row: &Row,
     fault: Option<MemFault>,
@@ -288,7 +288,7 @@ pub(super) fn text_of(
 }
 
 /// How many bytes of the files a restoring of a row reads.
-pub(super) fn bytes_read(
+pub(crate) fn bytes_read(
     alloc: Global,
     row: &Row,
     fault: Option<MemFault>,

@@ -1,6 +1,0 @@
-// Restorings of partial files.
-
-mod faults;
-mod reads;
-mod rows;
-mod told;
