@@ -164,7 +164,7 @@ fn push_texts(alloc: Global, texts: &mut Vec<ByteText>, formats: &str) -> Result
 }
 
 /// The table with the formats of these texts after its own.
-pub(crate) fn with_texts(
+fn with_texts(
     alloc: Global,
     table: FormatTable,
     system: &[u8],
@@ -249,7 +249,7 @@ fn push_many(alloc: Global, texts: &mut Vec<ByteText>) -> Result<(), AllocError>
 }
 
 /// Three thousand formats, numbered from 0.
-pub(crate) fn many(alloc: Global) -> Result<FormatTable, AllocError> {
+fn many(alloc: Global) -> Result<FormatTable, AllocError> {
     let mut texts = Vec::new(alloc);
     push_many(alloc, &mut texts)?;
     FormatTable::new(alloc).with_texts(alloc, b"many", &texts)
